@@ -1,0 +1,104 @@
+//! The two check sums of this project's formats (docs/FORMATS.md), CRC-16 and CRC-32, over whole bytes or over pieces.
+#![tactic(auto)]
+
+pub mod bitwise;
+mod running;
+mod table_16;
+mod table_32;
+
+ghost use Rattle.std.specs.Prelude.{◌≡◌, ◌<◌, ◌^◌, ℕ, List, [], ◌++◌, codes};
+ghost use Rattle.crc_fields.specs.CheckSums.{crc16_of, crc32_of, crc16_after, crc32_after, register_after};
+
+pub use running::{Crc16, Crc32};
+
+/// The CRC-16 of `bytes`, as `Crc16` gives it for one piece.
+pub fn crc16(bytes: &[u8]) -> u16
+    ensures { result ≡ crc16_of bytes.now }
+{
+    let mut sum = Crc16::new();
+    sum.update(bytes);
+    sum.value()
+}
+
+/// The CRC-32 of `bytes`, as `Crc32` gives it for one piece.
+pub fn crc32(bytes: &[u8]) -> u32
+    ensures { result ≡ crc32_of bytes.now }
+{
+    let mut sum = Crc32::new();
+    sum.update(bytes);
+    sum.value()
+}
+
+/// Laws of both check sums, for callers that join or compare pieces themselves.
+#[tactic(auto, using(crate::proofs::Laws::laws))]
+pub fn check_sum_laws()
+    // A register goes through pieces as through all of them joined, at each width.
+    ensures cut { (width polynomial register : ℕ) (first rest : List ℕ) →
+        register_after width polynomial (register_after width polynomial register first) rest
+        ≡ register_after width polynomial register (first ++ rest) }
+    ensures crc16_joined { (first rest : List ℕ) → crc16_after (crc16_of first) rest ≡ crc16_of (first ++ rest) }
+    ensures crc32_joined { (first rest : List ℕ) → crc32_after (crc32_of first) rest ≡ crc32_of (first ++ rest) }
+
+    ensures crc16_fits { (bytes : List ℕ) → crc16_of bytes < 2 ^ 16 }
+    ensures crc32_fits { (bytes : List ℕ) → crc32_of bytes < 2 ^ 32 }
+
+    ensures crc16_of_nothing { crc16_of [] ≡ 0xFFFF }
+    ensures crc32_of_nothing { crc32_of [] ≡ 0 }
+
+    // What catalogues of check sums print for these nine digits.
+    ensures crc16_known { crc16_of (codes "123456789") ≡ 0x29B1 }
+    ensures crc32_known { crc32_of (codes "123456789") ≡ 0xFC89_1918 }
+{}
+
+#[cfg(test)]
+mod tests {
+    use super::*;
+
+    /// The sums are those that catalogues of check sums print.
+    #[test]
+    fn known_sums_however_cut(rt: HostRuntime) {
+        for (message, sum_16, sum_32) in [
+            (&b"123456789"[..], 0x29B1, 0xFC89_1918),
+            (&b""[..], 0xFFFF, 0x0000_0000),
+        ] {
+            let mut pieces_16 = Crc16::new();
+            let mut pieces_32 = Crc32::new();
+            for byte in message {
+                pieces_16.update(&[*byte]);
+                pieces_16.update(b"");
+                pieces_32.update(b"");
+                pieces_32.update(&[*byte]);
+            }
+            assert_eq!(rt; crc16(message), sum_16);
+            assert_eq!(rt; crc32(message), sum_32);
+            assert_eq!(rt; pieces_16.value(), sum_16);
+            assert_eq!(rt; pieces_32.value(), sum_32);
+        }
+    }
+
+    #[test]
+    fn tables_agree_with_bits(rt: HostRuntime) {
+        let mut message = [0u8; 300];
+        for (place, byte) in message.iter_mut().enumerate() {
+            *byte = (place * 7 % 256) as u8;
+        }
+        for length in 0..=300 {
+            let part = &message[..length];
+            assert_eq!(rt;
+                crc16(part),
+                bitwise::crc16_after(0xFFFF, part),
+                "at {length}"
+            );
+            assert_eq!(rt; crc32(part), bitwise::crc32_after(0, part), "at {length}");
+        }
+        for byte in 0..=255u8 {
+            let alone = [byte];
+            assert_eq!(rt;
+                crc16(&alone),
+                bitwise::crc16_after(0xFFFF, &alone),
+                "at {byte}"
+            );
+            assert_eq!(rt; crc32(&alone), bitwise::crc32_after(0, &alone), "at {byte}");
+        }
+    }
+}

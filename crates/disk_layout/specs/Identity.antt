@@ -1,0 +1,80 @@
+-- The identity at the front of a disk (docs/DISK.md).
+use Rattle.std.specs.Prelude.{ℕ, List, length, ◌==◌, nat_le, Bool, ◌&&◌}
+use Rattle.std.specs.List.{list_all}
+use Rattle.load_base.specs.Ident.{is_ident_byte}
+use Rattle.crc_fields.specs.CheckSums.{crc16_of}
+use Rattle.disk_model.specs.Image.{Image, range}
+use Rattle.field_grammar.specs.Grammar.{Grammar, give, check, front, renamed, ◌>>=◌, ◌>>◌, SpelledAtFront, Fault}
+use Rattle.field_grammar.specs.Fields.{number, short}
+use Rattle.field_grammar.specs.declared.fault.FieldFault.{FieldFault}
+use Rattle.field_grammar.specs.declared.fault.FieldFault.TheVariants.{Short, BadPad}
+use Rattle.disk_layout.specs.Places.{is_bank_size, longest_identity}
+use Rattle.disk_layout.specs.declared.identity.Identity.{Identity}
+
+-- A fault of an identity is the place at which it can't go on.
+abbrev pub fault_place : FieldFault → ℕ
+fault_place (Short place) = place
+fault_place (BadPad place) = place
+
+-- this byte
+unfoldable pub exact_byte : ℕ → Grammar ℕ (Unit {0})
+exact_byte byte = do
+  before ← front
+  found ← renamed fault_place (number 1)
+  check (found == byte) (length before)
+
+-- the signature A615 and the layout 1
+unfoldable pub signature : Grammar ℕ (Unit {0})
+signature = do
+  exact_byte 0x41
+  exact_byte 0x36
+  exact_byte 0x31
+  exact_byte 0x35
+  exact_byte 0
+  exact_byte 1
+
+-- the bytes of a bank, in four bytes
+unfoldable pub bank_size : Grammar ℕ ℕ
+bank_size = do
+  before ← front
+  size ← renamed fault_place (number 4)
+  check (is_bank_size size) (length before)
+  give size
+
+-- 1 to 20 bytes, each of which an Ident may have
+abbrev pub is_ident : List ℕ → Bool
+is_ident text = nat_le 1 (length text) && nat_le (length text) 20 && list_all is_ident_byte text
+
+-- An Ident as a short text. Whatever is wrong with it, the place is that of its length.
+unfoldable pub ident : Grammar ℕ (List ℕ)
+ident = do
+  before ← front
+  text ← renamed fault_place short
+  check (is_ident text) (length before)
+  give text
+
+-- the CRC-16 of all that stands before it
+unfoldable pub check_sum : Grammar ℕ (Unit {0})
+check_sum = do
+  before ← front
+  sum ← renamed fault_place (number 2)
+  check (sum == crc16_of before) (length before)
+
+-- signature and layout, the size of a bank, the three Idents, and the check sum
+unfoldable pub identity : Grammar ℕ Identity
+identity = do
+  signature
+  bank ← bank_size
+  hw ← ident
+  pos ← ident
+  serial ← ident
+  check_sum
+  give (record { hw = hw; pos = pos; serial = serial; bank = bank })
+
+-- the disk begins with this identity
+abbrev pub HasIdentity : Image → Identity → Type 0
+HasIdentity image id = SpelledAtFront identity (range image 0 longest_identity) id
+
+-- the disk begins with no identity: this is the first place at which it can't go on
+abbrev pub HasNoIdentity : Image → ℕ → Type 0
+HasNoIdentity image place = Fault identity (range image 0 longest_identity) place

@@ -1,0 +1,28 @@
+//! Places and bounds on a disk (docs/DISK.md). Places are byte offsets from 0.
+
+/// The most bytes that an identity has.
+pub const LONGEST_IDENTITY: usize = 75;
+
+/// The fewest bytes of a bank.
+pub const SMALLEST_BANK: u32 = 4096;
+
+/// The most bytes of a bank.
+pub const LARGEST_BANK: u32 = 67_108_864;
+
+/// Where slot A begins.
+pub const SLOT_A: u32 = 4096;
+
+/// Where slot B begins.
+pub const SLOT_B: u32 = 4608;
+
+/// The bytes of a slot, from its gate to the end of its last field.
+pub const SLOT_LENGTH: usize = 29;
+
+/// The gate of an open slot; with any other byte the slot is shut.
+pub const OPEN: u8 = 0xA5;
+
+/// Where bank 0 begins; bank 1 begins behind it.
+pub const BANKS: u32 = 8192;
+
+/// The most bytes of a manifest: 32 loads of 256 files with names of 64 bytes.
+pub const LONGEST_MANIFEST: u32 = 565_794;

@@ -1,0 +1,70 @@
+-- What was read is what is written, and a field that is refused doesn't fit.
+use Rattle.std.proofs.Common.{◌≡◌, ℕ, ◌+◌, ◌^◌, ◌<◌, ◌≤◌, ltb, false, List, [], ◌∷◌, ◌++◌, length, take, drop, Ok, refl, ap, subst, ◌∙◌, arith}
+use Rattle.std.specs.List.{concat}
+use Rattle.std.proofs.lemmas.Bool.{le-ltb}
+use Rattle.std.proofs.lemmas.List.{append-nil, length-drop}
+use Rattle.field_grammar.specs.Cursor.{Cursor, cursor_at}
+use Rattle.field_grammar.specs.Grammar.{Grammar, IsBytes, read}
+use Rattle.field_grammar.specs.Spelling.{IsSpelledBy}
+use Rattle.field_grammar.specs.Fields.{number, raw, number_bytes, number_fields, pad, pad_bytes, padded, padded_fields, padded_text, short, short_fields, short_text}
+use Rattle.field_grammar.proofs.Steps.{advanced-cursor_at, IsBytes-drop}
+use Rattle.field_grammar.proofs.Laws.{what_is_read_follows}
+use Rattle.field_grammar.proofs.Numbers.{IsWide, wide1, wide2, wide4, wide8, spelled-number}
+use Rattle.field_grammar.proofs.Texts.{spelled-pad, spelled-padded, spelled-short, IsPaddedText, IsShortText, concat_number_fields, concat_padded_fields, concat_short_fields}
+use Rattle.field_codec.specs.Reader.{Passes, PassesAt}
+
+-- bytes that fit are read
+pub raw_is_read : (count place : ℕ) (bytes : List ℕ) → place + count ≤ length bytes
+    → read (raw count) (cursor_at bytes place) ≡ Ok (take count (drop place bytes), cursor_at bytes (place + count))
+unfolding raw
+raw_is_read count place bytes fits =
+    let enough : ltb (length (drop place bytes)) count ≡ false = le-ltb _ _ (omega (arith, length-drop place bytes)) in
+    rw (enough, advanced-cursor_at count place bytes) refl
+
+-- what a format read is the spelling of the value, and the place is behind it
+passes : {F A : Type 0} (g : Grammar F A) (s : A → List (List ℕ)) (P : A → Type 0) (c d : Cursor) (value : A)
+    → IsSpelledBy g s P → IsBytes c.rest → read g c ≡ Ok (value, d) → Passes (concat (s value)) c d
+passes g s P c d value spells fit e =
+    let took = what_is_read_follows g c d value fit e in
+    let is = (spells.to c.before took.fields (length d.rest) value took.follows).0 in
+    (took.parts ∙ ap (λ (f : List (List ℕ)). concat f ++ d.rest) is, took.passed ∙ ap (λ (f : List (List ℕ)). c.before ++ concat f) is)
+
+-- the bytes of a place in bytes
+pub fit_at : (bytes : List ℕ) (place : ℕ) → IsBytes bytes → IsBytes (drop place bytes)
+fit_at bytes place fit = IsBytes-drop place bytes fit
+
+number_passes : (n : ℕ) → IsWide n → (bytes : List ℕ) (place end value : ℕ) → IsBytes bytes
+    → read (number n) (cursor_at bytes place) ≡ Ok (value, cursor_at bytes end) → PassesAt bytes place end (number_bytes n value)
+number_passes n wide bytes place end value fit e =
+    subst (PassesAt bytes place end) (concat_number_fields n value) (passes (number n) (number_fields n) (λ x. x < 256 ^ n) (cursor_at bytes place) (cursor_at bytes end) value (spelled-number n wide) (fit_at bytes place fit) e)
+
+pub u8_passes : (bytes : List ℕ) (place end value : ℕ) → IsBytes bytes
+    → read (number 1) (cursor_at bytes place) ≡ Ok (value, cursor_at bytes end) → PassesAt bytes place end (number_bytes 1 value)
+u8_passes = number_passes 1 wide1
+
+pub u16_passes : (bytes : List ℕ) (place end value : ℕ) → IsBytes bytes
+    → read (number 2) (cursor_at bytes place) ≡ Ok (value, cursor_at bytes end) → PassesAt bytes place end (number_bytes 2 value)
+u16_passes = number_passes 2 wide2
+
+pub u32_passes : (bytes : List ℕ) (place end value : ℕ) → IsBytes bytes
+    → read (number 4) (cursor_at bytes place) ≡ Ok (value, cursor_at bytes end) → PassesAt bytes place end (number_bytes 4 value)
+u32_passes = number_passes 4 wide4
+
+pub u64_passes : (bytes : List ℕ) (place end value : ℕ) → IsBytes bytes
+    → read (number 8) (cursor_at bytes place) ≡ Ok (value, cursor_at bytes end) → PassesAt bytes place end (number_bytes 8 value)
+u64_passes = number_passes 8 wide8
+
+pub pad_passes : (n : ℕ) (bytes : List ℕ) (place end : ℕ) (u : Unit {0}) → IsBytes bytes
+    → read (pad n) (cursor_at bytes place) ≡ Ok (u, cursor_at bytes end) → PassesAt bytes place end (pad_bytes n)
+pad_passes n bytes place end u fit e =
+    subst (PassesAt bytes place end) (append-nil (pad_bytes n)) (passes (pad n) (λ v. pad_bytes n ∷ []) (λ v. Unit {0}) (cursor_at bytes place) (cursor_at bytes end) u (spelled-pad n) (fit_at bytes place fit) e)
+
+pub padded_passes : (bytes : List ℕ) (place end : ℕ) (text : List ℕ) → IsBytes bytes
+    → read padded (cursor_at bytes place) ≡ Ok (text, cursor_at bytes end) → PassesAt bytes place end (padded_text text)
+padded_passes bytes place end text fit e =
+    subst (PassesAt bytes place end) (concat_padded_fields text) (passes padded padded_fields IsPaddedText (cursor_at bytes place) (cursor_at bytes end) text spelled-padded (fit_at bytes place fit) e)
+
+pub short_passes : (bytes : List ℕ) (place end : ℕ) (text : List ℕ) → IsBytes bytes
+    → read short (cursor_at bytes place) ≡ Ok (text, cursor_at bytes end) → PassesAt bytes place end (short_text text)
+short_passes bytes place end text fit e =
+    subst (PassesAt bytes place end) (concat_short_fields text) (passes short short_fields IsShortText (cursor_at bytes place) (cursor_at bytes end) text spelled-short (fit_at bytes place fit) e)

@@ -1,0 +1,11 @@
+pub mod Steps
+pub mod Laws
+pub mod Moves
+pub mod Exact
+pub mod Combined
+pub mod Placed
+pub mod Listed
+pub mod Numbers
+pub mod Texts
+pub mod Loops
+pub mod Decoders

@@ -1,0 +1,5 @@
+pub mod Cursor
+pub mod Grammar
+pub mod Answers
+pub mod Spelling
+pub mod Fields

@@ -1,0 +1,24 @@
+ghost use Rattle.std.specs.Prelude.{ℕ, List};
+ghost use Rattle.field_grammar.specs.Grammar.{IsBytes, IsDecidedAtFront};
+ghost use Rattle.field_grammar.specs.Fields.{raw, number, pad, padded_parts, padded, short_parts, short};
+
+/// Whatever the bytes, each field begins them and has one value, or is refused with one fault.
+pub fn fields_are_decided()
+    ensures raw { (n : ℕ) (bytes : List ℕ) → IsBytes bytes → IsDecidedAtFront (raw n) bytes }
+    ensures number { (n : ℕ) (bytes : List ℕ) → IsBytes bytes → IsDecidedAtFront (number n) bytes }
+    ensures pad { (n : ℕ) (bytes : List ℕ) → IsBytes bytes → IsDecidedAtFront (pad n) bytes }
+    ensures padded_parts { (bytes : List ℕ) → IsBytes bytes → IsDecidedAtFront padded_parts bytes }
+    ensures padded { (bytes : List ℕ) → IsBytes bytes → IsDecidedAtFront padded bytes }
+    ensures short_parts { (bytes : List ℕ) → IsBytes bytes → IsDecidedAtFront short_parts bytes }
+    ensures short { (bytes : List ℕ) → IsBytes bytes → IsDecidedAtFront short bytes }
+{}
+
+#[cfg(test)]
+mod tests {
+    use super::*;
+
+    #[test]
+    fn laws_hold_of_the_fields(_rt: HostRuntime) {
+        fields_are_decided();
+    }
+}

@@ -1,0 +1,41 @@
+//! The program: runs its words over standard output and the disk in the file `target.disk` of the current
+//! folder, and exits with the status of the run.
+#![tactic(auto)]
+
+use disk_model::FileDisk;
+use load_base::StdSink;
+use loader_cli::run;
+use std::alloc::{AllocError, Global};
+use std::env;
+use std::io::ErrorKind;
+use std::process::ExitCode;
+use std::rt::Env;
+
+const OUT_OF_MEMORY: u8 = 6;
+
+fn main(rt: HostRuntime) -> ExitCode {
+    let alloc = rt.alloc();
+    let Ok(words) = words_of(alloc, &rt) else {
+        return ExitCode::from(OUT_OF_MEMORY);
+    };
+    let mut out = StdSink::new(&rt);
+    let mut disk = FileDisk::new(&rt, "target.disk");
+    let ended = run(alloc, &words, &mut out, &mut disk);
+    ExitCode::from(ended.status)
+}
+
+// The words after the program's name. Where one of them isn't UTF-8, one empty word stands for them all: no
+// form has an empty word, so either is refused.
+fn words_of(alloc: Global, rt: &(impl Env + AllocGlobal)) -> Result<Vec<String>, AllocError> {
+    let mut words = Vec::new(alloc);
+    match env::args(rt) {
+        Ok(args) => {
+            for word in args.skip(1) {
+                words.push(word)?;
+            }
+        }
+        Err(fault) if fault.kind() == ErrorKind::OutOfMemory => return Err(AllocError),
+        Err(_) => words.push(String::new(alloc))?,
+    }
+    Ok(words)
+}

@@ -1,0 +1,12 @@
+pub mod Bytes
+pub mod Config
+pub mod Counts
+pub mod Host
+pub mod Ident
+pub mod Listed
+pub mod MemSink
+pub mod Name
+pub mod Padded
+pub mod PartText
+pub mod Sink
+pub mod Text

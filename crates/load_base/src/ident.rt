@@ -1,0 +1,67 @@
+//! The names of targets: of their hardware, their positions and themselves.
+ghost use Rattle.std.specs.Prelude.{◌≡◌, ◌↔◌, IsOk, IfOk, IfErr, IsTrue};
+ghost use Rattle.load_base.specs.Ident.{IsIdent, IsIdentFault, is_ident_byte as is_good};
+
+use crate::padded::Padded;
+use std::marker::Model;
+
+/// Why bytes are no [`Ident`].
+#[derive(Clone, Copy, Debug, PartialEq, Eq)]
+pub enum IdentFault {
+    /// I1: not 1 to 20 bytes. The number found.
+    Length(u64),
+    /// I2: a byte that no Ident has. Its place, from 0.
+    BadByte(u64),
+}
+
+/// The name of a kind of hardware, of a position or of one target: 1 to 20 bytes, each `A` to `Z`,
+/// `0` to `9` or `-`.
+#[derive(Clone, Copy)]
+pub struct Ident {
+    text: Padded<20>,
+}
+
+impl Model for Ident {
+    ghost use Rattle.std.specs.Prelude.{List, ℕ};
+    ghost use Rattle.load_base.specs.Ident.{IsIdent};
+
+    ghost Value = { List ℕ };
+
+    ghost view = { λ ident. ident.text };
+
+    ghost invariant = { λ ident. IsIdent ident.text };
+
+    ghost inverse = { λ text. record { text = text } };
+}
+
+impl Ident {
+    /// Reads a whole text. Its length is tested first, and then its bytes in their order.
+    pub fn read(bytes: &[u8]) -> Result<Ident, IdentFault>
+        ensures found { IfOk result (λ ident. (ident ≡ bytes.now) × IsIdent bytes.now) }
+        ensures only { IsIdent bytes.now → IsOk result }
+        ensures refused { IfErr result (λ fault. IsIdentFault bytes.now fault) }
+    {
+        if bytes.is_empty() || bytes.len() > 20 {
+            return Err(IdentFault::Length(bytes.len() as u64));
+        }
+        match bytes.iter().position(|byte| !is_ident_byte(*byte)) {
+            Some(place) => Err(IdentFault::BadByte(place as u64)),
+            None => Ok(Ident {
+                text: Padded::new(bytes),
+            }),
+        }
+    }
+
+    pub fn as_slice(&self) -> &[u8]
+        ensures bytes { result.now ≡ self.now }
+        ensures is_ident { IsIdent self.now }
+    {
+        self.text.as_slice()
+    }
+}
+
+fn is_ident_byte(byte: u8) -> bool
+    ensures { result ≡ is_good byte }
+{
+    matches!(byte, b'A'..=b'Z' | b'0'..=b'9' | b'-')
+}

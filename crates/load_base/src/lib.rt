@@ -1,0 +1,22 @@
+//! What every other crate stands on: lists that can reserve room, the texts of loads and targets, the
+//! configuration of a target, the host that keeps files, and the sink that output goes to.
+#![tactic(auto)]
+
+mod config;
+mod host;
+mod ident;
+mod list;
+mod name;
+mod padded;
+mod part_text;
+mod sink;
+mod text;
+
+pub use config::{Config, Load, StoredFile};
+pub use host::{Host, LONGEST_FILE, ReadFault};
+pub use ident::{Ident, IdentFault};
+pub use list::{Bytes, List, NoMemory};
+pub use name::{Name, NameFault};
+pub use part_text::{PartText, PartTextFault};
+pub use sink::{MemSink, Sink, StdSink, WriteFault};
+pub use text::{Text, TextFault};

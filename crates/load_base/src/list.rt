@@ -1,0 +1,118 @@
+//! Lists that can reserve room.
+ghost use Rattle.std.specs.Prelude.{◌≡◌, ℕ, ◌+◌, ◌<◌, ◌≤◌, ◌↔◌, [], ◌∷◌, ◌++◌, length, IsOk, IsTrue, IsNone, IfNone, IfSome, OnOk, OnErr};
+
+use std::alloc::{AllocError, AllocFailed, Global};
+use std::marker::Model;
+
+/// Memory is wanting: the one refusal that no input causes.
+#[derive(Clone, Copy, Debug, PartialEq, Eq)]
+pub struct NoMemory;
+
+impl From<AllocError> for NoMemory {
+    fn from(_: AllocError) -> NoMemory {
+        NoMemory
+    }
+}
+
+impl<T: Drop> From<AllocFailed<T>> for NoMemory {
+    fn from(_: AllocFailed<T>) -> NoMemory {
+        NoMemory
+    }
+}
+
+/// A list that can reserve room, so that later pushes take no memory.
+///
+/// A contract sees it as its members, `items`, and its `room`: how many pushes surely take no memory.
+#[derive(Drop)]
+pub struct List<T> {
+    inner: Vec<T>,
+}
+
+/// The bytes of a file, a text or a datagram.
+pub type Bytes = List<u8>;
+
+impl<T> Model for List<T> {
+    ghost use Rattle.std.specs.Prelude.{◌-◌, vec_len, vec_capacity};
+    ghost use Rattle.load_base.specs.Listed.{Listed, listed_code};
+
+    ghost Value = { Listed T };
+
+    ghost coded = { listed_code T.code };
+
+    ghost view = { λ l. record { items = l.inner.items; room = vec_capacity l.inner - vec_len l.inner } };
+}
+
+impl<T> List<T> {
+    /// An empty list. It takes no memory yet.
+    pub fn new(alloc: Global) -> List<T>
+        ensures { result.items ≡ [] }
+    {
+        List {
+            inner: Vec::new(alloc),
+        }
+    }
+
+    /// Adds a member at the end. One that isn't taken is dropped.
+    pub fn push(&mut self, value: T) -> Result<(), NoMemory>
+    where
+        T: Drop,
+        ensures ok { OnOk result (self.new.items ≡ self.old.items ++ value ∷ []) }
+        ensures err { OnErr result (self.new.items ≡ self.old.items) }
+        ensures room { self.old.room ≤ self.new.room + 1 }
+        ensures has_room { 1 ≤ self.old.room → IsOk result }
+    {
+        self.inner.push(value)?;
+        Ok(())
+    }
+
+    /// Makes room for so many more pushes.
+    pub fn reserve(&mut self, more: usize) -> Result<(), NoMemory>
+        ensures ok { OnOk result (more ≤ self.new.room) }
+        ensures items { self.new.items ≡ self.old.items }
+        ensures room { self.old.room ≤ self.new.room }
+    {
+        self.inner.reserve(more)?;
+        Ok(())
+    }
+
+    /// Takes the last member off, and leaves room for one more push.
+    pub fn pop(&mut self) -> Option<T>
+        ensures last { IfSome result (λ value. self.old.items ≡ self.new.items ++ value ∷ []) }
+        ensures room { IfSome result (λ _. self.new.room ≡ self.old.room + 1) }
+        ensures empty { IsNone result ↔ (self.old.items ≡ []) }
+        ensures same { IfNone result (self.new ≡ self.old) }
+    {
+        self.inner.pop()
+    }
+
+    pub fn as_slice(&self) -> &[T]
+        ensures { result.now ≡ self.now.items }
+    {
+        self.inner.as_slice()
+    }
+
+    pub fn len(&self) -> usize
+        ensures { result ≡ length self.now.items }
+    {
+        self.inner.len()
+    }
+
+    pub fn is_empty(&self) -> bool
+        ensures { IsTrue result ↔ (self.now.items ≡ []) }
+    {
+        self.inner.is_empty()
+    }
+}
+
+impl List<u8> {
+    /// Adds all the bytes at the end, or none.
+    pub fn extend(&mut self, bytes: &[u8]) -> Result<(), NoMemory>
+        ensures ok { OnOk result (self.new.items ≡ self.old.items ++ bytes.now) }
+        ensures err { OnErr result (self.new.items ≡ self.old.items) }
+        ensures room { self.old.room ≤ self.new.room + length bytes.now }
+        ensures has_room { length bytes.now ≤ self.old.room → IsOk result }
+    {
+        self.inner.extend_from_slice(bytes)?;
+        Ok(())
+    }
+}

@@ -1,0 +1,84 @@
+//! The names of files.
+ghost use Rattle.std.specs.Prelude.{◌≡◌, IsOk, IfOk, IfErr, IfSome, IfNone};
+ghost use Rattle.load_base.specs.Bytes.{AllGood, IsFirstBad};
+ghost use Rattle.load_base.specs.Name.{IsName, IsNameFault, is_name_byte as is_good};
+
+use crate::padded::Padded;
+use std::marker::Model;
+
+/// Why bytes are no [`Name`].
+#[derive(Clone, Copy, Debug, PartialEq, Eq)]
+pub enum NameFault {
+    /// N1: no byte at all.
+    Empty,
+    /// N2: more than 64 bytes.
+    TooLong,
+    /// N3: a byte that no Name has there. Its place, from 0.
+    BadByte(u64),
+}
+
+/// The name of a file of a load or a media set: 1 to 64 bytes 0x21 to 0x7E without `/` and `\`, of
+/// which the first isn't `.`. So no name leads out of its folder.
+#[derive(Clone, Copy)]
+pub struct Name {
+    text: Padded<64>,
+}
+
+impl Model for Name {
+    ghost use Rattle.std.specs.Prelude.{List, ℕ};
+    ghost use Rattle.load_base.specs.Name.{IsName};
+
+    ghost Value = { List ℕ };
+
+    ghost view = { λ name. name.text };
+
+    ghost invariant = { λ name. IsName name.text };
+
+    ghost inverse = { λ text. record { text = text } };
+}
+
+impl Name {
+    /// Reads a whole text. Its length is tested first, and then its bytes in their order.
+    pub fn read(bytes: &[u8]) -> Result<Name, NameFault>
+        ensures found { IfOk result (λ name. (name ≡ bytes.now) × IsName bytes.now) }
+        ensures only { IsName bytes.now → IsOk result }
+        ensures refused { IfErr result (λ fault. IsNameFault bytes.now fault) }
+    {
+        if bytes.is_empty() {
+            return Err(NameFault::Empty);
+        }
+        if bytes.len() > 64 {
+            return Err(NameFault::TooLong);
+        }
+        if bytes[0] == b'.' {
+            return Err(NameFault::BadByte(0));
+        }
+        match first_bad(bytes) {
+            Some(place) => Err(NameFault::BadByte(place as u64)),
+            None => Ok(Name {
+                text: Padded::new(bytes),
+            }),
+        }
+    }
+
+    pub fn as_slice(&self) -> &[u8]
+        ensures bytes { result.now ≡ self.now }
+        ensures is_name { IsName self.now }
+    {
+        self.text.as_slice()
+    }
+}
+
+// The place of the first byte that no Name has.
+fn first_bad(bytes: &[u8]) -> Option<usize>
+    ensures none { IfNone result (AllGood is_good bytes.now) }
+    ensures first { IfSome result (λ place. IsFirstBad is_good bytes.now place) }
+{
+    bytes.iter().position(|byte| !is_name_byte(*byte))
+}
+
+fn is_name_byte(byte: u8) -> bool
+    ensures { result ≡ is_good byte }
+{
+    matches!(byte, 0x21..=0x7E) && byte != b'/' && byte != b'\\'
+}

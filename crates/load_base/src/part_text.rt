@@ -1,0 +1,66 @@
+//! The part numbers of loads, as text.
+ghost use Rattle.std.specs.Prelude.{◌≡◌, IsOk, IfOk, IfErr};
+ghost use Rattle.load_base.specs.PartText.{IsPartText, IsPartTextFault, is_graphic as is_good};
+
+use std::marker::Model;
+
+/// Why bytes are no [`PartText`].
+#[derive(Clone, Copy, Debug, PartialEq, Eq)]
+pub enum PartTextFault {
+    /// Y1: not 15 bytes. The number found.
+    Length(u64),
+    /// Y2: a byte that isn't 0x21 to 0x7E. Its place, from 0.
+    BadByte(u64),
+}
+
+/// A part number as it is written in a request, a manifest or a report: 15 bytes 0x21 to 0x7E. Its
+/// check characters aren't tested.
+#[derive(Clone, Copy)]
+pub struct PartText {
+    bytes: [u8; 15],
+}
+
+impl Model for PartText {
+    ghost use Rattle.std.specs.Prelude.{List, ℕ};
+    ghost use Rattle.load_base.specs.PartText.{IsPartText};
+
+    ghost Value = { List ℕ };
+
+    ghost view = { λ part. part.bytes };
+
+    ghost invariant = { λ part. IsPartText part.bytes };
+
+    ghost inverse = { λ text. record { bytes = text } };
+}
+
+impl PartText {
+    /// Reads a whole text. Its length is tested first, and then its bytes in their order.
+    pub fn read(bytes: &[u8]) -> Result<PartText, PartTextFault>
+        ensures found { IfOk result (λ part. (part ≡ bytes.now) × IsPartText bytes.now) }
+        ensures only { IsPartText bytes.now → IsOk result }
+        ensures refused { IfErr result (λ fault. IsPartTextFault bytes.now fault) }
+    {
+        if bytes.len() != 15 {
+            return Err(PartTextFault::Length(bytes.len() as u64));
+        }
+        if let Some(place) = bytes.iter().position(|byte| !is_graphic(*byte)) {
+            return Err(PartTextFault::BadByte(place as u64));
+        }
+        let mut part = [0; 15];
+        part.copy_from_slice(bytes);
+        Ok(PartText { bytes: part })
+    }
+
+    pub fn as_slice(&self) -> &[u8]
+        ensures bytes { result.now ≡ self.now }
+        ensures is_part { IsPartText self.now }
+    {
+        &self.bytes
+    }
+}
+
+fn is_graphic(byte: u8) -> bool
+    ensures { result ≡ is_good byte }
+{
+    matches!(byte, 0x21..=0x7E)
+}

@@ -1,0 +1,76 @@
+//! Texts that people read.
+ghost use Rattle.std.specs.Prelude.{◌≡◌, ◌<◌, IsOk, IfOk, IfErr, IsErrOf};
+ghost use Rattle.load_base.specs.Text.{IsText, IsTextFault, is_printable as is_good};
+ghost use Rattle.load_base.specs.declared.text.TextFault.TheVariants.{Memory};
+
+use crate::{Bytes, NoMemory};
+use std::alloc::Global;
+use std::marker::Model;
+
+/// Why bytes are no [`Text`].
+#[derive(Clone, Copy, Debug, PartialEq, Eq)]
+pub enum TextFault {
+    /// X1: more than 255 bytes. The number found.
+    TooLong(u64),
+    /// X2: a byte that isn't 0x20 to 0x7E. Its place, from 0.
+    BadByte(u64),
+    /// Memory is wanting.
+    Memory,
+}
+
+impl From<NoMemory> for TextFault {
+    ghost from_gives = { λ _ fault. fault ≡ Memory };
+
+    fn from(_: NoMemory) -> TextFault {
+        TextFault::Memory
+    }
+}
+
+/// A description, a type name or the like: 0 to 255 bytes 0x20 to 0x7E.
+#[derive(Drop)]
+pub struct Text {
+    bytes: Bytes,
+}
+
+impl Model for Text {
+    ghost use Rattle.std.specs.Prelude.{List, ℕ};
+    ghost use Rattle.load_base.specs.Text.{IsText};
+
+    ghost Value = { List ℕ };
+
+    ghost view = { λ text. text.bytes.items };
+
+    ghost invariant = { λ text. IsText text.bytes.items };
+}
+
+impl Text {
+    /// Reads a whole text. Its length is tested first, and then its bytes in their order.
+    pub fn read(alloc: Global, bytes: &[u8]) -> Result<Text, TextFault>
+        ensures found { IfOk result (λ text. (text ≡ bytes.now) × IsText bytes.now) }
+        ensures only { IsText bytes.now → ¬ IsErrOf result Memory → IsOk result }
+        ensures refused { IfErr result (λ fault. IsTextFault bytes.now fault) }
+    {
+        if bytes.len() > 255 {
+            return Err(TextFault::TooLong(bytes.len() as u64));
+        }
+        if let Some(place) = bytes.iter().position(|byte| !is_printable(*byte)) {
+            return Err(TextFault::BadByte(place as u64));
+        }
+        let mut copy = Bytes::new(alloc);
+        copy.extend(bytes)?;
+        Ok(Text { bytes: copy })
+    }
+
+    pub fn as_slice(&self) -> &[u8]
+        ensures bytes { result.now ≡ self.now }
+        ensures is_text { IsText self.now }
+    {
+        self.bytes.as_slice()
+    }
+}
+
+fn is_printable(byte: u8) -> bool
+    ensures { result ≡ is_good byte }
+{
+    matches!(byte, 0x20..=0x7E)
+}

@@ -1,0 +1,76 @@
+-- The texts that are printed (docs/FORMATS.md, "Printed text").
+use Rattle.std.specs.Prelude.{ℕ, ◌+◌, ◌-◌, ◌/◌, ◌%◌, nat_lt, if◌then◌else◌, List, [], ◌∷◌, ◌++◌, length, codes}
+use Rattle.std.specs.List.{flat_map}
+use Rattle.std.specs.Fmt.{decimal}
+use Rattle.load_base.specs.Config.{FileView, LoadView}
+use Rattle.crc_fields.specs.CheckSums.{crc16_of}
+use Rattle.disk_layout.specs.Stands.{StandingView}
+use Rattle.disk_layout.specs.declared.identity.Identity.{Identity}
+use Rattle.disk_layout.specs.declared.fault.RecoverFault.{RecoverFault}
+use Rattle.disk_layout.specs.declared.fault.RecoverFault.TheVariants.{NotFormatted, NoOpenSlot, BadSlot, BadManifest, LoadsNotBuilt, DiskFailed, Memory}
+
+-- words with one space between them, and a line feed
+abbrev pub line : List (List ℕ) → List ℕ
+line [] = 10 ∷ []
+line (word ∷ []) = word ++ 10 ∷ []
+line (word ∷ words) = word ++ 32 ∷ line words
+
+-- an upper-case hexadecimal digit
+abbrev pub hex_digit : ℕ → ℕ
+hex_digit digit = if nat_lt digit 10 then digit + 48 else digit - 10 + 65
+
+-- four of them
+abbrev pub hex_16 : ℕ → List ℕ
+hex_16 number = hex_digit (number / 4096) ∷ hex_digit (number / 256 % 16) ∷ hex_digit (number / 16 % 16) ∷ hex_digit (number % 16) ∷ []
+
+-- ---- the listing
+
+-- `target HW POS SERIAL`
+abbrev pub target_line : Identity → List ℕ
+target_line id = line (codes "target" ∷ id.hw ∷ id.pos ∷ id.serial ∷ [])
+
+-- `bank BANK sequence SEQUENCE`
+abbrev pub bank_line : (bank sequence : ℕ) → List ℕ
+bank_line bank sequence = line (codes "bank" ∷ decimal bank ∷ codes "sequence" ∷ decimal sequence ∷ [])
+
+-- `loads COUNT`
+abbrev pub loads_line : (count : ℕ) → List ℕ
+loads_line count = line (codes "loads" ∷ decimal count ∷ [])
+
+-- `file NAME LENGTH CRC`, the CRC-16 of its contents in hexadecimal
+unfoldable pub file_line : FileView → List ℕ
+file_line file = line (codes "file" ∷ file.name ∷ decimal (length file.bytes) ∷ hex_16 (crc16_of file.bytes) ∷ [])
+
+-- `load PART HEADER FILES`, with the number of its files
+unfoldable pub load_line : LoadView → List ℕ
+load_line load = line (codes "load" ∷ load.part ∷ load.header_name ∷ decimal (length load.files) ∷ [])
+
+-- a load, and each of its files
+unfoldable pub load_lines : LoadView → List ℕ
+load_lines load = load_line load ++ flat_map file_line load.files
+
+-- what a disk stands for
+abbrev pub listing : StandingView → List ℕ
+listing s = target_line s.identity ++ bank_line s.bank s.sequence ++ loads_line (length s.loads) ++ flat_map load_lines s.loads
+
+-- ---- refusals
+
+-- The code of a fault. Those of the disk and of memory aren't printed so.
+abbrev pub fault_code : RecoverFault → List ℕ
+fault_code NotFormatted = codes "V1"
+fault_code NoOpenSlot = codes "V2"
+fault_code BadSlot = codes "V3"
+fault_code BadManifest = codes "V4"
+fault_code LoadsNotBuilt = codes "V5"
+fault_code DiskFailed = []
+fault_code Memory = []
+
+-- `no configuration CODE`
+abbrev pub no_configuration : RecoverFault → List ℕ
+no_configuration fault = line (codes "no" ∷ codes "configuration" ∷ fault_code fault ∷ [])
+
+abbrev pub refused_words : List ℕ
+refused_words = line (codes "refused" ∷ codes "words" ∷ [])
+
+abbrev pub disk_fault : List ℕ
+disk_fault = line (codes "disk" ∷ codes "fault" ∷ [])

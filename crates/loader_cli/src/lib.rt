@@ -1,0 +1,13 @@
+//! The top call: what the program does on its words, what it prints, and with which status it ends.
+#![tactic(auto)]
+
+mod command;
+mod ended;
+mod text;
+
+pub use ended::{Ended, run};
+pub use recovery;
+pub use text::listing_text;
+
+#[cfg(test)]
+mod tests;

@@ -1,0 +1,255 @@
+use super::*;
+use disk_model::{FileDisk, MemDisk};
+use load_base::{Bytes, Config, Ident, List, Load, MemSink, Name, PartText, StdSink, StoredFile};
+use recovery::{Identity, Standing};
+use std::alloc::Global;
+use std::fs;
+use std::test::Fail;
+
+// The bytes of a disk up to the end of its first manifest.
+const DISK: usize = 8194;
+
+// A disk that was formatted for target HW1, position L, serial number SN1, with banks of 4096 bytes.
+fn formatted() -> [u8; DISK] {
+    let mut disk = [0; DISK];
+    disk[..22].copy_from_slice(&[
+        0x41, 0x36, 0x31, 0x35, 0, 1, 0, 0, 0x10, 0, 3, 0x48, 0x57, 0x31, 1, 0x4C, 3, 0x53, 0x4E,
+        0x31, 0xB4, 0x3C,
+    ]);
+    disk[4096] = 0xA5;
+    disk[4112..4125].copy_from_slice(&[0, 0, 0, 1, 0, 0, 0, 0, 0, 0, 0, 0, 2]);
+    disk
+}
+
+// The same disk with these bytes from a place on.
+fn changed(at: usize, bytes: &[u8]) -> [u8; DISK] {
+    let mut disk = formatted();
+    for (i, byte) in bytes.iter().enumerate() {
+        if let Some(cell) = disk.get_mut(at.wrapping_add(i)) {
+            *cell = *byte;
+        }
+    }
+    disk
+}
+
+fn words_of(alloc: Global, words: &[&str]) -> Result<Vec<String>, Fail> {
+    let mut all = Vec::new(alloc);
+    for word in words {
+        all.push(String::from_str(alloc, word)?)?;
+    }
+    Ok(all)
+}
+
+// The status of a run on this disk, and the sink that it put its text in.
+fn run_on(alloc: Global, words: &[String], disk: [u8; DISK]) -> Result<(u8, MemSink), Fail> {
+    let mut disk = MemDisk::new(alloc, &disk)?;
+    let mut out = MemSink::new(alloc);
+    let ended = run(alloc, words, &mut out, &mut disk);
+    Ok((ended.status, out))
+}
+
+#[test]
+fn lists_what_rules_or_says_why_not(rt: HostRuntime) -> Result<(), Fail> {
+    let alloc = rt.alloc();
+    let words = words_of(alloc, &["list"])?;
+    let mut two_slots = changed(4112, &[0, 0, 0, 7]);
+    two_slots[4608] = 0xA5;
+    two_slots[4624..4637].copy_from_slice(&[0, 0, 0, 8, 1, 0, 0, 0, 0, 0, 0, 0, 2]);
+    let mut tie = two_slots;
+    tie[4627] = 7;
+    let mut second_shut = two_slots;
+    second_shut[4608] = 0x5A;
+    let listing = "target HW1 L SN1\nbank 0 sequence 1\nloads 0\n";
+    let seventh = "target HW1 L SN1\nbank 0 sequence 7\nloads 0\n";
+    let rows = [
+        ("zeros", [0; DISK], 8, "no configuration V1\n"),
+        ("formatted", formatted(), 0, listing),
+        (
+            "two slots",
+            two_slots,
+            0,
+            "target HW1 L SN1\nbank 1 sequence 8\nloads 0\n",
+        ),
+        ("a tie", tie, 0, seventh),
+        ("slot B shut", second_shut, 0, seventh),
+        (
+            "another layout",
+            changed(5, &[2]),
+            8,
+            "no configuration V1\n",
+        ),
+        (
+            "another sum",
+            changed(21, &[0x3D]),
+            8,
+            "no configuration V1\n",
+        ),
+        ("shut", changed(4096, &[0]), 8, "no configuration V2\n"),
+        ("bank 2", changed(4116, &[2]), 8, "no configuration V3\n"),
+        (
+            "past the bank",
+            changed(4117, &[0, 0, 0x0F, 0xFF]),
+            8,
+            "no configuration V3\n",
+        ),
+        (
+            "no count",
+            changed(4121, &[0, 0, 0, 1]),
+            8,
+            "no configuration V4\n",
+        ),
+        (
+            "a rest",
+            changed(4121, &[0, 0, 0, 3]),
+            8,
+            "no configuration V4\n",
+        ),
+        (
+            "contents",
+            changed(4117, &[0, 0, 0, 1]),
+            8,
+            "no configuration V4\n",
+        ),
+        ("a load", changed(8192, &[0, 1]), 8, "no configuration V5\n"),
+    ];
+    for (name, bytes, status, text) in rows {
+        let (found, out) = run_on(alloc, &words, bytes)?;
+        assert_eq!(rt; found, status, "{name}");
+        assert_eq!(rt; out.as_slice(), text.as_bytes(), "{name}");
+    }
+    Ok(())
+}
+
+#[test]
+fn refuses_all_other_words(rt: HostRuntime) -> Result<(), Fail> {
+    let alloc = rt.alloc();
+    for words in [
+        &[][..],
+        &["frob"],
+        &[""],
+        &["LIST"],
+        &["list", "list"],
+        &["list", ""],
+        &["--help"],
+    ] {
+        let words = words_of(alloc, words)?;
+        let (status, out) = run_on(alloc, &words, formatted())?;
+        assert_eq!(rt; status, 2);
+        assert_eq!(rt; out.as_slice(), b"refused words\n".as_slice());
+    }
+    Ok(())
+}
+
+// The disk is read four times: for the identity, each slot, and the manifest.
+#[test]
+fn each_disk_read_fails_in_turn(rt: HostRuntime) -> Result<(), Fail> {
+    let alloc = rt.alloc();
+    let words = words_of(alloc, &["list"])?;
+    for (call, status, text) in [
+        (1, 5, "disk fault\n"),
+        (2, 5, "disk fault\n"),
+        (3, 5, "disk fault\n"),
+        (4, 5, "disk fault\n"),
+        (5, 0, "target HW1 L SN1\nbank 0 sequence 1\nloads 0\n"),
+    ] {
+        let mut disk = MemDisk::new(alloc, &formatted())?;
+        disk.fail_at(call)?;
+        let mut out = MemSink::new(alloc);
+        let ended = run(alloc, &words, &mut out, &mut disk);
+        assert_eq!(rt; ended.status, status, "call {call}");
+        assert_eq!(rt; out.as_slice(), text.as_bytes(), "call {call}");
+    }
+    Ok(())
+}
+
+#[test]
+fn a_sink_that_fails(rt: HostRuntime) -> Result<(), Fail> {
+    let alloc = rt.alloc();
+    for words in [&["list"][..], &["frob"]] {
+        let words = words_of(alloc, words)?;
+        let mut disk = MemDisk::new(alloc, &formatted())?;
+        let mut out = MemSink::new(alloc);
+        out.fail_at(1)?;
+        let ended = run(alloc, &words, &mut out, &mut disk);
+        assert_eq!(rt; ended.status, 7);
+        assert_eq!(rt; out.as_slice(), b"".as_slice());
+    }
+    Ok(())
+}
+
+fn ident(text: &str) -> Result<Ident, Fail> {
+    Ok(Ident::read(text.as_bytes())?)
+}
+
+fn name(text: &str) -> Result<Name, Fail> {
+    Ok(Name::read(text.as_bytes())?)
+}
+
+fn file(alloc: Global, text: &str, contents: &[u8]) -> Result<StoredFile, Fail> {
+    let mut bytes = Bytes::new(alloc);
+    bytes.extend(contents)?;
+    Ok(StoredFile {
+        name: name(text)?,
+        bytes,
+    })
+}
+
+#[test]
+fn lists_loads_with_their_files(rt: HostRuntime) -> Result<(), Fail> {
+    let alloc = rt.alloc();
+    let mut files = List::new(alloc);
+    files.push(file(alloc, "APP.LUH", b"")?)?;
+    files.push(file(alloc, "APP.BIN", b"123456789")?)?;
+    let mut loads = List::new(alloc);
+    loads.push(Load {
+        part: PartText::read(b"ABC41-0000-0001")?,
+        header_name: name("APP.LUH")?,
+        files,
+    })?;
+    let standing = Standing {
+        identity: Identity {
+            hw: ident("HW1")?,
+            pos: ident("L")?,
+            serial: ident("SN1")?,
+            bank: 4096,
+        },
+        bank: 1,
+        sequence: 4_294_967_295,
+        config: Config { loads },
+    };
+    let text = listing_text(alloc, &standing)?;
+    let expected = b"target HW1 L SN1
+bank 1 sequence 4294967295
+loads 1
+load ABC41-0000-0001 APP.LUH 2
+file APP.LUH 0 FFFF
+file APP.BIN 9 29B1
+";
+    assert_eq!(rt; text.as_slice(), expected.as_slice());
+    Ok(())
+}
+
+// Over standard output and files: a disk that was written by hand, one that is missing and is made, and a
+// folder in its place.
+#[test]
+fn the_real_sink_and_the_real_disk(rt: HostRuntime) -> Result<(), Fail> {
+    let alloc = rt.alloc();
+    let words = words_of(alloc, &["list"])?;
+    fs::write(&rt, "listed.disk", formatted().as_slice())?;
+    fs::create_dir(&rt, "folder.disk")?;
+    for (name, status) in [("listed.disk", 0), ("missing.disk", 8), ("folder.disk", 5)] {
+        let mut out = StdSink::new(&rt);
+        let mut disk = FileDisk::new(&rt, name);
+        let ended = run(alloc, &words, &mut out, &mut disk);
+        assert_eq!(rt; ended.status, status, "{name}");
+    }
+    assert_eq!(rt;
+        fs::read(&rt, "listed.disk")?.as_slice(),
+        formatted().as_slice()
+    );
+    assert_eq!(rt; fs::read(&rt, "missing.disk")?.len(), 0);
+    fs::remove_file(&rt, "listed.disk")?;
+    fs::remove_file(&rt, "missing.disk")?;
+    fs::remove_dir(&rt, "folder.disk")?;
+    Ok(())
+}

@@ -1,0 +1,169 @@
+//! The texts that are printed.
+ghost use Rattle.std.specs.Prelude.{◌≡◌, ◌<◌, [], ◌∷◌, ◌++◌, length, codes, map, OnOk, IfOk};
+ghost use Rattle.std.specs.Fmt.{decimal};
+ghost use Rattle.std.specs.List.{flat_map};
+ghost use Rattle.load_base.specs.Config.{file_view, load_view};
+ghost use Rattle.disk_layout.specs.Stands.{standing_view};
+ghost use Rattle.loader_cli.specs.Texts.{line, hex_digit as hex_digit_of, hex_16, file_line, load_line, load_lines, target_line, bank_line, loads_line, listing, fault_code, no_configuration};
+
+use crc_fields::crc16;
+use disk_layout::{Identity, RecoverFault, Standing};
+use load_base::{Bytes, Load, NoMemory, StoredFile};
+use std::alloc::Global;
+
+/// The listing of what a disk stands for: its target, the bank that rules with its sequence, and each load
+/// with its files.
+pub fn listing_text(alloc: Global, standing: &Standing) -> Result<Bytes, NoMemory>
+    ensures { IfOk result (λ text. text.items ≡ listing (standing_view standing.now)) }
+{
+    let mut out = Bytes::new(alloc);
+    put_target(&mut out, &standing.identity)?;
+    put_bank(alloc, &mut out, standing.bank, standing.sequence)?;
+    put_count(alloc, &mut out, standing.config.loads.len())?;
+    put_loads(alloc, &mut out, standing.config.loads.as_slice())?;
+    Ok(out)
+}
+
+/// Why there is no listing.
+pub(crate) fn no_configuration_text(alloc: Global, fault: RecoverFault) -> Result<Bytes, NoMemory>
+    ensures { IfOk result (λ text. text.items ≡ no_configuration fault) }
+{
+    let mut out = Bytes::new(alloc);
+    out.extend(b"no configuration ")?;
+    out.extend(code_of(fault))?;
+    out.extend(b"\n")?;
+    Ok(out)
+}
+
+fn code_of(fault: RecoverFault) -> &'static [u8]
+    ensures { result.now ≡ fault_code fault }
+{
+    match fault {
+        RecoverFault::NotFormatted => b"V1",
+        RecoverFault::NoOpenSlot => b"V2",
+        RecoverFault::BadSlot => b"V3",
+        RecoverFault::BadManifest => b"V4",
+        RecoverFault::LoadsNotBuilt => b"V5",
+        RecoverFault::DiskFailed | RecoverFault::Memory => b"",
+    }
+}
+
+/// These bytes as a text of their own.
+pub(crate) fn text_of(alloc: Global, bytes: &[u8]) -> Result<Bytes, NoMemory>
+    ensures { IfOk result (λ text. text.items ≡ bytes.now) }
+{
+    let mut out = Bytes::new(alloc);
+    out.extend(bytes)?;
+    Ok(out)
+}
+
+fn put_target(out: &mut Bytes, identity: &Identity) -> Result<(), NoMemory>
+    ensures { OnOk result (out.new.items ≡ out.old.items ++ target_line identity.now) }
+{
+    out.extend(b"target ")?;
+    out.extend(identity.hw.as_slice())?;
+    out.extend(b" ")?;
+    out.extend(identity.pos.as_slice())?;
+    out.extend(b" ")?;
+    out.extend(identity.serial.as_slice())?;
+    out.extend(b"\n")
+}
+
+fn put_bank(alloc: Global, out: &mut Bytes, bank: u8, sequence: u32) -> Result<(), NoMemory>
+    ensures { OnOk result (out.new.items ≡ out.old.items ++ bank_line bank sequence) }
+{
+    out.extend(b"bank ")?;
+    put_number(alloc, out, u64::from(bank))?;
+    out.extend(b" sequence ")?;
+    put_number(alloc, out, u64::from(sequence))?;
+    out.extend(b"\n")
+}
+
+fn put_count(alloc: Global, out: &mut Bytes, loads: usize) -> Result<(), NoMemory>
+    ensures { OnOk result (out.new.items ≡ out.old.items ++ loads_line loads) }
+{
+    out.extend(b"loads ")?;
+    put_number(alloc, out, loads as u64)?;
+    out.extend(b"\n")
+}
+
+fn put_loads(alloc: Global, out: &mut Bytes, loads: &[Load]) -> Result<(), NoMemory>
+    ensures { OnOk result (out.new.items ≡ out.old.items ++ flat_map load_lines (map load_view loads.now)) }
+{
+    for load in loads {
+        put_load(alloc, out, load)?;
+    }
+    Ok(())
+}
+
+#[tactic(auto, unfolding(crate::specs::Texts::load_lines))]
+fn put_load(alloc: Global, out: &mut Bytes, load: &Load) -> Result<(), NoMemory>
+    ensures { OnOk result (out.new.items ≡ out.old.items ++ load_lines (load_view load.now)) }
+{
+    put_load_line(alloc, out, load)?;
+    put_files(alloc, out, load.files.as_slice())
+}
+
+#[tactic(auto, unfolding(crate::specs::Texts::load_line))]
+fn put_load_line(alloc: Global, out: &mut Bytes, load: &Load) -> Result<(), NoMemory>
+    ensures { OnOk result (out.new.items ≡ out.old.items ++ load_line (load_view load.now)) }
+{
+    out.extend(b"load ")?;
+    out.extend(load.part.as_slice())?;
+    out.extend(b" ")?;
+    out.extend(load.header_name.as_slice())?;
+    out.extend(b" ")?;
+    put_number(alloc, out, load.files.len() as u64)?;
+    out.extend(b"\n")
+}
+
+fn put_files(alloc: Global, out: &mut Bytes, files: &[StoredFile]) -> Result<(), NoMemory>
+    ensures { OnOk result (out.new.items ≡ out.old.items ++ flat_map file_line (map file_view files.now)) }
+{
+    for file in files {
+        put_file(alloc, out, file)?;
+    }
+    Ok(())
+}
+
+#[tactic(auto, unfolding(crate::specs::Texts::file_line))]
+fn put_file(alloc: Global, out: &mut Bytes, file: &StoredFile) -> Result<(), NoMemory>
+    ensures { OnOk result (out.new.items ≡ out.old.items ++ file_line (file_view file.now)) }
+{
+    out.extend(b"file ")?;
+    out.extend(file.name.as_slice())?;
+    out.extend(b" ")?;
+    put_number(alloc, out, file.bytes.len() as u64)?;
+    out.extend(b" ")?;
+    put_hex_16(out, crc16(file.bytes.as_slice()))?;
+    out.extend(b"\n")
+}
+
+fn put_number(alloc: Global, out: &mut Bytes, number: u64) -> Result<(), NoMemory>
+    ensures { OnOk result (out.new.items ≡ out.old.items ++ decimal number) }
+{
+    let digits = number.to_string(alloc)?;
+    out.extend(digits.as_bytes())
+}
+
+fn put_hex_16(out: &mut Bytes, number: u16) -> Result<(), NoMemory>
+    ensures { OnOk result (out.new.items ≡ out.old.items ++ hex_16 number) }
+{
+    out.extend(&[
+        hex_digit(number / 4096),
+        hex_digit(number / 256 % 16),
+        hex_digit(number / 16 % 16),
+        hex_digit(number % 16),
+    ])
+}
+
+fn hex_digit(digit: u16) -> u8
+    requires { digit < 16 }
+    ensures { result ≡ hex_digit_of digit }
+{
+    if digit < 10 {
+        digit as u8 + b'0'
+    } else {
+        digit as u8 - 10 + b'A'
+    }
+}

@@ -1,0 +1,288 @@
+//! Part numbers with their check digits.
+#![tactic(auto)]
+
+ghost use Rattle.std.specs.Prelude.{◌≡◌, ℕ, ◌<◌, ◌++◌, List, true, false, codes, length, fold, bit_xor, IsOk, IfOk, IfErr, IfSome, IfNone};
+ghost use Rattle.load_base.specs.Bytes.{AllGood};
+ghost use Rattle.load_base.specs.PartText.{IsPartText};
+ghost use Rattle.part_number.specs.PartNumber.{IsPartNumber, IsPartNumberText, IsPartFault, IsFirstBadPlace, HasGoodCharacters, part_number_text, maker_of, product_of, check_digits_of, check_of, hexadecimal, hexadecimal_digit, is_part_character, is_hexadecimal_digit, is_hyphen_place, is_good_at};
+
+use load_base::PartText;
+use std::marker::Model;
+
+/// Why bytes are no [`PartNumber`].
+#[derive(Clone, Copy, Debug, PartialEq, Eq)]
+pub enum PartFault {
+    /// P1: not 15 bytes. The number found.
+    Length(u64),
+    /// P2: another byte where a hyphen has to stand. Its place, 5 or 10.
+    Hyphen(u64),
+    /// P3: a byte that no part number has at its place, from 0: at the places 3 and 4 one that is no
+    /// upper-case hexadecimal digit, and elsewhere one that isn't `A` to `Z` or `0` to `9`.
+    Character(u64),
+    /// P4: the check digits have the value `written`, and the characters give `computed`.
+    Check { written: u8, computed: u8 },
+}
+
+/// A part number, `MMMCC-SSSS-SSSS`: a maker's three and a product's eight characters, each `A` to
+/// `Z` or `0` to `9`, and between them two upper-case hexadecimal digits of the exclusive or of the
+/// eleven. The form is this project's own (docs/FORMATS.md). A contract sees it as its text.
+#[derive(Clone, Copy)]
+pub struct PartNumber {
+    text: [u8; 15],
+}
+
+impl Model for PartNumber {
+    ghost use Rattle.std.specs.Prelude.{List, ℕ};
+    ghost use Rattle.part_number.specs.PartNumber.{IsPartNumberText};
+
+    ghost Value = { List ℕ };
+
+    ghost view = { λ part. part.text };
+
+    ghost invariant = { λ part. IsPartNumberText part.text };
+
+    ghost inverse = { λ text. record { text = text } };
+}
+
+impl PartNumber {
+    /// Reads a whole text. Its length is tested first, then its bytes in their order, and at last its
+    /// check digits.
+    pub fn read(bytes: &[u8]) -> Result<PartNumber, PartFault>
+        ensures found { IfOk result (λ part. (part ≡ bytes.now) × IsPartNumberText bytes.now) }
+        ensures only { IsPartNumberText bytes.now → IsOk result }
+        ensures each_is_read { (maker product : List ℕ) → IsPartNumber bytes.now maker product → IsOk result }
+        ensures refused { IfErr result (λ fault. IsPartFault bytes.now fault) }
+    {
+        let Ok(text) = <[u8; 15]>::try_from(bytes) else {
+            return Err(PartFault::Length(bytes.len() as u64));
+        };
+        match first_fault(&text) {
+            Some(fault) => Err(fault),
+            None => Ok(PartNumber { text }),
+        }
+    }
+
+    /// The part number of a maker and a product. The only refusal is P3, with the place that the first
+    /// wrong character has in the finished text.
+    #[tactic(auto, using(crate::proofs::Faults::fault_of_text, crate::proofs::Read::made_from_text))]
+    pub fn make(maker: &[u8; 3], product: &[u8; 8]) -> Result<PartNumber, PartFault>
+        ensures made { IfOk result (λ part. IsPartNumber part maker.now product.now) }
+        ensures only { AllGood is_part_character maker.now → AllGood is_part_character product.now → IsOk result }
+        ensures refused { IfErr result (λ fault.
+            (place : ℕ) × (fault ≡ PartFault.Character place) × IsFirstBadPlace (part_number_text maker.now product.now) place) }
+    {
+        PartNumber::read(&text_of(maker, product))
+    }
+
+    /// The same text without the promise of its check digits.
+    #[tactic(auto, using(crate::proofs::Texts::part_text_of_part))]
+    pub fn text(&self) -> PartText
+        ensures { result ≡ self.now }
+    {
+        match PartText::read(&self.text) {
+            Ok(text) => text,
+            Err(_) => unreachable!(),
+        }
+    }
+
+    pub fn as_slice(&self) -> &[u8]
+        ensures bytes { result.now ≡ self.now }
+        ensures is_part_number { IsPartNumberText self.now }
+    {
+        &self.text
+    }
+}
+
+/// Laws of part numbers and of their faults, for callers that compare them.
+#[tactic(auto, using(crate::proofs::Laws::laws))]
+pub fn part_number_laws()
+    // A text is the part number of one maker and one product, those that stand in it.
+    ensures one_maker { (text maker product : List ℕ) → IsPartNumber text maker product → maker_of text ≡ maker }
+    ensures one_product { (text maker product : List ℕ) → IsPartNumber text maker product → product_of text ≡ product }
+
+    // So what `make` gives is read as the same.
+    ensures made_is_read { (text maker product : List ℕ) → IsPartNumber text maker product → IsPartNumberText text }
+    ensures is_part_text { (text maker product : List ℕ) → IsPartNumber text maker product → IsPartText text }
+
+    // Bytes are a part number or have a first fault, one and not both.
+    ensures no_fault { (text maker product : List ℕ) (fault : PartFault) → IsPartNumber text maker product → ¬ IsPartFault text fault }
+    ensures one_fault { (text : List ℕ) (fault other : PartFault) → IsPartFault text fault → IsPartFault text other → fault ≡ other }
+
+    ensures known { part_number_text (codes "XYZ") (codes "00000001") ≡ codes "XYZ5A-0000-0001" }
+{}
+
+// The finished text, whether or not its characters are good.
+fn text_of(maker: &[u8; 3], product: &[u8; 8]) -> [u8; 15]
+    ensures { result ≡ part_number_text maker.now product.now }
+{
+    let [m0, m1, m2] = *maker;
+    let [p0, p1, p2, p3, p4, p5, p6, p7] = *product;
+    let check = exclusive_or(maker, &product[..4], &product[4..]);
+    let high = digit_of_value(check / 16);
+    let low = digit_of_value(check % 16);
+    [
+        m0, m1, m2, high, low, b'-', p0, p1, p2, p3, b'-', p4, p5, p6, p7,
+    ]
+}
+
+// The first thing that is wrong with a text of the right length.
+#[tactic(auto, using(crate::proofs::Read::wrong_check))]
+fn first_fault(text: &[u8; 15]) -> Option<PartFault>
+    ensures none { IfNone result (IsPartNumberText text.now) }
+    ensures first { IfSome result (IsPartFault text.now) }
+{
+    if let Some(place) = first_bad(text) {
+        return Some(misplaced(place));
+    }
+    let written = written_check(text);
+    let computed = computed_check(text);
+    if written == computed {
+        None
+    } else {
+        Some(PartFault::Check { written, computed })
+    }
+}
+
+// The first place whose byte isn't good there.
+fn first_bad(text: &[u8]) -> Option<usize>
+    requires { length text.now ≡ 15 }
+    ensures none { IfNone result (HasGoodCharacters text.now) }
+    ensures first { IfSome result (λ place. IsFirstBadPlace text.now place) }
+{
+    text.iter()
+        .enumerate()
+        .position(|(place, byte)| !may_stand_at(place, *byte))
+}
+
+#[tactic(auto, unfolding(crate::specs::PartNumber::is_good_at))]
+fn may_stand_at(place: usize, byte: u8) -> bool
+    ensures { result ≡ is_good_at place byte }
+{
+    match place {
+        5 | 10 => byte == b'-',
+        3 | 4 => matches!(byte, b'0'..=b'9' | b'A'..=b'F'),
+        _ => matches!(byte, b'A'..=b'Z' | b'0'..=b'9'),
+    }
+}
+
+fn misplaced(place: usize) -> PartFault
+    ensures hyphen { is_hyphen_place place ≡ true → result ≡ PartFault.Hyphen place }
+    ensures character { is_hyphen_place place ≡ false → result ≡ PartFault.Character place }
+{
+    match place {
+        5 | 10 => PartFault::Hyphen(place as u64),
+        _ => PartFault::Character(place as u64),
+    }
+}
+
+// The value of the check digits of a text.
+#[tactic(auto, using(crate::proofs::Read::first_digit_is_good, crate::proofs::Read::second_digit_is_good, crate::proofs::Read::values_of_check_digits))]
+fn written_check(text: &[u8; 15]) -> u8
+    requires { HasGoodCharacters text.now }
+    ensures { check_digits_of text.now ≡ hexadecimal result }
+{
+    16 * value_of_digit(text[3]) + value_of_digit(text[4])
+}
+
+// What they have to be.
+#[tactic(auto, using(crate::proofs::Read::sum_of_pieces))]
+fn computed_check(text: &[u8; 15]) -> u8
+    ensures { result ≡ check_of (maker_of text.now) (product_of text.now) }
+{
+    exclusive_or(&text[..3], &text[6..10], &text[11..])
+}
+
+// The exclusive or of the characters of a maker and of both halves of a product.
+fn exclusive_or(maker: &[u8], front: &[u8], back: &[u8]) -> u8
+    ensures { result ≡ fold bit_xor 0 (maker.now ++ front.now ++ back.now) }
+{
+    maker
+        .iter()
+        .chain(front)
+        .chain(back)
+        .fold(0, |sum, character| sum ^ character)
+}
+
+#[tactic(auto, unfolding(crate::specs::PartNumber::hexadecimal_digit))]
+fn digit_of_value(value: u8) -> u8
+    requires { value < 16 }
+    ensures { result ≡ hexadecimal_digit value }
+{
+    if value < 10 {
+        b'0' + value
+    } else {
+        b'A' + (value - 10)
+    }
+}
+
+// The number below 16 whose digit this is.
+#[tactic(auto, unfolding(crate::specs::PartNumber::hexadecimal_digit))]
+fn value_of_digit(digit: u8) -> u8
+    requires { is_hexadecimal_digit digit ≡ true }
+    ensures value { hexadecimal_digit result ≡ digit }
+    ensures small { result < 16 }
+{
+    match digit {
+        b'0'..=b'9' => digit - b'0',
+        _ => digit - b'A' + 10,
+    }
+}
+
+#[cfg(test)]
+mod tests {
+    use super::*;
+
+    /// Each text, and the maker and the product that it is the part number of.
+    const KNOWN: [(&[u8], &[u8; 3], &[u8; 8]); 5] = [
+        (b"ABC48-1234-5678", b"ABC", b"12345678"),
+        (b"ABC41-0000-0001", b"ABC", b"00000001"),
+        (b"ABC42-0000-0002", b"ABC", b"00000002"),
+        (b"ABC43-0000-0003", b"ABC", b"00000003"),
+        (b"XYZ5A-0000-0001", b"XYZ", b"00000001"),
+    ];
+
+    #[test]
+    fn known_part_numbers_are_read_and_made(rt: HostRuntime) {
+        for (text, maker, product) in KNOWN {
+            let read = PartNumber::read(text).expect(&rt, "it is read");
+            let made = PartNumber::make(maker, product).expect(&rt, "it is made");
+            assert_eq!(rt; read.as_slice(), text);
+            assert_eq!(rt; made.as_slice(), text);
+            assert_eq!(rt; made.text().as_slice(), text);
+        }
+    }
+
+    #[test]
+    fn the_first_fault_is_told(rt: HostRuntime) {
+        let wrong_check = PartFault::Check {
+            written: 0x49,
+            computed: 0x48,
+        };
+        for (text, fault) in [
+            (&b"ABC49-1234-5678"[..], wrong_check),
+            (&b"ABC48-1234-567"[..], PartFault::Length(14)),
+            (&b""[..], PartFault::Length(0)),
+            (&b"ABC48_1234-5678"[..], PartFault::Hyphen(5)),
+            (&b"ABC48-1234_5678"[..], PartFault::Hyphen(10)),
+            (&b"ABCa8_1234-5678"[..], PartFault::Character(3)),
+            (&b"ABC4G-1234-5678"[..], PartFault::Character(4)),
+            (&b"ABC48-1234-567z"[..], PartFault::Character(14)),
+        ] {
+            assert_eq!(rt; PartNumber::read(text).err(), Some(fault));
+        }
+    }
+
+    #[test]
+    fn a_wrong_character_is_told_by_its_place_in_the_text(rt: HostRuntime) {
+        for (maker, product, place) in [
+            (b"AbC", b"12345678", 1),
+            (b"ABC", b"a2345678", 6),
+            (b"ABC", b"123x5678", 9),
+            (b"ABC", b"1234x678", 11),
+            (b"ABC", b"1234567x", 14),
+        ] {
+            let fault = PartNumber::make(maker, product).err();
+            assert_eq!(rt; fault, Some(PartFault::Character(place)));
+        }
+    }
+}

@@ -1,0 +1,4 @@
+pub mod IdentityReads
+pub mod Refusals
+pub mod Rulings
+pub mod SlotReads
