@@ -1,3 +1,9 @@
+pub mod FileDisk
 pub mod Image
 pub mod MemDisk
+pub mod Moments
+pub mod Note
+pub mod Replay
+pub mod ReplayLaws
 pub mod State
+pub mod Tearing

@@ -1,5 +1,5 @@
 -- What contracts see of a disk (docs/DISK.md).
-use Rattle.std.specs.Prelude.{◌≡◌, ℕ, ◌≤◌, Bool, Option, Some, Result, is_err, is_some, IsErrOf}
+use Rattle.std.specs.Prelude.{◌≡◌, ◌⊎◌, ℕ, ◌<◌, ◌≤◌, Bool, Option, Some, None, Result, is_err, is_some, IsErrOf, OnOk}
 use Rattle.load_base.specs.Counts.{Rose}
 use Rattle.disk_model.specs.Image.{Image, SameOutside}
 use Rattle.disk_model.specs.declared.disk.DiskFault.{DiskFault}
@@ -10,7 +10,8 @@ pub record DiskState : Type 1 where
   pub reads : Option Image
   -- the images that a power loss now may leave
   pub now : Image → Type 0
-  -- those that a power loss at a moment from one value of the clock to another might have left
+  -- those that a power loss at a moment from one value of the clock to another might have left, where a moment
+  -- inside a call has the clock from before the call
   pub between : ℕ → ℕ → Image → Type 0
   -- a number that goes on at each write, sync and restart, and at no read
   pub clock : ℕ
@@ -20,6 +21,10 @@ pub record DiskState : Type 1 where
   -- it takes no call until the next restart
   pub stopped : Bool
 
+-- a power loss now leaves what a read gives
+pub record IsSettled (disk : DiskState) : Type 0 where
+  pub only : (image : Image) → disk.now image → disk.reads ≡ Some image
+
 -- so many places from this one on may hold anything after a power loss
 pub record Closed (disk : DiskState) (at n : ℕ) : Type 0 where
   pub each : (old new : Image) → disk.now old → SameOutside at n old new → disk.now new
@@ -28,8 +33,8 @@ pub record Closed (disk : DiskState) (at n : ℕ) : Type 0 where
 abbrev pub KeepsClosed : DiskState → DiskState → Type 0
 KeepsClosed old new = (at n : ℕ) → Closed old at n → Closed new at n
 
--- Nothing was written: the clock stands, and no image came that wasn't there. No count falls, and the disk
--- goes on telling its content, or not.
+-- Nothing was written: the clock stands, no image came that wasn't there, and none that might have been left is
+-- lost. No count falls, and the disk goes on telling its content, or not.
 pub record OnlyReads (old new : DiskState) : Type 0 where
   pub tells : is_some new.reads ≡ is_some old.reads
   pub faults : old.faults ≤ new.faults
@@ -37,7 +42,28 @@ pub record OnlyReads (old new : DiskState) : Type 0 where
   pub clock : new.clock ≡ old.clock
   pub now : (image : Image) → new.now image → old.now image
   pub between : (t u : ℕ) (image : Image) → new.between t u image → old.between t u image
+  pub keeps : (t u : ℕ) (image : Image) → old.between t u image → new.between t u image
   pub closed : KeepsClosed old new
+
+-- so many bytes from a place on may be anything, and the rest is that of an image that was there
+pub record Torn (at n : ℕ) (images : Image → Type 0) (image : Image) : Type 0 where
+  pub before : Image
+  pub was : images before
+  pub same : SameOutside at n before image
+
+-- Time goes on over a call, inside which a power loss may leave these images. They come to those of the moments from
+-- the call's start on, and are all that may come; what a power loss may leave after the call is among them. No count
+-- falls, and the disk goes on telling its content, or not.
+pub record Elapses {T : Type 0} (old new : DiskState) (inside : Image → Type 0) (result : Result T DiskFault) : Type 0 where
+  pub tells : is_some new.reads ≡ is_some old.reads
+  pub faults : old.faults ≤ new.faults
+  pub refusals : old.refusals ≤ new.refusals
+  pub later : old.clock ≤ new.clock
+  pub goes_on : OnOk result (Rose old.clock new.clock)
+  pub now : (image : Image) → new.now image → inside image
+  pub keeps : (t u : ℕ) (image : Image) → old.between t u image → new.between t u image
+  pub adds : (t u : ℕ) (image : Image) → new.between t u image → old.between t u image ⊎ inside image
+  pub earlier : (t u : ℕ) (image : Image) → u < old.clock → new.between t u image → old.between t u image
 
 -- Each refusal has its cause, and stops the disk.
 pub record HasCause {T : Type 0} (old new : DiskState) (result : Result T DiskFault) : Type 0 where
@@ -45,14 +71,17 @@ pub record HasCause {T : Type 0} (old new : DiskState) (result : Result T DiskFa
   pub failed : IsErrOf result Failed → Rose old.faults new.faults
   pub memory : IsErrOf result Memory → Rose old.refusals new.refusals
 
--- a disk on which nothing is ever written: what is read is the only image, at every moment
-abbrev pub still : Option Image → ℕ → Bool → DiskState
-still reads faults stopped = record {
-  reads = reads;
-  now = λ image. reads ≡ Some image;
-  between = λ t u image. reads ≡ Some image;
-  clock = 0;
+-- a disk that tells nothing and names no image, and never refuses for want of memory
+abbrev pub untold : ℕ → ℕ → Bool → DiskState
+untold clock faults stopped = record {
+  reads = None;
+  now = λ image. ⊥;
+  between = λ t u image. ⊥;
+  clock = clock;
   faults = faults;
   refusals = 0;
   stopped = stopped;
 }
+
+pub untold_reads : (image : Image) → ◌≡◌ {A = Option Image} None (Some image) → ⊥
+untold_reads image told = cc

@@ -1,7 +1,8 @@
 //! A disk as recovery and the store see it.
-ghost use Rattle.std.specs.Prelude.{◌≡◌, ℕ, ◌+◌, ◌≤◌, false, Some, length, OnOk};
-ghost use Rattle.disk_model.specs.Image.{Image, range};
-ghost use Rattle.disk_model.specs.State.{DiskState, OnlyReads, HasCause};
+ghost use Rattle.std.specs.Prelude.{◌≡◌, ◌⊎◌, ℕ, ◌+◌, ◌≤◌, ◌^◌, ◌<◌, true, false, Some, length, OnOk};
+ghost use Rattle.disk_model.specs.Image.{Image, range, overlay};
+ghost use Rattle.disk_model.specs.State.{DiskState, IsSettled, Closed, KeepsClosed, OnlyReads, Torn, Elapses, HasCause};
+ghost use Rattle.load_base.specs.Counts.{Rose};
 
 /// Why a disk didn't do what it was asked.
 #[derive(Clone, Copy, Debug, PartialEq, Eq)]
@@ -16,6 +17,9 @@ pub enum DiskFault {
 pub const SIZE: u32 = 134_225_920;
 
 /// A disk of [`SIZE`] bytes, of which those never written are zero.
+///
+/// Between two syncs each range that was written may hold any bytes after a power loss; other bytes stay.
+/// A call that is refused stops the disk until the next restart.
 pub trait Disk {
     ghost state: { Self → DiskState };
 
@@ -26,6 +30,30 @@ pub trait Disk {
         ensures bytes { OnOk result ((image : Image) → (state self.old).reads ≡ Some image → buf.new ≡ range image at (length buf.old)) }
         ensures kept { OnOk result ((state self.new).reads ≡ (state self.old).reads) }
         ensures only_reads { OnlyReads (state self.old) (state self.new) }
+        ensures cause { HasCause (state self.old) (state self.new) result };
+
+    /// Writes the bytes from place `at` on. Where it is refused, the range may hold anything.
+    fn write(&mut self, at: u32, bytes: &[u8]) -> Result<(), DiskFault>
+        requires running { (state self.old).stopped ≡ false }
+        requires within { at + length bytes.now ≤ SIZE }
+        ensures bytes { OnOk result ((image : Image) → (state self.old).reads ≡ Some image → (state self.new).reads ≡ Some (overlay image at bytes.now)) }
+        ensures torn { OnOk result (Closed (state self.new) at (length bytes.now)) }
+        ensures closed { KeepsClosed (state self.old) (state self.new) }
+        ensures elapses { Elapses (state self.old) (state self.new) (Torn at (length bytes.now) (state self.old).now) result }
+        ensures cause { HasCause (state self.old) (state self.new) result };
+
+    /// Makes what was written last over a power loss.
+    fn sync(&mut self) -> Result<(), DiskFault>
+        requires running { (state self.old).stopped ≡ false }
+        ensures kept { OnOk result ((state self.new).reads ≡ (state self.old).reads) }
+        ensures settled { OnOk result (IsSettled (state self.new)) }
+        ensures elapses { Elapses (state self.old) (state self.new) (state self.old).now result }
+        ensures cause { HasCause (state self.old) (state self.new) result };
+
+    /// Lets a disk that stopped go on, with one of the images that a power loss might have left.
+    fn restart(&mut self) -> Result<(), DiskFault>
+        ensures settled { OnOk result (IsSettled (state self.new)) }
+        ensures elapses { Elapses (state self.old) (state self.new) (state self.old).now result }
         ensures cause { HasCause (state self.old) (state self.new) result };
 
     /// What is read is an image.
@@ -39,4 +67,17 @@ pub trait Disk {
 
     /// A longer time has more images.
     ghost wider: { (disk : Self) (s t u v : ℕ) (image : Image) → s ≤ t → u ≤ v → (state disk).between t u image → (state disk).between s v image };
+
+    /// Each image of a time is one of its first part or of its second.
+    ghost splits: { (disk : Self) (t u v : ℕ) (image : Image) → t ≤ u → u ≤ v → (state disk).between t v image → (state disk).between t u image ⊎ (state disk).between u v image };
+}
+
+// Counts a refusal, which stops the disk. The count stands still at the greatest `u64`.
+pub(crate) fn refuse(count: &mut u64, stopped: &mut bool)
+    ensures rose { Rose count.old count.new }
+    ensures later { count.old ≤ count.new }
+    ensures stopped { stopped.new ≡ true }
+{
+    *count = count.saturating_add(1);
+    *stopped = true;
 }

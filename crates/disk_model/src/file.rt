@@ -1,33 +1,42 @@
 //! A disk in a file. Nothing is told of what the file holds.
-ghost use Rattle.std.specs.Prelude.{◌≡◌, None, false};
-ghost use Rattle.disk_model.specs.State.{DiskState, still};
+ghost use Rattle.std.specs.Prelude.{◌≡◌, ◌≤◌, false, is_err, IsErrOf, OnErr};
+ghost use Rattle.std.proofs.Common.{inl};
+ghost use Rattle.load_base.specs.Counts.{Rose};
+ghost use Rattle.disk_model.specs.State.{untold_reads};
 
+use crate::disk::refuse;
 use crate::{Disk, DiskFault};
-use std::fs::OpenOptions;
-use std::io::{self, Read, Seek, SeekFrom};
+use std::fs::{OpenFile, OpenOptions};
+use std::io::{self, Read, Seek, SeekFrom, Write};
 use std::rt::Files;
 
 /// A disk in a file. The file is opened at the first call, and made where it is missing; bytes past its
-/// end read as zero. An error of the system is a fault of the disk.
+/// end read as zero. An error of the system is a fault of the disk, and closes the file. `restart` writes
+/// out what the file holds and closes it, so the next call opens it anew.
 #[derive(Drop)]
 pub struct FileDisk<'r, R: Files> {
     rt: &'r R,
     name: &'r str,
     file: Option<R::File>,
+    clock: u64,
     faults: u64,
     stopped: bool,
 }
 
 impl<'r, R: Files> FileDisk<'r, R> {
+    ghost use Rattle.disk_model.specs.FileDisk.{name_of, state_of};
+
     /// The disk in the file of this name, which is not opened yet.
     pub fn new(rt: &'r R, name: &'r str) -> FileDisk<'r, R>
-        ensures running { (⟦<FileDisk<'r, R> as Disk>⟧.state result).stopped ≡ false }
-        ensures no_faults { ((⟦<FileDisk<'r, R> as Disk>⟧.state result).faults ≡ 0) × ((⟦<FileDisk<'r, R> as Disk>⟧.state result).refusals ≡ 0) }
+        ensures name { name_of result ≡ name.now }
+        ensures running { (state_of result).stopped ≡ false }
+        ensures no_faults { ((state_of result).faults ≡ 0) × ((state_of result).refusals ≡ 0) }
     {
         FileDisk {
             rt,
             name,
             file: None,
+            clock: 0,
             faults: 0,
             stopped: false,
         }
@@ -35,9 +44,11 @@ impl<'r, R: Files> FileDisk<'r, R> {
 }
 
 impl<R: Files> Disk for FileDisk<'_, R> {
-    ghost state = { λ d. still None d.faults d.stopped };
+    ghost use Rattle.disk_model.specs.FileDisk.{state_of};
 
-    ghost reads_now = { λ d image told. told };
+    ghost state = { state_of };
+
+    ghost reads_now = { λ d. untold_reads };
 
     ghost counts_now = { λ d t u image from to is. is };
 
@@ -45,14 +56,60 @@ impl<R: Files> Disk for FileDisk<'_, R> {
 
     ghost wider = { λ d s t u v image from to is. is };
 
+    ghost splits = { λ d t u v image from to is. inl is };
+
     fn read(&mut self, at: u32, buf: &mut [u8]) -> Result<(), DiskFault> {
-        match read_at(self.rt, self.name, &mut self.file, at, buf) {
-            Ok(()) => Ok(()),
-            Err(_) => {
-                self.faults = self.faults.saturating_add(1);
-                self.stopped = true;
-                Err(DiskFault::Failed)
-            }
+        let outcome = read_at(self.rt, self.name, &mut self.file, at, buf);
+        answer(outcome, &mut self.faults, &mut self.stopped)
+    }
+
+    fn write(&mut self, at: u32, bytes: &[u8]) -> Result<(), DiskFault> {
+        self.clock = self.clock.saturating_add(1);
+        let outcome = write_at(self.rt, self.name, &mut self.file, at, bytes);
+        answer(outcome, &mut self.faults, &mut self.stopped)
+    }
+
+    fn sync(&mut self) -> Result<(), DiskFault> {
+        self.clock = self.clock.saturating_add(1);
+        let outcome = sync(self.rt, self.name, &mut self.file);
+        answer(outcome, &mut self.faults, &mut self.stopped)
+    }
+
+    fn restart(&mut self) -> Result<(), DiskFault> {
+        self.clock = self.clock.saturating_add(1);
+        let outcome = sync(self.rt, self.name, &mut self.file);
+        self.file = None;
+        answer(outcome, &mut self.faults, &mut self.stopped)
+    }
+}
+
+// An error of the system is a fault of the disk, and stops it.
+fn answer(outcome: io::Result<()>, faults: &mut u64, stopped: &mut bool) -> Result<(), DiskFault>
+    ensures stops { stopped.new ≡ is_err result }
+    ensures later { faults.old ≤ faults.new }
+    ensures failed { OnErr result (Rose faults.old faults.new) }
+    ensures only_failed { ¬ IsErrOf result DiskFault.Memory }
+{
+    match outcome {
+        Ok(()) => {
+            *stopped = false;
+            Ok(())
+        }
+        Err(_) => {
+            refuse(faults, stopped);
+            Err(DiskFault::Failed)
+        }
+    }
+}
+
+// The file, opened where it isn't open. It is closed at an error, and otherwise put back.
+fn take_file<R: Files>(rt: &R, name: &str, file: &mut Option<R::File>) -> io::Result<R::File> {
+    match file.take() {
+        Some(open) => Ok(open),
+        None => {
+            let mut how = OpenOptions::new();
+            how.read(true).write(true).create(true);
+            rt.open_file(&how, name)
         }
     }
 }
@@ -64,24 +121,32 @@ fn read_at<R: Files>(
     at: u32,
     buf: &mut [u8],
 ) -> io::Result<()> {
-    let mut opened = match file.take() {
-        Some(opened) => opened,
-        None => open(rt, name)?,
-    };
-    let outcome = fill_at(&mut opened, at, buf);
-    *file = Some(opened);
-    outcome
+    let mut open = take_file(rt, name, file)?;
+    open.seek(SeekFrom::Start(u64::from(at)))?;
+    fill_from(&mut open, buf)?;
+    *file = Some(open);
+    Ok(())
 }
 
-fn open<R: Files>(rt: &R, name: &str) -> io::Result<R::File> {
-    let mut how = OpenOptions::new();
-    how.read(true).write(true).create(true);
-    rt.open_file(&how, name)
+fn write_at<R: Files>(
+    rt: &R,
+    name: &str,
+    file: &mut Option<R::File>,
+    at: u32,
+    bytes: &[u8],
+) -> io::Result<()> {
+    let mut open = take_file(rt, name, file)?;
+    open.seek(SeekFrom::Start(u64::from(at)))?;
+    open.write_all(bytes)?;
+    *file = Some(open);
+    Ok(())
 }
 
-fn fill_at<F: Read + Seek>(file: &mut F, at: u32, buf: &mut [u8]) -> io::Result<()> {
-    file.seek(SeekFrom::Start(u64::from(at)))?;
-    fill_from(file, buf)
+fn sync<R: Files>(rt: &R, name: &str, file: &mut Option<R::File>) -> io::Result<()> {
+    let open = take_file(rt, name, file)?;
+    open.sync_all()?;
+    *file = Some(open);
+    Ok(())
 }
 
 // Reads until the buffer is full or the file ends. What isn't read is zero.

@@ -4,7 +4,13 @@
 mod disk;
 mod file;
 mod mem;
+mod note;
+#[cfg(test)]
+mod tearing;
+#[cfg(test)]
+mod tests;
 
 pub use disk::{Disk, DiskFault, SIZE};
 pub use file::FileDisk;
 pub use mem::MemDisk;
+pub use note::{Call, Note};

@@ -1,41 +1,63 @@
 //! A disk in memory.
-ghost use Rattle.std.specs.Prelude.{◌≡◌, ◌+◌, ◌≤◌, [], ◌∷◌, ◌++◌, Some, false, length, IfOk, OnOk, OnErr};
-ghost use Rattle.disk_model.specs.Image.{Image, image_of, range};
-ghost use Rattle.disk_model.specs.State.{OnlyReads, still};
+ghost use Rattle.std.specs.Prelude.{◌≡◌, ◌⊎◌, ◌↔◌, ℕ, ◌+◌, ◌^◌, ◌-◌, ◌<◌, ◌≤◌, Some, true, false, min, length, slice_index, [], ◌∷◌, ◌++◌, Contains, IsTrue, IfOk, OnOk, OnErr};
+ghost use Rattle.std.specs.Bool.{OnTrue, OnFalse};
+ghost use Rattle.disk_model.specs.Image.{Image, image_of, range, overlay};
+ghost use Rattle.disk_model.specs.State.{IsSettled, Closed, KeepsClosed, OnlyReads, Torn, Elapses, HasCause};
+ghost use Rattle.disk_model.specs.Replay.{replayed, MayLeave, MightHaveLeft, recorded, AddsWrite, IsSettling};
+ghost use Rattle.disk_model.specs.ReplayLaws.{held_may_leave, counts_its_now, only_its_now, wider_time, split_time};
 
-use crate::{Disk, DiskFault, SIZE};
-use load_base::{Bytes, List, NoMemory};
-use std::alloc::Global;
+use crate::disk::refuse;
+use crate::{Call, Disk, DiskFault, Note, SIZE};
+use load_base::{Bytes, List as Items, NoMemory};
+use std::alloc::{AllocError, Global};
 
 /// A disk in memory, of which calls can be set to fail.
+///
+/// It keeps what it held at first and a note of each write, sync and restart, so that it can tell what a
+/// power loss may leave at each of its calls. It answers Memory where there is none for the note.
 #[derive(Drop)]
 pub struct MemDisk {
-    bytes: Bytes,
-    failing: List<u32>,
+    alloc: Global,
+    first: Bytes,
+    notes: Items<Note>,
+    bytes: Vec<u8>,
+    failing: Items<u32>,
     calls: u32,
     faults: u64,
+    refusals: u64,
     stopped: bool,
+    ghost same: { (place : ℕ) → slice_index bytes.items place ≡ replayed first.items notes.items place },
 }
 
 impl MemDisk {
-    ghost use Rattle.disk_model.specs.MemDisk.{failing_calls};
+    ghost use Rattle.disk_model.specs.MemDisk.{contents_of, first_of, notes_of, failing_calls, next_call, state_of, CountsCall, IsUnchanged, NotesCall};
 
     /// A disk with these bytes from place 0 on, that has not failed.
     pub fn new(alloc: Global, bytes: &[u8]) -> Result<MemDisk, NoMemory>
         requires { length bytes.now ≤ SIZE }
-        ensures reads { IfOk result (λ disk. (⟦<MemDisk as Disk>⟧.state disk).reads ≡ Some (image_of bytes.now)) }
-        ensures only_image { IfOk result (λ disk. (image : Image) → (⟦<MemDisk as Disk>⟧.state disk).now image → (⟦<MemDisk as Disk>⟧.state disk).reads ≡ Some image) }
-        ensures running { IfOk result (λ disk. (⟦<MemDisk as Disk>⟧.state disk).stopped ≡ false) }
-        ensures no_faults { IfOk result (λ disk. ((⟦<MemDisk as Disk>⟧.state disk).faults ≡ 0) × ((⟦<MemDisk as Disk>⟧.state disk).refusals ≡ 0)) }
+        ensures reads { IfOk result (λ disk. (state_of disk).reads ≡ Some (image_of bytes.now)) }
+        ensures only_image { IfOk result (λ disk. IsSettled (state_of disk)) }
+        ensures running { IfOk result (λ disk. (state_of disk).stopped ≡ false) }
+        ensures no_faults { IfOk result (λ disk. ((state_of disk).faults ≡ 0) × ((state_of disk).refusals ≡ 0)) }
         ensures failing { IfOk result (λ disk. failing_calls disk ≡ []) }
+        ensures bytes { IfOk result (λ disk. contents_of disk ≡ bytes.now) }
+        ensures first { IfOk result (λ disk. first_of disk ≡ bytes.now) }
+        ensures no_notes { IfOk result (λ disk. notes_of disk ≡ []) }
+        ensures next { IfOk result (λ disk. next_call disk ≡ 1) }
     {
-        let mut held = Bytes::new(alloc);
-        held.extend(bytes)?;
+        let mut first = Bytes::new(alloc);
+        first.extend(bytes)?;
+        let mut held = Vec::new(alloc);
+        held.extend_from_slice(bytes)?;
         Ok(MemDisk {
+            alloc,
+            first,
+            notes: Items::new(alloc),
             bytes: held,
-            failing: List::new(alloc),
+            failing: Items::new(alloc),
             calls: 0,
             faults: 0,
+            refusals: 0,
             stopped: false,
         })
     }
@@ -44,36 +66,156 @@ impl MemDisk {
     pub fn fail_at(&mut self, call: u32) -> Result<(), NoMemory>
         ensures ok { OnOk result (failing_calls self.new ≡ failing_calls self.old ++ call ∷ []) }
         ensures err { OnErr result (failing_calls self.new ≡ failing_calls self.old) }
-        ensures reads { (⟦<MemDisk as Disk>⟧.state self.new).reads ≡ (⟦<MemDisk as Disk>⟧.state self.old).reads }
-        ensures only_reads { OnlyReads (⟦<MemDisk as Disk>⟧.state self.old) (⟦<MemDisk as Disk>⟧.state self.new) }
-        ensures stopped { (⟦<MemDisk as Disk>⟧.state self.new).stopped ≡ (⟦<MemDisk as Disk>⟧.state self.old).stopped }
-        ensures faults { (⟦<MemDisk as Disk>⟧.state self.new).faults ≡ (⟦<MemDisk as Disk>⟧.state self.old).faults }
+        ensures next { next_call self.new ≡ next_call self.old }
+        ensures unchanged { IsUnchanged self.old self.new }
+        ensures reads { (state_of self.new).reads ≡ (state_of self.old).reads }
+        ensures only_reads { OnlyReads (state_of self.old) (state_of self.new) }
+        ensures stopped { (state_of self.new).stopped ≡ (state_of self.old).stopped }
+        ensures faults { (state_of self.new).faults ≡ (state_of self.old).faults }
+        ensures refusals { (state_of self.new).refusals ≡ (state_of self.old).refusals }
     {
         self.failing.push(call)
+    }
+
+    /// The bytes that it holds, from place 0 on. Behind them it reads as zero.
+    pub fn as_slice(&self) -> &[u8]
+        ensures bytes { result.now ≡ contents_of self.now }
+        ensures reads { (state_of self.now).reads ≡ Some (image_of (contents_of self.now)) }
+    {
+        &self.bytes
+    }
+
+    /// The bytes that it was made with.
+    pub fn first_bytes(&self) -> &[u8]
+        ensures { result.now ≡ first_of self.now }
+    {
+        self.first.as_slice()
+    }
+
+    /// Its writes, syncs and restarts in their order, those too that were set to fail, but none that was
+    /// refused for want of memory. They and the first bytes tell what it holds, and what a power loss may
+    /// leave now or might have left before.
+    pub fn notes(&self) -> &[Note]
+        ensures notes { result.now ≡ notes_of self.now }
+        ensures replayed { (place : ℕ) → image_of (contents_of self.now) place ≡ replayed (first_of self.now) (notes_of self.now) place }
+        ensures now { (image : Image) → (state_of self.now).now image ↔ MayLeave (first_of self.now) (notes_of self.now) image }
+        ensures between { (t u : ℕ) (image : Image) → (state_of self.now).between t u image ↔ MightHaveLeft (first_of self.now) (notes_of self.now) t u image }
+        ensures clock { (state_of self.now).clock ≡ length (notes_of self.now) }
+    {
+        self.notes.as_slice()
+    }
+
+    // Keeps a note of a sync or a restart, and lets it fail where that is set.
+    fn settle(&mut self, call: Call) -> Result<(), DiskFault>
+        requires { IsSettling call }
+        ensures counts { CountsCall self.old self.new result }
+        ensures notes { NotesCall call self.old self.new result }
+        ensures settled { OnOk result (IsSettled (state_of self.new)) }
+        ensures elapses { Elapses (state_of self.old) (state_of self.new) (state_of self.old).now result }
+        ensures cause { HasCause (state_of self.old) (state_of self.new) result }
+    {
+        let fails = next_fails(&mut self.calls, &self.failing);
+        let note = Note { call, done: !fails };
+        let Ok(()) = self.notes.push(note) else {
+            refuse(&mut self.refusals, &mut self.stopped);
+            return Err(DiskFault::Memory);
+        };
+        if fails {
+            refuse(&mut self.faults, &mut self.stopped);
+            return Err(DiskFault::Failed);
+        }
+        self.stopped = false;
+        Ok(())
     }
 }
 
 impl Disk for MemDisk {
-    ghost state = { λ d. still (Some (image_of d.bytes.items)) d.faults d.stopped };
+    ghost use Rattle.disk_model.specs.MemDisk.{state_of, CountsCall, IsUnchanged, NotesCall, NotesWrite};
 
-    ghost reads_now = { λ d image told. told };
+    ghost state = { state_of };
 
-    ghost counts_now = { λ d t u image from to is. is };
+    ghost reads_now = { λ d. held_may_leave d.first.items d.notes.items d.bytes.items d.same };
 
-    ghost only_now = { λ d t u image from is. is };
+    ghost counts_now = { λ d. counts_its_now d.first.items d.notes.items };
 
-    ghost wider = { λ d s t u v image from to is. is };
+    ghost only_now = { λ d. only_its_now d.first.items d.notes.items };
 
-    fn read(&mut self, at: u32, buf: &mut [u8]) -> Result<(), DiskFault> {
-        self.calls = self.calls.saturating_add(1);
-        if self.failing.as_slice().contains(&self.calls) {
-            self.faults = self.faults.saturating_add(1);
-            self.stopped = true;
+    ghost wider = { λ d. wider_time d.first.items d.notes.items };
+
+    ghost splits = { λ d. split_time d.first.items d.notes.items };
+
+    fn read(&mut self, at: u32, buf: &mut [u8]) -> Result<(), DiskFault>
+        requires running { (state_of self.old).stopped ≡ false }
+        requires within { at + length buf.old ≤ SIZE }
+        ensures counts { CountsCall self.old self.new result }
+        ensures unchanged { IsUnchanged self.old self.new }
+        ensures bytes { OnOk result ((image : Image) → (state_of self.old).reads ≡ Some image → buf.new ≡ range image at (length buf.old)) }
+        ensures kept { OnOk result ((state_of self.new).reads ≡ (state_of self.old).reads) }
+        ensures only_reads { OnlyReads (state_of self.old) (state_of self.new) }
+        ensures cause { HasCause (state_of self.old) (state_of self.new) result }
+    {
+        if next_fails(&mut self.calls, &self.failing) {
+            refuse(&mut self.faults, &mut self.stopped);
             return Err(DiskFault::Failed);
         }
-        copy_out(self.bytes.as_slice(), at as usize, buf);
+        copy_out(&self.bytes, at as usize, buf);
         Ok(())
     }
+
+    fn write(&mut self, at: u32, bytes: &[u8]) -> Result<(), DiskFault>
+        requires running { (state_of self.old).stopped ≡ false }
+        requires within { at + length bytes.now ≤ SIZE }
+        ensures counts { CountsCall self.old self.new result }
+        ensures notes { NotesWrite at bytes.now self.old self.new result }
+        ensures bytes { OnOk result ((image : Image) → (state_of self.old).reads ≡ Some image → (state_of self.new).reads ≡ Some (overlay image at bytes.now)) }
+        ensures torn { OnOk result (Closed (state_of self.new) at (length bytes.now)) }
+        ensures closed { KeepsClosed (state_of self.old) (state_of self.new) }
+        ensures elapses { Elapses (state_of self.old) (state_of self.new) (Torn at (length bytes.now) (state_of self.old).now) result }
+        ensures cause { HasCause (state_of self.old) (state_of self.new) result }
+    {
+        let fails = next_fails(&mut self.calls, &self.failing);
+        let (notes, held) = (&mut self.notes, &mut self.bytes);
+        let Ok(()) = note_write(self.alloc, notes, held, at, bytes, !fails) else {
+            refuse(&mut self.refusals, &mut self.stopped);
+            return Err(DiskFault::Memory);
+        };
+        if fails {
+            refuse(&mut self.faults, &mut self.stopped);
+            return Err(DiskFault::Failed);
+        }
+        Ok(())
+    }
+
+    fn sync(&mut self) -> Result<(), DiskFault>
+        requires running { (state_of self.old).stopped ≡ false }
+        ensures counts { CountsCall self.old self.new result }
+        ensures notes { NotesCall Call.Sync self.old self.new result }
+        ensures kept { OnOk result ((state_of self.new).reads ≡ (state_of self.old).reads) }
+        ensures settled { OnOk result (IsSettled (state_of self.new)) }
+        ensures elapses { Elapses (state_of self.old) (state_of self.new) (state_of self.old).now result }
+        ensures cause { HasCause (state_of self.old) (state_of self.new) result }
+    {
+        self.settle(Call::Sync)
+    }
+
+    fn restart(&mut self) -> Result<(), DiskFault>
+        ensures counts { CountsCall self.old self.new result }
+        ensures notes { NotesCall Call.Restart self.old self.new result }
+        ensures settled { OnOk result (IsSettled (state_of self.new)) }
+        ensures elapses { Elapses (state_of self.old) (state_of self.new) (state_of self.old).now result }
+        ensures cause { HasCause (state_of self.old) (state_of self.new) result }
+    {
+        self.settle(Call::Restart)
+    }
+}
+
+// Counts a call, and tells whether it is set to fail.
+fn next_fails(calls: &mut u32, failing: &Items<u32>) -> bool
+    ensures counts { calls.new ≡ min (calls.old + 1) (2 ^ 32 - 1) }
+    ensures set { IsTrue result ↔ Contains failing.now.items calls.new }
+{
+    *calls = calls.saturating_add(1);
+    failing.as_slice().contains(calls)
 }
 
 // Bytes past the end are zero.
@@ -85,4 +227,62 @@ fn copy_out(bytes: &[u8], at: usize, buf: &mut [u8])
     let count = buf.len().min(bytes.len() - begin);
     buf.fill(0);
     buf[..count].copy_from_slice(&bytes[begin..begin + count]);
+}
+
+// Keeps a note of a write, and makes it where it is to be done.
+fn note_write(
+    alloc: Global,
+    notes: &mut Items<Note>,
+    held: &mut Vec<u8>,
+    at: u32,
+    bytes: &[u8],
+    done: bool,
+) -> Result<(), NoMemory>
+    requires { at + length bytes.now ≤ SIZE }
+    ensures noted { OnOk result (AddsWrite notes.old.items notes.new.items at bytes.now done) }
+    ensures written { OnOk result (OnTrue done ((place : ℕ) → slice_index held.new.items place ≡ overlay (image_of held.old.items) at bytes.now place)) }
+    ensures unwritten { OnOk result (OnFalse done (held.new.items ≡ held.old.items)) }
+    ensures not_noted { OnErr result (notes.new.items ≡ notes.old.items) }
+    ensures err { OnErr result (held.new.items ≡ held.old.items) }
+{
+    let mut copy = Bytes::new(alloc);
+    copy.extend(bytes)?;
+    notes.reserve(1)?;
+    if done {
+        overwrite(held, at as usize, bytes)?;
+    }
+    notes.push(Note {
+        call: Call::Write { at, bytes: copy },
+        done,
+    })
+}
+
+fn overwrite(to: &mut Vec<u8>, at: usize, bytes: &[u8]) -> Result<(), AllocError>
+    requires { at + length bytes.now ≤ SIZE }
+    ensures ok { OnOk result ((place : ℕ) → slice_index to.new.items place ≡ overlay (image_of to.old.items) at bytes.now place) }
+    ensures err { OnErr result (to.new.items ≡ to.old.items) }
+{
+    lengthen(to, at + bytes.len())?;
+    paste(to, at, bytes);
+    Ok(())
+}
+
+// Zeros come behind the end, as they are read there.
+fn lengthen(to: &mut Vec<u8>, len: usize) -> Result<(), AllocError>
+    ensures len { OnOk result (len ≤ length to.new.items) }
+    ensures same { OnOk result ((place : ℕ) → slice_index to.new.items place ≡ slice_index to.old.items place) }
+    ensures err { OnErr result (to.new.items ≡ to.old.items) }
+{
+    if len > to.len() {
+        to.resize(len, 0)?;
+    }
+    Ok(())
+}
+
+fn paste(to: &mut [u8], at: usize, bytes: &[u8])
+    requires { at + length bytes.now ≤ length to.old }
+    ensures inside { (k : ℕ) → k < length bytes.now → slice_index to.new (at + k) ≡ slice_index bytes.now k }
+    ensures outside { (place : ℕ) → (place < at) ⊎ (at + length bytes.now ≤ place) → slice_index to.new place ≡ slice_index to.old place }
+{
+    to[at..at + bytes.len()].copy_from_slice(bytes);
 }

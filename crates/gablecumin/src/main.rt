@@ -1,9 +1,9 @@
-//! The program: runs its words over standard output and the disk in the file `target.disk` of the current
+//! The program: runs its words over standard output, the files of the current folder and the disk in the file `target.disk` of the current
 //! folder, and exits with the status of the run.
 #![tactic(auto)]
 
 use disk_model::FileDisk;
-use load_base::StdSink;
+use load_base::{StdHost, StdSink};
 use loader_cli::run;
 use std::alloc::{AllocError, Global};
 use std::env;
@@ -18,9 +18,10 @@ fn main(rt: HostRuntime) -> ExitCode {
     let Ok(words) = words_of(alloc, &rt) else {
         return ExitCode::from(OUT_OF_MEMORY);
     };
+    let mut host = StdHost::new(&rt);
     let mut out = StdSink::new(&rt);
     let mut disk = FileDisk::new(&rt, "target.disk");
-    let ended = run(alloc, &words, &mut out, &mut disk);
+    let ended = run(alloc, &words, &mut host, &mut out, &mut disk);
     ExitCode::from(ended.status)
 }
 

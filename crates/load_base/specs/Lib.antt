@@ -4,9 +4,11 @@ pub mod Counts
 pub mod Host
 pub mod Ident
 pub mod Listed
+pub mod MemHost
 pub mod MemSink
 pub mod Name
 pub mod Padded
 pub mod PartText
 pub mod Sink
 pub mod Text
+pub mod Written

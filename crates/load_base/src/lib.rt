@@ -6,17 +6,23 @@ mod config;
 mod host;
 mod ident;
 mod list;
+mod mem_host;
 mod name;
 mod padded;
 mod part_text;
 mod sink;
+mod std_host;
+#[cfg(test)]
+mod tests;
 mod text;
 
 pub use config::{Config, Load, StoredFile};
 pub use host::{Host, LONGEST_FILE, ReadFault};
 pub use ident::{Ident, IdentFault};
 pub use list::{Bytes, List, NoMemory};
+pub use mem_host::MemHost;
 pub use name::{Name, NameFault};
 pub use part_text::{PartText, PartTextFault};
 pub use sink::{MemSink, Sink, StdSink, WriteFault};
+pub use std_host::StdHost;
 pub use text::{Text, TextFault};

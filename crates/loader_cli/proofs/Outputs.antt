@@ -1,14 +1,19 @@
--- What a recovery's refusal says of an image, and what the words ask for.
-use Rattle.std.proofs.Common.{◌≡◌, ◌≢◌, ℕ, List, refl}
+-- What a recovery's refusal says of an image.
+use Rattle.std.proofs.Common.{◌≡◌, ◌≢◌, ◌⊎◌, ℕ, List, inl, inr, Option, Some, None, Ok, Err, refl}
+use Rattle.load_base.specs.Listed.{Listed}
+use Rattle.load_base.specs.Host.{Files, ReadsFile}
+use Rattle.load_base.specs.declared.host.ReadFault.TheVariants as reading
+use Rattle.field_grammar.specs.Grammar.{Fault}
+use Rattle.load_header.specs.Header.{header}
+use Rattle.load_header.specs.declared.fault.HeaderFault.{HeaderFault}
+use Rattle.load_header.specs.declared.fault.HeaderFault.TheVariants as headers
+use Rattle.loader_cli.specs.Runs.{Has, HasTooMany}
 use Rattle.disk_model.specs.Image.{Image}
 use Rattle.disk_model.specs.State.{DiskState}
 use Rattle.disk_layout.specs.Looks.{IsOfDisk, RunsOn, RunsOnAfter}
 use Rattle.disk_layout.specs.Stands.{StandsNot, Refuses}
 use Rattle.disk_layout.specs.declared.fault.RecoverFault.{RecoverFault}
 use Rattle.disk_layout.specs.declared.fault.RecoverFault.TheVariants.{NotFormatted, NoOpenSlot, BadSlot, BadManifest, LoadsNotBuilt, DiskFailed, Memory}
-use Rattle.loader_cli.specs.Words.{IsCommand}
-use Rattle.loader_cli.specs.declared.command.Command.{Command}
-use Rattle.loader_cli.specs.declared.command.Command.TheVariants as commands
 
 pub not_of_disk : (fault : RecoverFault) → fault ≢ DiskFailed → fault ≢ Memory → ¬ IsOfDisk fault
 not_of_disk DiskFailed disk memory is = disk refl
@@ -39,6 +44,20 @@ leaves_running old new LoadsNotBuilt other runs = runs
 leaves_running old new DiskFailed other runs = absurd (other tt)
 leaves_running old new Memory other runs = absurd (other tt)
 
--- the one command that there is
-pub asks_for_list : (words : List (List ℕ)) (command : Command) → IsCommand words command → IsCommand words commands.List
-asks_for_list words commands.List asks = asks
+-- a refusal of a header's decoder that isn't want of memory is the first fault
+pub a_fault : (bytes : List ℕ) (fault : HeaderFault) → fault ≢ headers.Memory → (fault ≡ headers.Memory) ⊎ Fault header bytes fault → Fault header bytes fault
+a_fault bytes fault other (inl memory) = absurd (other memory)
+a_fault bytes fault other (inr first) = first
+
+-- what the host has under a name, from what it answered
+pub has_bytes : (files : Option Files) (name : List ℕ) (bytes : Listed ℕ) → ReadsFile files name (Ok bytes) → Has files name (Some bytes.items)
+has_bytes None name bytes reads = tt
+has_bytes (Some files) name bytes reads = reads
+
+pub has_none : (files : Option Files) (name : List ℕ) → ReadsFile files name (Err reading.Absent) → Has files name None
+has_none None name reads = tt
+has_none (Some files) name reads = reads
+
+pub has_too_many : (files : Option Files) (name : List ℕ) → ReadsFile files name (Err reading.TooLong) → HasTooMany files name
+has_too_many None name reads = tt
+has_too_many (Some files) name reads = reads

@@ -1,19 +1,28 @@
 -- What a run of the program prints, its status, and the cause of each (docs/PROMISES.md).
-use Rattle.std.specs.Prelude.{◌≡◌, ℕ, ◌<◌, List, true, Option, Some, take}
+use Rattle.std.specs.Prelude.{◌≡◌, ◌≢◌, ℕ, ◌<◌, List, length, true, Option, Some, None, take, codes}
 use Rattle.load_base.specs.Counts.{Rose}
+use Rattle.load_base.specs.Host.{Files, longest_file}
 use Rattle.load_base.specs.Sink.{GoesOn}
+use Rattle.field_grammar.specs.Grammar.{Fault}
+use Rattle.load_header.specs.Header.{HeaderView, header}
+use Rattle.load_header.specs.HeaderFields.{HeaderSpells}
+use Rattle.load_header.specs.HeaderFaultText.{header_fault_text}
+use Rattle.load_header.specs.declared.fault.HeaderFault.{HeaderFault}
+use Rattle.load_header.specs.declared.fault.HeaderFault.TheVariants as headers
 use Rattle.disk_model.specs.Image.{Image}
 use Rattle.disk_model.specs.State.{DiskState}
 use Rattle.disk_layout.specs.Places.{IsBankSize}
 use Rattle.disk_layout.specs.Looks.{IsOfDisk, RunsOn}
 use Rattle.disk_layout.specs.Stands.{StandingView, Stands, StandsNot}
 use Rattle.disk_layout.specs.declared.fault.RecoverFault.{RecoverFault}
-use Rattle.loader_cli.specs.Words.{IsCommand}
-use Rattle.loader_cli.specs.Texts.{listing, refused_words, disk_fault, no_configuration}
-use Rattle.loader_cli.specs.declared.command.Command.{Command}
-use Rattle.loader_cli.specs.declared.command.Command.TheVariants as commands
+use Rattle.loader_cli.specs.Words.{Form, IsForm}
+use Rattle.loader_cli.specs.Words.Form.{list, show_header}
+use Rattle.loader_cli.specs.Texts.{listing, refused_words, refused_input, disk_fault, host_fault, no_configuration}
+use Rattle.loader_cli.specs.HeaderText.{shown_header}
 
--- `list`: the status, the text, and what it says of the disk, where the disk tells its content
+-- ---- `list`
+
+-- the status, the text, and what it says of the disk, where the disk tells its content
 pub data Lists (old new : DiskState) (status : ℕ) (text : List ℕ) : Type 0 where
   -- 0: the disk stands for this, and runs on
   listed : (s : StandingView) → ((image : Image) → old.reads ≡ Some image → Stands image s) → IsBankSize s.identity.bank → s.bank < 2 → RunsOn old new
@@ -24,18 +33,68 @@ pub data Lists (old new : DiskState) (status : ℕ) (text : List ℕ) : Type 0 w
   no_listing : (fault : RecoverFault) → ((image : Image) → old.reads ≡ Some image → StandsNot image fault) → ¬ IsOfDisk fault → RunsOn old new
       → status ≡ 8 → text ≡ no_configuration fault → Lists old new status text
 
--- the status and the text of a run whose output goes through
-pub data Says (words : List (List ℕ)) (old new : DiskState) (status : ℕ) (text : List ℕ) : Type 0 where
-  -- 2: the words have none of the forms
-  refused : ((command : Command) → ¬ IsCommand words command) → status ≡ 2 → text ≡ refused_words → Says words old new status text
-  lists : IsCommand words commands.List → Lists old new status text → Says words old new status text
+-- ---- `show FILE`
 
--- how a run ends: the disk and the sink's output and faults before and after, and the status
-pub data Ends (words : List (List ℕ)) (old new : DiskState) (was now : Option (List ℕ)) (sink_before sink_after status : ℕ) : Type 0 where
+-- the status and the text for a load header of this name with these bytes
+pub data ShowsHeader (name bytes : List ℕ) (status : ℕ) (text : List ℕ) : Type 0 where
+  -- 0: the bytes spell this header
+  shown : (h : HeaderView) → HeaderSpells h bytes → status ≡ 0 → text ≡ shown_header bytes h → ShowsHeader name bytes status text
+  -- 3: they fail at this fault
+  faulty : (fault : HeaderFault) → Fault header bytes fault → fault ≢ headers.Memory → status ≡ 3 → text ≡ refused_input name (header_fault_text fault)
+      → ShowsHeader name bytes status text
+
+-- the host has this under the name, where it tells its files
+abbrev pub Has : Option Files → List ℕ → Option (List ℕ) → Type 0
+Has None name file = Unit {0}
+Has (Some files) name file = files name ≡ file
+
+-- the host has more bytes under the name than it reads, where it tells its files
+abbrev pub HasTooMany : Option Files → List ℕ → Type 0
+HasTooMany None name = Unit {0}
+HasTooMany (Some files) name = (bytes : List ℕ) × (files name ≡ Some bytes) × (longest_file < length bytes)
+
+-- the status, the text, and what it says of the host's files and of its faults before and after
+pub data Shows (files : Option Files) (before after : ℕ) (name : List ℕ) (status : ℕ) (text : List ℕ) : Type 0 where
+  read : (bytes : List ℕ) → Has files name (Some bytes) → ShowsHeader name bytes status text → Shows files before after name status text
+  -- 3: there is no such file
+  absent : Has files name None → status ≡ 3 → text ≡ refused_input name (codes "absent") → Shows files before after name status text
+  -- 3: it has more than 16,777,215 bytes
+  too_long : HasTooMany files name → status ≡ 3 → text ≡ refused_input name (codes "toolong") → Shows files before after name status text
+  -- 4: the host failed in this call
+  host_failed : Rose before after → status ≡ 4 → text ≡ host_fault → Shows files before after name status text
+
+-- ---- a run
+
+-- the status and the text of a run whose output goes through
+pub data Says (words : List (List ℕ)) (old new : DiskState) (files : Option Files) (before after : ℕ) (status : ℕ) (text : List ℕ) : Type 0 where
+  -- 2: the words have none of the forms
+  refused : ((form : Form) → ¬ IsForm words form) → status ≡ 2 → text ≡ refused_words → Says words old new files before after status text
+  lists : IsForm words list → Lists old new status text → Says words old new files before after status text
+  shows : (file : List ℕ) → IsForm words (show_header file) → Shows files before after file status text → Says words old new files before after status text
+
+-- What a run is given and what it leaves: its words, the disk, the host's files and faults, and the sink's output
+-- and faults.
+pub record Run : Type 1 where
+  pub words : List (List ℕ)
+  pub disk : DiskState
+  pub disk_after : DiskState
+  pub files : Option Files
+  pub host_faults : ℕ
+  pub host_faults_after : ℕ
+  pub output : Option (List ℕ)
+  pub output_after : Option (List ℕ)
+  pub sink_faults : ℕ
+  pub sink_faults_after : ℕ
+
+abbrev pub SaysIn : Run → (status : ℕ) → (text : List ℕ) → Type 0
+SaysIn run status text = Says run.words run.disk run.disk_after run.files run.host_faults run.host_faults_after status text
+
+-- how a run ends with a status
+pub data Ends (run : Run) (status : ℕ) : Type 0 where
   -- exactly the text goes out
-  told : (text : List ℕ) → Says words old new status text → GoesOn was now text → Ends words old new was now sink_before sink_after status
+  told : (text : List ℕ) → SaysIn run status text → GoesOn run.output run.output_after text → Ends run status
   -- 7: the sink failed in this call, and a front of the text went out
-  sink_failed : (said : ℕ) (text : List ℕ) (n : ℕ) → Says words old new said text → GoesOn was now (take n text) → Rose sink_before sink_after → status ≡ 7
-      → Ends words old new was now sink_before sink_after status
+  sink_failed : (said : ℕ) (text : List ℕ) (n : ℕ) → SaysIn run said text → GoesOn run.output run.output_after (take n text)
+      → Rose run.sink_faults run.sink_faults_after → status ≡ 7 → Ends run status
   -- 6: memory was wanting
-  no_memory : status ≡ 6 → Ends words old new was now sink_before sink_after status
+  no_memory : status ≡ 6 → Ends run status

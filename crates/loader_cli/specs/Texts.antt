@@ -19,9 +19,17 @@ line (word ∷ words) = word ++ 32 ∷ line words
 abbrev pub hex_digit : ℕ → ℕ
 hex_digit digit = if nat_lt digit 10 then digit + 48 else digit - 10 + 65
 
+-- two of them, for a byte
+unfoldable pub hex_8 : ℕ → List ℕ
+hex_8 number = hex_digit (number / 16) ∷ hex_digit (number % 16) ∷ []
+
 -- four of them
-abbrev pub hex_16 : ℕ → List ℕ
+unfoldable pub hex_16 : ℕ → List ℕ
 hex_16 number = hex_digit (number / 4096) ∷ hex_digit (number / 256 % 16) ∷ hex_digit (number / 16 % 16) ∷ hex_digit (number % 16) ∷ []
+
+-- eight of them
+abbrev pub hex_32 : ℕ → List ℕ
+hex_32 number = hex_16 (number / 65536) ++ hex_16 (number % 65536)
 
 -- ---- the listing
 
@@ -74,3 +82,10 @@ refused_words = line (codes "refused" ∷ codes "words" ∷ [])
 
 abbrev pub disk_fault : List ℕ
 disk_fault = line (codes "disk" ∷ codes "fault" ∷ [])
+
+abbrev pub host_fault : List ℕ
+host_fault = line (codes "host" ∷ codes "fault" ∷ [])
+
+-- `refused NAME FAULT`
+abbrev pub refused_input : (name fault : List ℕ) → List ℕ
+refused_input name fault = line (codes "refused" ∷ name ∷ fault ∷ [])

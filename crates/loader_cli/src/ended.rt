@@ -1,14 +1,15 @@
 //! The top call.
-ghost use Rattle.std.specs.Prelude.{◌≡◌, false, IfOk};
+ghost use Rattle.std.specs.Prelude.{◌≡◌, ℕ, List, false, IfOk};
 ghost use Rattle.disk_model.specs.State.{OnlyReads};
-ghost use Rattle.loader_cli.specs.Words.{texts_of, IsCommand};
-ghost use Rattle.loader_cli.specs.declared.command.Command.{Command};
+ghost use Rattle.loader_cli.specs.Words.{texts_of, IsForm};
+ghost use Rattle.loader_cli.specs.Words.Form.{list as list_form, show_header as show_form};
 ghost use Rattle.loader_cli.specs.Runs.{Lists, Says, Ends};
 
 use crate::command::Command;
+use crate::show::show_header;
 use crate::text::{listing_text, no_configuration_text, text_of};
 use disk_model::Disk;
-use load_base::{Bytes, NoMemory, Sink, WriteFault};
+use load_base::{Bytes, Host, NoMemory, Sink, WriteFault};
 use recovery::{RecoverFault, recover};
 use std::alloc::Global;
 
@@ -16,8 +17,10 @@ use std::alloc::Global;
 ///
 /// | status | when |
 /// |---|---|
-/// | 0 | the listing was printed |
+/// | 0 | what was asked for was printed |
 /// | 2 | the words have none of the forms |
+/// | 3 | an input is absent, too long or not in its grammar |
+/// | 4 | the host failed |
 /// | 5 | the disk failed |
 /// | 6 | memory was wanting |
 /// | 7 | the output failed, and a front of it may have gone out |
@@ -27,15 +30,34 @@ pub struct Ended {
     pub status: u8,
 }
 
-/// Runs the program on the words after its name. `list` is the one form of words; its output goes out in one
-/// piece at the end.
-pub fn run<O: Sink, K: Disk>(alloc: Global, words: &[String], out: &mut O, disk: &mut K) -> Ended
+/// Runs the program on the words after its name: `list`, or `show FILE` with the name of a load header. The output
+/// goes out in one piece at the end.
+pub fn run<H: Host, O: Sink, K: Disk>(
+    alloc: Global,
+    words: &[String],
+    host: &mut H,
+    out: &mut O,
+    disk: &mut K,
+) -> Ended
     requires { (K.state disk.old).stopped ≡ false }
-    ensures ends { Ends (texts_of words.now) (K.state disk.old) (K.state disk.new) (O.content out.old) (O.content out.new) (O.faults out.old) (O.faults out.new) result.status }
-    ensures untouched { ((command : Command) → ¬ IsCommand (texts_of words.now) command) → disk.new ≡ disk.old }
+    ensures ends { Ends (record {
+      words = texts_of words.now;
+      disk = K.state disk.old;
+      disk_after = K.state disk.new;
+      files = H.files host.old;
+      host_faults = H.faults host.old;
+      host_faults_after = H.faults host.new;
+      output = O.content out.old;
+      output_after = O.content out.new;
+      sink_faults = O.faults out.old;
+      sink_faults_after = O.faults out.new;
+    }) result.status }
+    ensures disk_untouched { ¬ IsForm (texts_of words.now) list_form → disk.new ≡ disk.old }
+    ensures host_untouched { ((file : List ℕ) → ¬ IsForm (texts_of words.now) (show_form file)) → host.new ≡ host.old }
+    ensures files_kept { H.files host.new ≡ H.files host.old }
     ensures only_reads { OnlyReads (K.state disk.old) (K.state disk.new) }
 {
-    match answer(alloc, words, disk) {
+    match answer(alloc, words, host, disk) {
         Err(NoMemory) => Ended { status: 6 },
         Ok((status, text)) => match out.put(text.as_slice()) {
             Ok(()) => Ended { status },
@@ -46,17 +68,23 @@ pub fn run<O: Sink, K: Disk>(alloc: Global, words: &[String], out: &mut O, disk:
 }
 
 // The status and the text of a run whose output goes through.
-fn answer<K: Disk>(alloc: Global, words: &[String], disk: &mut K) -> Result<(u8, Bytes), NoMemory>
+fn answer<H: Host, K: Disk>(
+    alloc: Global,
+    words: &[String],
+    host: &mut H,
+    disk: &mut K,
+) -> Result<(u8, Bytes), NoMemory>
     requires { (K.state disk.old).stopped ≡ false }
-    ensures says { IfOk result (λ said. Says (texts_of words.now) (K.state disk.old) (K.state disk.new) said.0 said.1.items) }
-    ensures untouched { ((command : Command) → ¬ IsCommand (texts_of words.now) command) → disk.new ≡ disk.old }
+    ensures says { IfOk result (λ said. Says (texts_of words.now) (K.state disk.old) (K.state disk.new) (H.files host.old) (H.faults host.old) (H.faults host.new) said.0 said.1.items) }
+    ensures disk_untouched { ¬ IsForm (texts_of words.now) list_form → disk.new ≡ disk.old }
+    ensures host_untouched { ((file : List ℕ) → ¬ IsForm (texts_of words.now) (show_form file)) → host.new ≡ host.old }
+    ensures files_kept { H.files host.new ≡ H.files host.old }
     ensures only_reads { OnlyReads (K.state disk.old) (K.state disk.new) }
 {
-    let Some(command) = Command::read(words) else {
-        return Ok((2, text_of(alloc, b"refused words\n")?));
-    };
-    match command {
-        Command::List => Ok(list(alloc, disk)?),
+    match Command::read(words) {
+        None => Ok((2, text_of(alloc, b"refused words\n")?)),
+        Some(Command::List) => Ok(list(alloc, disk)?),
+        Some(Command::ShowHeader(file)) => Ok(show_header(alloc, host, file)?),
     }
 }
 

@@ -3,6 +3,8 @@
 
 mod command;
 mod ended;
+mod header_text;
+mod show;
 mod text;
 
 pub use ended::{Ended, run};

@@ -1,6 +1,9 @@
 use super::*;
 use disk_model::{FileDisk, MemDisk};
-use load_base::{Bytes, Config, Ident, List, Load, MemSink, Name, PartText, StdSink, StoredFile};
+use load_base::{
+    Bytes, Config, Host, Ident, List, Load, MemHost, MemSink, Name, PartText, StdHost, StdSink,
+    StoredFile,
+};
 use recovery::{Identity, Standing};
 use std::alloc::Global;
 use std::fs;
@@ -44,7 +47,7 @@ fn words_of(alloc: Global, words: &[&str]) -> Result<Vec<String>, Fail> {
 fn run_on(alloc: Global, words: &[String], disk: [u8; DISK]) -> Result<(u8, MemSink), Fail> {
     let mut disk = MemDisk::new(alloc, &disk)?;
     let mut out = MemSink::new(alloc);
-    let ended = run(alloc, words, &mut out, &mut disk);
+    let ended = run(alloc, words, &mut MemHost::new(alloc), &mut out, &mut disk);
     Ok((ended.status, out))
 }
 
@@ -131,6 +134,13 @@ fn refuses_all_other_words(rt: HostRuntime) -> Result<(), Fail> {
         &["list", "list"],
         &["list", ""],
         &["--help"],
+        &["show"],
+        &["show", "APP.LUH", "APP.LUH"],
+        &["show", "APP.BIN"],
+        &["show", "APP.luh"],
+        &["show", "APP APP.LUH"],
+        &["show", "APP\x7F.LUH"],
+        &["Show", "APP.LUH"],
     ] {
         let words = words_of(alloc, words)?;
         let (status, out) = run_on(alloc, &words, formatted())?;
@@ -155,7 +165,7 @@ fn each_disk_read_fails_in_turn(rt: HostRuntime) -> Result<(), Fail> {
         let mut disk = MemDisk::new(alloc, &formatted())?;
         disk.fail_at(call)?;
         let mut out = MemSink::new(alloc);
-        let ended = run(alloc, &words, &mut out, &mut disk);
+        let ended = run(alloc, &words, &mut MemHost::new(alloc), &mut out, &mut disk);
         assert_eq!(rt; ended.status, status, "call {call}");
         assert_eq!(rt; out.as_slice(), text.as_bytes(), "call {call}");
     }
@@ -170,7 +180,7 @@ fn a_sink_that_fails(rt: HostRuntime) -> Result<(), Fail> {
         let mut disk = MemDisk::new(alloc, &formatted())?;
         let mut out = MemSink::new(alloc);
         out.fail_at(1)?;
-        let ended = run(alloc, &words, &mut out, &mut disk);
+        let ended = run(alloc, &words, &mut MemHost::new(alloc), &mut out, &mut disk);
         assert_eq!(rt; ended.status, 7);
         assert_eq!(rt; out.as_slice(), b"".as_slice());
     }
@@ -240,7 +250,7 @@ fn the_real_sink_and_the_real_disk(rt: HostRuntime) -> Result<(), Fail> {
     for (name, status) in [("listed.disk", 0), ("missing.disk", 8), ("folder.disk", 5)] {
         let mut out = StdSink::new(&rt);
         let mut disk = FileDisk::new(&rt, name);
-        let ended = run(alloc, &words, &mut out, &mut disk);
+        let ended = run(alloc, &words, &mut StdHost::new(&rt), &mut out, &mut disk);
         assert_eq!(rt; ended.status, status, "{name}");
     }
     assert_eq!(rt;
@@ -251,5 +261,136 @@ fn the_real_sink_and_the_real_disk(rt: HostRuntime) -> Result<(), Fail> {
     fs::remove_file(&rt, "listed.disk")?;
     fs::remove_file(&rt, "missing.disk")?;
     fs::remove_dir(&rt, "folder.disk")?;
+    Ok(())
+}
+
+// A load header with positions, two data files, a support file and user data.
+static NAV: [u8; 210] = [
+    0x00, 0x00, 0x00, 0x69, 0x80, 0x04, 0x00, 0x00, 0x00, 0x00, 0x00, 0x14, 0x00, 0x00, 0x00, 0x1D,
+    0x00, 0x00, 0x00, 0x23, 0x00, 0x00, 0x00, 0x28, 0x00, 0x00, 0x00, 0x30, 0x00, 0x00, 0x00, 0x51,
+    0x00, 0x00, 0x00, 0x62, 0x00, 0x00, 0x00, 0x65, 0x00, 0x0F, 0x41, 0x42, 0x43, 0x34, 0x31, 0x2D,
+    0x30, 0x30, 0x30, 0x30, 0x2D, 0x30, 0x30, 0x30, 0x31, 0x00, 0x00, 0x07, 0x4E, 0x41, 0x56, 0x44,
+    0x41, 0x54, 0x41, 0x00, 0x00, 0x07, 0x00, 0x01, 0x00, 0x05, 0x46, 0x4D, 0x43, 0x2D, 0x31, 0x00,
+    0x00, 0x01, 0x00, 0x05, 0x46, 0x4D, 0x43, 0x2D, 0x32, 0x00, 0x00, 0x01, 0x00, 0x01, 0x4C, 0x00,
+    0x00, 0x02, 0x00, 0x10, 0x00, 0x08, 0x4E, 0x41, 0x56, 0x31, 0x2E, 0x42, 0x49, 0x4E, 0x00, 0x04,
+    0x4E, 0x41, 0x56, 0x31, 0x00, 0x00, 0x01, 0x00, 0x00, 0x00, 0x00, 0x00, 0x00, 0x00, 0x01, 0xFF,
+    0xD3, 0xB3, 0x00, 0x00, 0x00, 0x08, 0x4E, 0x41, 0x56, 0x32, 0x2E, 0x42, 0x49, 0x4E, 0x00, 0x04,
+    0x4E, 0x41, 0x56, 0x32, 0x00, 0x00, 0x00, 0x05, 0x00, 0x00, 0x00, 0x00, 0x00, 0x00, 0x00, 0x0A,
+    0x17, 0x1B, 0x00, 0x01, 0x00, 0x00, 0x00, 0x07, 0x4E, 0x41, 0x56, 0x2E, 0x54, 0x58, 0x54, 0x00,
+    0x00, 0x04, 0x4E, 0x4F, 0x54, 0x45, 0x00, 0x00, 0x00, 0x01, 0x00, 0x00, 0x00, 0x00, 0x00, 0x00,
+    0x00, 0x01, 0x48, 0xFA, 0x00, 0x02, 0x4E, 0x4F, 0x54, 0x45, 0x00, 0x00, 0x50, 0x7B, 0x7A, 0x36,
+    0xD4, 0xDB,
+];
+
+static NAV_TEXT: &[u8] = b"header 105 8004 0000
+part ABC41-0000-0001
+type 7 NAVDATA
+hardware FMC-1
+position FMC-2 L
+data NAV1.BIN 511 D3B3 NAV1
+data NAV2.BIN 10 171B NAV2
+support NAV.TXT 1 48FA NOTE
+user 4E4F5445
+headercrc 507B
+loadcrc 7A36D4DB
+";
+
+// A host with this one file.
+fn host_with(alloc: Global, name: &[u8], bytes: &[u8]) -> Result<MemHost, Fail> {
+    let mut host = MemHost::new(alloc);
+    match host.write(name, bytes) {
+        Ok(()) => Ok(host),
+        Err(_) => Err(Fail::new("the host refused a file")),
+    }
+}
+
+#[test]
+fn shows_a_header_or_says_why_not(rt: HostRuntime) -> Result<(), Fail> {
+    let alloc = rt.alloc();
+    let mut another_sum = NAV;
+    another_sum[203] ^= 1;
+    let rows = [
+        ("NAV.LUH", NAV.as_slice(), 0, NAV_TEXT),
+        ("NAV.LUH", &NAV[..3], 3, b"refused NAV.LUH H1 0\n"),
+        ("NAV.LUH", &another_sum, 3, b"refused NAV.LUH H7\n"),
+        ("OTHER.LUH", &NAV, 3, b"refused NAV.LUH absent\n"),
+        ("nav.luh", &NAV, 3, b"refused NAV.LUH absent\n"),
+    ];
+    let words = words_of(alloc, &["show", "NAV.LUH"])?;
+    for (name, bytes, status, text) in rows {
+        let mut host = host_with(alloc, name.as_bytes(), bytes)?;
+        let mut out = MemSink::new(alloc);
+        let mut disk = MemDisk::new(alloc, &formatted())?;
+        let ended = run(alloc, &words, &mut host, &mut out, &mut disk);
+        assert_eq!(rt; ended.status, status, "{name}");
+        assert_eq!(rt; out.as_slice(), text, "{name}");
+        assert_eq!(rt; disk.as_slice(), formatted().as_slice(), "{name}");
+    }
+    Ok(())
+}
+
+// The host is called once, and only by `show`.
+#[test]
+fn each_host_call_fails_in_turn(rt: HostRuntime) -> Result<(), Fail> {
+    let alloc = rt.alloc();
+    for (words, call, status) in [
+        (&["show", "NAV.LUH"][..], 2, 4),
+        (&["show", "NAV.LUH"], 3, 0),
+        (&["list"], 2, 0),
+        (&["frob"], 2, 2),
+    ] {
+        let words = words_of(alloc, words)?;
+        let mut host = host_with(alloc, b"NAV.LUH", &NAV)?;
+        host.fail_at(call)?;
+        let mut out = MemSink::new(alloc);
+        let mut disk = MemDisk::new(alloc, &formatted())?;
+        let ended = run(alloc, &words, &mut host, &mut out, &mut disk);
+        assert_eq!(rt; ended.status, status, "call {call}");
+        assert_eq!(rt;
+            out.as_slice() == b"host fault\n".as_slice(),
+            status == 4,
+            "call {call}"
+        );
+    }
+    Ok(())
+}
+
+#[test]
+fn too_many_bytes_are_refused(rt: HostRuntime) -> Result<(), Fail> {
+    let alloc = rt.alloc();
+    let words = words_of(alloc, &["show", "NAV.LUH"])?;
+    let mut bytes = Bytes::new(alloc);
+    let piece = [0; 65_536];
+    for _ in 0..256 {
+        bytes.extend(&piece)?;
+    }
+    let mut host = host_with(alloc, b"NAV.LUH", bytes.as_slice())?;
+    let mut out = MemSink::new(alloc);
+    let mut disk = MemDisk::new(alloc, &formatted())?;
+    let ended = run(alloc, &words, &mut host, &mut out, &mut disk);
+    assert_eq!(rt; ended.status, 3);
+    assert_eq!(rt; out.as_slice(), b"refused NAV.LUH toolong\n".as_slice());
+    Ok(())
+}
+
+// Over the files of the system: a header, one that is missing, and a folder in its place.
+#[test]
+fn the_real_host(rt: HostRuntime) -> Result<(), Fail> {
+    let alloc = rt.alloc();
+    fs::write(&rt, "SHOWN.LUH", &NAV)?;
+    fs::create_dir(&rt, "FOLDER.LUH")?;
+    for (name, status) in [("SHOWN.LUH", 0), ("NONE.LUH", 3), ("FOLDER.LUH", 4)] {
+        let words = words_of(alloc, &["show", name])?;
+        let mut out = MemSink::new(alloc);
+        let mut disk = MemDisk::new(alloc, &formatted())?;
+        let ended = run(alloc, &words, &mut StdHost::new(&rt), &mut out, &mut disk);
+        assert_eq!(rt; ended.status, status, "{name}");
+        if status == 0 {
+            assert_eq!(rt; out.as_slice(), NAV_TEXT);
+        }
+    }
+    assert_eq!(rt; fs::read(&rt, "SHOWN.LUH")?.as_slice(), NAV.as_slice());
+    fs::remove_file(&rt, "SHOWN.LUH")?;
+    fs::remove_dir(&rt, "FOLDER.LUH")?;
     Ok(())
 }

@@ -4,7 +4,7 @@ ghost use Rattle.std.specs.Fmt.{decimal};
 ghost use Rattle.std.specs.List.{flat_map};
 ghost use Rattle.load_base.specs.Config.{file_view, load_view};
 ghost use Rattle.disk_layout.specs.Stands.{standing_view};
-ghost use Rattle.loader_cli.specs.Texts.{line, hex_digit as hex_digit_of, hex_16, file_line, load_line, load_lines, target_line, bank_line, loads_line, listing, fault_code, no_configuration};
+ghost use Rattle.loader_cli.specs.Texts.{line, hex_digit as hex_digit_of, hex_8, hex_16, hex_32, file_line, load_line, load_lines, target_line, bank_line, loads_line, listing, fault_code, no_configuration};
 
 use crc_fields::crc16;
 use disk_layout::{Identity, RecoverFault, Standing};
@@ -139,14 +139,15 @@ fn put_file(alloc: Global, out: &mut Bytes, file: &StoredFile) -> Result<(), NoM
     out.extend(b"\n")
 }
 
-fn put_number(alloc: Global, out: &mut Bytes, number: u64) -> Result<(), NoMemory>
+pub(crate) fn put_number(alloc: Global, out: &mut Bytes, number: u64) -> Result<(), NoMemory>
     ensures { OnOk result (out.new.items ≡ out.old.items ++ decimal number) }
 {
     let digits = number.to_string(alloc)?;
     out.extend(digits.as_bytes())
 }
 
-fn put_hex_16(out: &mut Bytes, number: u16) -> Result<(), NoMemory>
+#[tactic(auto, unfolding(crate::specs::Texts::hex_16))]
+pub(crate) fn put_hex_16(out: &mut Bytes, number: u16) -> Result<(), NoMemory>
     ensures { OnOk result (out.new.items ≡ out.old.items ++ hex_16 number) }
 {
     out.extend(&[
@@ -155,6 +156,14 @@ fn put_hex_16(out: &mut Bytes, number: u16) -> Result<(), NoMemory>
         hex_digit(number / 16 % 16),
         hex_digit(number % 16),
     ])
+}
+
+#[tactic(auto, unfolding(crate::specs::Texts::hex_8))]
+pub(crate) fn put_hex_8(out: &mut Bytes, number: u8) -> Result<(), NoMemory>
+    ensures { OnOk result (out.new.items ≡ out.old.items ++ hex_8 number) }
+{
+    let number = u16::from(number);
+    out.extend(&[hex_digit(number / 16), hex_digit(number % 16)])
 }
 
 fn hex_digit(digit: u16) -> u8

@@ -1,7 +1,9 @@
-use Rattle.loader_cli.specs.Words.{texts_of}
-use Rattle.loader_cli.specs.Runs.Says.{lists}
-use Rattle.loader_cli.proofs.Outputs.{asks_for_list}
+use Rattle.loader_cli.specs.Runs.Says.{lists, shows}
 use Rattle.loader_cli.proofs.ended.answer.Goals as goal
 
-pub returns-clause-says : goal.returns-clause-says
-returns-clause-says g c = lists (asks_for_list (texts_of c.args.words.now) c.in-Some.command c.in-Some.ensures.some) c.in_ok-list.ensures.says
+pub returns-in_ok-list-in-Some-List-clause-says : goal.returns-in_ok-list-in-Some-List-clause-says
+returns-in_ok-list-in-Some-List-clause-says g c = lists (rw c.in-Some-List.field-0-is at c.in-Some-List.ensures.some) c.in_ok-list-in-Some-List.ensures.says
+
+pub returns-in_ok-show_header-in-Some-ShowHeader-clause-says : goal.returns-in_ok-show_header-in-Some-ShowHeader-clause-says
+returns-in_ok-show_header-in-Some-ShowHeader-clause-says g c =
+    shows c.in-Some-ShowHeader.file.now (rw c.in-Some-ShowHeader.field-0-is at c.in-Some-ShowHeader.ensures.some) c.in_ok-show_header-in-Some-ShowHeader.ensures.shows

@@ -1,0 +1,39 @@
+-- What the calls of a record do (docs/DISK.md).
+use Rattle.std.specs.Prelude.{ℕ, Bool, true, false, List, [], ◌∷◌, length}
+use Rattle.disk_model.specs.Image.{Image, overlay}
+use Rattle.disk_model.specs.declared.note.Call.{Call}
+use Rattle.disk_model.specs.declared.note.Call.TheVariants.{Write, Sync, Restart}
+use Rattle.disk_model.specs.declared.note.Note.{Note}
+
+-- where a call writes
+abbrev pub place_of : Call → ℕ
+place_of (Write at bytes) = at
+place_of Sync = 0
+place_of Restart = 0
+
+-- how many bytes
+abbrev pub size_of : Call → ℕ
+size_of (Write at bytes) = length bytes.items
+size_of Sync = 0
+size_of Restart = 0
+
+-- what a read gives after a call that was done, or was not, by what it gave before
+abbrev pub laid : Call → Bool → Image → Image
+laid (Write at bytes) true image = overlay image at bytes.items
+laid (Write at bytes) false image = image
+laid Sync done image = image
+laid Restart done image = image
+
+-- the ranges that may hold anything, each a place and a length, after a call, by those before
+abbrev pub opened : Call → Bool → List (ℕ × ℕ) → List (ℕ × ℕ)
+opened (Write at bytes) done ranges = (at, length bytes.items) ∷ ranges
+opened Sync true ranges = []
+opened Sync false ranges = ranges
+opened Restart true ranges = []
+opened Restart false ranges = ranges
+
+abbrev pub image_after : Image → Note → Image
+image_after image note = laid note.call note.done image
+
+abbrev pub ranges_after : List (ℕ × ℕ) → Note → List (ℕ × ℕ)
+ranges_after ranges note = opened note.call note.done ranges

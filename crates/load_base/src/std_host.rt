@@ -1,0 +1,102 @@
+//! The files of the system.
+ghost use Rattle.std.specs.Prelude.{◌≡◌, ◌≤◌, None, length, IfOk};
+
+use crate::host::{Host, LONGEST_FILE, ReadFault};
+use crate::{Bytes, NoMemory, WriteFault};
+use std::alloc::Global;
+use std::io::{self, ErrorKind, Read};
+use std::rt::Files;
+use std::{fs, str};
+
+// Files are read in pieces of so many bytes.
+const PIECE: usize = 8192;
+
+/// The files of the system, relative to the current folder. A file is absent only where the system says that
+/// there is none of that name; any other error is a fault of the host. Nothing is told of what files hold.
+#[derive(Drop)]
+pub struct StdHost<'r, R: Files> {
+    rt: &'r R,
+    faults: u64,
+}
+
+impl<'r, R: Files> StdHost<'r, R> {
+    pub fn new(rt: &'r R) -> StdHost<'r, R>
+        ensures { ⟦<StdHost<'r, R> as Host>⟧.faults result ≡ 0 }
+    {
+        StdHost { rt, faults: 0 }
+    }
+}
+
+impl<R: Files> Host for StdHost<'_, R> {
+    ghost files = { λ _. None };
+
+    ghost faults = { λ host. host.faults };
+
+    fn read(&mut self, alloc: Global, name: &[u8]) -> Result<Bytes, ReadFault> {
+        match read_file(self.rt, alloc, name) {
+            Ok(bytes) => Ok(bytes),
+            Err(ReadFault::Failed) => {
+                self.faults = self.faults.saturating_add(1);
+                Err(ReadFault::Failed)
+            }
+            Err(fault) => Err(fault),
+        }
+    }
+
+    /// Missing folders are made. Want of memory isn't answered.
+    fn write(&mut self, name: &[u8], bytes: &[u8]) -> Result<(), WriteFault> {
+        match write_file(self.rt, name, bytes) {
+            Ok(()) => Ok(()),
+            Err(_) => {
+                self.faults = self.faults.saturating_add(1);
+                Err(WriteFault::Failed)
+            }
+        }
+    }
+}
+
+fn read_file<R: Files>(rt: &R, alloc: Global, name: &[u8]) -> Result<Bytes, ReadFault>
+    ensures { IfOk result (λ bytes. length bytes.items ≤ LONGEST_FILE) }
+{
+    let Ok(name) = str::from_utf8(name) else {
+        return Err(ReadFault::Failed);
+    };
+    match fs::open(rt, name) {
+        Ok(mut file) => read_whole(&mut file, alloc),
+        Err(fault) if fault.kind() == ErrorKind::NotFound => Err(ReadFault::Absent),
+        Err(_) => Err(ReadFault::Failed),
+    }
+}
+
+// Each read but the last gives a byte at least.
+fn read_whole<F: Read>(file: &mut F, alloc: Global) -> Result<Bytes, ReadFault>
+    ensures { IfOk result (λ bytes. length bytes.items ≤ LONGEST_FILE) }
+{
+    let mut bytes = Bytes::new(alloc);
+    let mut piece = [0; PIECE];
+    for _ in 0..=LONGEST_FILE {
+        let Ok(count) = file.read(&mut piece) else {
+            return Err(ReadFault::Failed);
+        };
+        if count == 0 {
+            return Ok(bytes);
+        }
+        if count > LONGEST_FILE - bytes.len() {
+            return Err(ReadFault::TooLong);
+        }
+        if let Err(NoMemory) = bytes.extend(&piece[..count]) {
+            return Err(ReadFault::Memory);
+        }
+    }
+    Err(ReadFault::TooLong)
+}
+
+fn write_file<R: Files>(rt: &R, name: &[u8], bytes: &[u8]) -> io::Result<()> {
+    let Ok(name) = str::from_utf8(name) else {
+        return Err(io::Error::from(ErrorKind::InvalidInput));
+    };
+    if let Some((folder, _)) = name.rsplit_once('/') {
+        fs::create_dir_all(rt, folder)?;
+    }
+    fs::write(rt, name, bytes)
+}

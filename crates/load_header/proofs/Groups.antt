@@ -1,0 +1,338 @@
+-- How the groups of sections of a header are spelled, at their places.
+use Rattle.std.proofs.Common.{◌≡◌, ℕ, ◌+◌, ◌-◌, ◌*◌, ◌/◌, ◌%◌, ◌<◌, ◌≤◌, ◌^◌, List, [], ◌∷◌, ◌++◌, length, Bool, refl, sym, ap, subst, ◌∙◌, arith, length-append, ◌==◌}
+use Rattle.std.specs.List.{concat, AllByRecursion}
+use Rattle.std.proofs.lemmas.Bool.{eqb-true, eq-eqb}
+use Rattle.std.proofs.lemmas.List.{append-nil}
+use Rattle.crc_fields.specs.CheckSums.{crc16_of}
+use Rattle.crc_fields.proofs.Widths.{crc16_fits}
+use Rattle.load_base.specs.Text.{IsText}
+use Rattle.part_number.specs.PartNumber.{IsPartNumberText}
+use Rattle.field_grammar.specs.Grammar.{Grammar, Follows, IsBytes, ended}
+use Rattle.field_grammar.specs.Spelling.{IsSpelledBy, IsPlacedBy}
+use Rattle.field_grammar.specs.Fields.{number_fields, padded_fields}
+use Rattle.field_grammar.proofs.Placed.{placed-ended}
+use Rattle.load_header.specs.Header.{HardwareView, identity, targets, all_files, user_data, no_check_value, check_sums, tail}
+use Rattle.load_header.specs.HeaderFields.{size_of, texts_fields, positions_fields, files_fields, user_fields, AreTexts, IsHardwareAt, IsFile}
+use Rattle.load_header.specs.declared.fault.HeaderFault.TheVariants as faults
+use Rattle.load_header.specs.declared.header.FileEntry.{FileEntry}
+use Rattle.load_header.specs.declared.reading.Pointers.{Pointers}
+use Rattle.load_header.proofs.Texts.{spelled-text, spelled-part}
+use Rattle.load_header.proofs.Pieces.{spelled-u16, spelled-u32, spelled-bytes, spelled-texts, spelled-positions, placed-section, placed-files}
+
+-- the place behind fields
+pub behind : (before : List ℕ) (f s : List (List ℕ)) → f ≡ s → length (before ++ concat f) ≡ length before + size_of s
+behind before f s same = length-append before (concat f) ∙ ap (λ (g : List (List ℕ)). length before + size_of g) same
+
+-- ---- what the load is
+
+abbrev pub Identity : Type 0
+Identity = List ℕ × List ℕ × ℕ
+
+abbrev pub identity_parts : Identity → List (List ℕ)
+identity_parts v = padded_fields v.0 ++ (padded_fields v.1 ++ number_fields 2 v.2)
+
+pub record IsIdentity (places : Pointers) (before : List ℕ) (v : Identity) : Type 0 where
+  pub part_place : places.part ≡ length before / 2
+  pub part : IsPartNumberText v.0
+  pub type_place : places.type_name ≡ (length before + size_of (padded_fields v.0)) / 2
+  pub type_name : IsText v.1
+  pub type_id : v.2 < 2 ^ 16
+
+pub placed-identity : (places : Pointers) → IsPlacedBy (identity places) (λ before. identity_parts) (λ before after v. IsIdentity places before v)
+unfolding identity
+placed-identity places = record {
+  to = λ before fields after value follows.
+      let (u0, f0, o0, e0, h0, (number, f1, o1, e1, h1, (u2, f2, o2, e2, h2, (title, f3, o3, e3, h3, (id, f4, o4, e4, h4, last))))) = follows in
+      let b1 : List ℕ = before ++ concat f0 in
+      let b2 : List ℕ = b1 ++ concat f1 in
+      let a0 = (placed-section 1 places.part).to before f0 (length (concat o0) + after) u0 h0 in
+      let a1 = spelled-part.to b1 f1 (length (concat o1) + after) number h1 in
+      let a2 = (placed-section 2 places.type_name).to b2 f2 (length (concat o2) + after) u2 h2 in
+      let a3 = spelled-text.to (b2 ++ concat f2) f3 (length (concat o3) + after) title h3 in
+      let a4 = spelled-u16.to ((b2 ++ concat f2) ++ concat f3) f4 (length (concat o4) + after) id h4 in
+      let size : length b2 ≡ length before + size_of (padded_fields number) = omega (arith, behind before f0 [] a0.0, behind b1 f1 (padded_fields number) a1.0) in
+      let is : Identity = (number, title, id) in
+      let whole : fields ≡ identity_parts is = rw (e0, e1, e2, e3, e4, last.0, a0.0, a1.0, a2.0, a3.0, a4.0) refl in
+      let fits : IsIdentity places before is = record { part_place = a0.1; part = a1.1; type_place = a2.1 ∙ ap (λ (n : ℕ). n / 2) size; type_name = a3.1; type_id = a4.1 } in
+      subst (λ (v : Identity). (fields ≡ identity_parts v) × IsIdentity places before v) last.1 (whole, fits);
+  from = λ before after value fits.
+      let b2 : List ℕ = (before ++ []) ++ concat (padded_fields value.0) in
+      let size : length b2 ≡ length before + size_of (padded_fields value.0) = omega (arith, behind before [] [] refl, behind (before ++ []) (padded_fields value.0) (padded_fields value.0) refl) in
+      let type_part : List (List ℕ) = padded_fields value.1 ++ number_fields 2 value.2 in (
+        tt,
+        [],
+        identity_parts value,
+        refl,
+        (placed-section 1 places.part).from before _ tt fits.part_place,
+        (
+          value.0,
+          padded_fields value.0,
+          type_part,
+          refl,
+          spelled-part.from _ _ value.0 fits.part,
+          (
+            tt,
+            [],
+            type_part,
+            refl,
+            (placed-section 2 places.type_name).from b2 _ tt (fits.type_place ∙ ap (λ (n : ℕ). n / 2) (sym size)),
+            (
+              value.1,
+              padded_fields value.1,
+              number_fields 2 value.2,
+              refl,
+              spelled-text.from _ _ value.1 fits.type_name,
+              (value.2, number_fields 2 value.2, [], refl, spelled-u16.from _ _ value.2 fits.type_id, (refl, refl)),
+            ),
+          ),
+        ),
+      );
+}
+
+-- ---- what it is for
+
+abbrev pub Targets : Type 0
+Targets = List (List ℕ) × List HardwareView
+
+abbrev pub targets_parts : Targets → List (List ℕ)
+targets_parts v = texts_fields v.0 ++ positions_fields v.1
+
+pub record AreTargets (places : Pointers) (before : List ℕ) (v : Targets) : Type 0 where
+  pub hardware_place : places.hardware ≡ length before / 2
+  pub hardware : AreTexts v.0
+  pub positions_place : places.positions ≡ (length before + size_of (texts_fields v.0)) / 2
+  pub positions : (length v.1 < 2 ^ 16) × AllByRecursion IsHardwareAt v.1
+
+pub placed-targets : (places : Pointers) → IsPlacedBy (targets places) (λ before. targets_parts) (λ before after v. AreTargets places before v)
+unfolding targets
+placed-targets places = record {
+  to = λ before fields after value follows.
+      let (u0, f0, o0, e0, h0, (hardware, f1, o1, e1, h1, (u2, f2, o2, e2, h2, (list, f3, o3, e3, h3, last)))) = follows in
+      let b1 : List ℕ = before ++ concat f0 in
+      let b2 : List ℕ = b1 ++ concat f1 in
+      let a0 = (placed-section 3 places.hardware).to before f0 (length (concat o0) + after) u0 h0 in
+      let a1 = spelled-texts.to b1 f1 (length (concat o1) + after) hardware h1 in
+      let a2 = (placed-section 4 places.positions).to b2 f2 (length (concat o2) + after) u2 h2 in
+      let a3 = spelled-positions.to (b2 ++ concat f2) f3 (length (concat o3) + after) list h3 in
+      let size : length b2 ≡ length before + size_of (texts_fields hardware) = omega (arith, behind before f0 [] a0.0, behind b1 f1 (texts_fields hardware) a1.0) in
+      let is : Targets = (hardware, list) in
+      let whole : fields ≡ targets_parts is = rw (e0, e1, e2, e3, last.0, a0.0, a1.0, a2.0, a3.0, append-nil) refl in
+      let fits : AreTargets places before is = record { hardware_place = a0.1; hardware = a1.1; positions_place = a2.1 ∙ ap (λ (n : ℕ). n / 2) size; positions = a3.1 } in
+      subst (λ (v : Targets). (fields ≡ targets_parts v) × AreTargets places before v) last.1 (whole, fits);
+  from = λ before after value fits.
+      let b2 : List ℕ = (before ++ []) ++ concat (texts_fields value.0) in
+      let size : length b2 ≡ length before + size_of (texts_fields value.0) = omega (arith, behind before [] [] refl, behind (before ++ []) (texts_fields value.0) (texts_fields value.0) refl) in (
+        tt,
+        [],
+        targets_parts value,
+        refl,
+        (placed-section 3 places.hardware).from before _ tt fits.hardware_place,
+        (
+          value.0,
+          texts_fields value.0,
+          positions_fields value.1,
+          refl,
+          spelled-texts.from _ _ value.0 fits.hardware,
+          (
+            tt,
+            [],
+            positions_fields value.1,
+            refl,
+            (placed-section 4 places.positions).from b2 _ tt (fits.positions_place ∙ ap (λ (n : ℕ). n / 2) (sym size)),
+            (value.1, positions_fields value.1, [], sym (append-nil (positions_fields value.1)), spelled-positions.from _ _ value.1 fits.positions, (refl, refl)),
+          ),
+        ),
+      );
+}
+
+-- ---- files
+
+abbrev pub AllFiles : Type 0
+AllFiles = List FileEntry × List FileEntry
+
+abbrev pub all_files_parts : AllFiles → List (List ℕ)
+all_files_parts v = files_fields v.0 ++ files_fields v.1
+
+pub record AreFiles (places : Pointers) (before : List ℕ) (v : AllFiles) : Type 0 where
+  pub data_place : places.data_files ≡ length before / 2
+  pub data_files : AllByRecursion IsFile v.0
+  pub support_place : places.support_files ≡ (length before + size_of (files_fields v.0)) / 2
+  pub support_files : AllByRecursion IsFile v.1
+  pub few : length v.0 + length v.1 ≤ 255
+
+pub placed-all_files : (places : Pointers) → IsPlacedBy (all_files places) (λ before. all_files_parts) (λ before after v. AreFiles places before v)
+unfolding all_files
+placed-all_files places = record {
+  to = λ before fields after value follows.
+      let (first, f1, o1, e1, h1, (support, f2, o2, e2, h2, last)) = follows in
+      let a1 = (placed-files 5 places.data_files 0).to before f1 (length (concat o1) + after) first h1 in
+      let a2 = (placed-files 6 places.support_files (length first)).to (before ++ concat f1) f2 (length (concat o2) + after) support h2 in
+      let is : AllFiles = (first, support) in
+      let whole : fields ≡ all_files_parts is = rw (e1, e2, last.0, a1.0, a2.0, append-nil) refl in
+      let fits : AreFiles places before is = record {
+        data_place = a1.1.0;
+        data_files = a1.1.2;
+        support_place = a2.1.0 ∙ ap (λ (n : ℕ). n / 2) (behind before f1 (files_fields first) a1.0);
+        support_files = a2.1.2;
+        few = a2.1.1;
+      } in
+      subst (λ (v : AllFiles). (fields ≡ all_files_parts v) × AreFiles places before v) last.1 (whole, fits);
+  from = λ before after value fits.
+      let size = behind before (files_fields value.0) (files_fields value.0) refl in (
+        value.0,
+        files_fields value.0,
+        files_fields value.1,
+        refl,
+        (placed-files 5 places.data_files 0).from before _ value.0 (fits.data_place, omega (arith, fits.few), fits.data_files),
+        (
+          value.1,
+          files_fields value.1,
+          [],
+          sym (append-nil (files_fields value.1)),
+          (placed-files 6 places.support_files (length value.0)).from (before ++ concat (files_fields value.0)) _ value.1 (fits.support_place ∙ ap (λ (n : ℕ). n / 2) (sym size), fits.few, fits.support_files),
+          (refl, refl),
+        ),
+      );
+}
+
+-- ---- the end
+
+pub record IsUserData (said : ℕ) (before v : List ℕ) : Type 0 where
+  pub place : said ≡ length before / 2
+  pub bytes : IsBytes v
+  pub even : length v % 2 ≡ 0
+  pub size : length v / 2 < 2 ^ 16
+
+placed-user_data : (said : ℕ) → IsPlacedBy (user_data said) (λ before. user_fields) (λ before after v. IsUserData said before v)
+unfolding user_data user_fields
+placed-user_data said = record {
+  to = λ before fields after value follows.
+      let (u0, f0, o0, e0, h0, (words, f1, o1, e1, h1, h2)) = follows in
+      let a0 = (placed-section 7 said).to before f0 (length (concat o0) + after) u0 h0 in
+      let a1 = spelled-u16.to (before ++ concat f0) f1 (length (concat o1) + after) words h1 in
+      let a2 = (spelled-bytes (2 * words)).to ((before ++ concat f0) ++ concat f1) o1 after value h2 in
+      let half : words ≡ length value / 2 = omega (arith, a2.1.0) in
+      let is : fields ≡ number_fields 2 words ++ value ∷ [] = rw (e0, e1, a0.0, a1.0, a2.0) refl in
+      let whole : fields ≡ user_fields value = subst (λ (n : ℕ). fields ≡ number_fields 2 n ++ value ∷ []) half is in
+      (whole, record { place = a0.1; bytes = a2.1.1; even = omega (arith, a2.1.0); size = omega (arith, half, a1.1) });
+  from = λ before after value fits.
+      let words : ℕ = length value / 2 in (
+        tt,
+        [],
+        user_fields value,
+        refl,
+        (placed-section 7 said).from before _ tt fits.place,
+        (
+          words,
+          number_fields 2 words,
+          value ∷ [],
+          refl,
+          spelled-u16.from _ _ words fits.size,
+          (spelled-bytes (2 * words)).from _ _ value (omega (arith, fits.even), fits.bytes),
+        ),
+      );
+}
+
+placed-no_check_value : (said : ℕ) → IsPlacedBy (no_check_value said) (λ before u. number_fields 2 0) (λ before after u. said ≡ length before / 2)
+unfolding no_check_value
+placed-no_check_value said = record {
+  to = λ before fields after value follows.
+      let (u0, f0, o0, e0, h0, (size, f1, o1, e1, h1, h2)) = follows in
+      let a0 = (placed-section 8 said).to before f0 (length (concat o0) + after) u0 h0 in
+      let a1 = spelled-u16.to (before ++ concat f0) f1 (length (concat o1) + after) size h1 in
+      let none : size ≡ 0 = eqb-true size 0 h2.1 in
+      let is : fields ≡ number_fields 2 size = rw (e0, e1, h2.0, a0.0, a1.0) refl in
+      (subst (λ (n : ℕ). fields ≡ number_fields 2 n) none is, a0.1);
+  from = λ before after value fits.
+      (tt, [], number_fields 2 0, refl, (placed-section 8 said).from before _ tt fits, (0, number_fields 2 0, [], refl, spelled-u16.from _ _ 0 (omega arith), (refl, refl)));
+}
+
+abbrev pub sums_parts : List ℕ → ℕ → List (List ℕ)
+sums_parts before v = number_fields 2 (crc16_of before) ++ number_fields 4 v
+
+placed-check_sums : IsPlacedBy check_sums sums_parts (λ before after v. (v < 2 ^ 32) × (after ≡ 0))
+unfolding check_sums
+placed-check_sums = record {
+  to = λ before fields after value follows.
+      let (b, f0, o0, e0, h0, (said, f1, o1, e1, h1, (load, f2, o2, e2, h2, (u3, f3, o3, e3, h3, (u4, f4, o4, e4, h4, last))))) = follows in
+      let a1 = spelled-u16.to (before ++ concat f0) f1 (length (concat o1) + after) said h1 in
+      let a2 = spelled-u32.to ((before ++ concat f0) ++ concat f1) f2 (length (concat o2) + after) load h2 in
+      let a3 = (placed-ended faults.Rest).to (((before ++ concat f0) ++ concat f1) ++ concat f2) f3 (length (concat o3) + after) u3 h3 in
+      let is : said ≡ crc16_of before = eqb-true said (crc16_of b) h4.1 ∙ ap crc16_of (sym h0.1) in
+      let parts : fields ≡ number_fields 2 said ++ number_fields 4 load = rw (e0, h0.0, e1, e2, e3, a3.0, e4, h4.0, last.0, a1.0, a2.0) refl in
+      let whole : fields ≡ sums_parts before load = subst (λ (n : ℕ). fields ≡ number_fields 2 n ++ number_fields 4 load) is parts in
+      subst (λ (v : ℕ). (fields ≡ sums_parts before v) × ((v < 2 ^ 32) × (after ≡ 0))) last.1 (whole, (a2.1, omega (arith, a3.1)));
+  from = λ before after value fits.
+      let said : ℕ = crc16_of before in (
+        before,
+        [],
+        sums_parts before value,
+        refl,
+        (refl, refl),
+        (
+          said,
+          number_fields 2 said,
+          number_fields 4 value,
+          refl,
+          spelled-u16.from _ _ said (crc16_fits before),
+          (
+            value,
+            number_fields 4 value,
+            [],
+            refl,
+            spelled-u32.from _ _ value fits.0,
+            (tt, [], [], refl, (placed-ended faults.Rest).from _ _ tt (omega (arith, fits.1)), (tt, [], [], refl, (refl, eq-eqb said said refl), (refl, refl))),
+          ),
+        ),
+      );
+}
+
+abbrev pub Tail : Type 0
+Tail = List ℕ × ℕ
+
+abbrev pub tail_parts : List ℕ → Tail → List (List ℕ)
+tail_parts before v = user_fields v.0 ++ (number_fields 2 0 ++ sums_parts ((before ++ concat (user_fields v.0)) ++ concat (number_fields 2 0)) v.1)
+
+pub record IsTail (places : Pointers) (before : List ℕ) (after : ℕ) (v : Tail) : Type 0 where
+  pub user : IsUserData places.user before v.0
+  pub check_place : places.check_value ≡ (length before + size_of (user_fields v.0)) / 2
+  pub load_crc : v.1 < 2 ^ 32
+  pub none : after ≡ 0
+
+pub placed-tail : (places : Pointers) → IsPlacedBy (tail places) tail_parts (λ before after v. IsTail places before after v)
+unfolding tail
+placed-tail places = record {
+  to = λ before fields after value follows.
+      let (user, f1, o1, e1, h1, (u2, f2, o2, e2, h2, (load, f3, o3, e3, h3, last))) = follows in
+      let a1 = (placed-user_data places.user).to before f1 (length (concat o1) + after) user h1 in
+      let a2 = (placed-no_check_value places.check_value).to (before ++ concat f1) f2 (length (concat o2) + after) u2 h2 in
+      let a3 = placed-check_sums.to ((before ++ concat f1) ++ concat f2) f3 (length (concat o3) + after) load h3 in
+      let is : Tail = (user, load) in
+      let whole : fields ≡ tail_parts before is = rw (e1, e2, e3, last.0, a3.0, a1.0, a2.0) refl in
+      let none : after ≡ 0 = omega (arith, a3.1.1) in
+      let fits : IsTail places before after is = record {
+        user = a1.1;
+        check_place = a2.1 ∙ ap (λ (n : ℕ). n / 2) (behind before f1 (user_fields user) a1.0);
+        load_crc = a3.1.0;
+        none = none;
+      } in
+      subst (λ (v : Tail). (fields ≡ tail_parts before v) × IsTail places before after v) last.1 (whole, fits);
+  from = λ before after value fits.
+      let b1 : List ℕ = before ++ concat (user_fields value.0) in
+      let b2 : List ℕ = b1 ++ concat (number_fields 2 0) in
+      let size = behind before (user_fields value.0) (user_fields value.0) refl in (
+        value.0,
+        user_fields value.0,
+        number_fields 2 0 ++ sums_parts b2 value.1,
+        refl,
+        (placed-user_data places.user).from before _ value.0 fits.user,
+        (
+          tt,
+          number_fields 2 0,
+          sums_parts b2 value.1,
+          refl,
+          (placed-no_check_value places.check_value).from b1 _ tt (fits.check_place ∙ ap (λ (n : ℕ). n / 2) (sym size)),
+          (value.1, sums_parts b2 value.1, [], refl, placed-check_sums.from b2 _ value.1 (fits.load_crc, omega (arith, fits.none)), (refl, refl)),
+        ),
+      );
+}

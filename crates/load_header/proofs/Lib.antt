@@ -1,0 +1,10 @@
+pub mod Judged
+pub mod Whole
+pub mod Texts
+pub mod Pieces
+pub mod Groups
+pub mod Heads
+pub mod Sizes
+pub mod Spelled
+pub mod Limits
+pub mod Writes

@@ -1,0 +1,223 @@
+-- How the pieces of a header are spelled that stand anywhere.
+use Rattle.std.proofs.Common.{◌≡◌, ℕ, zero, suc, ◌+◌, ◌*◌, ◌/◌, ◌%◌, ◌<◌, ◌≤◌, ◌^◌, List, [], ◌∷◌, ◌++◌, length, Bool, true, false, refl, sym, ap, subst, ◌∙◌, arith, length-append, ◌==◌, leb, ◌&&◌}
+use Rattle.std.specs.List.{concat, flat_map, AllByRecursion}
+use Rattle.std.proofs.lemmas.Bool.{leb-true, le-leb, eqb-true, eq-eqb, and_from}
+use Rattle.std.proofs.lemmas.List.{append-nil}
+use Rattle.load_base.specs.Name.{IsName}
+use Rattle.load_base.specs.Text.{IsText}
+use Rattle.field_grammar.specs.Grammar.{Grammar, Follows, IsBytes, renamed, listed}
+use Rattle.field_grammar.specs.Spelling.{IsSpelledBy, IsPlacedBy, listed_fields, AllPlaced}
+use Rattle.field_grammar.specs.Fields.{number, raw, number_fields, number_bytes, padded_fields, pad_bytes}
+use Rattle.field_grammar.proofs.Combined.{spelled-renamed, spelled-counted, spelled-measured}
+use Rattle.field_grammar.proofs.Listed.{placed-listed}
+use Rattle.field_grammar.proofs.Placed.{placed}
+use Rattle.field_grammar.proofs.Numbers.{wide2, wide4, wide8, spelled-number, spelled-raw, length_number_bytes}
+use Rattle.field_grammar.proofs.Texts.{length_pad_bytes}
+use Rattle.load_header.specs.Header.{named, u16, u32, text, name, texts, section, hardware_at, positions, is_size, file_size, file_body, distance_of, file_entry, entry_behind, files, HardwareView}
+use Rattle.load_header.specs.HeaderFields.{size_of, texts_fields, hardware_at_fields, positions_fields, file_body_fields, entry_fields, entry_fields_behind, files_fields, AreTexts, IsHardwareAt, IsFile}
+use Rattle.load_header.specs.declared.fault.HeaderFault.TheVariants as faults
+use Rattle.load_header.specs.declared.header.FileEntry.{FileEntry}
+use Rattle.load_header.proofs.Texts.{fitting, spelled-text, spelled-name}
+
+-- ---- numbers
+
+pub spelled-u16 : IsSpelledBy u16 (number_fields 2) (λ n. n < 2 ^ 16)
+spelled-u16 = spelled-renamed named (number 2) (number_fields 2) (λ n. n < 2 ^ 16) (spelled-number 2 wide2)
+
+pub spelled-u32 : IsSpelledBy u32 (number_fields 4) (λ n. n < 2 ^ 32)
+spelled-u32 = spelled-renamed named (number 4) (number_fields 4) (λ n. n < 2 ^ 32) (spelled-number 4 wide4)
+
+spelled-u64 : IsSpelledBy (renamed named (number 8)) (number_fields 8) (λ n. n < 2 ^ 64)
+spelled-u64 = spelled-renamed named (number 8) (number_fields 8) (λ n. n < 2 ^ 64) (spelled-number 8 wide8)
+
+pub spelled-bytes : (n : ℕ) → IsSpelledBy (renamed named (raw n)) (λ b. b ∷ []) (λ b. (length b ≡ n) × IsBytes b)
+spelled-bytes n = spelled-renamed named (raw n) (λ b. b ∷ []) (λ b. (length b ≡ n) × IsBytes b) (spelled-raw n)
+
+-- ---- texts and positions
+
+pub spelled-texts : IsSpelledBy texts texts_fields AreTexts
+unfolding texts texts_fields
+spelled-texts = spelled-counted u16 text (number_fields 2) padded_fields (λ n. n < 2 ^ 16) IsText spelled-u16 spelled-text
+
+spelled-hardware_at : IsSpelledBy hardware_at hardware_at_fields IsHardwareAt
+unfolding hardware_at
+spelled-hardware_at = record {
+  to = λ before fields after value follows.
+      let (hardware, f1, o1, e1, h1, (list, f2, o2, e2, h2, last)) = follows in
+      let a = spelled-text.to before f1 (length (concat o1) + after) hardware h1 in
+      let b = spelled-texts.to (before ++ concat f1) f2 (length (concat o2) + after) list h2 in
+      let whole : fields ≡ padded_fields hardware ++ texts_fields list = rw (e1, e2, last.0, a.0, b.0, append-nil) refl in
+      subst (λ (v : HardwareView). (fields ≡ hardware_at_fields v) × IsHardwareAt v) last.1 (whole, (a.1, b.1));
+  from = λ before after value fits. (
+    value.hardware,
+    padded_fields value.hardware,
+    texts_fields value.positions,
+    refl,
+    spelled-text.from before (length (concat (texts_fields value.positions)) + after) value.hardware fits.0,
+    (
+      value.positions,
+      texts_fields value.positions,
+      [],
+      sym (append-nil (texts_fields value.positions)),
+      spelled-texts.from (before ++ concat (padded_fields value.hardware)) (0 + after) value.positions fits.1,
+      (refl, refl),
+    ),
+  );
+}
+
+pub spelled-positions : IsSpelledBy positions positions_fields (λ list. (length list < 2 ^ 16) × AllByRecursion IsHardwareAt list)
+unfolding positions positions_fields
+spelled-positions = spelled-counted u16 hardware_at (number_fields 2) hardware_at_fields (λ n. n < 2 ^ 16) IsHardwareAt spelled-u16 spelled-hardware_at
+
+-- ---- files
+
+both : (a b : Bool) → (a && b) ≡ true → (a ≡ true) × (b ≡ true)
+both true b e = (refl, e)
+both false b e = absurd cc
+
+abbrev size_fields : ℕ → List (List ℕ)
+size_fields n = number_fields 4 ((n + 1) / 2) ++ number_fields 8 n
+
+spelled-file_size : (file : ℕ) → IsSpelledBy (file_size file) size_fields (λ n. n ≤ 16777215)
+unfolding file_size
+spelled-file_size file = record {
+  to = λ before fields after value follows.
+      let (words, f1, o1, e1, h1, (bytes, f2, o2, e2, h2, (u, f3, o3, e3, h3, last))) = follows in
+      let a = spelled-u32.to before f1 (length (concat o1) + after) words h1 in
+      let b = spelled-u64.to (before ++ concat f1) f2 (length (concat o2) + after) bytes h2 in
+      let t = both (leb bytes 16777215) (words == (bytes + 1) / 2) h3.1 in
+      let is : words ≡ (bytes + 1) / 2 = eqb-true words ((bytes + 1) / 2) t.1 in
+      let said : fields ≡ number_fields 4 words ++ number_fields 8 bytes = rw (e1, e2, e3, h3.0, last.0, a.0, b.0) refl in
+      let whole : fields ≡ size_fields bytes = subst (λ (w : ℕ). fields ≡ number_fields 4 w ++ number_fields 8 bytes) is said in
+      subst (λ (v : ℕ). (fields ≡ size_fields v) × (v ≤ 16777215)) last.1 (whole, leb-true bytes 16777215 t.0);
+  from = λ before after value fits. (
+    (value + 1) / 2,
+    number_fields 4 ((value + 1) / 2),
+    number_fields 8 value,
+    refl,
+    spelled-u32.from before (length (concat (number_fields 8 value)) + after) ((value + 1) / 2) (omega arith),
+    (
+      value,
+      number_fields 8 value,
+      [],
+      refl,
+      spelled-u64.from (before ++ concat (number_fields 4 ((value + 1) / 2))) (0 + after) value (omega (arith, fits)),
+      (tt, [], [], refl, (refl, and_from (leb value 16777215) (((value + 1) / 2) == (value + 1) / 2) (le-leb value 16777215 fits) (eq-eqb ((value + 1) / 2) ((value + 1) / 2) refl)), (refl, refl)),
+    ),
+  );
+}
+
+spelled-file_body : (file : ℕ) → IsSpelledBy (file_body file) file_body_fields IsFile
+unfolding file_body file_body_fields
+spelled-file_body file = record {
+  to = λ before fields after value follows.
+      let (title, f1, o1, e1, h1, (number, f2, o2, e2, h2, (size, f3, o3, e3, h3, (sum, f4, o4, e4, h4, last)))) = follows in
+      let a = spelled-name.to before f1 (length (concat o1) + after) title h1 in
+      let b = spelled-text.to (before ++ concat f1) f2 (length (concat o2) + after) number h2 in
+      let c = (spelled-file_size file).to ((before ++ concat f1) ++ concat f2) f3 (length (concat o3) + after) size h3 in
+      let d = spelled-u16.to (((before ++ concat f1) ++ concat f2) ++ concat f3) f4 (length (concat o4) + after) sum h4 in
+      let is : FileEntry = record { name = title; part = number; length = size; crc16 = sum } in
+      let whole : fields ≡ file_body_fields is = rw (e1, e2, e3, e4, last.0, a.0, b.0, c.0, d.0) refl in
+      let fits : IsFile is = record { name = a.1; part = b.1; size = c.1; sum = d.1 } in
+      subst (λ (v : FileEntry). (fields ≡ file_body_fields v) × IsFile v) last.1 (whole, fits);
+  from = λ before after value fits. (
+    value.name,
+    padded_fields value.name,
+    padded_fields value.part ++ (size_fields value.length ++ number_fields 2 value.crc16),
+    refl,
+    spelled-name.from before (length (concat (padded_fields value.part ++ (size_fields value.length ++ number_fields 2 value.crc16))) + after) value.name fits.name,
+    (
+      value.part,
+      padded_fields value.part,
+      size_fields value.length ++ number_fields 2 value.crc16,
+      refl,
+      spelled-text.from _ _ value.part fits.part,
+      (
+        value.length,
+        size_fields value.length,
+        number_fields 2 value.crc16,
+        refl,
+        (spelled-file_size file).from _ _ value.length fits.size,
+        (value.crc16, number_fields 2 value.crc16, [], refl, spelled-u16.from _ _ value.crc16 fits.sum, (refl, refl)),
+      ),
+    ),
+  );
+}
+
+pub size_body : (f : FileEntry) → size_of (file_body_fields f) ≡ (2 + length f.name + length f.name % 2) + (2 + length f.part + length f.part % 2) + 14
+unfolding file_body_fields
+size_body f = simp (length-append, length_number_bytes, length_pad_bytes) (omega arith)
+
+-- an entry's distance fits two bytes
+distance_fits : (last : Bool) (n : ℕ) → n < 2 ^ 17 → distance_of last n < 2 ^ 16
+distance_fits true n small = omega arith
+distance_fits false n small = omega (arith, small)
+
+body_small : (f : FileEntry) → IsFile f → 2 + size_of (file_body_fields f) < 2 ^ 17
+body_small f is = omega (arith, size_body f, is.name.size.1, is.part.size)
+
+spelled-file_entry : (file : ℕ) (last : Bool) → IsSpelledBy (file_entry file last) (entry_fields last) IsFile
+unfolding file_entry
+spelled-file_entry file last =
+    fitting (file_entry file last) (entry_fields last) (λ f. (distance_of last (2 + size_of (file_body_fields f)) < 2 ^ 16) × IsFile f) IsFile (λ f is. is.1) (λ f is. (distance_fits last (2 + size_of (file_body_fields f)) (body_small f is), is))
+    (spelled-measured u16 (distance_of last) (faults.Distance file) (file_body file) 2 (number_fields 2) file_body_fields (λ n. n < 2 ^ 16) IsFile two spelled-u16 (spelled-file_body file))
+  where
+    two : (n : ℕ) → length (concat (number_fields 2 n)) ≡ 2
+    two n = simp (length-append, length_number_bytes) refl
+
+placed-entries : (others count : ℕ) → IsPlacedBy (listed count (entry_behind others count) []) (λ before. listed_fields (entry_fields_behind count) []) (λ before after xs. (length xs ≡ count) × AllPlaced (entry_fields_behind count) (λ so_far b a x. IsFile x) [] before after xs)
+placed-entries others count =
+    placed-listed (entry_behind others count) (entry_fields_behind count) (λ so_far b a x. IsFile x) count
+    (λ so_far. placed (file_entry (others + length so_far + 1) (length so_far + 1 == count)) (entry_fields_behind count so_far) IsFile (spelled-file_entry (others + length so_far + 1) (length so_far + 1 == count)))
+
+all_there : (s : List FileEntry → FileEntry → List (List ℕ)) (xs so_far : List FileEntry) (before : List ℕ) (after : ℕ) → AllPlaced s (λ l b a x. IsFile x) so_far before after xs → AllByRecursion IsFile xs
+all_there s [] so_far before after all = tt
+all_there s (x ∷ xs) so_far before after all = (all.0, all_there s xs (so_far ++ x ∷ []) (before ++ concat (s so_far x)) after all.1)
+
+all_again : (s : List FileEntry → FileEntry → List (List ℕ)) (xs so_far : List FileEntry) (before : List ℕ) (after : ℕ) → AllByRecursion IsFile xs → AllPlaced s (λ l b a x. IsFile x) so_far before after xs
+all_again s [] so_far before after all = tt
+all_again s (x ∷ xs) so_far before after all = (all.0, all_again s xs (so_far ++ x ∷ []) (before ++ concat (s so_far x)) after all.1)
+
+-- ---- sections
+
+pub placed-section : (which said : ℕ) → IsPlacedBy (section which said) (λ before u. []) (λ before after u. said ≡ length before / 2)
+unfolding section
+placed-section which said = record {
+  to = λ before fields after value follows.
+      let (b, f1, o1, e1, h1, h2) = follows in
+      (rw (e1, h1.0, h2.0) refl, eqb-true said (length b / 2) h2.1 ∙ ap (λ (l : List ℕ). length l / 2) (sym h1.1));
+  from = λ before after value fits. (before, [], [], refl, (refl, refl), (refl, eq-eqb said (length before / 2) fits));
+}
+
+-- a list of files where its pointer says, of which there are few
+pub placed-files : (which said others : ℕ) → IsPlacedBy (files which said others) (λ before. files_fields) (λ before after xs. (said ≡ length before / 2) × (others + length xs ≤ 255) × AllByRecursion IsFile xs)
+unfolding files files_fields
+placed-files which said others = record {
+  to = λ before fields after value follows.
+      let (u0, f0, o0, e0, h0, (count, f1, o1, e1, h1, (u, f2, o2, e2, h2, h3))) = follows in
+      let s = (placed-section which said).to before f0 (length (concat o0) + after) u0 h0 in
+      let a = spelled-u16.to (before ++ concat f0) f1 (length (concat o1) + after) count h1 in
+      let b = (placed-entries others count).to (((before ++ concat f0) ++ concat f1) ++ concat f2) o2 after value h3 in
+      let few : others + count ≤ 255 = leb-true (others + count) 255 h2.1 in
+      let counted : fields ≡ number_fields 2 count ++ listed_fields (entry_fields_behind count) [] value = rw (e0, s.0, e1, e2, h2.0, a.0, b.0) refl in
+      let whole : fields ≡ files_fields value = subst (λ (n : ℕ). fields ≡ number_fields 2 n ++ listed_fields (entry_fields_behind n) [] value) (sym b.1.0) counted in
+      (whole, (s.1, omega (arith, few, b.1.0), all_there (entry_fields_behind count) value [] (((before ++ concat f0) ++ concat f1) ++ concat f2) after b.1.1));
+  from = λ before after value fits.
+      let count : ℕ = length value in
+      let entries : List (List ℕ) = listed_fields (entry_fields_behind count) [] value in
+      let there : List ℕ = ((before ++ []) ++ concat (number_fields 2 count)) ++ [] in (
+        tt,
+        [],
+        number_fields 2 count ++ entries,
+        refl,
+        (placed-section which said).from before _ tt fits.0,
+        (
+          count,
+          number_fields 2 count,
+          entries,
+          refl,
+          spelled-u16.from _ _ count (omega (arith, fits.1)),
+          (tt, [], entries, refl, (refl, le-leb (others + count) 255 fits.1), (placed-entries others count).from there after value (refl, all_again (entry_fields_behind count) value [] there after fits.2)),
+        ),
+      );
+}

@@ -1,0 +1,19 @@
+-- Nothing stands behind a header.
+use Rattle.field_grammar.specs.Grammar.{EndsTheBytes}
+use Rattle.field_grammar.proofs.Exact.{ends_at_end, ends_last, ends_before}
+use Rattle.load_header.specs.Header.{header, tail, check_sums}
+use Rattle.load_header.specs.declared.fault.HeaderFault.TheVariants as faults
+use Rattle.load_header.specs.declared.reading.Pointers.{Pointers}
+
+ends-check_sums : EndsTheBytes check_sums
+unfolding check_sums
+ends-check_sums = ends_last _ _ (λ before. ends_last _ _ (λ said. ends_last _ _ (λ load_crc. ends_before _ _ (ends_at_end faults.Rest))))
+
+ends-tail : (places : Pointers) → EndsTheBytes (tail places)
+unfolding tail
+ends-tail places = ends_last _ _ (λ user. ends_last _ _ (λ none. ends_before _ _ ends-check_sums))
+
+pub ends-header : EndsTheBytes header
+unfolding header
+ends-header =
+    ends_last _ _ (λ limit. ends_last _ _ (λ start. ends_last _ _ (λ what. ends_last _ _ (λ whom. ends_last _ _ (λ parts. ends_before _ _ (ends-tail start.1))))))

@@ -1,0 +1,117 @@
+-- What the encoder has written, member by member.
+use Rattle.std.proofs.Common.{◌≡◌, ℕ, zero, suc, ◌+◌, ◌<◌, ◌≤◌, ◌^◌, List, [], ◌∷◌, ◌++◌, length, take, get_or, Bool, true, refl, sym, ap, subst, ◌∙◌, arith, append_assoc, ◌==◌}
+use Rattle.std.specs.Prelude.{map}
+use Rattle.std.specs.List.{concat, flat_map, AllByRecursion}
+use Rattle.std.proofs.lemmas.List.{append-nil, take_more, take_all, length-take, length-map}
+use Rattle.std.proofs.lemmas.List.Concat.{flat_map-append, flat_map-cons}
+use Rattle.std.proofs.lemmas.List.Folds.{concat-append}
+use Rattle.crc_fields.specs.CheckSums.{crc16_of}
+use Rattle.field_grammar.specs.Spelling.{listed_fields}
+use Rattle.field_grammar.specs.Fields.{number_bytes, number_fields}
+use Rattle.field_grammar.proofs.Listed.{listed_fields_more}
+use Rattle.load_header.specs.Header.{HeaderView, hardware_view}
+use Rattle.load_header.specs.HeaderFields.{hardware_at_fields, texts_fields, positions_fields, files_fields, user_fields, identity_fields, targets_fields, all_files_fields, sections_fields, head_fields, covered_fields, header_fields, header_size, pointers_of, pointers_by, whole_size, AreSizes, HasParts, IsHeader, fits, entry_fields, entry_fields_behind, entries_fields, kind_fields, IsKind, IsHardwareAt, IsFile}
+use Rattle.load_header.specs.declared.header.FileEntry.{FileEntry}
+use Rattle.load_header.specs.declared.header.HardwareAt.{HardwareAt}
+use Rattle.load_header.specs.declared.measuring.Sizes.{Sizes}
+use Rattle.load_header.specs.declared.reading.Pointers.{Pointers}
+use Rattle.load_header.proofs.Limits.{kinds_viewed, total_size, pointers_are, fits_short, fits_members, fits_files, few_kinds, few_together}
+
+pub written_more : {X : Type 0} (f : X → List (List ℕ)) (xs : List X) (i : ℕ) (d : X) → i < length xs
+    → concat (flat_map f (take (i + 1) xs)) ≡ concat (flat_map f (take i xs)) ++ concat (f (get_or xs i d))
+written_more f xs i d lt =
+    let one : flat_map f (get_or xs i d ∷ []) ≡ f (get_or xs i d) = flat_map-cons f (get_or xs i d) [] ∙ append-nil (f (get_or xs i d)) in
+    ap (λ (l : List _). concat (flat_map f l)) (take_more xs i d lt)
+    ∙ (ap (λ (l : List (List ℕ)). concat l) (flat_map-append f (take i xs) (get_or xs i d ∷ [])) ∙ (concat-append (flat_map f (take i xs)) (flat_map f (get_or xs i d ∷ [])) ∙ ap (λ (l : List (List ℕ)). concat (flat_map f (take i xs)) ++ concat l) one))
+
+all_append : {X : Type 0} (P : X → Type 0) (xs : List X) (x : X) → AllByRecursion P xs → P x → AllByRecursion P (xs ++ x ∷ [])
+all_append P [] x all is = (is, tt)
+all_append P (y ∷ xs) x all is = (all.0, all_append P xs x all.1 is)
+
+pub all_more : {X : Type 0} (P : X → Type 0) (xs : List X) (i : ℕ) (d : X) → i < length xs → AllByRecursion P (take i xs) → P (get_or xs i d) → AllByRecursion P (take (i + 1) xs)
+all_more P xs i d lt all is = rw (take_more xs i d lt) (all_append P (take i xs) (get_or xs i d) all is)
+
+pub all_taken : {X : Type 0} (P : X → Type 0) (xs : List X) (i : ℕ) → length xs ≤ i → AllByRecursion P (take i xs) → AllByRecursion P xs
+all_taken P xs i le all = rw (take_all i xs le) at all
+
+pub written_all : {X : Type 0} (f : X → List (List ℕ)) (xs : List X) (i : ℕ) (before now : List ℕ) → length xs ≤ i → now ≡ before ++ concat (flat_map f (take i xs)) → now ≡ before ++ concat (flat_map f xs)
+written_all f xs i before now le is = rw (take_all i xs le) at is
+
+pub kinds_all : (list : List HardwareAt) → AllByRecursion IsKind list → AllByRecursion IsHardwareAt (map hardware_view list)
+kinds_all [] all = tt
+kinds_all (h ∷ list) all = (all.0, kinds_all list all.1)
+
+pub kinds_written : (list : List HardwareAt) → concat (flat_map kind_fields list) ≡ concat (flat_map hardware_at_fields (map hardware_view list))
+kinds_written list = ap (λ (l : List (List ℕ)). concat l) (kinds_viewed list)
+
+pub entries_more : (files : List FileEntry) (i : ℕ) (d : FileEntry) → i < length files
+    → concat (listed_fields (entry_fields_behind (length files)) [] (take (i + 1) files))
+    ≡ concat (listed_fields (entry_fields_behind (length files)) [] (take i files)) ++ concat (entry_fields (i + 1 == length files) (get_or files i d))
+entries_more files i d lt =
+    let s : List FileEntry → FileEntry → List (List ℕ) = entry_fields_behind (length files) in
+    let size : length (take i files) ≡ i = omega (arith, length-take i files) in
+    ap (λ (l : List FileEntry). concat (listed_fields s [] l)) (take_more files i d lt)
+    ∙ (ap (λ (l : List (List ℕ)). concat l) (listed_fields_more s [] (take i files) (get_or files i d))
+    ∙ (concat-append (listed_fields s [] (take i files)) (s (take i files) (get_or files i d))
+    ∙ ap (λ (n : ℕ). concat (listed_fields s [] (take i files)) ++ concat (entry_fields (n + 1 == length files) (get_or files i d))) size))
+
+pub positions_written : (list : List HardwareAt) (before middle now : List ℕ) → middle ≡ before ++ number_bytes 2 (length list) → now ≡ middle ++ concat (flat_map kind_fields list)
+    → now ≡ before ++ concat (positions_fields (map hardware_view list))
+unfolding positions_fields
+positions_written list before middle now first second =
+    let size : length list ≡ length (map hardware_view list) = sym (length-map list hardware_view) in
+    let counted : middle ≡ before ++ number_bytes 2 (length (map hardware_view list)) = first ∙ ap (λ (n : ℕ). before ++ number_bytes 2 n) size in
+    rw (second, counted, kinds_written list, append_assoc) refl
+
+pub sections_written : (h : HeaderView) (o0 o1 o2 o3 o4 o5 o6 o7 : List ℕ) → o1 ≡ o0 ++ concat (identity_fields h) → o2 ≡ o1 ++ concat (texts_fields h.hardware) → o3 ≡ o2 ++ concat (positions_fields h.positions)
+    → o4 ≡ o3 ++ concat (files_fields h.data_files) → o5 ≡ o4 ++ concat (files_fields h.support_files) → o6 ≡ o5 ++ concat (user_fields h.user) → o7 ≡ o6 ++ number_bytes 2 0
+    → o7 ≡ o0 ++ concat (sections_fields h)
+unfolding sections_fields targets_fields all_files_fields number_bytes
+sections_written h o0 o1 o2 o3 o4 o5 o6 o7 e1 e2 e3 e4 e5 e6 e7 =
+    e7 ∙ (ap (λ (o : List ℕ). o ++ number_bytes 2 0) (e6 ∙ ap (λ (o : List ℕ). o ++ concat (user_fields h.user)) (e5 ∙ ap (λ (o : List ℕ). o ++ concat (files_fields h.support_files)) (e4
+    ∙ ap (λ (o : List ℕ). o ++ concat (files_fields h.data_files)) (e3 ∙ ap (λ (o : List ℕ). o ++ concat (positions_fields h.positions)) (e2 ∙ ap (λ (o : List ℕ). o ++ concat (texts_fields h.hardware)) e1)))))
+    ∙ groups (concat (identity_fields h)) (concat (texts_fields h.hardware)) (concat (positions_fields h.positions)) (concat (files_fields h.data_files)) (concat (files_fields h.support_files)) (concat (user_fields h.user)) (number_bytes 2 0)
+    ∙ ap (λ (o : List ℕ). o0 ++ o) (sym (parts (identity_fields h) (texts_fields h.hardware) (positions_fields h.positions) (files_fields h.data_files) (files_fields h.support_files) (user_fields h.user) (number_fields 2 0))))
+  where
+    groups : (a b c d e f g : List ℕ) → ((((((o0 ++ a) ++ b) ++ c) ++ d) ++ e) ++ f) ++ g ≡ o0 ++ (a ++ ((b ++ c) ++ ((d ++ e) ++ (f ++ g))))
+    groups a b c d e f g = simp append_assoc refl
+
+    parts : (a b c d e f g : List (List ℕ)) → concat (a ++ ((b ++ c) ++ ((d ++ e) ++ (f ++ g)))) ≡ concat a ++ ((concat b ++ concat c) ++ ((concat d ++ concat e) ++ (concat f ++ concat g)))
+    parts a b c d e f g = simp concat-append refl
+
+-- the whole that the header's check sum covers
+pub covered_written : (h : HeaderView) (s : Sizes) (o1 o2 : List ℕ) → AreSizes h s → o1 ≡ concat (head_fields (whole_size s) h.flags (pointers_by s)) → o2 ≡ o1 ++ concat (sections_fields h) → o2 ≡ concat (covered_fields h)
+unfolding covered_fields
+covered_written h s o1 o2 are one two =
+    let size : whole_size s ≡ header_size h = total_size h s (whole_size s) are refl in
+    let head : o1 ≡ concat (head_fields (header_size h) h.flags (pointers_of h)) =
+    one ∙ (ap (λ (n : ℕ). concat (head_fields n h.flags (pointers_by s))) size ∙ ap (λ (p : Pointers). concat (head_fields (header_size h) h.flags p)) (pointers_are h s are)) in
+    two ∙ (ap (λ (o : List ℕ). o ++ concat (sections_fields h)) head ∙ sym (concat-append (head_fields (header_size h) h.flags (pointers_of h)) (sections_fields h)))
+
+pub header_written : (h : HeaderView) (covered whole : List ℕ) → covered ≡ concat (covered_fields h) → whole ≡ covered ++ (number_bytes 2 (crc16_of covered) ++ number_bytes 4 h.load_crc) → whole ≡ concat (header_fields h)
+unfolding header_fields
+header_written h covered whole one two =
+    let c : List (List ℕ) = covered_fields h in
+    let end : List (List ℕ) = number_fields 2 (crc16_of (concat c)) ++ number_fields 4 h.load_crc in
+    let ended : concat end ≡ number_bytes 2 (crc16_of (concat c)) ++ number_bytes 4 h.load_crc = simp append-nil refl in
+    two ∙ (ap (λ (l : List ℕ). l ++ (number_bytes 2 (crc16_of l) ++ number_bytes 4 h.load_crc)) one ∙ (ap (λ (l : List ℕ). concat c ++ l) (sym ended) ∙ sym (concat-append c end)))
+
+-- a header with such parts that meets the limits
+pub is_header : (h : HeaderView) → fits h ≡ true → HasParts h → h.flags < 2 ^ 16 → h.load_crc < 2 ^ 32 → IsHeader h
+is_header h fit has flags load =
+    let short = fits_short h fit in record {
+      flags = flags;
+      part = has.part;
+      type_name = has.type_name;
+      type_id = has.type_id;
+      hardware = has.hardware;
+      positions_count = omega (arith, few_kinds h (fits_members h fit));
+      positions = has.positions;
+      data_files = has.data_files;
+      support_files = has.support_files;
+      files = few_together h (fits_files h fit);
+      user = has.user;
+      user_even = short.0;
+      load_crc = load;
+      size = short.1;
+    }

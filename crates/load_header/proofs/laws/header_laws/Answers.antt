@@ -1,0 +1,21 @@
+use Rattle.std.proofs.Common.{sym, ◌∙◌}
+use Rattle.field_grammar.proofs.Exact.{decided, whole_one_value}
+use Rattle.field_grammar.proofs.Decoders.{spelling_is, spelled_by}
+use Rattle.load_header.specs.Header.{header}
+use Rattle.load_header.specs.HeaderFields.{header_fields, IsHeader}
+use Rattle.load_header.proofs.Spelled.{spells-header}
+use Rattle.load_header.proofs.Whole.{ends-header}
+use Rattle.load_header.proofs.laws.header_laws.Goals as goal
+
+pub returns-clause-decided : goal.returns-clause-decided
+returns-clause-decided c = λ bytes fit. decided header bytes ends-header fit
+
+pub returns-clause-spelled : goal.returns-clause-spelled
+returns-clause-spelled c = λ h bytes. (spelling_is header header_fields IsHeader bytes h spells-header, spelled_by header header_fields IsHeader bytes h spells-header)
+
+pub returns-clause-one_header : goal.returns-clause-one_header
+returns-clause-one_header c =
+    λ g h bytes one other. whole_one_value header bytes g h (spelled_by header header_fields IsHeader bytes g spells-header one) (spelled_by header header_fields IsHeader bytes h spells-header other)
+
+pub returns-clause-one_spelling : goal.returns-clause-one_spelling
+returns-clause-one_spelling c = λ h bytes others one other. one.1 ∙ sym other.1

@@ -1,0 +1,10 @@
+use Rattle.std.proofs.Common.{◌≡◌, ◌+◌, ◌*◌, ◌≤◌, take}
+use Rattle.std.specs.List.{flat_map}
+use Rattle.load_header.specs.HeaderFields.{size_of, kind_fields}
+use Rattle.load_header.proofs.measuring.positions_size.Given as goal
+
+abbrev pub invariant-loop-at : goal.invariant-loop-at
+invariant-loop-at l = record {
+  so_far : l.size ≡ 2 + size_of (flat_map kind_fields (take l.at-index l.list));
+  small : l.size ≤ 2 + 17000000 * l.at-index;
+}

@@ -1,0 +1,13 @@
+use Rattle.std.proofs.Common.{arith, sym}
+use Rattle.field_grammar.specs.Fields.{padded_fields}
+use Rattle.load_header.proofs.Limits.{size_taken}
+use Rattle.load_header.proofs.measuring.texts_size.Goals as goal
+
+pub loop-text-preserved : goal.loop-text-preserved
+loop-text-preserved c =
+    let more = size_taken padded_fields c.args.texts.now c.loop-text.text-index c.text-item.result c.loop-text-test.true in
+    let here = rw (← c.text-item.is) at more in
+    record {
+      so_far = omega (arith, c.loop-text.invariant.so_far, here, c.text_size-size.ensures.size);
+      small = omega (arith, c.loop-text.invariant.small, c.text_size-size.ensures.small);
+    }

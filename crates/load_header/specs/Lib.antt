@@ -1,0 +1,5 @@
+pub mod Verdicts
+pub mod Header
+pub mod FaultTexts
+pub mod HeaderFaultText
+pub mod HeaderFields

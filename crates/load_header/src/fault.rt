@@ -1,0 +1,83 @@
+//! Why bytes are no load header.
+ghost use Rattle.std.specs.Prelude.{◌≡◌};
+ghost use Rattle.load_header.specs.declared.fault.HeaderFault.TheVariants.{Memory};
+ghost use Rattle.load_header.specs.Header.{named};
+
+use field_codec::FieldFault;
+use load_base::{NameFault, NoMemory, TextFault};
+use part_number::PartFault;
+
+/// Why bytes are no load header (this project's layout, docs/FORMATS.md). Places are byte offsets in the
+/// header, counted from 0. A nested fault is never want of memory.
+#[derive(Clone, Copy, Debug, PartialEq, Eq)]
+pub enum HeaderFault {
+    /// H1: a field doesn't fit; the place where it begins.
+    Short(u64),
+    /// H2: the header says that it has `said` words of 2 bytes, and has `found` bytes.
+    Length {
+        said: u64,
+        found: u64,
+    },
+    /// H3: another version than 0x8004.
+    Version(u64),
+    /// H4: pointer `which`, 1 to 8, says that its section begins at word `said`; it begins at `expected`.
+    Pointer {
+        which: u64,
+        said: u64,
+        expected: u64,
+    },
+    /// H5: a pad byte isn't 0; its place.
+    Pad(u64),
+    /// H6: the part number of the load is refused.
+    Part(PartFault),
+    /// H7: the length of the check value isn't 0.
+    CheckValuePresent,
+    /// H8: the distance of a file's entry is neither its length in words nor, for the last of its list, 0.
+    /// Files count from 1, data files first.
+    Distance(u64),
+    /// H9: a file's lengths in words and in bytes disagree, or it has more than 16,777,215 bytes. Files count
+    /// as in `Distance`.
+    Sizes(u64),
+    /// H10: the check sum of the header is `found`, and `said` stands there.
+    HeaderCrc {
+        said: u64,
+        found: u64,
+    },
+    /// H11: more than 65,536 bytes.
+    TooLong,
+    /// H12: a file's name is refused; the place of its bytes.
+    Name {
+        place: u64,
+        fault: NameFault,
+    },
+    /// H13: a text is refused; the place of its bytes.
+    Text {
+        place: u64,
+        fault: TextFault,
+    },
+    /// H14: more than 255 data and support files together; so many as counted so far.
+    TooMany(u64),
+    /// H15: bytes go on behind the check sum of the load; the place of the first.
+    Rest(u64),
+    /// Memory is wanting.
+    Memory,
+}
+
+impl From<NoMemory> for HeaderFault {
+    ghost from_gives = { λ _ fault. fault ≡ Memory };
+
+    fn from(_: NoMemory) -> HeaderFault {
+        HeaderFault::Memory
+    }
+}
+
+impl From<FieldFault> for HeaderFault {
+    ghost from_gives = { λ field fault. fault ≡ named field };
+
+    fn from(field: FieldFault) -> HeaderFault {
+        match field {
+            FieldFault::Short(place) => HeaderFault::Short(place),
+            FieldFault::BadPad(place) => HeaderFault::Pad(place),
+        }
+    }
+}
