@@ -1,0 +1,22 @@
+-- How configuration initialization files are spelled.
+use Rattle.std.proofs.Common.{ℕ, ◌<◌, ◌^◌, List, ◌++◌, refl}
+use Rattle.field_grammar.specs.Grammar.{pair}
+use Rattle.field_grammar.specs.Fields.{short_fields}
+use Rattle.field_grammar.specs.Spelling.{IsSpelledBy}
+use Rattle.field_grammar.proofs.Combined.{spelled-pair, spelled-mapped}
+use Rattle.load_base.specs.Text.{IsText}
+use Rattle.load_protocol_files.specs.declared.lci.Lci.{Lci}
+use Rattle.load_protocol_files.specs.Pieces.{u16, text, u16_fields}
+use Rattle.load_protocol_files.specs.Lci.{to_lci, lci_body, lci_fields, LciFits}
+use Rattle.load_protocol_files.proofs.PieceSpellings.{spelled-as, spelled-u16, spelled-text}
+
+from_lci : Lci → ℕ × List ℕ
+from_lci v = (v.status, v.description)
+
+pub spelled-lci : IsSpelledBy lci_body lci_fields (λ v. LciFits v)
+unfolding lci_body from_lci
+spelled-lci =
+    spelled-as lci_body lci_fields (λ v. (v.status < 2 ^ 16) × IsText v.description) (λ v. LciFits v)
+    (λ v p. record { status = p.0; description = p.1 }) (λ v fits. (fits.status, fits.description))
+    (spelled-mapped to_lci from_lci (pair u16 text) (λ p. u16_fields p.0 ++ short_fields p.1) (λ p. (p.0 < 2 ^ 16) × IsText p.1) (λ x. refl) (λ y. refl)
+    (spelled-pair u16 text u16_fields short_fields (λ n. n < 2 ^ 16) IsText spelled-u16 spelled-text))

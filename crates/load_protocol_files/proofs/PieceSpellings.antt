@@ -1,0 +1,189 @@
+-- How the pieces of protocol files are spelled.
+use Rattle.std.proofs.Common.{◌≡◌, ℕ, zero, suc, ◌+◌, ◌/◌, ◌%◌, ◌<◌, ◌≤◌, ◌^◌, List, [], ◌∷◌, ◌++◌, length, Option, Some, None, Ok, Bool, true, false, ◌&&◌, refl, ap, subst, ◌∙◌, arith}
+use Rattle.std.specs.Prelude.{nat_le}
+use Rattle.std.specs.List.{concat, flat_map, All, AllByRecursion}
+use Rattle.std.proofs.lemmas.List.Elements.{All-from_recursion, recursion_from_All}
+use Rattle.std.proofs.lemmas.Bool.Decides.{nat_tests}
+use Rattle.field_grammar.specs.Grammar.{Grammar, IsBytes}
+use Rattle.field_grammar.specs.Fields.{number, number_fields, short_fields, judged_short}
+use Rattle.field_grammar.specs.Spelling.{IsSpelledBy}
+use Rattle.field_grammar.proofs.Numbers.{wide2, spelled-number, spelled-raw}
+use Rattle.field_grammar.proofs.Texts.{Judges, spelled-judged_short}
+use Rattle.field_grammar.proofs.Combined.{spelled-renamed, spelled-counted}
+use Rattle.load_base.specs.Text.{IsText}
+use Rattle.load_base.specs.Name.{IsName}
+use Rattle.part_number.specs.PartNumber.{IsPartNumberText}
+use Rattle.part_number.proofs.Places.{of_each}
+use Rattle.load_protocol_files.specs.Faults.{named}
+use Rattle.load_protocol_files.specs.declared.fault.FileFault.{FileFault}
+use Rattle.load_protocol_files.specs.declared.fault.FileFault.TheVariants as faults
+use Rattle.load_protocol_files.specs.Verdicts.{verdict, text_wrong, name_wrong, part_wrong}
+use Rattle.load_protocol_files.specs.Pieces.{u16, text, name, part, ratio, text_verdict, name_verdict, part_verdict, is_digit, is_ratio, ratio_value, u16_fields, ratio_digits, ratio_fields, counted, counted_fields}
+use Rattle.load_protocol_files.proofs.Verdicts.{is_text, is_name, is_part, bytes_of_text, bytes_of_name, bytes_of_part, text_passes, name_passes, part_passes, length_of_part}
+
+-- another way to say which values fit
+pub spelled-as : {F A : Type 0} (g : Grammar F A) (s : A → List (List ℕ)) (P Q : A → Type 0) → ((x : A) → P x → Q x) → ((x : A) → Q x → P x) → IsSpelledBy g s P → IsSpelledBy g s Q
+spelled-as g s P Q there back one = record {
+  to = λ before fields after value follows.
+      let a = one.to before fields after value follows in
+      (a.0, there value a.1);
+  from = λ before after value fits. one.from before after value (back value fits);
+}
+
+pub spelled-u16 : IsSpelledBy u16 u16_fields (λ n. n < 2 ^ 16)
+spelled-u16 = spelled-renamed named (number 2) (number_fields 2) (λ n. n < 2 ^ 16) (spelled-number 2 wide2)
+
+-- ---- texts
+
+abbrev same : List ℕ → List ℕ
+same text = text
+
+verdict_is : {E : Type 0} (wrong : E → FileFault) (bytes value : List ℕ) (o : Option E) → verdict wrong bytes o ≡ Ok value → (o ≡ None) × (bytes ≡ value)
+verdict_is wrong bytes value None e = (refl, cc)
+verdict_is wrong bytes value (Some fault) e = absurd cc
+
+text_judges : Judges text_verdict same IsText
+text_judges = record {
+  there = λ place bytes value fit e.
+      let a = verdict_is (faults.Text place) bytes value (text_wrong bytes) e in
+      (a.1, subst IsText a.1 (is_text bytes a.0));
+  again = λ place value is. (bytes_of_text value is, text_passes place value is);
+}
+
+name_judges : Judges name_verdict same IsName
+name_judges = record {
+  there = λ place bytes value fit e.
+      let a = verdict_is (faults.Name place) bytes value (name_wrong bytes) e in
+      (a.1, subst IsName a.1 (is_name bytes a.0));
+  again = λ place value is. (bytes_of_name value is, name_passes place value is);
+}
+
+part_judges : Judges part_verdict same IsPartNumberText
+part_judges = record {
+  there = λ place bytes value fit e.
+      let a = verdict_is (faults.Part place) bytes value (part_wrong bytes) e in
+      (a.1, subst (λ (t : List ℕ). IsPartNumberText t) a.1 (is_part bytes a.0));
+  again = λ place value is. (bytes_of_part value is, part_passes place value is);
+}
+
+pub spelled-text : IsSpelledBy text short_fields IsText
+unfolding text
+spelled-text =
+    spelled-as (judged_short named text_verdict) short_fields (λ t. (length t < 2 ^ 8) × IsText t) IsText (λ t both. both.1) (λ t is. (omega (arith, is.size), is))
+    (spelled-judged_short named text_verdict same IsText text_judges)
+
+pub spelled-name : IsSpelledBy name short_fields IsName
+unfolding name
+spelled-name =
+    spelled-as (judged_short named name_verdict) short_fields (λ t. (length t < 2 ^ 8) × IsName t) IsName (λ t both. both.1) (λ t is. (omega (arith, is.size.1), is))
+    (spelled-judged_short named name_verdict same IsName name_judges)
+
+pub spelled-part : IsSpelledBy part short_fields (λ t. IsPartNumberText t)
+unfolding part
+spelled-part =
+    spelled-as (judged_short named part_verdict) short_fields (λ t. (length t < 2 ^ 8) × IsPartNumberText t) (λ t. IsPartNumberText t) (λ t both. both.1) (λ t is. (length_of_part t is, is))
+    (spelled-judged_short named part_verdict same (λ t. IsPartNumberText t) part_judges)
+
+-- ---- ratios
+
+both_true : (a b : Bool) → (a && b) ≡ true → (a ≡ true) × (b ≡ true)
+both_true true b e = (refl, e)
+both_true false b e = absurd cc
+
+true_both : (a b : Bool) → a ≡ true → b ≡ true → (a && b) ≡ true
+true_both true b e f = f
+true_both false b e f = absurd cc
+
+low_digit : (b : ℕ) → is_digit b ≡ true → 48 ≤ b
+low_digit b e = grind (arith, nat_tests)
+
+high_digit : (b : ℕ) → is_digit b ≡ true → b ≤ 57
+high_digit b e = grind (arith, nat_tests)
+
+digit_between : (b : ℕ) → 48 ≤ b → b ≤ 57 → is_digit b ≡ true
+digit_between b low high = grind (arith, nat_tests)
+
+three_alike : (x y z a b c : ℕ) → x ≡ a → y ≡ b → z ≡ c → x ∷ y ∷ z ∷ [] ≡ a ∷ b ∷ c ∷ []
+three_alike x y z a b c e f g = cc
+
+ratio_of_digits : (b : List ℕ) → length b ≡ 3 → is_ratio b ≡ true → (b ≡ ratio_digits (ratio_value b)) × (ratio_value b ≤ 100)
+unfolding ratio_digits
+ratio_of_digits b size =
+    of_each 3 (λ (t : List ℕ). is_ratio t ≡ true → (t ≡ ratio_digits (ratio_value t)) × (ratio_value t ≤ 100))
+    (λ x y z e.
+    let p = both_true (is_digit x && is_digit y && is_digit z) (nat_le (ratio_value (x ∷ y ∷ z ∷ [])) 100) e in
+    let q = both_true (is_digit x && is_digit y) (is_digit z) p.0 in
+    let r = both_true (is_digit x) (is_digit y) q.0 in
+    digits_are x y z (low_digit x r.0) (high_digit x r.0) (low_digit y r.1) (high_digit y r.1) (low_digit z q.1) (high_digit z q.1) (at_most_hundred (ratio_value (x ∷ y ∷ z ∷ [])) p.1))
+    b size
+  where
+    at_most_hundred : (n : ℕ) → nat_le n 100 ≡ true → n ≤ 100
+    at_most_hundred n e = grind (arith, nat_tests)
+
+    digits_are : (x y z : ℕ) → 48 ≤ x → x ≤ 57 → 48 ≤ y → y ≤ 57 → 48 ≤ z → z ≤ 57 → ratio_value (x ∷ y ∷ z ∷ []) ≤ 100
+        → (x ∷ y ∷ z ∷ [] ≡ ratio_digits (ratio_value (x ∷ y ∷ z ∷ []))) × (ratio_value (x ∷ y ∷ z ∷ []) ≤ 100)
+    digits_are x y z x1 x2 y1 y2 z1 z2 small =
+        let v : ℕ = ratio_value (x ∷ y ∷ z ∷ []) in
+        let ex : x ≡ 48 + v / 100 = omega arith in
+        let ey : y ≡ 48 + v / 10 % 10 = omega arith in
+        let ez : z ≡ 48 + v % 10 = omega arith in
+        (three_alike x y z (48 + v / 100) (48 + v / 10 % 10) (48 + v % 10) ex ey ez, small)
+
+digits_of_ratio : (n : ℕ) → n ≤ 100 → (ratio_value (ratio_digits n) ≡ n) × (is_ratio (ratio_digits n) ≡ true)
+unfolding ratio_digits
+digits_of_ratio n small =
+    let value : ratio_value (ratio_digits n) ≡ n = omega arith in
+    let hundreds : is_digit (48 + n / 100) ≡ true = digit_between (48 + n / 100) (omega arith) (omega arith) in
+    let tens : is_digit (48 + n / 10 % 10) ≡ true = digit_between (48 + n / 10 % 10) (omega arith) (omega arith) in
+    let ones : is_digit (48 + n % 10) ≡ true = digit_between (48 + n % 10) (omega arith) (omega arith) in
+    let two : (is_digit (48 + n / 100) && is_digit (48 + n / 10 % 10)) ≡ true = true_both (is_digit (48 + n / 100)) (is_digit (48 + n / 10 % 10)) hundreds tens in
+    let three : (is_digit (48 + n / 100) && is_digit (48 + n / 10 % 10) && is_digit (48 + n % 10)) ≡ true = true_both (is_digit (48 + n / 100) && is_digit (48 + n / 10 % 10)) (is_digit (48 + n % 10)) two ones in
+    (value, true_both (is_digit (48 + n / 100) && is_digit (48 + n / 10 % 10) && is_digit (48 + n % 10)) (nat_le (ratio_value (ratio_digits n)) 100) three (not_over (ratio_value (ratio_digits n)) (omega (arith, value))))
+  where
+    not_over : (m : ℕ) → m ≤ 100 → nat_le m 100 ≡ true
+    not_over m le = grind (arith, nat_tests)
+
+digits_are_bytes : (n : ℕ) → n ≤ 100 → IsBytes (ratio_digits n)
+unfolding ratio_digits
+digits_are_bytes n small zero = omega arith
+digits_are_bytes n small (suc zero) = omega arith
+digits_are_bytes n small (suc (suc zero)) = omega arith
+digits_are_bytes n small (suc (suc (suc i))) = omega arith
+
+pub spelled-ratio : IsSpelledBy ratio ratio_fields (λ n. n ≤ 100)
+unfolding ratio ratio_digits
+spelled-ratio = record {
+  to = λ before fields after value follows.
+      let (place, f1, o1, parts1, h1, (b, f2, o2, parts2, h2, (u, f3, o3, parts3, h3, last))) = follows in
+      let r = (spelled-raw 3).to (before ++ concat f1) f2 (length (concat o2) + after) b h2 in
+      let d = ratio_of_digits b r.1.0 h3.1 in
+      let whole : fields ≡ b ∷ [] = rw (parts1, h1.0, parts2, parts3, h3.0, last.0, r.0) refl in
+      subst (λ (v : ℕ). (fields ≡ ratio_digits v ∷ []) × (v ≤ 100)) last.1 (whole ∙ ap (λ (l : List ℕ). l ∷ []) d.0, d.1);
+  from = λ before after value fits.
+      let again = digits_of_ratio value fits in (
+        before,
+        [],
+        ratio_digits value ∷ [],
+        refl,
+        (refl, refl),
+        (
+          ratio_digits value,
+          ratio_digits value ∷ [],
+          [],
+          refl,
+          (spelled-raw 3).from (before ++ []) (0 + after) (ratio_digits value) (refl, digits_are_bytes value fits),
+          (tt, [], [], refl, (refl, again.1), (refl, again.0)),
+        ),
+      );
+}
+
+-- ---- lists
+
+-- a count, and so many members
+pub spelled-counted_list : {A : Type 0} (item : Grammar FileFault A) (s : A → List (List ℕ)) (P : A → Type 0) → IsSpelledBy item s P
+    → IsSpelledBy (counted item) (counted_fields s) (λ items. (length items < 2 ^ 16) × All P items)
+unfolding counted_fields
+spelled-counted_list item s P one =
+    spelled-as (counted item) (λ items. u16_fields (length items) ++ flat_map s items) (λ items. (length items < 2 ^ 16) × AllByRecursion P items) (λ items. (length items < 2 ^ 16) × All P items)
+    (λ items both. (both.0, All-from_recursion P items both.1)) (λ items both. (both.0, recursion_from_All P items both.1))
+    (spelled-counted u16 item u16_fields s (λ n. n < 2 ^ 16) P spelled-u16 one)

@@ -1,0 +1,12 @@
+pub mod Faults
+pub mod Verdicts
+pub mod Pieces
+pub mod Files
+pub mod Lci
+pub mod Lcs
+pub mod Lui
+pub mod Lur
+pub mod Lus
+pub mod Lcl
+pub mod FaultTexts
+pub mod NestedFaultTexts

@@ -1,0 +1,52 @@
+//! Why bytes are no protocol file.
+ghost use Rattle.std.specs.Prelude.{◌≡◌};
+ghost use Rattle.load_protocol_files.specs.Faults.{named};
+ghost use Rattle.load_protocol_files.specs.declared.fault.FileFault.TheVariants.{Memory};
+
+use field_codec::FieldFault;
+use load_base::{NameFault, NoMemory, TextFault};
+use part_number::PartFault;
+
+/// Why bytes are no protocol file: the first fault that is met from left to right. Places are byte
+/// offsets, counted from 0; those of names, part numbers and texts are of the text's first byte,
+/// behind its length.
+#[derive(Clone, Copy, Debug, PartialEq, Eq)]
+pub enum FileFault {
+    /// U1: a field passes the end of the bytes; the place where it begins.
+    Short(u64),
+    /// U2: the file says another length than its own.
+    Length { said: u64, found: u64 },
+    /// U3: the version isn't 0x4133. The one found.
+    Version(u16),
+    /// U4: three bytes that are no digits, or say more than 100; the place of the first.
+    Digits(u64),
+    /// U5: bytes stand behind the last field; the place of the first.
+    Rest(u64),
+    /// U6: a text is no file name. Its place, and what is wrong with it.
+    Name { place: u64, fault: NameFault },
+    /// U7: a text is no part number. Its place, and what is wrong with it.
+    Part { place: u64, fault: PartFault },
+    /// U8: a text has a byte that no text has. Its place, and what is wrong with it, which is never
+    /// want of memory.
+    Text { place: u64, fault: TextFault },
+    /// Memory is wanting.
+    Memory,
+}
+
+impl From<NoMemory> for FileFault {
+    ghost from_gives = { λ _ fault. fault ≡ Memory };
+
+    fn from(_: NoMemory) -> FileFault {
+        FileFault::Memory
+    }
+}
+
+impl From<FieldFault> for FileFault {
+    ghost from_gives = { λ field fault. fault ≡ named field };
+
+    fn from(field: FieldFault) -> FileFault {
+        match field {
+            FieldFault::Short(place) | FieldFault::BadPad(place) => FileFault::Short(place),
+        }
+    }
+}

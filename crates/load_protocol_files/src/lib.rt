@@ -1,0 +1,28 @@
+//! The protocol files that a loader and a target exchange: initialization, configuration, status and
+//! requests (this project's layouts, docs/FORMATS.md). Each type is read from its bytes, exactly, and
+//! written as the one spelling that it has.
+#![tactic(auto)]
+
+mod fault;
+mod fault_text;
+mod laws;
+mod lci;
+mod lcl;
+mod lcs;
+mod lui;
+mod lur;
+mod lus;
+mod nested_fault_text;
+mod pieces;
+mod putting;
+#[cfg(test)]
+mod tests;
+
+pub use fault::FileFault;
+pub use laws::each_file_has_one_spelling;
+pub use lci::Lci;
+pub use lcl::{Hardware, Lcl, Part};
+pub use lcs::Lcs;
+pub use lui::Lui;
+pub use lur::{Lur, Wanted};
+pub use lus::{LoadStatus, Lus};

@@ -1,0 +1,213 @@
+//! Upload status files.
+ghost use Rattle.std.specs.Prelude.{◌≡◌, ◌++◌, ◌⊎◌, ◌≤◌, ◌<◌, ◌^◌, List, ℕ, length, IfOk, IfErr, OnOk};
+ghost use Rattle.std.specs.List.{concat, flat_map, All};
+ghost use Rattle.field_grammar.specs.Grammar.{Fault, times};
+ghost use Rattle.field_grammar.specs.Answers.{answer, Decodes, Gives};
+ghost use Rattle.load_protocol_files.specs.declared.fault.FileFault.{FileFault};
+ghost use Rattle.load_protocol_files.specs.declared.fault.FileFault.TheVariants.{Memory};
+ghost use Rattle.load_protocol_files.specs.Pieces.{counted};
+ghost use Rattle.load_protocol_files.specs.Lus.{load_status, load_status_fields, LoadStatusFits, LusView, lus_view, lus, lus_body, lus_fields, counts_fields, progress_fields, CountsFit, ProgressFits, LusFits, LusSpells};
+
+use crate::FileFault;
+use crate::pieces::{head_of, name_of, part_of, ratio_of, tail_of, text_of};
+use crate::putting::{file_of, put_name, put_part, put_ratio, put_text};
+use field_codec::{Reader, Writer};
+use load_base::{Bytes, List, Name, NoMemory, Text};
+use part_number::PartNumber;
+use std::alloc::Global;
+
+/// How far the upload of one load has come.
+#[derive(Drop)]
+pub struct LoadStatus {
+    /// The name of the load's header file.
+    pub header: Name,
+    /// The part number of the load.
+    pub part: PartNumber,
+    /// How much of the load has arrived, of 100.
+    pub ratio: u8,
+    /// How the load stands.
+    pub status: u16,
+    /// Why it doesn't go on, and else mostly empty.
+    pub description: Text,
+}
+
+/// An upload status file (LUS): how far the target has come with an upload (this project's layout,
+/// docs/FORMATS.md).
+#[derive(Drop)]
+pub struct Lus {
+    /// How the upload stands.
+    pub status: u16,
+    /// Why it doesn't go on, and else mostly empty.
+    pub description: Text,
+    /// How many of these files the upload has had, with this one.
+    pub counter: u16,
+    /// An exception timer, in seconds; 0 for none.
+    pub exception: u16,
+    /// An estimate of the time that is left, in seconds; 0 for none.
+    pub estimated: u16,
+    /// How much of all loads has arrived, of 100.
+    pub ratio: u8,
+    /// The loads of the request, in its order.
+    pub loads: List<LoadStatus>,
+}
+
+impl Lus {
+    /// The file that the bytes spell, or their first fault from left to right.
+    pub fn decode(alloc: Global, bytes: &[u8]) -> Result<Lus, FileFault>
+        ensures found { IfOk result (λ v. LusSpells (lus_view v) bytes.now) }
+        ensures only { (v : LusView) → LusSpells v bytes.now → Gives Memory lus_view result (Ok v) }
+        ensures refused { IfErr result (λ e. (e ≡ Memory) ⊎ Fault lus bytes.now e) }
+        ensures faulty { (f : FileFault) → Fault lus bytes.now f → Gives Memory lus_view result (Err f) }
+    {
+        lus_of(alloc, bytes)
+    }
+
+    /// The bytes that spell the file. Each ratio is at most 100, and there are at most 65,535 loads.
+    pub fn encode(&self, alloc: Global) -> Result<Bytes, NoMemory>
+        requires ratio { self.now.ratio ≤ 100 }
+        requires ratios { All (λ load. load.ratio ≤ 100) self.now.loads.items }
+        requires count { length self.now.loads.items ≤ 65535 }
+        ensures { IfOk result (λ bytes. LusSpells (lus_view self.now) bytes.items) }
+    {
+        let mut body = Writer::new(alloc);
+        put_lus(&mut body, self)?;
+        file_of(alloc, body)
+    }
+}
+
+#[tactic(auto, unfolding(crate::specs::Lus::lus))]
+fn lus_of(alloc: Global, bytes: &[u8]) -> Result<Lus, FileFault>
+    ensures { Gives Memory lus_view result (answer lus bytes.now) }
+{
+    let mut reader = Reader::new(bytes);
+    head_of(&mut reader)?;
+    let file = lus_body_of(alloc, &mut reader)?;
+    tail_of(&mut reader)?;
+    Ok(file)
+}
+
+#[tactic(auto, unfolding(crate::specs::Lus::lus_body))]
+fn lus_body_of(alloc: Global, reader: &mut Reader) -> Result<Lus, FileFault>
+    ensures { Decodes Memory lus_view lus_body reader.old result reader.new }
+{
+    let status = reader.take_u16()?;
+    let description = text_of(alloc, reader)?;
+    let counter = reader.take_u16()?;
+    let exception = reader.take_u16()?;
+    let estimated = reader.take_u16()?;
+    let ratio = ratio_of(reader)?;
+    let loads = counted_loads_of(alloc, reader)?;
+    Ok(Lus {
+        status,
+        description,
+        counter,
+        exception,
+        estimated,
+        ratio,
+        loads,
+    })
+}
+
+fn counted_loads_of(alloc: Global, reader: &mut Reader) -> Result<List<LoadStatus>, FileFault>
+    ensures { Decodes Memory (λ loads. loads.items) (counted load_status) reader.old result reader.new }
+{
+    let count = reader.take_u16()?;
+    let loads = loads_of(alloc, count, reader)?;
+    Ok(loads)
+}
+
+#[tactic(auto, using(field_grammar::proofs::Loops::goes_on, field_grammar::proofs::Loops::ends, field_grammar::proofs::Loops::is_done, field_grammar::proofs::Loops::begins))]
+fn loads_of(alloc: Global, count: u16, reader: &mut Reader) -> Result<List<LoadStatus>, FileFault>
+    ensures { Decodes Memory (λ loads. loads.items) (times count load_status) reader.old result reader.new }
+{
+    let mut loads = List::new(alloc);
+    for _ in 0..count {
+        loads.push(load_status_of(alloc, reader)?)?;
+    }
+    Ok(loads)
+}
+
+#[tactic(auto, unfolding(crate::specs::Lus::load_status))]
+fn load_status_of(alloc: Global, reader: &mut Reader) -> Result<LoadStatus, FileFault>
+    ensures { Decodes Memory (λ load. load) load_status reader.old result reader.new }
+{
+    let header = name_of(reader)?;
+    let part = part_of(reader)?;
+    let ratio = ratio_of(reader)?;
+    let status = reader.take_u16()?;
+    let description = text_of(alloc, reader)?;
+    Ok(LoadStatus {
+        header,
+        part,
+        ratio,
+        status,
+        description,
+    })
+}
+
+fn put_lus(out: &mut Writer, file: &Lus) -> Result<(), NoMemory>
+    requires ratio { file.now.ratio ≤ 100 }
+    requires ratios { All (λ load. load.ratio ≤ 100) file.now.loads.items }
+    requires count { length file.now.loads.items ≤ 65535 }
+    ensures fits { OnOk result (LusFits (lus_view file.now)) }
+    ensures ok { OnOk result (out.new ≡ out.old ++ concat (lus_fields (lus_view file.now))) }
+{
+    out.put_u16(file.status)?;
+    put_text(out, &file.description)?;
+    put_counts(out, file)?;
+    Ok(())
+}
+
+#[tactic(auto, unfolding(crate::specs::Lus::counts_fields))]
+fn put_counts(out: &mut Writer, file: &Lus) -> Result<(), NoMemory>
+    requires ratio { file.now.ratio ≤ 100 }
+    requires ratios { All (λ load. load.ratio ≤ 100) file.now.loads.items }
+    requires count { length file.now.loads.items ≤ 65535 }
+    ensures fits { OnOk result (CountsFit (lus_view file.now)) }
+    ensures ok { OnOk result (out.new ≡ out.old ++ concat (counts_fields (lus_view file.now))) }
+{
+    out.put_u16(file.counter)?;
+    out.put_u16(file.exception)?;
+    out.put_u16(file.estimated)?;
+    put_progress(out, file)?;
+    Ok(())
+}
+
+#[tactic(auto, unfolding(crate::specs::Lus::progress_fields, crate::specs::Pieces::counted_fields))]
+fn put_progress(out: &mut Writer, file: &Lus) -> Result<(), NoMemory>
+    requires ratio { file.now.ratio ≤ 100 }
+    requires ratios { All (λ load. load.ratio ≤ 100) file.now.loads.items }
+    requires count { length file.now.loads.items ≤ 65535 }
+    ensures fits { OnOk result (ProgressFits (lus_view file.now)) }
+    ensures ok { OnOk result (out.new ≡ out.old ++ concat (progress_fields (lus_view file.now))) }
+{
+    let loads = file.loads.as_slice();
+    put_ratio(out, file.ratio)?;
+    out.put_u16(loads.len() as u16)?;
+    put_loads(out, loads)?;
+    Ok(())
+}
+
+fn put_loads(out: &mut Writer, loads: &[LoadStatus]) -> Result<(), NoMemory>
+    requires { All (λ load. load.ratio ≤ 100) loads.now }
+    ensures fits { OnOk result (All (λ l. LoadStatusFits l) loads.now) }
+    ensures ok { OnOk result (out.new ≡ out.old ++ concat (flat_map load_status_fields loads.now)) }
+{
+    for load in loads {
+        put_load_status(out, load)?;
+    }
+    Ok(())
+}
+
+fn put_load_status(out: &mut Writer, load: &LoadStatus) -> Result<(), NoMemory>
+    requires { load.now.ratio ≤ 100 }
+    ensures fits { OnOk result (LoadStatusFits load.now) }
+    ensures ok { OnOk result (out.new ≡ out.old ++ concat (load_status_fields load.now)) }
+{
+    put_name(out, &load.header)?;
+    put_part(out, &load.part)?;
+    put_ratio(out, load.ratio)?;
+    out.put_u16(load.status)?;
+    put_text(out, &load.description)?;
+    Ok(())
+}

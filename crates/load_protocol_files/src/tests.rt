@@ -1,0 +1,196 @@
+//! The files of docs/FORMATS.md, and files with one byte changed.
+
+use crate::{FileFault, Lci, Lcl, Lcs, Lui, Lur, Lus, each_file_has_one_spelling};
+use load_base::{Bytes, NoMemory};
+use std::alloc::Global;
+
+const LUI: [u8; 9] = *b"\x00\x00\x00\x09\x41\x33\x00\x01\x00";
+
+const LCS: [u8; 15] = *b"\x00\x00\x00\x0f\x41\x33\x00\x01\x00\x02\x00\x00\x00\x00\x00";
+
+const LUR: [u8; 32] = *b"\x00\x00\x00\x20\x41\x33\x00\x01\x07APP.LUH\x0fABC41-0000-0001";
+
+const FIRST_LUS: [u8; 20] =
+    *b"\x00\x00\x00\x14\x41\x33\x00\x01\x00\x00\x01\x00\x00\x00\x00\x30\x30\x30\x00\x00";
+
+const LAST_LUS: [u8; 50] =
+    *b"\x00\x00\x00\x32\x41\x33\x00\x03\x00\x00\x02\x00\x00\x00\x00\x31\x30\x30\x00\x01\x07APP.LUH\x0fABC41-0000-0001\x31\x30\x30\x00\x03\x00";
+
+const LCL: [u8; 47] =
+    *b"\x00\x00\x00\x2f\x41\x33\x00\x01\x03HW1\x03SN1\x00\x01\x0fABC41-0000-0001\x00\x0bAPP.LUH-123";
+
+#[test]
+fn an_upload_initialization_is_read_and_written(rt: HostRuntime) -> Result<(), FileFault> {
+    let file = Lui::decode(rt.alloc(), &LUI)?;
+    assert_eq!(rt; file.status, 1);
+    assert_eq!(rt; file.description.as_slice(), b"".as_slice());
+    let bytes = file.encode(rt.alloc())?;
+    assert_eq!(rt; bytes.as_slice(), LUI.as_slice());
+    each_file_has_one_spelling();
+    Ok(())
+}
+
+#[test]
+fn configuration_files_are_read_and_written(rt: HostRuntime) -> Result<(), FileFault> {
+    let answer = Lci::decode(rt.alloc(), &LUI)?;
+    assert_eq!(rt; answer.status, 1);
+    let written = answer.encode(rt.alloc())?;
+    assert_eq!(rt; written.as_slice(), LUI.as_slice());
+    let status = Lcs::decode(rt.alloc(), &LCS)?;
+    assert_eq!(rt; (status.counter, status.status), (1, 2));
+    assert_eq!(rt; (status.exception, status.estimated), (0, 0));
+    let written = status.encode(rt.alloc())?;
+    assert_eq!(rt; written.as_slice(), LCS.as_slice());
+    Ok(())
+}
+
+#[test]
+fn a_request_is_read_and_written(rt: HostRuntime) -> Result<(), FileFault> {
+    let file = Lur::decode(rt.alloc(), &LUR)?;
+    assert_eq!(rt; file.loads.len(), 1);
+    for load in file.loads.as_slice() {
+        assert_eq!(rt; load.header.as_slice(), b"APP.LUH".as_slice());
+        assert_eq!(rt; load.part.as_slice(), b"ABC41-0000-0001".as_slice());
+    }
+    let bytes = file.encode(rt.alloc())?;
+    assert_eq!(rt; bytes.as_slice(), LUR.as_slice());
+    Ok(())
+}
+
+#[test]
+fn an_upload_status_is_read(rt: HostRuntime) -> Result<(), FileFault> {
+    let first = Lus::decode(rt.alloc(), &FIRST_LUS)?;
+    assert_eq!(rt; (first.status, first.counter, first.ratio), (1, 1, 0));
+    assert_eq!(rt; first.loads.len(), 0);
+    let last = Lus::decode(rt.alloc(), &LAST_LUS)?;
+    assert_eq!(rt; (last.status, last.counter, last.ratio), (3, 2, 100));
+    assert_eq!(rt;
+        (last.exception, last.estimated, last.loads.len()),
+        (0, 0, 1)
+    );
+    for load in last.loads.as_slice() {
+        assert_eq!(rt; load.header.as_slice(), b"APP.LUH".as_slice());
+        assert_eq!(rt; load.part.as_slice(), b"ABC41-0000-0001".as_slice());
+        assert_eq!(rt; (load.ratio, load.status), (100, 3));
+    }
+    Ok(())
+}
+
+#[test]
+fn a_configuration_list_is_read(rt: HostRuntime) -> Result<(), FileFault> {
+    let file = Lcl::decode(rt.alloc(), &LCL)?;
+    assert_eq!(rt; file.hardware.len(), 1);
+    for hardware in file.hardware.as_slice() {
+        assert_eq!(rt; hardware.name.as_slice(), b"HW1".as_slice());
+        assert_eq!(rt; hardware.serial.as_slice(), b"SN1".as_slice());
+        for part in hardware.parts.as_slice() {
+            assert_eq!(rt; part.number.as_slice(), b"ABC41-0000-0001".as_slice());
+            assert_eq!(rt; part.amendment.as_slice(), b"".as_slice());
+            assert_eq!(rt; part.designation.as_slice(), b"APP.LUH-123".as_slice());
+        }
+    }
+    Ok(())
+}
+
+#[test]
+fn lists_are_written_again(rt: HostRuntime) -> Result<(), FileFault> {
+    let first = lus_again(rt.alloc(), &FIRST_LUS)?;
+    assert_eq!(rt; first.as_slice(), FIRST_LUS.as_slice());
+    let last = lus_again(rt.alloc(), &LAST_LUS)?;
+    assert_eq!(rt; last.as_slice(), LAST_LUS.as_slice());
+    let list = lcl_again(rt.alloc(), &LCL)?;
+    assert_eq!(rt; list.as_slice(), LCL.as_slice());
+    Ok(())
+}
+
+fn lus_again(alloc: Global, bytes: &[u8]) -> Result<Bytes, FileFault> {
+    let file = Lus::decode(alloc, bytes)?;
+    let bytes = file.encode(alloc)?;
+    Ok(bytes)
+}
+
+fn lcl_again(alloc: Global, bytes: &[u8]) -> Result<Bytes, FileFault> {
+    let file = Lcl::decode(alloc, bytes)?;
+    let bytes = file.encode(alloc)?;
+    Ok(bytes)
+}
+
+// The text of a refusal, and else no bytes.
+fn told<T: Drop>(alloc: Global, read: Result<T, FileFault>) -> Result<Bytes, NoMemory> {
+    match read {
+        Ok(_) => Ok(Bytes::new(alloc)),
+        Err(fault) => fault.text(alloc),
+    }
+}
+
+#[test]
+fn a_length_of_eight_is_told_with_the_nine_bytes(rt: HostRuntime) -> Result<(), NoMemory> {
+    let mut bytes = LUI;
+    bytes[3] = 8;
+    let fault = told(rt.alloc(), Lui::decode(rt.alloc(), &bytes))?;
+    assert_eq!(rt; fault.as_slice(), b"U2 8 9".as_slice());
+    let cut = told(rt.alloc(), Lcs::decode(rt.alloc(), &LCS[..14]))?;
+    assert_eq!(rt; cut.as_slice(), b"U2 15 14".as_slice());
+    let none = told(rt.alloc(), Lci::decode(rt.alloc(), &LUI[..2]))?;
+    assert_eq!(rt; none.as_slice(), b"U1 0".as_slice());
+    Ok(())
+}
+
+#[test]
+fn the_first_fault_of_a_changed_request_is_told(rt: HostRuntime) -> Result<(), NoMemory> {
+    let rows: [(usize, u8, &[u8]); 6] = [
+        (3, 0x21, b"U2 33 32"),
+        (5, 0x34, b"U3 16692"),
+        (7, 0x00, b"U5 8"),
+        (8, 0xff, b"U1 9"),
+        (13, 0x00, b"U6 9 N3 4"),
+        (25, 0x20, b"U7 17 P3 8"),
+    ];
+    for (place, byte, text) in rows {
+        let mut bytes = LUR;
+        if place < bytes.len() {
+            bytes[place] = byte;
+        }
+        let fault = told(rt.alloc(), Lur::decode(rt.alloc(), &bytes))?;
+        assert_eq!(rt; fault.as_slice(), text);
+    }
+    Ok(())
+}
+
+#[test]
+fn the_first_fault_of_a_changed_status_is_told(rt: HostRuntime) -> Result<(), NoMemory> {
+    let rows: [(usize, u8, &[u8]); 5] = [
+        (8, 0x01, b"U8 9 X2 0"),
+        (16, 0x31, b"U4 15"),
+        (19, 0x00, b"U5 20"),
+        (44, 0xff, b"U4 44"),
+        (49, 0x01, b"U1 50"),
+    ];
+    for (place, byte, text) in rows {
+        let mut bytes = LAST_LUS;
+        if place < bytes.len() {
+            bytes[place] = byte;
+        }
+        let fault = told(rt.alloc(), Lus::decode(rt.alloc(), &bytes))?;
+        assert_eq!(rt; fault.as_slice(), text);
+    }
+    Ok(())
+}
+
+#[test]
+fn the_first_fault_of_a_changed_list_is_told(rt: HostRuntime) -> Result<(), NoMemory> {
+    let rows: [(usize, u8, &[u8]); 3] = [
+        (18, 0x20, b"U1 19"),
+        (35, 0x01, b"U5 37"),
+        (45, 0xcd, b"U8 36 X2 9"),
+    ];
+    for (place, byte, text) in rows {
+        let mut bytes = LCL;
+        if place < bytes.len() {
+            bytes[place] = byte;
+        }
+        let fault = told(rt.alloc(), Lcl::decode(rt.alloc(), &bytes))?;
+        assert_eq!(rt; fault.as_slice(), text);
+    }
+    Ok(())
+}
