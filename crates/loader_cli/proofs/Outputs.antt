@@ -1,12 +1,8 @@
 -- What a recovery's refusal says of an image.
-use Rattle.std.proofs.Common.{◌≡◌, ◌≢◌, ◌⊎◌, ℕ, List, inl, inr, Option, Some, None, Ok, Err, refl}
+use Rattle.std.proofs.Common.{◌≢◌, ℕ, List, Option, Some, None, Ok, Err, refl}
 use Rattle.load_base.specs.Listed.{Listed}
 use Rattle.load_base.specs.Host.{Files, ReadsFile}
 use Rattle.load_base.specs.declared.host.ReadFault.TheVariants as reading
-use Rattle.field_grammar.specs.Grammar.{Fault}
-use Rattle.load_header.specs.Header.{header}
-use Rattle.load_header.specs.declared.fault.HeaderFault.{HeaderFault}
-use Rattle.load_header.specs.declared.fault.HeaderFault.TheVariants as headers
 use Rattle.loader_cli.specs.Runs.{Has, HasTooMany}
 use Rattle.disk_model.specs.Image.{Image}
 use Rattle.disk_model.specs.State.{DiskState}
@@ -43,11 +39,6 @@ leaves_running old new BadManifest other runs = runs
 leaves_running old new LoadsNotBuilt other runs = runs
 leaves_running old new DiskFailed other runs = absurd (other tt)
 leaves_running old new Memory other runs = absurd (other tt)
-
--- a refusal of a header's decoder that isn't want of memory is the first fault
-pub a_fault : (bytes : List ℕ) (fault : HeaderFault) → fault ≢ headers.Memory → (fault ≡ headers.Memory) ⊎ Fault header bytes fault → Fault header bytes fault
-a_fault bytes fault other (inl memory) = absurd (other memory)
-a_fault bytes fault other (inr first) = first
 
 -- what the host has under a name, from what it answered
 pub has_bytes : (files : Option Files) (name : List ℕ) (bytes : Listed ℕ) → ReadsFile files name (Ok bytes) → Has files name (Some bytes.items)

@@ -1,4 +1,3 @@
-pub mod HeaderText
 pub mod Runs
 pub mod Texts
 pub mod Words

@@ -1,14 +1,10 @@
 -- What a run of the program prints, its status, and the cause of each (docs/PROMISES.md).
-use Rattle.std.specs.Prelude.{◌≡◌, ◌≢◌, ℕ, ◌<◌, List, length, true, Option, Some, None, take, codes}
+use Rattle.std.specs.Prelude.{◌≡◌, ℕ, ◌<◌, List, length, true, Option, Some, None, take, codes}
 use Rattle.load_base.specs.Counts.{Rose}
 use Rattle.load_base.specs.Host.{Files, longest_file}
 use Rattle.load_base.specs.Sink.{GoesOn}
-use Rattle.field_grammar.specs.Grammar.{Fault}
-use Rattle.load_header.specs.Header.{HeaderView, header}
-use Rattle.load_header.specs.HeaderFields.{HeaderSpells}
-use Rattle.load_header.specs.HeaderFaultText.{header_fault_text}
-use Rattle.load_header.specs.declared.fault.HeaderFault.{HeaderFault}
-use Rattle.load_header.specs.declared.fault.HeaderFault.TheVariants as headers
+use Rattle.shown_files.specs.Shown.{HasFields, HasFault}
+use Rattle.shown_files.specs.declared.kind.FileKind.{FileKind}
 use Rattle.disk_model.specs.Image.{Image}
 use Rattle.disk_model.specs.State.{DiskState}
 use Rattle.disk_layout.specs.Places.{IsBankSize}
@@ -16,9 +12,8 @@ use Rattle.disk_layout.specs.Looks.{IsOfDisk, RunsOn}
 use Rattle.disk_layout.specs.Stands.{StandingView, Stands, StandsNot}
 use Rattle.disk_layout.specs.declared.fault.RecoverFault.{RecoverFault}
 use Rattle.loader_cli.specs.Words.{Form, IsForm}
-use Rattle.loader_cli.specs.Words.Form.{list, show_header}
+use Rattle.loader_cli.specs.Words.Form.{list, show}
 use Rattle.loader_cli.specs.Texts.{listing, refused_words, refused_input, disk_fault, host_fault, no_configuration}
-use Rattle.loader_cli.specs.HeaderText.{shown_header}
 
 -- ---- `list`
 
@@ -35,13 +30,12 @@ pub data Lists (old new : DiskState) (status : ℕ) (text : List ℕ) : Type 0 w
 
 -- ---- `show FILE`
 
--- the status and the text for a load header of this name with these bytes
-pub data ShowsHeader (name bytes : List ℕ) (status : ℕ) (text : List ℕ) : Type 0 where
-  -- 0: the bytes spell this header
-  shown : (h : HeaderView) → HeaderSpells h bytes → status ≡ 0 → text ≡ shown_header bytes h → ShowsHeader name bytes status text
+-- the status and the text for a file of this kind, of this name and with these bytes
+pub data ShowsBytes (kind : FileKind) (name bytes : List ℕ) (status : ℕ) (text : List ℕ) : Type 0 where
+  -- 0: the bytes spell a file with these fields
+  shown : HasFields kind bytes text → status ≡ 0 → ShowsBytes kind name bytes status text
   -- 3: they fail at this fault
-  faulty : (fault : HeaderFault) → Fault header bytes fault → fault ≢ headers.Memory → status ≡ 3 → text ≡ refused_input name (header_fault_text fault)
-      → ShowsHeader name bytes status text
+  faulty : (fault : List ℕ) → HasFault kind bytes fault → status ≡ 3 → text ≡ refused_input name fault → ShowsBytes kind name bytes status text
 
 -- the host has this under the name, where it tells its files
 abbrev pub Has : Option Files → List ℕ → Option (List ℕ) → Type 0
@@ -54,14 +48,14 @@ HasTooMany None name = Unit {0}
 HasTooMany (Some files) name = (bytes : List ℕ) × (files name ≡ Some bytes) × (longest_file < length bytes)
 
 -- the status, the text, and what it says of the host's files and of its faults before and after
-pub data Shows (files : Option Files) (before after : ℕ) (name : List ℕ) (status : ℕ) (text : List ℕ) : Type 0 where
-  read : (bytes : List ℕ) → Has files name (Some bytes) → ShowsHeader name bytes status text → Shows files before after name status text
+pub data Shows (kind : FileKind) (files : Option Files) (before after : ℕ) (name : List ℕ) (status : ℕ) (text : List ℕ) : Type 0 where
+  read : (bytes : List ℕ) → Has files name (Some bytes) → ShowsBytes kind name bytes status text → Shows kind files before after name status text
   -- 3: there is no such file
-  absent : Has files name None → status ≡ 3 → text ≡ refused_input name (codes "absent") → Shows files before after name status text
+  absent : Has files name None → status ≡ 3 → text ≡ refused_input name (codes "absent") → Shows kind files before after name status text
   -- 3: it has more than 16,777,215 bytes
-  too_long : HasTooMany files name → status ≡ 3 → text ≡ refused_input name (codes "toolong") → Shows files before after name status text
+  too_long : HasTooMany files name → status ≡ 3 → text ≡ refused_input name (codes "toolong") → Shows kind files before after name status text
   -- 4: the host failed in this call
-  host_failed : Rose before after → status ≡ 4 → text ≡ host_fault → Shows files before after name status text
+  host_failed : Rose before after → status ≡ 4 → text ≡ host_fault → Shows kind files before after name status text
 
 -- ---- a run
 
@@ -70,7 +64,7 @@ pub data Says (words : List (List ℕ)) (old new : DiskState) (files : Option Fi
   -- 2: the words have none of the forms
   refused : ((form : Form) → ¬ IsForm words form) → status ≡ 2 → text ≡ refused_words → Says words old new files before after status text
   lists : IsForm words list → Lists old new status text → Says words old new files before after status text
-  shows : (file : List ℕ) → IsForm words (show_header file) → Shows files before after file status text → Says words old new files before after status text
+  shows : (kind : FileKind) (file : List ℕ) → IsForm words (show kind file) → Shows kind files before after file status text → Says words old new files before after status text
 
 -- What a run is given and what it leaves: its words, the disk, the host's files and faults, and the sink's output
 -- and faults.

@@ -1,35 +1,14 @@
 -- The texts that are printed (docs/FORMATS.md, "Printed text").
-use Rattle.std.specs.Prelude.{ℕ, ◌+◌, ◌-◌, ◌/◌, ◌%◌, nat_lt, if◌then◌else◌, List, [], ◌∷◌, ◌++◌, length, codes}
+use Rattle.std.specs.Prelude.{ℕ, List, [], ◌∷◌, ◌++◌, length, codes}
 use Rattle.std.specs.List.{flat_map}
 use Rattle.std.specs.Fmt.{decimal}
 use Rattle.load_base.specs.Config.{FileView, LoadView}
 use Rattle.crc_fields.specs.CheckSums.{crc16_of}
+use Rattle.shown_files.specs.Lines.{line, hex_16}
 use Rattle.disk_layout.specs.Stands.{StandingView}
 use Rattle.disk_layout.specs.declared.identity.Identity.{Identity}
 use Rattle.disk_layout.specs.declared.fault.RecoverFault.{RecoverFault}
 use Rattle.disk_layout.specs.declared.fault.RecoverFault.TheVariants.{NotFormatted, NoOpenSlot, BadSlot, BadManifest, LoadsNotBuilt, DiskFailed, Memory}
-
--- words with one space between them, and a line feed
-abbrev pub line : List (List ℕ) → List ℕ
-line [] = 10 ∷ []
-line (word ∷ []) = word ++ 10 ∷ []
-line (word ∷ words) = word ++ 32 ∷ line words
-
--- an upper-case hexadecimal digit
-abbrev pub hex_digit : ℕ → ℕ
-hex_digit digit = if nat_lt digit 10 then digit + 48 else digit - 10 + 65
-
--- two of them, for a byte
-unfoldable pub hex_8 : ℕ → List ℕ
-hex_8 number = hex_digit (number / 16) ∷ hex_digit (number % 16) ∷ []
-
--- four of them
-unfoldable pub hex_16 : ℕ → List ℕ
-hex_16 number = hex_digit (number / 4096) ∷ hex_digit (number / 256 % 16) ∷ hex_digit (number / 16 % 16) ∷ hex_digit (number % 16) ∷ []
-
--- eight of them
-abbrev pub hex_32 : ℕ → List ℕ
-hex_32 number = hex_16 (number / 65536) ++ hex_16 (number % 65536)
 
 -- ---- the listing
 

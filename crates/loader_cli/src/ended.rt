@@ -2,15 +2,16 @@
 ghost use Rattle.std.specs.Prelude.{◌≡◌, ℕ, List, false, IfOk};
 ghost use Rattle.disk_model.specs.State.{OnlyReads};
 ghost use Rattle.loader_cli.specs.Words.{texts_of, IsForm};
-ghost use Rattle.loader_cli.specs.Words.Form.{list as list_form, show_header as show_form};
+ghost use Rattle.loader_cli.specs.Words.Form.{list as list_form, show as show_form};
 ghost use Rattle.loader_cli.specs.Runs.{Lists, Says, Ends};
 
 use crate::command::Command;
-use crate::show::show_header;
+use crate::show::show;
 use crate::text::{listing_text, no_configuration_text, text_of};
 use disk_model::Disk;
 use load_base::{Bytes, Host, NoMemory, Sink, WriteFault};
 use recovery::{RecoverFault, recover};
+use shown_files::FileKind;
 use std::alloc::Global;
 
 /// How a run ended.
@@ -30,8 +31,8 @@ pub struct Ended {
     pub status: u8,
 }
 
-/// Runs the program on the words after its name: `list`, or `show FILE` with the name of a load header. The output
-/// goes out in one piece at the end.
+/// Runs the program on the words after its name: `list`, or `show FILE` with the name of a file of
+/// one of the kinds of [`FileKind`]. The output goes out in one piece at the end.
 pub fn run<H: Host, O: Sink, K: Disk>(
     alloc: Global,
     words: &[String],
@@ -53,7 +54,7 @@ pub fn run<H: Host, O: Sink, K: Disk>(
       sink_faults_after = O.faults out.new;
     }) result.status }
     ensures disk_untouched { ¬ IsForm (texts_of words.now) list_form → disk.new ≡ disk.old }
-    ensures host_untouched { ((file : List ℕ) → ¬ IsForm (texts_of words.now) (show_form file)) → host.new ≡ host.old }
+    ensures host_untouched { ((kind : FileKind) (file : List ℕ) → ¬ IsForm (texts_of words.now) (show_form kind file)) → host.new ≡ host.old }
     ensures files_kept { H.files host.new ≡ H.files host.old }
     ensures only_reads { OnlyReads (K.state disk.old) (K.state disk.new) }
 {
@@ -77,14 +78,14 @@ fn answer<H: Host, K: Disk>(
     requires { (K.state disk.old).stopped ≡ false }
     ensures says { IfOk result (λ said. Says (texts_of words.now) (K.state disk.old) (K.state disk.new) (H.files host.old) (H.faults host.old) (H.faults host.new) said.0 said.1.items) }
     ensures disk_untouched { ¬ IsForm (texts_of words.now) list_form → disk.new ≡ disk.old }
-    ensures host_untouched { ((file : List ℕ) → ¬ IsForm (texts_of words.now) (show_form file)) → host.new ≡ host.old }
+    ensures host_untouched { ((kind : FileKind) (file : List ℕ) → ¬ IsForm (texts_of words.now) (show_form kind file)) → host.new ≡ host.old }
     ensures files_kept { H.files host.new ≡ H.files host.old }
     ensures only_reads { OnlyReads (K.state disk.old) (K.state disk.new) }
 {
     match Command::read(words) {
         None => Ok((2, text_of(alloc, b"refused words\n")?)),
         Some(Command::List) => Ok(list(alloc, disk)?),
-        Some(Command::ShowHeader(file)) => Ok(show_header(alloc, host, file)?),
+        Some(Command::Show { kind, file }) => Ok(show(alloc, host, kind, file)?),
     }
 }
 

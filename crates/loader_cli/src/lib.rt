@@ -3,7 +3,6 @@
 
 mod command;
 mod ended;
-mod header_text;
 mod show;
 mod text;
 

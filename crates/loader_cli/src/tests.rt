@@ -138,6 +138,7 @@ fn refuses_all_other_words(rt: HostRuntime) -> Result<(), Fail> {
         &["show", "APP.LUH", "APP.LUH"],
         &["show", "APP.BIN"],
         &["show", "APP.luh"],
+        &["show", "APP.LUX"],
         &["show", "APP APP.LUH"],
         &["show", "APP\x7F.LUH"],
         &["Show", "APP.LUH"],

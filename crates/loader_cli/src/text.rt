@@ -1,14 +1,16 @@
 //! The texts that are printed.
-ghost use Rattle.std.specs.Prelude.{◌≡◌, ◌<◌, [], ◌∷◌, ◌++◌, length, codes, map, OnOk, IfOk};
+ghost use Rattle.std.specs.Prelude.{◌≡◌, [], ◌∷◌, ◌++◌, length, codes, map, OnOk, IfOk};
 ghost use Rattle.std.specs.Fmt.{decimal};
 ghost use Rattle.std.specs.List.{flat_map};
 ghost use Rattle.load_base.specs.Config.{file_view, load_view};
 ghost use Rattle.disk_layout.specs.Stands.{standing_view};
-ghost use Rattle.loader_cli.specs.Texts.{line, hex_digit as hex_digit_of, hex_8, hex_16, hex_32, file_line, load_line, load_lines, target_line, bank_line, loads_line, listing, fault_code, no_configuration};
+ghost use Rattle.shown_files.specs.Lines.{line, hex_16};
+ghost use Rattle.loader_cli.specs.Texts.{file_line, load_line, load_lines, target_line, bank_line, loads_line, listing, fault_code, no_configuration};
 
 use crc_fields::crc16;
 use disk_layout::{Identity, RecoverFault, Standing};
 use load_base::{Bytes, Load, NoMemory, StoredFile};
+use shown_files::lines::{put_hex_16, put_number};
 use std::alloc::Global;
 
 /// The listing of what a disk stands for: its target, the bank that rules with its sequence, and each load
@@ -137,42 +139,4 @@ fn put_file(alloc: Global, out: &mut Bytes, file: &StoredFile) -> Result<(), NoM
     out.extend(b" ")?;
     put_hex_16(out, crc16(file.bytes.as_slice()))?;
     out.extend(b"\n")
-}
-
-pub(crate) fn put_number(alloc: Global, out: &mut Bytes, number: u64) -> Result<(), NoMemory>
-    ensures { OnOk result (out.new.items ≡ out.old.items ++ decimal number) }
-{
-    let digits = number.to_string(alloc)?;
-    out.extend(digits.as_bytes())
-}
-
-#[tactic(auto, unfolding(crate::specs::Texts::hex_16))]
-pub(crate) fn put_hex_16(out: &mut Bytes, number: u16) -> Result<(), NoMemory>
-    ensures { OnOk result (out.new.items ≡ out.old.items ++ hex_16 number) }
-{
-    out.extend(&[
-        hex_digit(number / 4096),
-        hex_digit(number / 256 % 16),
-        hex_digit(number / 16 % 16),
-        hex_digit(number % 16),
-    ])
-}
-
-#[tactic(auto, unfolding(crate::specs::Texts::hex_8))]
-pub(crate) fn put_hex_8(out: &mut Bytes, number: u8) -> Result<(), NoMemory>
-    ensures { OnOk result (out.new.items ≡ out.old.items ++ hex_8 number) }
-{
-    let number = u16::from(number);
-    out.extend(&[hex_digit(number / 16), hex_digit(number % 16)])
-}
-
-fn hex_digit(digit: u16) -> u8
-    requires { digit < 16 }
-    ensures { result ≡ hex_digit_of digit }
-{
-    if digit < 10 {
-        digit as u8 + b'0'
-    } else {
-        digit as u8 - 10 + b'A'
-    }
 }

@@ -1,0 +1,5 @@
+pub mod HeaderText
+pub mod Kinds
+pub mod Lines
+pub mod ProtocolText
+pub mod Shown

@@ -1,0 +1,60 @@
+//! The kinds of files that are shown.
+ghost use Rattle.std.specs.Prelude.{◌≡◌, ◌↔◌, IsTrue, IfSome, IfNone};
+ghost use Rattle.shown_files.specs.Kinds.{EndsWith, IsNameOf};
+
+/// A kind of file, which the end of the file's name tells.
+#[derive(Clone, Copy, Debug, PartialEq, Eq)]
+pub enum FileKind {
+    /// A load header, `.LUH`.
+    Header,
+    /// A configuration initialization file, `.LCI`.
+    Lci,
+    /// A configuration list file, `.LCL`.
+    Lcl,
+    /// A configuration status file, `.LCS`.
+    Lcs,
+    /// An upload initialization file, `.LUI`.
+    Lui,
+    /// An upload request file, `.LUR`.
+    Lur,
+    /// An upload status file, `.LUS`.
+    Lus,
+}
+
+impl FileKind {
+    /// The kind of a file of this name; `None` where the name has none of the ends.
+    pub fn of_name(name: &[u8]) -> Option<FileKind>
+        ensures some { IfSome result (λ kind. IsNameOf kind name.now) }
+        ensures none { IfNone result ((kind : FileKind) → ¬ IsNameOf kind name.now) }
+    {
+        if ends_with(name, b".LUH") {
+            Some(FileKind::Header)
+        } else if ends_with(name, b".LCI") {
+            Some(FileKind::Lci)
+        } else if ends_with(name, b".LCL") {
+            Some(FileKind::Lcl)
+        } else if ends_with(name, b".LCS") {
+            Some(FileKind::Lcs)
+        } else if ends_with(name, b".LUI") {
+            Some(FileKind::Lui)
+        } else if ends_with(name, b".LUR") {
+            Some(FileKind::Lur)
+        } else if ends_with(name, b".LUS") {
+            Some(FileKind::Lus)
+        } else {
+            None
+        }
+    }
+}
+
+fn ends_with(word: &[u8], end: &[u8]) -> bool
+    ensures { IsTrue result ↔ EndsWith end.now word.now }
+{
+    word.len() >= end.len() && is_same(&word[word.len() - end.len()..], end)
+}
+
+fn is_same<'b>(one: &'b [u8], other: &'b [u8]) -> bool
+    ensures { IsTrue result ↔ (one.now ≡ other.now) }
+{
+    one == other
+}

@@ -1,0 +1,16 @@
+//! What `show` prints of a file: its fields in the order of its format, or its first fault.
+#![tactic(auto)]
+
+mod header;
+mod kind;
+pub mod lines;
+mod protocol;
+mod shown;
+
+pub use header::header_text;
+pub use kind::FileKind;
+pub use protocol::{lci_text, lcl_text, lcs_text, lui_text, lur_text, lus_text};
+pub use shown::{Shown, show};
+
+#[cfg(test)]
+mod tests;

@@ -1,0 +1,112 @@
+//! A file as it is shown.
+ghost use Rattle.std.specs.Prelude.{◌≡◌, ◌⊎◌, ◌≢◌, IfOk, List, ℕ};
+ghost use Rattle.field_grammar.specs.Grammar.{Fault};
+ghost use Rattle.load_header.specs.Header.{header};
+ghost use Rattle.load_header.specs.HeaderFaultText.{header_fault_text};
+ghost use Rattle.load_header.specs.declared.fault.HeaderFault.TheVariants as headers;
+ghost use Rattle.load_protocol_files.specs.FaultTexts.{file_fault_text};
+ghost use Rattle.load_protocol_files.specs.declared.fault.FileFault.TheVariants as files;
+ghost use Rattle.shown_files.specs.declared.kind.FileKind.TheVariants as kinds;
+ghost use Rattle.shown_files.specs.Shown.{IsShown};
+
+use crate::header::header_text;
+use crate::kind::FileKind;
+use crate::protocol::{lci_text, lcl_text, lcs_text, lui_text, lur_text, lus_text};
+use load_base::{Bytes, NoMemory};
+use load_header::{HeaderFault, LoadHeader, fault_text};
+use load_protocol_files::{FileFault, Lci, Lcl, Lcs, Lui, Lur, Lus};
+use std::alloc::Global;
+
+/// What is shown of a file.
+#[derive(Drop)]
+pub enum Shown {
+    /// Its fields, a line each.
+    Fields(Bytes),
+    /// The text of its first fault: the code, and behind it the fault's fields.
+    Fault(Bytes),
+}
+
+/// What is shown of these bytes as a file of this kind.
+pub fn show(alloc: Global, kind: FileKind, bytes: &[u8]) -> Result<Shown, NoMemory>
+    ensures { IfOk result (λ shown. IsShown kind bytes.now shown) }
+{
+    match kind {
+        FileKind::Header => shown_header(alloc, bytes),
+        FileKind::Lci => shown_lci(alloc, bytes),
+        FileKind::Lcl => shown_lcl(alloc, bytes),
+        FileKind::Lcs => shown_lcs(alloc, bytes),
+        FileKind::Lui => shown_lui(alloc, bytes),
+        FileKind::Lur => shown_lur(alloc, bytes),
+        FileKind::Lus => shown_lus(alloc, bytes),
+    }
+}
+
+fn shown_header(alloc: Global, bytes: &[u8]) -> Result<Shown, NoMemory>
+    ensures { IfOk result (λ shown. IsShown kinds.Header bytes.now shown) }
+{
+    match LoadHeader::decode(alloc, bytes) {
+        Ok(header) => Ok(Shown::Fields(header_text(alloc, bytes, &header)?)),
+        Err(HeaderFault::Memory) => Err(NoMemory),
+        Err(fault) => Ok(Shown::Fault(fault_text(alloc, &fault)?)),
+    }
+}
+
+fn shown_lci(alloc: Global, bytes: &[u8]) -> Result<Shown, NoMemory>
+    ensures { IfOk result (λ shown. IsShown kinds.Lci bytes.now shown) }
+{
+    match Lci::decode(alloc, bytes) {
+        Ok(file) => Ok(Shown::Fields(lci_text(alloc, &file)?)),
+        Err(FileFault::Memory) => Err(NoMemory),
+        Err(fault) => Ok(Shown::Fault(fault.text(alloc)?)),
+    }
+}
+
+fn shown_lcl(alloc: Global, bytes: &[u8]) -> Result<Shown, NoMemory>
+    ensures { IfOk result (λ shown. IsShown kinds.Lcl bytes.now shown) }
+{
+    match Lcl::decode(alloc, bytes) {
+        Ok(file) => Ok(Shown::Fields(lcl_text(alloc, &file)?)),
+        Err(FileFault::Memory) => Err(NoMemory),
+        Err(fault) => Ok(Shown::Fault(fault.text(alloc)?)),
+    }
+}
+
+fn shown_lcs(alloc: Global, bytes: &[u8]) -> Result<Shown, NoMemory>
+    ensures { IfOk result (λ shown. IsShown kinds.Lcs bytes.now shown) }
+{
+    match Lcs::decode(alloc, bytes) {
+        Ok(file) => Ok(Shown::Fields(lcs_text(alloc, &file)?)),
+        Err(FileFault::Memory) => Err(NoMemory),
+        Err(fault) => Ok(Shown::Fault(fault.text(alloc)?)),
+    }
+}
+
+fn shown_lui(alloc: Global, bytes: &[u8]) -> Result<Shown, NoMemory>
+    ensures { IfOk result (λ shown. IsShown kinds.Lui bytes.now shown) }
+{
+    match Lui::decode(alloc, bytes) {
+        Ok(file) => Ok(Shown::Fields(lui_text(alloc, &file)?)),
+        Err(FileFault::Memory) => Err(NoMemory),
+        Err(fault) => Ok(Shown::Fault(fault.text(alloc)?)),
+    }
+}
+
+fn shown_lur(alloc: Global, bytes: &[u8]) -> Result<Shown, NoMemory>
+    ensures { IfOk result (λ shown. IsShown kinds.Lur bytes.now shown) }
+{
+    match Lur::decode(alloc, bytes) {
+        Ok(file) => Ok(Shown::Fields(lur_text(alloc, &file)?)),
+        Err(FileFault::Memory) => Err(NoMemory),
+        Err(fault) => Ok(Shown::Fault(fault.text(alloc)?)),
+    }
+}
+
+fn shown_lus(alloc: Global, bytes: &[u8]) -> Result<Shown, NoMemory>
+    ensures { IfOk result (λ shown. IsShown kinds.Lus bytes.now shown) }
+{
+    match Lus::decode(alloc, bytes) {
+        Ok(file) => Ok(Shown::Fields(lus_text(alloc, &file)?)),
+        Err(FileFault::Memory) => Err(NoMemory),
+        Err(fault) => Ok(Shown::Fault(fault.text(alloc)?)),
+    }
+}
