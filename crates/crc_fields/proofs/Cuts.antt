@@ -1,5 +1,5 @@
 -- Bytes cut into pieces.
-use Rattle.std.proofs.Common.{◌≡◌, ℕ, ◌+◌, ◌^◌, ◌<◌, List, [], ◌∷◌, ◌++◌, length, take, get_or, refl, sym, ◌∙◌, ap, arith}
+use Rattle.std.proofs.Common.{◌≡◌, ℕ, ◌+◌, ◌^◌, ◌<◌, List, [], ◌∷◌, ◌++◌, length, take, drop, take-append-drop, get_or, refl, sym, ◌∙◌, ap, arith}
 use Rattle.std.proofs.lemmas.List.{take_more, append-nil}
 use Rattle.std.proofs.lemmas.Grind.{fold-append, flat_map-append}
 use Rattle.crc_fields.specs.CheckSums.{lowest_bits, bits_of, register_after_bit, register_after_bits, register_after, inverted, crc16_of, crc32_of, crc16_after, crc32_after}
@@ -19,6 +19,14 @@ after_nothing width polynomial register = refl
 pub after_one : (width polynomial register byte : ℕ) → register_after width polynomial register (byte ∷ []) ≡ register_after_bits width polynomial register (lowest_bits 8 byte)
 unfolding register_after register_after_bits bits_of
 after_one width polynomial register byte = ap (λ (bits : List ℕ). register_after_bits width polynomial register bits) (append-nil (lowest_bits 8 byte))
+
+-- a loop's step over a front of the bytes that are left
+pub after_front : (width polynomial register n : ℕ) (bytes : List ℕ) {front behind : List ℕ} → front ≡ take n bytes → behind ≡ drop n bytes
+    → register_after width polynomial (register_after width polynomial register front) behind ≡ register_after width polynomial register bytes
+after_front width polynomial register n bytes {front} {behind} is_front is_behind =
+    after_append width polynomial register front behind
+    ∙ ap (λ (all : List ℕ). register_after width polynomial register all)
+    (ap (λ (first : List ℕ). first ++ behind) is_front ∙ ap (λ (rest : List ℕ). take n bytes ++ rest) is_behind ∙ take-append-drop n bytes)
 
 -- a loop's step over bytes
 pub after_more : (width polynomial register : ℕ) (bytes : List ℕ) (i : ℕ) → i < length bytes

@@ -3,5 +3,6 @@ pub mod Cuts
 pub mod Known
 pub mod Laws
 pub mod Linear
+pub mod Pairs
 pub mod Tables
 pub mod Widths

@@ -122,7 +122,7 @@ module _ (w p : ℕ) where
       ∙ xor_zero_r (kept r)
 
   -- bits one after another take sums to sums
-  bits_linear : p < 2 ^ w → (n r s a b : ℕ) → r < 2 ^ w → s < 2 ^ w
+  pub bits_linear : p < 2 ^ w → (n r s a b : ℕ) → r < 2 ^ w → s < 2 ^ w
       → register_after_bits w p (bit_xor r s) (lowest_bits n (bit_xor a b)) ≡ bit_xor (register_after_bits w p r (lowest_bits n a)) (register_after_bits w p s (lowest_bits n b))
   unfolding register_after_bits lowest_bits
   bits_linear fits zero r s a b r_fits s_fits = refl
@@ -143,7 +143,7 @@ module _ (w p : ℕ) where
       ap (λ (x : ℕ). register_after_bit w p r x) no_bit ∙ same_bit r 0 small (lit< tt) none_leaves ∙ all_stays
 
   -- zero bits move a small number up
-  zero_bits : (n r : ℕ) → r * 2 ^ n < 2 ^ w → register_after_bits w p r (lowest_bits n 0) ≡ r * 2 ^ n
+  pub zero_bits : (n r : ℕ) → r * 2 ^ n < 2 ^ w → register_after_bits w p r (lowest_bits n 0) ≡ r * 2 ^ n
   unfolding register_after_bits lowest_bits
   zero_bits zero r fits = omega arith
   zero_bits (suc n) r fits =
