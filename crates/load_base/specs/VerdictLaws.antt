@@ -257,18 +257,18 @@ part_text_faults =
 
 -- ---- verdicts
 
--- from one name for what is wrong to another
-pub named-judged : {E F : Type 0} (wrong : E → F) (fault_of : List ℕ → Option E) (bytes : List ℕ) (fault : E) → Err fault ≡ judged fault_of bytes
+-- what is judged is refused by another name for what is wrong, or read, in the same way
+pub refused_judged : {E F : Type 0} (wrong : E → F) (fault_of : List ℕ → Option E) (bytes : List ℕ) (fault : E) → Err fault ≡ judged fault_of bytes
     → verdict wrong (fault_of bytes) bytes ≡ Err (wrong fault)
-named-judged {E = E} {F = F} wrong fault_of bytes fault is = go (fault_of bytes) is
+refused_judged {E = E} {F = F} wrong fault_of bytes fault is = go (fault_of bytes) is
   where
     go : (found : Option E) → Err fault ≡ verdict (λ f. f) found bytes → verdict wrong found bytes ≡ Err (wrong fault)
     go None e = absurd cc
     go (Some other) e = cc
 
-pub passed-judged : {E F : Type 0} (wrong : E → F) (fault_of : List ℕ → Option E) (bytes value : List ℕ) → Ok value ≡ judged fault_of bytes
+pub read_judged : {E F : Type 0} (wrong : E → F) (fault_of : List ℕ → Option E) (bytes value : List ℕ) → Ok value ≡ judged fault_of bytes
     → verdict wrong (fault_of bytes) bytes ≡ Ok value
-passed-judged {E = E} {F = F} wrong fault_of bytes value is = go (fault_of bytes) is
+read_judged {E = E} {F = F} wrong fault_of bytes value is = go (fault_of bytes) is
   where
     go : (found : Option E) → Ok value ≡ verdict (λ f. f) found bytes → verdict wrong found bytes ≡ Ok value
     go None e = cc
