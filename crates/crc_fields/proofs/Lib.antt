@@ -5,4 +5,3 @@ pub mod Laws
 pub mod Linear
 pub mod Pairs
 pub mod Tables
-pub mod Widths

@@ -11,4 +11,6 @@ pub mod Padded
 pub mod PartText
 pub mod Sink
 pub mod Text
+pub mod VerdictLaws
+pub mod Verdicts
 pub mod Written

@@ -4,7 +4,7 @@ use Rattle.std.specs.List.{concat, AllByRecursion}
 use Rattle.std.proofs.lemmas.Bool.{eqb-true, eq-eqb}
 use Rattle.std.proofs.lemmas.List.{append-nil}
 use Rattle.crc_fields.specs.CheckSums.{crc16_of}
-use Rattle.crc_fields.proofs.Widths.{crc16_fits}
+use Rattle.crc_fields.specs.WidthLaws.{crc16_fits}
 use Rattle.load_base.specs.Text.{IsText}
 use Rattle.part_number.specs.PartNumber.{IsPartNumberText}
 use Rattle.field_grammar.specs.Grammar.{Grammar, Follows, IsBytes, ended}

@@ -8,7 +8,7 @@ use Rattle.load_base.specs.Text.{IsText}
 use Rattle.field_grammar.specs.Grammar.{Grammar, Follows, IsBytes, renamed, listed}
 use Rattle.field_grammar.specs.Spelling.{IsSpelledBy, IsPlacedBy, listed_fields, AllPlaced}
 use Rattle.field_grammar.specs.Fields.{number, raw, number_fields, number_bytes, padded_fields, pad_bytes}
-use Rattle.field_grammar.proofs.Combined.{spelled-renamed, spelled-counted, spelled-measured}
+use Rattle.field_grammar.proofs.Combined.{spelled-as, spelled-renamed, spelled-counted, spelled-measured}
 use Rattle.field_grammar.proofs.Listed.{placed-listed}
 use Rattle.field_grammar.proofs.Placed.{placed}
 use Rattle.field_grammar.proofs.Numbers.{wide2, wide4, wide8, spelled-number, spelled-raw, length_number_bytes}
@@ -17,7 +17,7 @@ use Rattle.load_header.specs.Header.{named, u16, u32, text, name, texts, section
 use Rattle.load_header.specs.HeaderFields.{size_of, texts_fields, hardware_at_fields, positions_fields, file_body_fields, entry_fields, entry_fields_behind, files_fields, AreTexts, IsHardwareAt, IsFile}
 use Rattle.load_header.specs.declared.fault.HeaderFault.TheVariants as faults
 use Rattle.load_header.specs.declared.header.FileEntry.{FileEntry}
-use Rattle.load_header.proofs.Texts.{fitting, spelled-text, spelled-name}
+use Rattle.load_header.proofs.Texts.{spelled-text, spelled-name}
 
 -- ---- numbers
 
@@ -159,7 +159,7 @@ body_small f is = omega (arith, size_body f, is.name.size.1, is.part.size)
 spelled-file_entry : (file : ℕ) (last : Bool) → IsSpelledBy (file_entry file last) (entry_fields last) IsFile
 unfolding file_entry
 spelled-file_entry file last =
-    fitting (file_entry file last) (entry_fields last) (λ f. (distance_of last (2 + size_of (file_body_fields f)) < 2 ^ 16) × IsFile f) IsFile (λ f is. is.1) (λ f is. (distance_fits last (2 + size_of (file_body_fields f)) (body_small f is), is))
+    spelled-as (file_entry file last) (entry_fields last) (λ f. (distance_of last (2 + size_of (file_body_fields f)) < 2 ^ 16) × IsFile f) IsFile (λ f is. is.1) (λ f is. (distance_fits last (2 + size_of (file_body_fields f)) (body_small f is), is))
     (spelled-measured u16 (distance_of last) (faults.Distance file) (file_body file) 2 (number_fields 2) file_body_fields (λ n. n < 2 ^ 16) IsFile two spelled-u16 (spelled-file_body file))
   where
     two : (n : ℕ) → length (concat (number_fields 2 n)) ≡ 2

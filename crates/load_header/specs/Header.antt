@@ -5,7 +5,8 @@ use Rattle.field_grammar.specs.Grammar.{Grammar, give, check, front, left, renam
 use Rattle.field_grammar.specs.Fields.{raw, number, judged_padded}
 use Rattle.field_grammar.specs.declared.fault.FieldFault.{FieldFault}
 use Rattle.field_grammar.specs.declared.fault.FieldFault.TheVariants as fields
-use Rattle.load_header.specs.Verdicts.{text_fault_of, name_fault_of, part_fault_of, verdict}
+use Rattle.load_base.specs.Verdicts.{text_fault_of, name_fault_of, verdict}
+use Rattle.part_number.specs.Verdicts.{part_fault_of}
 use Rattle.load_header.specs.declared.fault.HeaderFault.{HeaderFault}
 use Rattle.load_header.specs.declared.fault.HeaderFault.TheVariants as faults
 use Rattle.load_header.specs.declared.header.FileEntry.{FileEntry}

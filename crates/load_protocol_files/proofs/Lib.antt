@@ -2,7 +2,6 @@ pub mod FileSpellings
 pub mod LciSpelling
 pub mod PieceSpellings
 pub mod SmallFiles
-pub mod Verdicts
 pub mod LcsSpelling
 pub mod LuiSpelling
 pub mod LurSpelling

@@ -7,21 +7,6 @@ pub digit_is_good : (n : ℕ) → n < 16 → is_hexadecimal_digit (hexadecimal_d
 unfolding hexadecimal_digit
 digit_is_good n small = grind (arith, nat_tests)
 
--- a digit has one value
-same_value : (m n : ℕ) → m < 16 → n < 16 → hexadecimal_digit m ≡ hexadecimal_digit n → m ≡ n
-unfolding hexadecimal_digit
-same_value m n m_small n_small same = grind (arith, nat_tests)
-
--- two digits have one value
-pub same_values : (m n : ℕ) → m < 256 → n < 256 → hexadecimal m ≡ hexadecimal n → m ≡ n
-unfolding hexadecimal
-same_values m n m_small n_small same =
-    let first : hexadecimal_digit (m / 16) ≡ hexadecimal_digit (n / 16) = cc in
-    let second : hexadecimal_digit (m % 16) ≡ hexadecimal_digit (n % 16) = cc in
-    let high : m / 16 ≡ n / 16 = same_value (m / 16) (n / 16) (omega arith) (omega arith) first in
-    let low : m % 16 ≡ n % 16 = same_value (m % 16) (n % 16) (omega arith) (omega arith) second in
-    omega arith
-
 -- the digits of a number that is made of the values of digits
 pub digits_of_values : (high low : ℕ) → high < 16 → low < 16
     → hexadecimal (16 * high + low) ≡ hexadecimal_digit high ∷ hexadecimal_digit low ∷ []

@@ -3,6 +3,8 @@
 use Rattle.std.specs.Prelude.{ℕ, List, [], ◌∷◌, ◌++◌, codes}
 use Rattle.std.specs.Fmt.{decimal}
 use Rattle.std.specs.List.{flat_map}
+use Rattle.load_base.specs.declared.ident.IdentFault.{IdentFault}
+use Rattle.load_base.specs.declared.ident.IdentFault.TheVariants as idents
 use Rattle.load_base.specs.declared.name.NameFault.{NameFault}
 use Rattle.load_base.specs.declared.name.NameFault.TheVariants as names
 use Rattle.load_base.specs.declared.text.TextFault.{TextFault}
@@ -40,3 +42,8 @@ part_fault_text (parts.Length found) = coded (codes "P1") (found ∷ [])
 part_fault_text (parts.Hyphen place) = coded (codes "P2") (place ∷ [])
 part_fault_text (parts.Character place) = coded (codes "P3") (place ∷ [])
 part_fault_text (parts.Check written computed) = coded (codes "P4") (written ∷ computed ∷ [])
+
+-- a fault of a target's name
+abbrev pub ident_fault_text : IdentFault → List ℕ
+ident_fault_text (idents.Length found) = coded (codes "I1") (found ∷ [])
+ident_fault_text (idents.BadByte place) = coded (codes "I2") (place ∷ [])
