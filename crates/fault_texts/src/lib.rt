@@ -137,9 +137,12 @@ mod tests {
         let alloc = rt.alloc();
         let inner = name_fault_text(alloc, &NameFault::BadByte(2))?;
         let text = with_nested(coded(alloc, b"H12", &[50])?, inner)?;
-        assert_eq!(rt; text.as_slice(), b"H12 50 N3 2");
+        assert_eq!(rt; text.as_slice(), b"H12 50 N3 2".as_slice());
         let greatest = coded(alloc, b"H4", &[5, 39, u64::MAX])?;
-        assert_eq!(rt; greatest.as_slice(), b"H4 5 39 18446744073709551615");
+        assert_eq!(rt;
+            greatest.as_slice(),
+            b"H4 5 39 18446744073709551615".as_slice()
+        );
         Ok(())
     }
 }

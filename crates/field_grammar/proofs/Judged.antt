@@ -1,8 +1,7 @@
 -- Texts as fields, each judged by the function that tells what is wrong with its bytes.
-use Rattle.std.proofs.Common.{◌≡◌, ℕ, ◌<◌, ◌^◌, List, length, Option, refl, subst}
+use Rattle.std.proofs.Common.{ℕ, ◌<◌, ◌^◌, List, length, Option, refl, subst}
 use Rattle.load_base.specs.Verdicts.{verdict, TellsFaults}
 use Rattle.load_base.specs.VerdictLaws.{accepted}
-use Rattle.field_grammar.specs.Grammar.{Grammar}
 use Rattle.field_grammar.specs.Fields.{judged_short, judged_padded, short_fields, padded_fields}
 use Rattle.field_grammar.specs.Spelling.{IsSpelledBy}
 use Rattle.field_grammar.specs.declared.fault.FieldFault.{FieldFault}

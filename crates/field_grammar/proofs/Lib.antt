@@ -10,3 +10,5 @@ pub mod Texts
 pub mod Judged
 pub mod Loops
 pub mod Decoders
+pub mod Sections
+pub mod Written

@@ -1,4 +1,5 @@
 pub mod Bytes
+pub mod Cases
 pub mod Config
 pub mod Counts
 pub mod Host

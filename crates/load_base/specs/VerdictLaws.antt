@@ -108,10 +108,11 @@ tells {E = E} fault_of IsRight IsFault says right wrong small = record {
     is_wrong bytes fault (Some other) is e = let same : other ≡ fault = cc in subst (IsFault bytes) same is
 
 -- what holds of each byte that is there
-small_by : (good : ℕ → Bool) → ((b : ℕ) → good b ≡ true → b < 256) → (bytes : List ℕ) → AllGood good bytes → (place : ℕ) → slice_index bytes place < 256
+pub small_by : (good : ℕ → ℕ → Bool) → ((place b : ℕ) → good place b ≡ true → b < 256) → (bytes : List ℕ)
+    → ((k : ℕ) → k < length bytes → good k (slice_index bytes k) ≡ true) → (place : ℕ) → slice_index bytes place < 256
 small_by good small [] each place = omega arith
-small_by good small (b ∷ bytes) each zero = small b (each 0 (omega arith))
-small_by good small (b ∷ bytes) each (suc place) = small_by good small bytes (λ k within. each (suc k) (omega (arith, within))) place
+small_by good small (b ∷ bytes) each zero = small 0 b (each 0 (omega arith))
+small_by good small (b ∷ bytes) each (suc place) = small_by (λ k. good (suc k)) (λ k. small (suc k)) bytes (λ k within. each (suc k) (omega (arith, within))) place
 
 -- ---- names of files
 
@@ -153,7 +154,7 @@ name_byte_small : (b : ℕ) → is_name_byte b ≡ true → b < 256
 name_byte_small b good = grind (arith, nat_tests)
 
 pub name_faults : TellsFaults name_fault_of IsName IsNameFault
-name_faults = tells name_fault_of IsName IsNameFault name_says name_right name_wrong (λ bytes is. small_by is_name_byte name_byte_small bytes is.good)
+name_faults = tells name_fault_of IsName IsNameFault name_says name_right name_wrong (λ bytes is. small_by (λ _ byte. is_name_byte byte) (λ _. name_byte_small) bytes is.good)
 
 -- ---- texts that people read
 
@@ -184,7 +185,7 @@ printable_small b good = grind (arith, nat_tests)
 pub text_faults : TellsFaults text_fault_of IsText (λ bytes fault. (fault ≢ texts.Memory) × IsTextFault bytes fault)
 text_faults =
     tells text_fault_of IsText (λ bytes fault. (fault ≢ texts.Memory) × IsTextFault bytes fault) text_says text_right text_wrong
-    (λ bytes is. small_by is_printable printable_small bytes is.good)
+    (λ bytes is. small_by (λ _ byte. is_printable byte) (λ _. printable_small) bytes is.good)
 
 -- ---- names of targets
 
@@ -223,7 +224,7 @@ ident_byte_small : (b : ℕ) → is_ident_byte b ≡ true → b < 256
 ident_byte_small b good = grind (arith, nat_tests)
 
 pub ident_faults : TellsFaults ident_fault_of IsIdent IsIdentFault
-ident_faults = tells ident_fault_of IsIdent IsIdentFault ident_says ident_right ident_wrong (λ bytes is. small_by is_ident_byte ident_byte_small bytes is.good)
+ident_faults = tells ident_fault_of IsIdent IsIdentFault ident_says ident_right ident_wrong (λ bytes is. small_by (λ _ byte. is_ident_byte byte) (λ _. ident_byte_small) bytes is.good)
 
 -- ---- part numbers as text
 
@@ -253,7 +254,7 @@ graphic_small b good = grind (arith, nat_tests)
 
 pub part_text_faults : TellsFaults part_text_fault_of IsPartText IsPartTextFault
 part_text_faults =
-    tells part_text_fault_of IsPartText IsPartTextFault part_text_says part_text_right part_text_wrong (λ bytes is. small_by is_graphic graphic_small bytes is.good)
+    tells part_text_fault_of IsPartText IsPartTextFault part_text_says part_text_right part_text_wrong (λ bytes is. small_by (λ _ byte. is_graphic byte) (λ _. graphic_small) bytes is.good)
 
 -- ---- verdicts
 

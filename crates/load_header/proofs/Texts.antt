@@ -1,5 +1,5 @@
 -- How the texts of a header are spelled.
-use Rattle.std.proofs.Common.{ℕ, ◌<◌, ◌^◌, List, length, arith}
+use Rattle.std.proofs.Common.{arith}
 use Rattle.load_base.specs.Name.{IsName, IsNameFault}
 use Rattle.load_base.specs.Text.{IsText}
 use Rattle.load_base.specs.Verdicts.{name_fault_of, text_fault_of}

@@ -5,6 +5,5 @@ pub mod SmallFiles
 pub mod LcsSpelling
 pub mod LuiSpelling
 pub mod LurSpelling
-pub mod Lists
 pub mod LusSpelling
 pub mod LclSpelling

@@ -1,11 +1,10 @@
 -- How the pieces of protocol files are spelled.
-use Rattle.std.proofs.Common.{◌≡◌, ℕ, zero, suc, ◌+◌, ◌/◌, ◌%◌, ◌<◌, ◌≤◌, ◌^◌, List, [], ◌∷◌, ◌++◌, length, Option, Some, None, Ok, Bool, true, false, ◌&&◌, refl, ap, subst, ◌∙◌, arith}
+use Rattle.std.proofs.Common.{◌≡◌, ℕ, zero, suc, ◌+◌, ◌/◌, ◌%◌, ◌<◌, ◌≤◌, ◌^◌, List, [], ◌∷◌, ◌++◌, length, Bool, true, false, ◌&&◌, refl, ap, subst, ◌∙◌, arith}
 use Rattle.std.specs.Prelude.{nat_le}
-use Rattle.std.specs.List.{concat, flat_map, All, AllByRecursion}
-use Rattle.std.proofs.lemmas.List.Elements.{All-from_recursion, recursion_from_All}
+use Rattle.std.specs.List.{concat, All}
 use Rattle.std.proofs.lemmas.Bool.Decides.{nat_tests}
 use Rattle.field_grammar.specs.Grammar.{Grammar, IsBytes}
-use Rattle.field_grammar.specs.Fields.{number, number_fields, short_fields, judged_short}
+use Rattle.field_grammar.specs.Fields.{number, number_fields, short_fields}
 use Rattle.field_grammar.specs.Spelling.{IsSpelledBy}
 use Rattle.field_grammar.proofs.Numbers.{wide2, spelled-number, spelled-raw}
 use Rattle.field_grammar.proofs.Judged.{spelled-right_short}
@@ -15,13 +14,13 @@ use Rattle.load_base.specs.Name.{IsName, IsNameFault}
 use Rattle.load_base.specs.Verdicts.{name_fault_of, text_fault_of}
 use Rattle.load_base.specs.VerdictLaws.{name_faults, text_faults}
 use Rattle.part_number.specs.PartNumber.{IsPartNumberText, IsPartFault}
-use Rattle.part_number.specs.Laws.Places.{of_each}
+use Rattle.load_base.specs.Cases.{of_each}
 use Rattle.part_number.specs.Verdicts.{part_fault_of}
 use Rattle.part_number.specs.VerdictLaws.{part_faults, part_size}
 use Rattle.load_protocol_files.specs.Faults.{named}
 use Rattle.load_protocol_files.specs.declared.fault.FileFault.{FileFault}
 use Rattle.load_protocol_files.specs.declared.fault.FileFault.TheVariants as faults
-use Rattle.load_protocol_files.specs.Pieces.{u16, text, name, part, ratio, text_verdict, name_verdict, part_verdict, is_digit, is_ratio, ratio_value, u16_fields, ratio_digits, ratio_fields, counted, counted_fields}
+use Rattle.load_protocol_files.specs.Pieces.{u16, text, name, part, ratio, is_digit, is_ratio, ratio_value, u16_fields, ratio_digits, ratio_fields, counted, counted_fields}
 
 pub spelled-u16 : IsSpelledBy u16 u16_fields (λ n. n < 2 ^ 16)
 spelled-u16 = spelled-renamed named (number 2) (number_fields 2) (λ n. n < 2 ^ 16) (spelled-number 2 wide2)

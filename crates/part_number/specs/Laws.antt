@@ -1,4 +1,3 @@
 pub mod Digits
-pub mod Places
 pub mod Read
 pub mod Texts

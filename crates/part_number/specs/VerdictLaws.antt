@@ -1,13 +1,13 @@
 -- The function that tells what is wrong with a part number agrees with what it means to be one or to have a fault.
-use Rattle.std.specs.Prelude.{◌≡◌, ℕ, zero, suc, ◌/◌, ◌%◌, ◌<◌, List, [], ◌∷◌, length, slice_index, ◌==◌, Bool, true, false, if◌then◌else◌, Option, Some, None, MatchOption}
+use Rattle.std.specs.Prelude.{◌≡◌, ℕ, ◌/◌, ◌%◌, ◌<◌, List, [], ◌∷◌, length, slice_index, ◌==◌, Bool, true, false, if◌then◌else◌, Option, Some, None, MatchOption}
 use Rattle.std.proofs.Common.{refl, sym, ◌∙◌, ap, arith}
 use Rattle.std.proofs.lemmas.Bool.{ne_eqb, eq-eqb, eqb-false, eqb-true}
 use Rattle.std.proofs.lemmas.Bool.Decides.{nat_tests}
 use Rattle.load_base.specs.Verdicts.{first_bad, TellsFaults}
-use Rattle.load_base.specs.VerdictLaws.{first_bad-none, first_bad-some, first_bad-says, SaysWhichAreGood, tells}
+use Rattle.load_base.specs.VerdictLaws.{first_bad-none, first_bad-some, first_bad-says, SaysWhichAreGood, small_by, tells}
 use Rattle.part_number.specs.PartNumber.{IsPartNumberText, IsPartFault, IsFirstBadPlace, HasGoodCharacters, is_good_at, is_hyphen_place, is_hexadecimal_digit, hexadecimal, hexadecimal_digit, maker_of, product_of, check_of, check_digits_of}
 use Rattle.part_number.specs.Verdicts.{part_fault_of, misplaced, character_or_check, digit_value, written_check, computed_check}
-use Rattle.part_number.specs.Laws.Places.{of_each}
+use Rattle.load_base.specs.Cases.{of_each}
 use Rattle.part_number.specs.Laws.Read.{first_digit_is_good, second_digit_is_good, values_of_check_digits, right_check, wrong_check}
 use Rattle.part_number.specs.Laws.Texts.{size_of_part, all_good_of_part, check_of-lt, check_digits_of_part}
 use Rattle.part_number.specs.declared.PartFault.{PartFault}
@@ -112,12 +112,6 @@ part_size text is = size_of_part text (maker_of text) (product_of text) is
 good_is_small : (place byte : ℕ) → is_good_at place byte ≡ true → byte < 256
 unfolding is_good_at
 good_is_small place byte good = grind (arith, nat_tests)
-
-small_by : (good : ℕ → ℕ → Bool) → ((k b : ℕ) → good k b ≡ true → b < 256) → (bytes : List ℕ) → ((k : ℕ) → k < length bytes → good k (slice_index bytes k) ≡ true)
-    → (place : ℕ) → slice_index bytes place < 256
-small_by good small [] each place = omega arith
-small_by good small (b ∷ bytes) each zero = small 0 b (each 0 (omega arith))
-small_by good small (b ∷ bytes) each (suc place) = small_by (λ k. good (suc k)) (λ k. small (suc k)) bytes (λ k within. each (suc k) (omega (arith, within))) place
 
 part_small : (text : List ℕ) → IsPartNumberText text → (place : ℕ) → slice_index text place < 256
 part_small text is =

@@ -3,7 +3,7 @@ use Rattle.std.proofs.Common.{◌≡◌, ◌≢◌, ℕ, ◌+◌, ◌*◌, ◌<�
 use Rattle.std.proofs.lemmas.Bool.Decides.{nat_tests}
 use Rattle.load_base.specs.Bytes.{AllGood}
 use Rattle.part_number.specs.PartNumber.{IsPartNumber, IsPartNumberText, HasGoodCharacters, IsWrongCheck, part_number_text, check_of, hexadecimal, hexadecimal_digit, is_part_character, is_hexadecimal_digit, is_good_at, maker_of, product_of, check_digits_of}
-use Rattle.part_number.specs.Laws.Places.{of_each, at_each}
+use Rattle.load_base.specs.Cases.{of_each, at_each}
 use Rattle.part_number.specs.Laws.Digits.{digits_of_values}
 use Rattle.part_number.specs.Laws.Texts.{check_digits_of-part_number_text, maker_of-part_number_text, product_of-part_number_text}
 

@@ -7,7 +7,7 @@ use Rattle.load_base.specs.Bytes.{AllGood}
 use Rattle.load_base.specs.PartText.{IsPartText, is_graphic}
 use Rattle.part_number.specs.PartNumber.{IsPartNumber, IsPartNumberText, HasGoodCharacters, part_number_text, check_of, hexadecimal, hexadecimal_digit, is_part_character, is_hexadecimal_digit, is_hyphen_place, is_good_at, maker_of, product_of, check_digits_of}
 use Rattle.part_number.specs.Laws.Digits.{digit_is_good}
-use Rattle.part_number.specs.Laws.Places.{of_each, at_each}
+use Rattle.load_base.specs.Cases.{of_each, at_each}
 
 -- the exclusive or of characters fits a byte
 fold-lt : (so_far : ℕ) (xs : List ℕ) → so_far < 256 → AllGood is_part_character xs → fold bit_xor so_far xs < 256
