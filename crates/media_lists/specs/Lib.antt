@@ -1,0 +1,9 @@
+pub mod Verdicts
+pub mod Paths
+pub mod Lists
+pub mod Entries
+pub mod ListFields
+pub mod Files
+pub mod Loads
+pub mod FaultTexts
+pub mod ListFaultText

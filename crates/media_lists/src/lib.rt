@@ -1,0 +1,21 @@
+//! The two lists of a media set: `FILES.LUM`, which names every file with its folder, member and check sum,
+//! and `LOADS.LUM`, which names every load with its header, member and hardware.
+#![tactic(auto)]
+
+mod fault;
+pub mod fault_texts;
+mod laws;
+mod lists;
+mod paths;
+mod printing;
+mod reading;
+mod reading_files;
+mod reading_loads;
+#[cfg(test)]
+mod tests;
+mod verdicts;
+
+pub use fault::{ListFault, PathFault, WordFault};
+pub use laws::{files_list_laws, loads_list_laws, path_laws};
+pub use lists::{FilesList, ListedFile, LoadEntry, LoadsList};
+pub use printing::{fault_text, path_fault_text, word_fault_text};
