@@ -11,3 +11,6 @@ pub mod Entries
 pub mod Heads
 pub mod Groups
 pub mod ListSpelled
+pub mod Writes
+pub mod Fits
+pub mod NameOrder

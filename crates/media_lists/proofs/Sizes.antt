@@ -1,8 +1,8 @@
 -- How many bytes the sections of a list take.
-use Rattle.std.proofs.Common.{◌≡◌, ℕ, ◌+◌, ◌%◌, List, [], ◌∷◌, ◌++◌, length, refl, ap, ◌∙◌, arith, length-append, ◌==◌}
+use Rattle.std.proofs.Common.{◌≡◌, ℕ, ◌+◌, ◌%◌, ◌<◌, ◌≤◌, List, [], ◌∷◌, ◌++◌, length, take, get_or, refl, sym, ap, ◌∙◌, arith, length-append, ◌==◌}
 use Rattle.std.specs.List.{concat, flat_map}
-use Rattle.std.proofs.lemmas.List.{append-nil}
-use Rattle.std.proofs.lemmas.List.Concat.{flat_map-cons}
+use Rattle.std.proofs.lemmas.List.{append-nil, take_more, take_all}
+use Rattle.std.proofs.lemmas.List.Concat.{flat_map-cons, flat_map-append}
 use Rattle.std.proofs.lemmas.List.Folds.{concat-append}
 use Rattle.field_grammar.specs.Spelling.{listed_fields}
 use Rattle.field_grammar.specs.Fields.{number_fields, padded_fields}
@@ -106,3 +106,34 @@ pub even_size : {E : Type 0} (f : E → List (List ℕ)) → ((e : E) → entry_
 unfolding list_size
 even_size f each v even =
     omega (arith, even, size_identity v.set v.member v.members, size_entries f v.entries, even_total f each v.entries, size_user v.user)
+
+-- ---- as the code measures them
+
+pub size_file_parts : (f : ListedFile) → size_of (file_body_fields f) ≡ size_of (padded_fields f.name) + size_of (padded_fields f.path) + 4
+size_file_parts f = omega (arith, size_file f, size_padded f.name, size_padded f.path)
+
+total_append : {E : Type 0} (f : E → List (List ℕ)) (es : List E) (e : E) → total_of f (es ++ e ∷ []) ≡ total_of f es + entry_size f e
+total_append f [] e = omega arith
+total_append f (x ∷ es) e = omega (arith, total_append f es e)
+
+-- one more of the entries
+pub total_more : {E : Type 0} (f : E → List (List ℕ)) (es : List E) (i : ℕ) (d : E) → i < length es → total_of f (take (i + 1) es) ≡ total_of f (take i es) + entry_size f (get_or es i d)
+total_more f es i d lt = ap (λ (l : List _). total_of f l) (take_more es i d lt) ∙ total_append f (take i es) (get_or es i d)
+
+pub total_taken : {E : Type 0} (f : E → List (List ℕ)) (es : List E) (i : ℕ) → length es ≤ i → 2 + total_of f (take i es) ≡ size_of (entries_fields f es)
+total_taken f es i le = ap (λ (l : List _). 2 + total_of f l) (take_all i es le) ∙ sym (size_entries f es)
+
+-- one more of the texts
+pub texts_more : (texts : List (List ℕ)) (i : ℕ) (d : List ℕ) → i < length texts → size_of (flat_map padded_fields (take (i + 1) texts)) ≡ size_of (flat_map padded_fields (take i texts)) + size_of (padded_fields (get_or texts i d))
+texts_more texts i d lt =
+    let one : flat_map padded_fields (get_or texts i d ∷ []) ≡ padded_fields (get_or texts i d) = flat_map-cons padded_fields (get_or texts i d) [] ∙ append-nil (padded_fields (get_or texts i d)) in
+    ap (λ (l : List (List ℕ)). size_of (flat_map padded_fields l)) (take_more texts i d lt)
+    ∙ (ap (λ (l : List (List ℕ)). size_of l) (flat_map-append padded_fields (take i texts) (get_or texts i d ∷ []))
+    ∙ (size_more (flat_map padded_fields (take i texts)) (flat_map padded_fields (get_or texts i d ∷ [])) ∙ ap (λ (l : List (List ℕ)). size_of (flat_map padded_fields (take i texts)) + size_of l) one))
+
+pub texts_taken : (texts : List (List ℕ)) (i : ℕ) → length texts ≤ i → 2 + size_of (flat_map padded_fields (take i texts)) ≡ size_of (texts_fields texts)
+texts_taken texts i le = ap (λ (l : List (List ℕ)). 2 + size_of (flat_map padded_fields l)) (take_all i texts le) ∙ sym (size_texts texts)
+
+pub whole_size : {E : Type 0} (f : E → List (List ℕ)) (v : ListView E) (entries : ℕ) → length v.set ≡ 15 → entries ≡ size_of (entries_fields f v.entries) → list_size f v ≡ 44 + entries + length v.user
+unfolding list_size
+whole_size f v entries fifteen is = omega (arith, is, size_identity v.set v.member v.members, size_user v.user, fifteen)

@@ -72,6 +72,12 @@ pub record IsLoad (members : ℕ) (load : LoadView) : Type 0 where
   pub few : length load.hardware ≤ 1024
   pub hardware : AllByRecursion IsText load.hardware
 
+-- what the words of an entry are by their types
+pub record HasWords (load : LoadView) : Type 0 where
+  pub part : IsPartNumberText load.part
+  pub header_name : IsName load.header_name
+  pub hardware : AllByRecursion IsText load.hardware
+
 abbrev pub IsLoadsList : LoadsView → Type 0
 IsLoadsList v = IsMediaList IsLoad load_name load_body_fields v
 

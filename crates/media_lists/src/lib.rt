@@ -2,10 +2,14 @@
 //! and `LOADS.LUM`, which names every load with its header, member and hardware.
 #![tactic(auto)]
 
+mod encoding;
 mod fault;
 pub mod fault_texts;
+mod fitting;
 mod laws;
 mod lists;
+mod measuring;
+mod names;
 mod paths;
 mod printing;
 mod reading;
@@ -14,8 +18,9 @@ mod reading_loads;
 #[cfg(test)]
 mod tests;
 mod verdicts;
+mod writing;
 
 pub use fault::{ListFault, PathFault, WordFault};
 pub use laws::{files_list_laws, loads_list_laws, path_laws};
-pub use lists::{FilesList, ListedFile, LoadEntry, LoadsList};
+pub use lists::{FILES_VERSION, FilesList, LOADS_VERSION, ListedFile, LoadEntry, LoadsList};
 pub use printing::{fault_text, path_fault_text, word_fault_text};

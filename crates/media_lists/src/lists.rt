@@ -1,18 +1,25 @@
 //! What the two lists of a media set say.
-ghost use Rattle.std.specs.Prelude.{◌≡◌, ◌⊎◌, IfOk, IfErr};
+ghost use Rattle.std.specs.Prelude.{◌≡◌, ◌⊎◌, ◌↔◌, IsTrue, IfOk, IfErr};
 ghost use Rattle.field_grammar.specs.Grammar.{Fault};
 ghost use Rattle.field_grammar.specs.Answers.{Gives};
-ghost use Rattle.media_lists.specs.Files.{files_list, files_view, FilesView, FilesSpells};
-ghost use Rattle.media_lists.specs.Loads.{loads_list, loads_view, LoadsView, LoadsSpells};
+ghost use Rattle.media_lists.specs.Files.{files_list, files_view, FilesView, FilesSpells, IsFilesList};
+ghost use Rattle.media_lists.specs.Loads.{loads_list, loads_view, LoadsView, LoadsSpells, IsLoadsList};
 ghost use Rattle.media_lists.specs.declared.fault.ListFault.{ListFault};
 ghost use Rattle.media_lists.specs.declared.fault.ListFault.TheVariants.{Memory};
 
 use crate::fault::ListFault;
 use crate::reading_files::files_of;
 use crate::reading_loads::loads_of;
-use load_base::{Bytes, List, Name, Text};
+use crate::{encoding, fitting};
+use load_base::{Bytes, List, Name, NoMemory, Text};
 use part_number::PartNumber;
 use std::alloc::Global;
+
+/// The version in the head of a list of loads (this project's layout, docs/FORMATS.md).
+pub const LOADS_VERSION: u16 = 0x9004;
+
+/// The version in the head of a list of files (this project's layout, docs/FORMATS.md).
+pub const FILES_VERSION: u16 = 0xA004;
 
 /// A file of a media set.
 #[derive(Drop)]
@@ -56,6 +63,24 @@ impl FilesList {
     {
         files_of(alloc, bytes)
     }
+
+    /// Whether the list meets the limits of the format, so that it has a spelling: at most 1,024 entries, each with a path of docs/FORMATS.md,
+    /// each member's number from 1 to that of the members, no name of a file twice, an even number of at most
+    /// 131,070 bytes of user data, and at most 1,048,576 bytes in all. It takes no memory.
+    pub fn fits(&self) -> bool
+        ensures { IsTrue result ↔ IsFilesList (files_view self.now) }
+    {
+        fitting::files_fit(self)
+    }
+
+    /// The one spelling of a list that meets the limits. Lengths, pointers, distances and the check sum are
+    /// computed.
+    pub fn encode(&self, alloc: Global) -> Result<Bytes, NoMemory>
+        requires { IsFilesList (files_view self.now) }
+        ensures { IfOk result (λ bytes. FilesSpells (files_view self.now) bytes.items) }
+    {
+        encoding::files_bytes(alloc, self)
+    }
 }
 
 /// A load of a media set.
@@ -97,5 +122,23 @@ impl LoadsList {
         ensures faulty { (fault : ListFault) → Fault loads_list bytes.now fault → Gives Memory loads_view result (Err fault) }
     {
         loads_of(alloc, bytes)
+    }
+
+    /// Whether the list meets the limits of the format, so that it has a spelling: at most 1,024 entries and as many kinds of hardware of each,
+    /// each member's number from 1 to that of the members, no name of a header twice, an even number of at most
+    /// 131,070 bytes of user data and of each entry but the last, and at most 1,048,576 bytes in all. It takes no memory.
+    pub fn fits(&self) -> bool
+        ensures { IsTrue result ↔ IsLoadsList (loads_view self.now) }
+    {
+        fitting::loads_fit(self)
+    }
+
+    /// The one spelling of a list that meets the limits. Lengths, pointers, distances and the check sum are
+    /// computed.
+    pub fn encode(&self, alloc: Global) -> Result<Bytes, NoMemory>
+        requires { IsLoadsList (loads_view self.now) }
+        ensures { IfOk result (λ bytes. LoadsSpells (loads_view self.now) bytes.items) }
+    {
+        encoding::loads_bytes(alloc, self)
     }
 }

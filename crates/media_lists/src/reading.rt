@@ -1,6 +1,5 @@
 //! What the decoders of the two media lists share, part by part of their formats.
 ghost use Rattle.std.specs.Prelude.{◌≡◌, ◌≤◌, IfOk};
-ghost use Rattle.load_base.specs.Written.{same_bytes};
 ghost use Rattle.field_grammar.specs.Answers.{Decodes};
 ghost use Rattle.media_lists.specs.Lists.{text, name, part, path, counted, section, pointers, head, is_member as has_member, membership, member_of, identity, user_data, check_sum, tail, limit};
 ghost use Rattle.media_lists.specs.declared.fault.ListFault.TheVariants.{Memory};
@@ -201,13 +200,6 @@ pub(crate) fn read_identity(
     let set = read_part(reader)?;
     let (member, members) = read_membership(reader)?;
     Ok((set, member, members))
-}
-
-// Whether two names are the same.
-pub(crate) fn is_same<'a>(one: &'a [u8], other: &'a [u8]) -> bool
-    ensures { result ≡ same_bytes one.now other.now }
-{
-    one == other
 }
 
 // ---- the end

@@ -1,23 +1,22 @@
 //! The decoder of a list of files, part by part of its format.
-ghost use Rattle.std.specs.Prelude.{◌≡◌, ◌≤◌, ◌+◌, ◌==◌, [], length, IfOk};
+ghost use Rattle.std.specs.Prelude.{◌≡◌, ◌≤◌, ◌<◌, ◌+◌, ◌++◌, ◌∷◌, ◌==◌, [], length, map, IfOk};
+ghost use Rattle.media_lists.specs.NameOrder.{IsOrder};
 ghost use Rattle.field_grammar.specs.Grammar.{listed};
 ghost use Rattle.field_grammar.specs.Answers.{answer, Decodes, Gives};
-ghost use Rattle.media_lists.specs.Entries.{entry as entry_of, is_listed as has_listed, entry_behind};
+ghost use Rattle.media_lists.specs.Entries.{entry as entry_of, entry_behind};
 ghost use Rattle.media_lists.specs.Files.{file_body, file_name, file_entries, files_list, files_view};
 ghost use Rattle.media_lists.specs.declared.fault.ListFault.TheVariants.{Memory};
 
 use crate::fault::ListFault;
-use crate::lists::{FilesList, ListedFile};
+use crate::lists::{FILES_VERSION, FilesList, ListedFile};
+use crate::names::{Order, is_new};
 use crate::reading::{
-    is_same, read_count, read_head, read_identity, read_member_of, read_name, read_path, read_tail,
+    read_count, read_head, read_identity, read_member_of, read_name, read_path, read_tail,
     test_limit, test_section,
 };
 use field_codec::Reader;
 use load_base::List;
 use std::alloc::Global;
-
-/// The version of a list of files.
-pub(crate) const FILES_VERSION: u16 = 0xA004;
 
 /// The list that the bytes spell, or their first fault.
 #[tactic(auto, unfolding(crate::specs::Lists::media_list))]
@@ -65,8 +64,9 @@ fn read_so_many_files(
     ensures { Decodes Memory (λ l. l.items) (listed count (entry_behind (file_body members) file_name count) []) reader.old result reader.new }
 {
     let mut files = List::new(alloc);
+    let mut order = Order::new();
     for _ in 0..count {
-        let file = read_new_file(alloc, reader, members, count, &files)?;
+        let file = read_new_file(alloc, reader, members, count, &files, &mut order)?;
         files.push(file)?;
     }
     Ok(files)
@@ -79,30 +79,20 @@ fn read_new_file(
     members: u8,
     count: usize,
     files: &List<ListedFile>,
+    order: &mut Order,
 ) -> Result<ListedFile, ListFault>
-    requires { length files.now.items ≤ 1024 }
-    ensures { Decodes Memory (λ f. f) (entry_behind (file_body members) file_name count files.now.items) reader.old result reader.new }
+    requires few { length files.now.items < 1024 }
+    requires order { IsOrder (map file_name files.now.items) order.old.items }
+    ensures read { Decodes Memory (λ f. f) (entry_behind (file_body members) file_name count files.now.items) reader.old result reader.new }
+    ensures order { IfOk result (λ file. IsOrder (map file_name files.now.items ++ file.name ∷ []) order.new.items) }
 {
     let entry = files.len() + 1;
     let file = read_file_entry(alloc, reader, members, entry as u64, entry == count)?;
-    if is_listed(file.name.as_slice(), files.as_slice()) {
-        Err(ListFault::Repeated(entry as u64))
-    } else {
+    if is_new(order, files.as_slice(), file.name.as_slice()) {
         Ok(file)
+    } else {
+        Err(ListFault::Repeated(entry as u64))
     }
-}
-
-// Whether a file of this name is among these.
-#[tactic(auto, unfolding(crate::specs::Entries::is_listed))]
-fn is_listed(name: &[u8], files: &[ListedFile]) -> bool
-    ensures { result ≡ has_listed file_name name.now files.now }
-{
-    for file in files {
-        if is_same(file.name.as_slice(), name) {
-            return true;
-        }
-    }
-    false
 }
 
 #[tactic(auto, using(field_grammar::proofs::Moves::place_goes_on), unfolding(crate::specs::Entries::entry))]

@@ -1,26 +1,23 @@
 //! The decoder of a list of loads, part by part of its format.
-ghost use Rattle.std.specs.Prelude.{◌≡◌, ◌≤◌, ◌+◌, ◌==◌, [], length, map};
-ghost use Rattle.std.specs.List.{list_any};
-ghost use Rattle.load_base.specs.Written.{same_bytes};
+ghost use Rattle.std.specs.Prelude.{◌≡◌, ◌≤◌, ◌<◌, ◌+◌, ◌++◌, ◌∷◌, ◌==◌, [], length, map, IfOk};
+ghost use Rattle.media_lists.specs.NameOrder.{IsOrder};
 ghost use Rattle.field_grammar.specs.Grammar.{listed, times};
 ghost use Rattle.field_grammar.specs.Answers.{answer, Decodes, Gives};
 ghost use Rattle.media_lists.specs.Lists.{text};
-ghost use Rattle.media_lists.specs.Entries.{entry as entry_of, is_listed as has_listed, entry_behind};
+ghost use Rattle.media_lists.specs.Entries.{entry as entry_of, entry_behind};
 ghost use Rattle.media_lists.specs.Loads.{texts, load_body, load_name, load_entries, loads_list, load_view, loads_view};
 ghost use Rattle.media_lists.specs.declared.fault.ListFault.TheVariants.{Memory};
 
 use crate::fault::ListFault;
-use crate::lists::{LoadEntry, LoadsList};
+use crate::lists::{LOADS_VERSION, LoadEntry, LoadsList};
+use crate::names::{Order, is_new_load};
 use crate::reading::{
-    is_same, read_count, read_head, read_identity, read_member_of, read_name, read_part, read_tail,
+    read_count, read_head, read_identity, read_member_of, read_name, read_part, read_tail,
     read_text, test_limit, test_section,
 };
 use field_codec::Reader;
 use load_base::{List, Text};
 use std::alloc::Global;
-
-/// The version of a list of loads.
-pub(crate) const LOADS_VERSION: u16 = 0x9004;
 
 /// The list that the bytes spell, or their first fault.
 #[tactic(auto, unfolding(crate::specs::Lists::media_list))]
@@ -68,8 +65,9 @@ fn read_so_many_loads(
     ensures { Decodes Memory (λ l. map load_view l.items) (listed count (entry_behind (load_body members) load_name count) []) reader.old result reader.new }
 {
     let mut loads = List::new(alloc);
+    let mut order = Order::new();
     for _ in 0..count {
-        let load = read_new_load(alloc, reader, members, count, &loads)?;
+        let load = read_new_load(alloc, reader, members, count, &loads, &mut order)?;
         loads.push(load)?;
     }
     Ok(loads)
@@ -82,36 +80,20 @@ fn read_new_load(
     members: u8,
     count: usize,
     loads: &List<LoadEntry>,
+    order: &mut Order,
 ) -> Result<LoadEntry, ListFault>
-    requires { length loads.now.items ≤ 1024 }
-    ensures { Decodes Memory load_view (entry_behind (load_body members) load_name count (map load_view loads.now.items)) reader.old result reader.new }
+    requires few { length loads.now.items < 1024 }
+    requires order { IsOrder (map load_name (map load_view loads.now.items)) order.old.items }
+    ensures read { Decodes Memory load_view (entry_behind (load_body members) load_name count (map load_view loads.now.items)) reader.old result reader.new }
+    ensures order { IfOk result (λ load. IsOrder (map load_name (map load_view loads.now.items) ++ load.header_name ∷ []) order.new.items) }
 {
     let entry = loads.len() + 1;
     let load = read_load_entry(alloc, reader, members, entry as u64, entry == count)?;
-    if is_listed(load.header_name.as_slice(), loads.as_slice()) {
-        Err(ListFault::Repeated(entry as u64))
-    } else {
+    if is_new_load(order, loads.as_slice(), load.header_name.as_slice()) {
         Ok(load)
+    } else {
+        Err(ListFault::Repeated(entry as u64))
     }
-}
-
-// Whether a load with a header of this name is among these.
-#[tactic(auto, unfolding(crate::specs::Entries::is_listed))]
-fn is_listed(name: &[u8], loads: &[LoadEntry]) -> bool
-    ensures { result ≡ has_listed load_name name.now (map load_view loads.now) }
-{
-    has_header(name, loads)
-}
-
-fn has_header(name: &[u8], loads: &[LoadEntry]) -> bool
-    ensures { result ≡ list_any (λ load. same_bytes load.header_name name.now) loads.now }
-{
-    for load in loads {
-        if is_same(load.header_name.as_slice(), name) {
-            return true;
-        }
-    }
-    false
 }
 
 #[tactic(auto, using(field_grammar::proofs::Moves::place_goes_on), unfolding(crate::specs::Entries::entry))]
