@@ -4,4 +4,3 @@ pub mod Known
 pub mod Laws
 pub mod Linear
 pub mod Tables
-pub mod Widths

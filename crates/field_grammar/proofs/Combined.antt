@@ -1,9 +1,10 @@
 -- How formats made of others spell their values.
 use Rattle.std.proofs.Common.{◌≡◌, ℕ, zero, suc, ◌+◌, Bool, true, List, [], ◌∷◌, ◌++◌, length, Result, Ok, refl, sym, ap, subst, ◌∙◌, ◌-◌, arith}
-use Rattle.std.specs.List.{concat, flat_map, AllByRecursion}
+use Rattle.std.specs.List.{concat, flat_map, All, AllByRecursion}
 use Rattle.std.proofs.lemmas.Bool.{eqb-true, eq-eqb}
 use Rattle.std.proofs.lemmas.List.{append-nil, length-append}
 use Rattle.std.proofs.lemmas.List.Concat.{flat_map-cons}
+use Rattle.std.proofs.lemmas.List.Elements.{All-from_recursion, recursion_from_All}
 use Rattle.field_grammar.specs.Grammar.{Grammar, seq, renamed, read, Follows, pair, mapped, tested, expected, judged, measured, times}
 use Rattle.field_grammar.specs.Spelling.{IsSpelledBy, IsReadBack}
 use Rattle.field_grammar.proofs.Laws.{what_follows_is_read}
@@ -13,6 +14,16 @@ pub read_back : {F A : Type 0} (g : Grammar F A) (s : A → List (List ℕ)) (P 
     → IsSpelledBy g s P → concat (s value) ≡ bytes → P value → IsReadBack g bytes value
 read_back g s P bytes value one is fits before rest =
     subst (λ (b : List ℕ). read g (record { before = before; rest = b ++ rest }) ≡ Ok (value, record { before = before ++ b; rest = rest })) is (what_follows_is_read g before (s value) rest value (one.from before (length rest) value fits))
+
+-- the same spelling, with other words for the values that fit
+pub spelled-as : {F A : Type 0} (g : Grammar F A) (s : A → List (List ℕ)) (P Q : A → Type 0) → ((x : A) → P x → Q x) → ((x : A) → Q x → P x)
+    → IsSpelledBy g s P → IsSpelledBy g s Q
+spelled-as g s P Q there back one = record {
+  to = λ before fields after value follows.
+      let a = one.to before fields after value follows in
+      (a.0, there value a.1);
+  from = λ before after value fits. one.from before after value (back value fits);
+}
 
 -- one value and then another
 pub spelled-pair : {F A B : Type 0} (g : Grammar F A) (h : Grammar F B) (s : A → List (List ℕ)) (t : B → List (List ℕ)) (P : A → Type 0) (Q : B → Type 0)
@@ -190,3 +201,10 @@ spelled-counted count g c s C P one two = record {
     times_from g s P two (before ++ concat (c (length value))) after value fits.1,
   );
 }
+
+-- the same, with each value of the list in a word of std
+pub spelled-counted_all : {F A : Type 0} (count : Grammar F ℕ) (g : Grammar F A) (c : ℕ → List (List ℕ)) (s : A → List (List ℕ)) (C : ℕ → Type 0) (P : A → Type 0)
+    → IsSpelledBy count c C → IsSpelledBy g s P → IsSpelledBy (seq count (λ n. times n g)) (λ xs. c (length xs) ++ flat_map s xs) (λ xs. C (length xs) × All P xs)
+spelled-counted_all count g c s C P one two =
+    spelled-as (seq count (λ n. times n g)) (λ xs. c (length xs) ++ flat_map s xs) (λ xs. C (length xs) × AllByRecursion P xs) (λ xs. C (length xs) × All P xs)
+    (λ xs both. (both.0, All-from_recursion P xs both.1)) (λ xs both. (both.0, recursion_from_All P xs both.1)) (spelled-counted count g c s C P one two)

@@ -7,5 +7,8 @@ pub mod Placed
 pub mod Listed
 pub mod Numbers
 pub mod Texts
+pub mod Judged
 pub mod Loops
 pub mod Decoders
+pub mod Sections
+pub mod Written

@@ -1,5 +1,5 @@
 -- The fields that this project's formats share (docs/FORMATS.md).
-use Rattle.std.specs.Prelude.{ℕ, ◌%◌, List, [], ◌∷◌, ◌++◌, length, replicate, ◌==◌, slice_index, Result}
+use Rattle.std.specs.Prelude.{ℕ, ◌/◌, ◌%◌, List, [], ◌∷◌, ◌++◌, length, replicate, ◌==◌, slice_index, Result}
 use Rattle.byteorder.specs.Endian.{big_number, big_bytes}
 use Rattle.field_grammar.specs.Grammar.{Grammar, give, check, field, front, renamed, judged, ◌>>=◌, ◌>>◌}
 use Rattle.field_grammar.specs.declared.fault.FieldFault.{FieldFault}
@@ -80,6 +80,12 @@ judged_padded named verdict = do
   text ← judged (renamed named (raw n)) verdict
   renamed named (pad n)
   give text
+
+-- nothing, where half of the place is the word at which a pointer says that a section begins
+unfoldable pub section : {F : Type 0} → (ℕ → F) → ℕ → Grammar F (Unit {0})
+section wrong said = do
+  before ← front
+  check (said == length before / 2) (wrong (length before / 2))
 
 -- ---- such fields as they are written
 

@@ -3,3 +3,4 @@ pub mod Grammar
 pub mod Answers
 pub mod Spelling
 pub mod Fields
+pub mod OneSpelling

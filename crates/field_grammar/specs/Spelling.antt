@@ -1,5 +1,5 @@
 -- Formats whose values have one spelling each.
-use Rattle.std.specs.Prelude.{◌≡◌, ℕ, ◌+◌, List, [], ◌∷◌, ◌++◌, length, Ok, ⊤}
+use Rattle.std.specs.Prelude.{◌≡◌, ℕ, ◌+◌, List, [], ◌∷◌, ◌++◌, length, Bool, ◌==◌, Ok, ⊤}
 use Rattle.std.specs.List.{concat}
 use Rattle.field_grammar.specs.Grammar.{Grammar, Follows, read}
 
@@ -13,6 +13,14 @@ pub record IsSpelledBy {F A : Type 0} (g : Grammar F A) (spelling : A → List (
 pub record IsPlacedBy {F A : Type 0} (g : Grammar F A) (spelling : List ℕ → A → List (List ℕ)) (Fits : List ℕ → ℕ → A → Type 0) : Type 0 where
   pub to : (before : List ℕ) (fields : List (List ℕ)) (after : ℕ) (value : A) → Follows g before fields after value → (fields ≡ spelling before value) × Fits before after value
   pub from : (before : List ℕ) (after : ℕ) (value : A) → Fits before after value → Follows g before (spelling before value) after value
+
+-- how many bytes fields take
+abbrev pub size_of : List (List ℕ) → ℕ
+size_of fields = length (concat fields)
+
+-- the fields of a value behind those so far, where the last of so many values is spelled otherwise
+abbrev pub with_last : {A : Type 0} → (Bool → A → List (List ℕ)) → ℕ → List A → A → List (List ℕ)
+with_last fields count so_far value = fields (length so_far + 1 == count) value
 
 -- the fields of values one behind the other, where those of each may depend on the values before it
 unfoldable pub listed_fields : {A : Type 0} → (List A → A → List (List ℕ)) → List A → List A → List (List ℕ)

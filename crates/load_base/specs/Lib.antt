@@ -1,4 +1,5 @@
 pub mod Bytes
+pub mod Cases
 pub mod Config
 pub mod Counts
 pub mod Host
@@ -11,4 +12,6 @@ pub mod Padded
 pub mod PartText
 pub mod Sink
 pub mod Text
+pub mod VerdictLaws
+pub mod Verdicts
 pub mod Written

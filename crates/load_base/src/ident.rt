@@ -1,6 +1,8 @@
 //! The names of targets: of their hardware, their positions and themselves.
-ghost use Rattle.std.specs.Prelude.{◌≡◌, ◌↔◌, IsOk, IfOk, IfErr, IsTrue};
+ghost use Rattle.std.specs.Prelude.{◌≡◌, ◌↔◌, IsOk, IfOk, IfErr, IfSome, IfNone};
+ghost use Rattle.load_base.specs.Bytes.{AllGood, IsFirstBad};
 ghost use Rattle.load_base.specs.Ident.{IsIdent, IsIdentFault, is_ident_byte as is_good};
+ghost use Rattle.load_base.specs.Verdicts.{judged, ident_fault_of};
 
 use crate::padded::Padded;
 use std::marker::Model;
@@ -36,15 +38,17 @@ impl Model for Ident {
 
 impl Ident {
     /// Reads a whole text. Its length is tested first, and then its bytes in their order.
+    #[tactic(auto, using(crate::proofs::Judged::ident_judgements))]
     pub fn read(bytes: &[u8]) -> Result<Ident, IdentFault>
         ensures found { IfOk result (λ ident. (ident ≡ bytes.now) × IsIdent bytes.now) }
         ensures only { IsIdent bytes.now → IsOk result }
         ensures refused { IfErr result (λ fault. IsIdentFault bytes.now fault) }
+        ensures judged { result ≡ judged ident_fault_of bytes.now }
     {
         if bytes.is_empty() || bytes.len() > 20 {
             return Err(IdentFault::Length(bytes.len() as u64));
         }
-        match bytes.iter().position(|byte| !is_ident_byte(*byte)) {
+        match first_bad(bytes) {
             Some(place) => Err(IdentFault::BadByte(place as u64)),
             None => Ok(Ident {
                 text: Padded::new(bytes),
@@ -58,6 +62,14 @@ impl Ident {
     {
         self.text.as_slice()
     }
+}
+
+// The place of the first byte that no Ident has.
+fn first_bad(bytes: &[u8]) -> Option<usize>
+    ensures none { IfNone result (AllGood is_good bytes.now) }
+    ensures first { IfSome result (λ place. IsFirstBad is_good bytes.now place) }
+{
+    bytes.iter().position(|byte| !is_ident_byte(*byte))
 }
 
 fn is_ident_byte(byte: u8) -> bool

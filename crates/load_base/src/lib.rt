@@ -5,6 +5,7 @@
 mod config;
 mod host;
 mod ident;
+mod laws;
 mod list;
 mod mem_host;
 mod name;
@@ -19,6 +20,7 @@ mod text;
 pub use config::{Config, Load, StoredFile};
 pub use host::{Host, LONGEST_FILE, ReadFault};
 pub use ident::{Ident, IdentFault};
+pub use laws::text_laws;
 pub use list::{Bytes, List, NoMemory};
 pub use mem_host::MemHost;
 pub use name::{Name, NameFault};

@@ -2,6 +2,7 @@
 ghost use Rattle.std.specs.Prelude.{◌≡◌, IsOk, IfOk, IfErr, IfSome, IfNone};
 ghost use Rattle.load_base.specs.Bytes.{AllGood, IsFirstBad};
 ghost use Rattle.load_base.specs.Name.{IsName, IsNameFault, is_name_byte as is_good};
+ghost use Rattle.load_base.specs.Verdicts.{judged, name_fault_of};
 
 use crate::padded::Padded;
 use std::marker::Model;
@@ -39,10 +40,12 @@ impl Model for Name {
 
 impl Name {
     /// Reads a whole text. Its length is tested first, and then its bytes in their order.
+    #[tactic(auto, using(crate::proofs::Judged::name_judgements))]
     pub fn read(bytes: &[u8]) -> Result<Name, NameFault>
         ensures found { IfOk result (λ name. (name ≡ bytes.now) × IsName bytes.now) }
         ensures only { IsName bytes.now → IsOk result }
         ensures refused { IfErr result (λ fault. IsNameFault bytes.now fault) }
+        ensures judged { result ≡ judged name_fault_of bytes.now }
     {
         if bytes.is_empty() {
             return Err(NameFault::Empty);

@@ -1,6 +1,8 @@
 //! The part numbers of loads, as text.
-ghost use Rattle.std.specs.Prelude.{◌≡◌, IsOk, IfOk, IfErr};
+ghost use Rattle.std.specs.Prelude.{◌≡◌, IsOk, IfOk, IfErr, IfSome, IfNone};
+ghost use Rattle.load_base.specs.Bytes.{AllGood, IsFirstBad};
 ghost use Rattle.load_base.specs.PartText.{IsPartText, IsPartTextFault, is_graphic as is_good};
+ghost use Rattle.load_base.specs.Verdicts.{judged, part_text_fault_of};
 
 use std::marker::Model;
 
@@ -35,15 +37,17 @@ impl Model for PartText {
 
 impl PartText {
     /// Reads a whole text. Its length is tested first, and then its bytes in their order.
+    #[tactic(auto, using(crate::proofs::Judged::part_text_judgements))]
     pub fn read(bytes: &[u8]) -> Result<PartText, PartTextFault>
         ensures found { IfOk result (λ part. (part ≡ bytes.now) × IsPartText bytes.now) }
         ensures only { IsPartText bytes.now → IsOk result }
         ensures refused { IfErr result (λ fault. IsPartTextFault bytes.now fault) }
+        ensures judged { result ≡ judged part_text_fault_of bytes.now }
     {
         if bytes.len() != 15 {
             return Err(PartTextFault::Length(bytes.len() as u64));
         }
-        if let Some(place) = bytes.iter().position(|byte| !is_graphic(*byte)) {
+        if let Some(place) = first_bad(bytes) {
             return Err(PartTextFault::BadByte(place as u64));
         }
         let mut part = [0; 15];
@@ -57,6 +61,14 @@ impl PartText {
     {
         &self.bytes
     }
+}
+
+// The place of the first byte that no part number has.
+fn first_bad(bytes: &[u8]) -> Option<usize>
+    ensures none { IfNone result (AllGood is_good bytes.now) }
+    ensures first { IfSome result (λ place. IsFirstBad is_good bytes.now place) }
+{
+    bytes.iter().position(|byte| !is_graphic(*byte))
 }
 
 fn is_graphic(byte: u8) -> bool

@@ -1,4 +1,4 @@
-use crate::{Bytes, Host, MemHost, ReadFault, StdHost, Text, TextFault, WriteFault};
+use crate::{Bytes, Host, MemHost, ReadFault, StdHost, Text, TextFault, WriteFault, text_laws};
 use std::alloc::Global;
 use std::fs;
 use std::test::Fail;
@@ -6,6 +6,7 @@ use std::test::Fail;
 #[test]
 fn texts_are_read(rt: HostRuntime) -> Result<(), Fail> {
     let alloc = rt.alloc();
+    text_laws();
     let long = [b'a'; 256];
     let rows = [
         (b"".as_slice(), None),

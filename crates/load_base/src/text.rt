@@ -1,6 +1,8 @@
 //! Texts that people read.
-ghost use Rattle.std.specs.Prelude.{◌≡◌, ◌<◌, IsOk, IfOk, IfErr, IsErrOf};
+ghost use Rattle.std.specs.Prelude.{◌≡◌, ◌⊎◌, ◌<◌, IsOk, IfOk, IfErr, IfSome, IfNone, IsErrOf};
+ghost use Rattle.load_base.specs.Bytes.{AllGood, IsFirstBad};
 ghost use Rattle.load_base.specs.Text.{IsText, IsTextFault, is_printable as is_good};
+ghost use Rattle.load_base.specs.Verdicts.{judged, text_fault_of};
 ghost use Rattle.load_base.specs.declared.text.TextFault.TheVariants.{Memory};
 
 use crate::{Bytes, NoMemory};
@@ -45,15 +47,17 @@ impl Model for Text {
 
 impl Text {
     /// Reads a whole text. Its length is tested first, and then its bytes in their order.
+    #[tactic(auto, using(crate::proofs::Judged::text_judgements))]
     pub fn read(alloc: Global, bytes: &[u8]) -> Result<Text, TextFault>
         ensures found { IfOk result (λ text. (text ≡ bytes.now) × IsText bytes.now) }
         ensures only { IsText bytes.now → ¬ IsErrOf result Memory → IsOk result }
         ensures refused { IfErr result (λ fault. IsTextFault bytes.now fault) }
+        ensures judged { IsErrOf result Memory ⊎ (result ≡ judged text_fault_of bytes.now) }
     {
         if bytes.len() > 255 {
             return Err(TextFault::TooLong(bytes.len() as u64));
         }
-        if let Some(place) = bytes.iter().position(|byte| !is_printable(*byte)) {
+        if let Some(place) = first_bad(bytes) {
             return Err(TextFault::BadByte(place as u64));
         }
         let mut copy = Bytes::new(alloc);
@@ -67,6 +71,14 @@ impl Text {
     {
         self.bytes.as_slice()
     }
+}
+
+// The place of the first byte that no Text has.
+fn first_bad(bytes: &[u8]) -> Option<usize>
+    ensures none { IfNone result (AllGood is_good bytes.now) }
+    ensures first { IfSome result (λ place. IsFirstBad is_good bytes.now place) }
+{
+    bytes.iter().position(|byte| !is_printable(*byte))
 }
 
 fn is_printable(byte: u8) -> bool

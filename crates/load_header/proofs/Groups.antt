@@ -1,27 +1,24 @@
 -- How the groups of sections of a header are spelled, at their places.
-use Rattle.std.proofs.Common.{◌≡◌, ℕ, ◌+◌, ◌-◌, ◌*◌, ◌/◌, ◌%◌, ◌<◌, ◌≤◌, ◌^◌, List, [], ◌∷◌, ◌++◌, length, Bool, refl, sym, ap, subst, ◌∙◌, arith, length-append, ◌==◌}
+use Rattle.std.proofs.Common.{◌≡◌, ℕ, ◌+◌, ◌*◌, ◌/◌, ◌%◌, ◌<◌, ◌≤◌, ◌^◌, List, [], ◌∷◌, ◌++◌, length, refl, sym, ap, subst, ◌∙◌, arith}
 use Rattle.std.specs.List.{concat, AllByRecursion}
 use Rattle.std.proofs.lemmas.Bool.{eqb-true, eq-eqb}
 use Rattle.std.proofs.lemmas.List.{append-nil}
 use Rattle.crc_fields.specs.CheckSums.{crc16_of}
-use Rattle.crc_fields.proofs.Widths.{crc16_fits}
+use Rattle.crc_fields.specs.WidthLaws.{crc16_fits}
 use Rattle.load_base.specs.Text.{IsText}
 use Rattle.part_number.specs.PartNumber.{IsPartNumberText}
-use Rattle.field_grammar.specs.Grammar.{Grammar, Follows, IsBytes, ended}
-use Rattle.field_grammar.specs.Spelling.{IsSpelledBy, IsPlacedBy}
+use Rattle.field_grammar.specs.Grammar.{IsBytes}
+use Rattle.field_grammar.specs.Spelling.{size_of, IsPlacedBy}
 use Rattle.field_grammar.specs.Fields.{number_fields, padded_fields}
 use Rattle.field_grammar.proofs.Placed.{placed-ended}
+use Rattle.field_grammar.proofs.Sections.{place_behind, placed-section}
 use Rattle.load_header.specs.Header.{HardwareView, identity, targets, all_files, user_data, no_check_value, check_sums, tail}
-use Rattle.load_header.specs.HeaderFields.{size_of, texts_fields, positions_fields, files_fields, user_fields, AreTexts, IsHardwareAt, IsFile}
+use Rattle.load_header.specs.HeaderFields.{texts_fields, positions_fields, files_fields, user_fields, AreTexts, IsHardwareAt, IsFile}
 use Rattle.load_header.specs.declared.fault.HeaderFault.TheVariants as faults
 use Rattle.load_header.specs.declared.header.FileEntry.{FileEntry}
 use Rattle.load_header.specs.declared.reading.Pointers.{Pointers}
 use Rattle.load_header.proofs.Texts.{spelled-text, spelled-part}
-use Rattle.load_header.proofs.Pieces.{spelled-u16, spelled-u32, spelled-bytes, spelled-texts, spelled-positions, placed-section, placed-files}
-
--- the place behind fields
-pub behind : (before : List ℕ) (f s : List (List ℕ)) → f ≡ s → length (before ++ concat f) ≡ length before + size_of s
-behind before f s same = length-append before (concat f) ∙ ap (λ (g : List (List ℕ)). length before + size_of g) same
+use Rattle.load_header.proofs.Pieces.{spelled-u16, spelled-u32, spelled-bytes, spelled-texts, spelled-positions, placed-files}
 
 -- ---- what the load is
 
@@ -45,25 +42,25 @@ placed-identity places = record {
       let (u0, f0, o0, e0, h0, (number, f1, o1, e1, h1, (u2, f2, o2, e2, h2, (title, f3, o3, e3, h3, (id, f4, o4, e4, h4, last))))) = follows in
       let b1 : List ℕ = before ++ concat f0 in
       let b2 : List ℕ = b1 ++ concat f1 in
-      let a0 = (placed-section 1 places.part).to before f0 (length (concat o0) + after) u0 h0 in
+      let a0 = (placed-section (faults.Pointer 1 places.part) places.part).to before f0 (length (concat o0) + after) u0 h0 in
       let a1 = spelled-part.to b1 f1 (length (concat o1) + after) number h1 in
-      let a2 = (placed-section 2 places.type_name).to b2 f2 (length (concat o2) + after) u2 h2 in
+      let a2 = (placed-section (faults.Pointer 2 places.type_name) places.type_name).to b2 f2 (length (concat o2) + after) u2 h2 in
       let a3 = spelled-text.to (b2 ++ concat f2) f3 (length (concat o3) + after) title h3 in
       let a4 = spelled-u16.to ((b2 ++ concat f2) ++ concat f3) f4 (length (concat o4) + after) id h4 in
-      let size : length b2 ≡ length before + size_of (padded_fields number) = omega (arith, behind before f0 [] a0.0, behind b1 f1 (padded_fields number) a1.0) in
+      let size : length b2 ≡ length before + size_of (padded_fields number) = omega (arith, place_behind before f0 [] a0.0, place_behind b1 f1 (padded_fields number) a1.0) in
       let is : Identity = (number, title, id) in
       let whole : fields ≡ identity_parts is = rw (e0, e1, e2, e3, e4, last.0, a0.0, a1.0, a2.0, a3.0, a4.0) refl in
       let fits : IsIdentity places before is = record { part_place = a0.1; part = a1.1; type_place = a2.1 ∙ ap (λ (n : ℕ). n / 2) size; type_name = a3.1; type_id = a4.1 } in
       subst (λ (v : Identity). (fields ≡ identity_parts v) × IsIdentity places before v) last.1 (whole, fits);
   from = λ before after value fits.
       let b2 : List ℕ = (before ++ []) ++ concat (padded_fields value.0) in
-      let size : length b2 ≡ length before + size_of (padded_fields value.0) = omega (arith, behind before [] [] refl, behind (before ++ []) (padded_fields value.0) (padded_fields value.0) refl) in
+      let size : length b2 ≡ length before + size_of (padded_fields value.0) = omega (arith, place_behind before [] [] refl, place_behind (before ++ []) (padded_fields value.0) (padded_fields value.0) refl) in
       let type_part : List (List ℕ) = padded_fields value.1 ++ number_fields 2 value.2 in (
         tt,
         [],
         identity_parts value,
         refl,
-        (placed-section 1 places.part).from before _ tt fits.part_place,
+        (placed-section (faults.Pointer 1 places.part) places.part).from before _ tt fits.part_place,
         (
           value.0,
           padded_fields value.0,
@@ -75,7 +72,7 @@ placed-identity places = record {
             [],
             type_part,
             refl,
-            (placed-section 2 places.type_name).from b2 _ tt (fits.type_place ∙ ap (λ (n : ℕ). n / 2) (sym size)),
+            (placed-section (faults.Pointer 2 places.type_name) places.type_name).from b2 _ tt (fits.type_place ∙ ap (λ (n : ℕ). n / 2) (sym size)),
             (
               value.1,
               padded_fields value.1,
@@ -110,23 +107,23 @@ placed-targets places = record {
       let (u0, f0, o0, e0, h0, (hardware, f1, o1, e1, h1, (u2, f2, o2, e2, h2, (list, f3, o3, e3, h3, last)))) = follows in
       let b1 : List ℕ = before ++ concat f0 in
       let b2 : List ℕ = b1 ++ concat f1 in
-      let a0 = (placed-section 3 places.hardware).to before f0 (length (concat o0) + after) u0 h0 in
+      let a0 = (placed-section (faults.Pointer 3 places.hardware) places.hardware).to before f0 (length (concat o0) + after) u0 h0 in
       let a1 = spelled-texts.to b1 f1 (length (concat o1) + after) hardware h1 in
-      let a2 = (placed-section 4 places.positions).to b2 f2 (length (concat o2) + after) u2 h2 in
+      let a2 = (placed-section (faults.Pointer 4 places.positions) places.positions).to b2 f2 (length (concat o2) + after) u2 h2 in
       let a3 = spelled-positions.to (b2 ++ concat f2) f3 (length (concat o3) + after) list h3 in
-      let size : length b2 ≡ length before + size_of (texts_fields hardware) = omega (arith, behind before f0 [] a0.0, behind b1 f1 (texts_fields hardware) a1.0) in
+      let size : length b2 ≡ length before + size_of (texts_fields hardware) = omega (arith, place_behind before f0 [] a0.0, place_behind b1 f1 (texts_fields hardware) a1.0) in
       let is : Targets = (hardware, list) in
       let whole : fields ≡ targets_parts is = rw (e0, e1, e2, e3, last.0, a0.0, a1.0, a2.0, a3.0, append-nil) refl in
       let fits : AreTargets places before is = record { hardware_place = a0.1; hardware = a1.1; positions_place = a2.1 ∙ ap (λ (n : ℕ). n / 2) size; positions = a3.1 } in
       subst (λ (v : Targets). (fields ≡ targets_parts v) × AreTargets places before v) last.1 (whole, fits);
   from = λ before after value fits.
       let b2 : List ℕ = (before ++ []) ++ concat (texts_fields value.0) in
-      let size : length b2 ≡ length before + size_of (texts_fields value.0) = omega (arith, behind before [] [] refl, behind (before ++ []) (texts_fields value.0) (texts_fields value.0) refl) in (
+      let size : length b2 ≡ length before + size_of (texts_fields value.0) = omega (arith, place_behind before [] [] refl, place_behind (before ++ []) (texts_fields value.0) (texts_fields value.0) refl) in (
         tt,
         [],
         targets_parts value,
         refl,
-        (placed-section 3 places.hardware).from before _ tt fits.hardware_place,
+        (placed-section (faults.Pointer 3 places.hardware) places.hardware).from before _ tt fits.hardware_place,
         (
           value.0,
           texts_fields value.0,
@@ -138,7 +135,7 @@ placed-targets places = record {
             [],
             positions_fields value.1,
             refl,
-            (placed-section 4 places.positions).from b2 _ tt (fits.positions_place ∙ ap (λ (n : ℕ). n / 2) (sym size)),
+            (placed-section (faults.Pointer 4 places.positions) places.positions).from b2 _ tt (fits.positions_place ∙ ap (λ (n : ℕ). n / 2) (sym size)),
             (value.1, positions_fields value.1, [], sym (append-nil (positions_fields value.1)), spelled-positions.from _ _ value.1 fits.positions, (refl, refl)),
           ),
         ),
@@ -172,13 +169,13 @@ placed-all_files places = record {
       let fits : AreFiles places before is = record {
         data_place = a1.1.0;
         data_files = a1.1.2;
-        support_place = a2.1.0 ∙ ap (λ (n : ℕ). n / 2) (behind before f1 (files_fields first) a1.0);
+        support_place = a2.1.0 ∙ ap (λ (n : ℕ). n / 2) (place_behind before f1 (files_fields first) a1.0);
         support_files = a2.1.2;
         few = a2.1.1;
       } in
       subst (λ (v : AllFiles). (fields ≡ all_files_parts v) × AreFiles places before v) last.1 (whole, fits);
   from = λ before after value fits.
-      let size = behind before (files_fields value.0) (files_fields value.0) refl in (
+      let size = place_behind before (files_fields value.0) (files_fields value.0) refl in (
         value.0,
         files_fields value.0,
         files_fields value.1,
@@ -208,7 +205,7 @@ unfolding user_data user_fields
 placed-user_data said = record {
   to = λ before fields after value follows.
       let (u0, f0, o0, e0, h0, (words, f1, o1, e1, h1, h2)) = follows in
-      let a0 = (placed-section 7 said).to before f0 (length (concat o0) + after) u0 h0 in
+      let a0 = (placed-section (faults.Pointer 7 said) said).to before f0 (length (concat o0) + after) u0 h0 in
       let a1 = spelled-u16.to (before ++ concat f0) f1 (length (concat o1) + after) words h1 in
       let a2 = (spelled-bytes (2 * words)).to ((before ++ concat f0) ++ concat f1) o1 after value h2 in
       let half : words ≡ length value / 2 = omega (arith, a2.1.0) in
@@ -221,7 +218,7 @@ placed-user_data said = record {
         [],
         user_fields value,
         refl,
-        (placed-section 7 said).from before _ tt fits.place,
+        (placed-section (faults.Pointer 7 said) said).from before _ tt fits.place,
         (
           words,
           number_fields 2 words,
@@ -238,13 +235,13 @@ unfolding no_check_value
 placed-no_check_value said = record {
   to = λ before fields after value follows.
       let (u0, f0, o0, e0, h0, (size, f1, o1, e1, h1, h2)) = follows in
-      let a0 = (placed-section 8 said).to before f0 (length (concat o0) + after) u0 h0 in
+      let a0 = (placed-section (faults.Pointer 8 said) said).to before f0 (length (concat o0) + after) u0 h0 in
       let a1 = spelled-u16.to (before ++ concat f0) f1 (length (concat o1) + after) size h1 in
       let none : size ≡ 0 = eqb-true size 0 h2.1 in
       let is : fields ≡ number_fields 2 size = rw (e0, e1, h2.0, a0.0, a1.0) refl in
       (subst (λ (n : ℕ). fields ≡ number_fields 2 n) none is, a0.1);
   from = λ before after value fits.
-      (tt, [], number_fields 2 0, refl, (placed-section 8 said).from before _ tt fits, (0, number_fields 2 0, [], refl, spelled-u16.from _ _ 0 (omega arith), (refl, refl)));
+      (tt, [], number_fields 2 0, refl, (placed-section (faults.Pointer 8 said) said).from before _ tt fits, (0, number_fields 2 0, [], refl, spelled-u16.from _ _ 0 (omega arith), (refl, refl)));
 }
 
 abbrev pub sums_parts : List ℕ → ℕ → List (List ℕ)
@@ -312,7 +309,7 @@ placed-tail places = record {
       let none : after ≡ 0 = omega (arith, a3.1.1) in
       let fits : IsTail places before after is = record {
         user = a1.1;
-        check_place = a2.1 ∙ ap (λ (n : ℕ). n / 2) (behind before f1 (user_fields user) a1.0);
+        check_place = a2.1 ∙ ap (λ (n : ℕ). n / 2) (place_behind before f1 (user_fields user) a1.0);
         load_crc = a3.1.0;
         none = none;
       } in
@@ -320,7 +317,7 @@ placed-tail places = record {
   from = λ before after value fits.
       let b1 : List ℕ = before ++ concat (user_fields value.0) in
       let b2 : List ℕ = b1 ++ concat (number_fields 2 0) in
-      let size = behind before (user_fields value.0) (user_fields value.0) refl in (
+      let size = place_behind before (user_fields value.0) (user_fields value.0) refl in (
         value.0,
         user_fields value.0,
         number_fields 2 0 ++ sums_parts b2 value.1,

@@ -1,15 +1,15 @@
 -- How the head of a header is spelled.
-use Rattle.std.proofs.Common.{◌≡◌, ℕ, ◌+◌, ◌*◌, ◌/◌, ◌<◌, ◌≤◌, ◌^◌, List, [], ◌∷◌, ◌++◌, length, refl, sym, ap, subst, ◌∙◌, arith, length-append}
+use Rattle.std.proofs.Common.{◌≡◌, ℕ, ◌+◌, ◌*◌, ◌/◌, ◌<◌, ◌^◌, List, [], ◌++◌, length, refl, sym, ap, subst, ◌∙◌, arith, length-append}
 use Rattle.std.specs.List.{concat}
 use Rattle.std.proofs.lemmas.List.{append-nil}
-use Rattle.field_grammar.specs.Grammar.{Follows, sized, expected}
-use Rattle.field_grammar.specs.Spelling.{IsSpelledBy, IsPlacedBy}
+use Rattle.field_grammar.specs.Grammar.{Follows, expected}
+use Rattle.field_grammar.specs.Spelling.{size_of, IsSpelledBy}
 use Rattle.field_grammar.specs.Fields.{number_fields}
 use Rattle.field_grammar.proofs.Combined.{spelled-expected}
 use Rattle.field_grammar.proofs.Placed.{placed-sized}
 use Rattle.field_grammar.proofs.Numbers.{length_number_bytes}
 use Rattle.load_header.specs.Header.{u16, u32, four, pointers, head}
-use Rattle.load_header.specs.HeaderFields.{size_of, pointers_fields, head_fields}
+use Rattle.load_header.specs.HeaderFields.{pointers_fields, head_fields}
 use Rattle.load_header.specs.declared.fault.HeaderFault.TheVariants as faults
 use Rattle.load_header.specs.declared.reading.Pointers.{Pointers}
 use Rattle.load_header.proofs.Pieces.{spelled-u16, spelled-u32}

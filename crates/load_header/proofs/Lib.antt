@@ -1,4 +1,3 @@
-pub mod Judged
 pub mod Whole
 pub mod Texts
 pub mod Pieces

@@ -1,20 +1,21 @@
 -- The limits of a header.
-use Rattle.std.proofs.Common.{◌≡◌, ℕ, zero, suc, ◌+◌, ◌*◌, ◌%◌, ◌<◌, ◌≤◌, List, [], ◌∷◌, ◌++◌, length, take, get_or, Bool, true, false, refl, sym, ap, ◌∙◌, arith, ◌&&◌, ◌==◌, leb, ltb}
+use Rattle.std.proofs.Common.{◌≡◌, ℕ, zero, suc, ◌+◌, ◌%◌, ◌<◌, ◌≤◌, List, [], ◌∷◌, ◌++◌, length, take, get_or, Bool, true, false, refl, sym, ap, ◌∙◌, arith, ◌&&◌, ◌==◌, leb, ltb}
 use Rattle.std.specs.Prelude.{map}
-use Rattle.std.specs.List.{concat, flat_map, list_all}
+use Rattle.std.specs.List.{flat_map, list_all}
 use Rattle.std.proofs.lemmas.Bool.{leb-true, ltb-true, lt-leb, eqb-true}
 use Rattle.std.proofs.lemmas.List.{append-nil, take_more, take_all, length-map}
 use Rattle.std.proofs.lemmas.List.Concat.{flat_map-append, flat_map-cons}
-use Rattle.field_grammar.specs.Spelling.{listed_fields}
+use Rattle.field_grammar.specs.Spelling.{size_of, listed_fields}
 use Rattle.field_grammar.specs.Fields.{number_fields, padded_fields}
-use Rattle.load_header.specs.Header.{HeaderView, HardwareView, hardware_view, header_view, distance_of}
-use Rattle.load_header.specs.HeaderFields.{size_of, texts_fields, hardware_at_fields, positions_fields, file_body_fields, entry_fields, entry_fields_behind, files_fields, type_fields, user_fields, check_place, header_size, few_positions, has_size, few_members, few_files, short_enough, fits, kind_fields, pointers_by, pointers_of, AreSizes}
+use Rattle.load_header.specs.Header.{HeaderView, hardware_view, header_view, distance_of}
+use Rattle.load_header.specs.HeaderFields.{texts_fields, hardware_at_fields, positions_fields, file_body_fields, entry_fields, entry_fields_behind, files_fields, type_fields, check_place, header_size, few_positions, has_size, few_members, few_files, short_enough, fits, kind_fields, pointers_by, pointers_of, AreSizes}
 use Rattle.load_header.specs.declared.header.FileEntry.{FileEntry}
 use Rattle.load_header.specs.declared.header.HardwareAt.{HardwareAt}
 use Rattle.load_header.specs.declared.header.LoadHeader.{LoadHeader}
 use Rattle.load_header.specs.declared.measuring.Sizes.{Sizes}
 use Rattle.load_header.proofs.Pieces.{size_body}
-use Rattle.load_header.proofs.Sizes.{size_more, size_number, size_padded, size_user}
+use Rattle.field_grammar.proofs.Sections.{size_more, size_number, size_padded}
+use Rattle.load_header.proofs.Sizes.{size_user}
 
 both : (a b : Bool) → (a && b) ≡ true → (a ≡ true) × (b ≡ true)
 both true b e = (refl, e)

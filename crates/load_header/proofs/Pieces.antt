@@ -1,23 +1,23 @@
 -- How the pieces of a header are spelled that stand anywhere.
-use Rattle.std.proofs.Common.{◌≡◌, ℕ, zero, suc, ◌+◌, ◌*◌, ◌/◌, ◌%◌, ◌<◌, ◌≤◌, ◌^◌, List, [], ◌∷◌, ◌++◌, length, Bool, true, false, refl, sym, ap, subst, ◌∙◌, arith, length-append, ◌==◌, leb, ◌&&◌}
-use Rattle.std.specs.List.{concat, flat_map, AllByRecursion}
+use Rattle.std.proofs.Common.{◌≡◌, ℕ, ◌+◌, ◌/◌, ◌%◌, ◌<◌, ◌≤◌, ◌^◌, List, [], ◌∷◌, ◌++◌, length, Bool, true, false, refl, sym, subst, arith, length-append, ◌==◌, leb, ◌&&◌}
+use Rattle.std.specs.List.{concat, AllByRecursion}
 use Rattle.std.proofs.lemmas.Bool.{leb-true, le-leb, eqb-true, eq-eqb, and_from}
 use Rattle.std.proofs.lemmas.List.{append-nil}
-use Rattle.load_base.specs.Name.{IsName}
 use Rattle.load_base.specs.Text.{IsText}
-use Rattle.field_grammar.specs.Grammar.{Grammar, Follows, IsBytes, renamed, listed}
-use Rattle.field_grammar.specs.Spelling.{IsSpelledBy, IsPlacedBy, listed_fields, AllPlaced}
-use Rattle.field_grammar.specs.Fields.{number, raw, number_fields, number_bytes, padded_fields, pad_bytes}
-use Rattle.field_grammar.proofs.Combined.{spelled-renamed, spelled-counted, spelled-measured}
+use Rattle.field_grammar.specs.Grammar.{IsBytes, renamed, listed}
+use Rattle.field_grammar.specs.Spelling.{size_of, IsSpelledBy, IsPlacedBy, listed_fields, AllPlaced}
+use Rattle.field_grammar.specs.Fields.{number, raw, number_fields, padded_fields}
+use Rattle.field_grammar.proofs.Combined.{spelled-as, spelled-renamed, spelled-counted, spelled-measured}
 use Rattle.field_grammar.proofs.Listed.{placed-listed}
 use Rattle.field_grammar.proofs.Placed.{placed}
 use Rattle.field_grammar.proofs.Numbers.{wide2, wide4, wide8, spelled-number, spelled-raw, length_number_bytes}
 use Rattle.field_grammar.proofs.Texts.{length_pad_bytes}
-use Rattle.load_header.specs.Header.{named, u16, u32, text, name, texts, section, hardware_at, positions, is_size, file_size, file_body, distance_of, file_entry, entry_behind, files, HardwareView}
-use Rattle.load_header.specs.HeaderFields.{size_of, texts_fields, hardware_at_fields, positions_fields, file_body_fields, entry_fields, entry_fields_behind, files_fields, AreTexts, IsHardwareAt, IsFile}
+use Rattle.field_grammar.proofs.Sections.{placed-section}
+use Rattle.load_header.specs.Header.{named, u16, u32, text, texts, hardware_at, positions, file_size, file_body, distance_of, file_entry, entry_behind, files, HardwareView}
+use Rattle.load_header.specs.HeaderFields.{texts_fields, hardware_at_fields, positions_fields, file_body_fields, entry_fields, entry_fields_behind, files_fields, AreTexts, IsHardwareAt, IsFile}
 use Rattle.load_header.specs.declared.fault.HeaderFault.TheVariants as faults
 use Rattle.load_header.specs.declared.header.FileEntry.{FileEntry}
-use Rattle.load_header.proofs.Texts.{fitting, spelled-text, spelled-name}
+use Rattle.load_header.proofs.Texts.{spelled-text, spelled-name}
 
 -- ---- numbers
 
@@ -159,7 +159,7 @@ body_small f is = omega (arith, size_body f, is.name.size.1, is.part.size)
 spelled-file_entry : (file : ℕ) (last : Bool) → IsSpelledBy (file_entry file last) (entry_fields last) IsFile
 unfolding file_entry
 spelled-file_entry file last =
-    fitting (file_entry file last) (entry_fields last) (λ f. (distance_of last (2 + size_of (file_body_fields f)) < 2 ^ 16) × IsFile f) IsFile (λ f is. is.1) (λ f is. (distance_fits last (2 + size_of (file_body_fields f)) (body_small f is), is))
+    spelled-as (file_entry file last) (entry_fields last) (λ f. (distance_of last (2 + size_of (file_body_fields f)) < 2 ^ 16) × IsFile f) IsFile (λ f is. is.1) (λ f is. (distance_fits last (2 + size_of (file_body_fields f)) (body_small f is), is))
     (spelled-measured u16 (distance_of last) (faults.Distance file) (file_body file) 2 (number_fields 2) file_body_fields (λ n. n < 2 ^ 16) IsFile two spelled-u16 (spelled-file_body file))
   where
     two : (n : ℕ) → length (concat (number_fields 2 n)) ≡ 2
@@ -180,22 +180,13 @@ all_again s (x ∷ xs) so_far before after all = (all.0, all_again s xs (so_far 
 
 -- ---- sections
 
-pub placed-section : (which said : ℕ) → IsPlacedBy (section which said) (λ before u. []) (λ before after u. said ≡ length before / 2)
-unfolding section
-placed-section which said = record {
-  to = λ before fields after value follows.
-      let (b, f1, o1, e1, h1, h2) = follows in
-      (rw (e1, h1.0, h2.0) refl, eqb-true said (length b / 2) h2.1 ∙ ap (λ (l : List ℕ). length l / 2) (sym h1.1));
-  from = λ before after value fits. (before, [], [], refl, (refl, refl), (refl, eq-eqb said (length before / 2) fits));
-}
-
 -- a list of files where its pointer says, of which there are few
 pub placed-files : (which said others : ℕ) → IsPlacedBy (files which said others) (λ before. files_fields) (λ before after xs. (said ≡ length before / 2) × (others + length xs ≤ 255) × AllByRecursion IsFile xs)
 unfolding files files_fields
 placed-files which said others = record {
   to = λ before fields after value follows.
       let (u0, f0, o0, e0, h0, (count, f1, o1, e1, h1, (u, f2, o2, e2, h2, h3))) = follows in
-      let s = (placed-section which said).to before f0 (length (concat o0) + after) u0 h0 in
+      let s = (placed-section (faults.Pointer which said) said).to before f0 (length (concat o0) + after) u0 h0 in
       let a = spelled-u16.to (before ++ concat f0) f1 (length (concat o1) + after) count h1 in
       let b = (placed-entries others count).to (((before ++ concat f0) ++ concat f1) ++ concat f2) o2 after value h3 in
       let few : others + count ≤ 255 = leb-true (others + count) 255 h2.1 in
@@ -210,7 +201,7 @@ placed-files which said others = record {
         [],
         number_fields 2 count ++ entries,
         refl,
-        (placed-section which said).from before _ tt fits.0,
+        (placed-section (faults.Pointer which said) said).from before _ tt fits.0,
         (
           count,
           number_fields 2 count,

@@ -1,25 +1,16 @@
 -- How many bytes the sections of a header take.
-use Rattle.std.proofs.Common.{◌≡◌, ℕ, ◌+◌, ◌*◌, ◌/◌, ◌%◌, ◌<◌, ◌≤◌, Bool, List, [], ◌∷◌, ◌++◌, length, refl, sym, ap, ◌∙◌, arith, length-append, ◌==◌}
-use Rattle.std.specs.List.{concat, flat_map}
+use Rattle.std.proofs.Common.{◌≡◌, ℕ, ◌+◌, ◌%◌, Bool, List, [], ◌∷◌, ◌++◌, length, refl, ap, ◌∙◌, arith, length-append, ◌==◌}
+use Rattle.std.specs.List.{flat_map}
 use Rattle.std.proofs.lemmas.List.{append-nil}
 use Rattle.std.proofs.lemmas.List.Concat.{flat_map-cons}
-use Rattle.std.proofs.lemmas.List.Folds.{concat-append}
-use Rattle.field_grammar.specs.Spelling.{listed_fields}
+use Rattle.field_grammar.specs.Spelling.{size_of, listed_fields}
 use Rattle.field_grammar.specs.Fields.{number_fields, padded_fields}
 use Rattle.field_grammar.proofs.Numbers.{length_number_bytes}
 use Rattle.field_grammar.proofs.Texts.{length_pad_bytes}
-use Rattle.load_header.specs.Header.{HeaderView, HardwareView, distance_of}
-use Rattle.load_header.specs.HeaderFields.{size_of, texts_fields, hardware_at_fields, positions_fields, file_body_fields, entry_fields, entry_fields_behind, files_fields, type_fields, user_fields, check_place}
+use Rattle.field_grammar.proofs.Sections.{size_more, size_number, size_padded}
+use Rattle.load_header.specs.Header.{HeaderView, HardwareView}
+use Rattle.load_header.specs.HeaderFields.{texts_fields, hardware_at_fields, positions_fields, file_body_fields, entry_fields, entry_fields_behind, files_fields, type_fields, user_fields, check_place}
 use Rattle.load_header.specs.declared.header.FileEntry.{FileEntry}
-
-pub size_more : (f g : List (List ℕ)) → size_of (f ++ g) ≡ size_of f + size_of g
-size_more f g = ap (λ (l : List ℕ). length l) (concat-append f g) ∙ length-append (concat f) (concat g)
-
-pub size_number : (n x : ℕ) → size_of (number_fields n x) ≡ n
-size_number n x = simp (append-nil, length_number_bytes) refl
-
-pub size_padded : (t : List ℕ) → size_of (padded_fields t) ≡ 2 + length t + length t % 2
-size_padded t = simp (length-append, append-nil, length_number_bytes, length_pad_bytes) (omega arith)
 
 even_all : {A : Type 0} (s : A → List (List ℕ)) → ((x : A) → size_of (s x) % 2 ≡ 0) → (xs : List A) → size_of (flat_map s xs) % 2 ≡ 0
 even_all s each [] = refl

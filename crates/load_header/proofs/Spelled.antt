@@ -1,20 +1,20 @@
 -- A header has one spelling.
-use Rattle.std.proofs.Common.{◌≡◌, ℕ, ◌+◌, ◌*◌, ◌/◌, ◌%◌, ◌<◌, ◌≤◌, ◌^◌, List, [], ◌∷◌, ◌++◌, length, refl, sym, ap, subst, ◌∙◌, arith, append_assoc}
+use Rattle.std.proofs.Common.{◌≡◌, ℕ, ◌+◌, ◌/◌, ◌%◌, ◌<◌, ◌≤◌, ◌^◌, List, [], ◌++◌, length, refl, sym, ap, subst, ◌∙◌, arith, append_assoc}
 use Rattle.std.specs.List.{concat}
 use Rattle.std.proofs.lemmas.Bool.{leb-true, le-leb}
 use Rattle.std.proofs.lemmas.List.{append-nil}
 use Rattle.std.proofs.lemmas.List.Folds.{concat-append}
 use Rattle.crc_fields.specs.CheckSums.{crc16_of}
 use Rattle.field_grammar.specs.Grammar.{Follows}
-use Rattle.field_grammar.specs.Spelling.{IsPlacedBy, SpellsWhole}
+use Rattle.field_grammar.specs.Spelling.{size_of, IsPlacedBy, SpellsWhole}
 use Rattle.field_grammar.specs.Fields.{number_fields, padded_fields}
-use Rattle.load_header.specs.Header.{HeaderView, HardwareView, limit, head, header}
-use Rattle.load_header.specs.HeaderFields.{size_of, texts_fields, positions_fields, files_fields, type_fields, user_fields, type_place, hardware_place, positions_place, data_place, support_place, user_place, check_place, header_size, pointers_of, head_fields, identity_fields, targets_fields, all_files_fields, sections_fields, covered_fields, header_fields, IsHeader}
-use Rattle.load_header.specs.declared.header.FileEntry.{FileEntry}
+use Rattle.field_grammar.proofs.Sections.{size_more, size_number, place_behind}
+use Rattle.load_header.specs.Header.{HeaderView, limit, head, header}
+use Rattle.load_header.specs.HeaderFields.{texts_fields, positions_fields, files_fields, type_fields, user_fields, type_place, hardware_place, positions_place, data_place, support_place, user_place, check_place, header_size, pointers_of, head_fields, identity_fields, targets_fields, all_files_fields, sections_fields, covered_fields, header_fields, IsHeader}
 use Rattle.load_header.specs.declared.reading.Pointers.{Pointers}
-use Rattle.load_header.proofs.Groups.{behind, Identity, identity_parts, IsIdentity, placed-identity, Targets, targets_parts, AreTargets, placed-targets, AllFiles, all_files_parts, AreFiles, placed-all_files, Tail, tail_parts, sums_parts, IsTail, IsUserData, placed-tail}
+use Rattle.load_header.proofs.Groups.{Identity, identity_parts, IsIdentity, placed-identity, Targets, targets_parts, AreTargets, placed-targets, AllFiles, all_files_parts, AreFiles, placed-all_files, Tail, tail_parts, sums_parts, IsTail, IsUserData, placed-tail}
 use Rattle.load_header.proofs.Heads.{Head, IsHead, ArePointers, size_head, head_to, head_from}
-use Rattle.load_header.proofs.Sizes.{size_more, size_number, size_user, even_place}
+use Rattle.load_header.proofs.Sizes.{size_user, even_place}
 
 placed-limit : IsPlacedBy limit (λ before u. []) (λ before after u. after ≤ 65536)
 unfolding limit
@@ -159,10 +159,10 @@ header_to fields after value follows =
     let is : HeaderView = made start what whom parts stop in
     let none : after ≡ 0 = omega (arith, a5.1.none) in
     let said : ℕ = 40 + (length (concat o1) + after) in
-    let s1 : length b1 ≡ 40 = omega (arith, behind [] f0 [] a0.0, behind b0 f1 (head_fields said start.0 start.1) a1.0, size_head said start.0 start.1) in
-    let s2 : length b2 ≡ hardware_place is = omega (arith, s1, behind b1 f2 (identity_parts what) a2.0, size_identity is) in
-    let s3 : length b3 ≡ data_place is = omega (arith, s2, behind b2 f3 (targets_parts whom) a3.0, size_targets is) in
-    let s4 : length b4 ≡ user_place is = omega (arith, s3, behind b3 f4 (all_files_parts parts) a4.0, size_files is) in
+    let s1 : length b1 ≡ 40 = omega (arith, place_behind [] f0 [] a0.0, place_behind b0 f1 (head_fields said start.0 start.1) a1.0, size_head said start.0 start.1) in
+    let s2 : length b2 ≡ hardware_place is = omega (arith, s1, place_behind b1 f2 (identity_parts what) a2.0, size_identity is) in
+    let s3 : length b3 ≡ data_place is = omega (arith, s2, place_behind b2 f3 (targets_parts whom) a3.0, size_targets is) in
+    let s4 : length b4 ≡ user_place is = omega (arith, s3, place_behind b3 f4 (all_files_parts parts) a4.0, size_files is) in
     let places : start.1 ≡ pointers_of is = same_pointers _ _ _ _ _ _ _ _ _ _ _ _ _ _ _ _
     (a2.1.part_place ∙ half (length b1) 40 s1)
     (a2.1.type_place ∙ half (length b1 + size_of (padded_fields what.0)) (type_place is) (omega (arith, s1)))
@@ -245,10 +245,10 @@ header_from value fits =
     let rest : List (List ℕ) = b ++ (c ++ (d ++ e)) in
     let after : ℕ = length (concat rest) + 0 in
     let start : Head = (value.flags, places) in
-    let s1 : length b1 ≡ 40 = omega (arith, behind ([] ++ []) a a refl, size_head size value.flags places) in
-    let s2 : length b2 ≡ hardware_place value = omega (arith, s1, behind b1 b b refl, size_identity value) in
-    let s3 : length b3 ≡ data_place value = omega (arith, s2, behind b2 c c refl, size_targets value) in
-    let s4 : length b4 ≡ user_place value = omega (arith, s3, behind b3 d d refl, size_files value) in
+    let s1 : length b1 ≡ 40 = omega (arith, place_behind ([] ++ []) a a refl, size_head size value.flags places) in
+    let s2 : length b2 ≡ hardware_place value = omega (arith, s1, place_behind b1 b b refl, size_identity value) in
+    let s3 : length b3 ≡ data_place value = omega (arith, s2, place_behind b2 c c refl, size_targets value) in
+    let s4 : length b4 ≡ user_place value = omega (arith, s3, place_behind b3 d d refl, size_files value) in
     let total : 40 + after ≡ size = omega (arith, size_rest value b4) in
     let whole : size_of (a ++ rest) ≡ size = omega (arith, size_more a rest, size_head size value.flags places, total) in
     let is_head : IsHead after start = record {

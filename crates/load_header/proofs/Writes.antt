@@ -1,41 +1,17 @@
 -- What the encoder has written, member by member.
-use Rattle.std.proofs.Common.{◌≡◌, ℕ, zero, suc, ◌+◌, ◌<◌, ◌≤◌, ◌^◌, List, [], ◌∷◌, ◌++◌, length, take, get_or, Bool, true, refl, sym, ap, subst, ◌∙◌, arith, append_assoc, ◌==◌}
+use Rattle.std.proofs.Common.{◌≡◌, ℕ, ◌<◌, ◌^◌, List, [], ◌∷◌, ◌++◌, length, true, refl, sym, ap, ◌∙◌, arith, append_assoc}
 use Rattle.std.specs.Prelude.{map}
 use Rattle.std.specs.List.{concat, flat_map, AllByRecursion}
-use Rattle.std.proofs.lemmas.List.{append-nil, take_more, take_all, length-take, length-map}
-use Rattle.std.proofs.lemmas.List.Concat.{flat_map-append, flat_map-cons}
+use Rattle.std.proofs.lemmas.List.{append-nil, length-map}
 use Rattle.std.proofs.lemmas.List.Folds.{concat-append}
 use Rattle.crc_fields.specs.CheckSums.{crc16_of}
-use Rattle.field_grammar.specs.Spelling.{listed_fields}
 use Rattle.field_grammar.specs.Fields.{number_bytes, number_fields}
-use Rattle.field_grammar.proofs.Listed.{listed_fields_more}
 use Rattle.load_header.specs.Header.{HeaderView, hardware_view}
-use Rattle.load_header.specs.HeaderFields.{hardware_at_fields, texts_fields, positions_fields, files_fields, user_fields, identity_fields, targets_fields, all_files_fields, sections_fields, head_fields, covered_fields, header_fields, header_size, pointers_of, pointers_by, whole_size, AreSizes, HasParts, IsHeader, fits, entry_fields, entry_fields_behind, entries_fields, kind_fields, IsKind, IsHardwareAt, IsFile}
-use Rattle.load_header.specs.declared.header.FileEntry.{FileEntry}
+use Rattle.load_header.specs.HeaderFields.{hardware_at_fields, texts_fields, positions_fields, files_fields, user_fields, identity_fields, targets_fields, all_files_fields, sections_fields, head_fields, covered_fields, header_fields, header_size, pointers_of, pointers_by, whole_size, AreSizes, HasParts, IsHeader, fits, kind_fields, IsKind, IsHardwareAt}
 use Rattle.load_header.specs.declared.header.HardwareAt.{HardwareAt}
 use Rattle.load_header.specs.declared.measuring.Sizes.{Sizes}
 use Rattle.load_header.specs.declared.reading.Pointers.{Pointers}
 use Rattle.load_header.proofs.Limits.{kinds_viewed, total_size, pointers_are, fits_short, fits_members, fits_files, few_kinds, few_together}
-
-pub written_more : {X : Type 0} (f : X → List (List ℕ)) (xs : List X) (i : ℕ) (d : X) → i < length xs
-    → concat (flat_map f (take (i + 1) xs)) ≡ concat (flat_map f (take i xs)) ++ concat (f (get_or xs i d))
-written_more f xs i d lt =
-    let one : flat_map f (get_or xs i d ∷ []) ≡ f (get_or xs i d) = flat_map-cons f (get_or xs i d) [] ∙ append-nil (f (get_or xs i d)) in
-    ap (λ (l : List _). concat (flat_map f l)) (take_more xs i d lt)
-    ∙ (ap (λ (l : List (List ℕ)). concat l) (flat_map-append f (take i xs) (get_or xs i d ∷ [])) ∙ (concat-append (flat_map f (take i xs)) (flat_map f (get_or xs i d ∷ [])) ∙ ap (λ (l : List (List ℕ)). concat (flat_map f (take i xs)) ++ concat l) one))
-
-all_append : {X : Type 0} (P : X → Type 0) (xs : List X) (x : X) → AllByRecursion P xs → P x → AllByRecursion P (xs ++ x ∷ [])
-all_append P [] x all is = (is, tt)
-all_append P (y ∷ xs) x all is = (all.0, all_append P xs x all.1 is)
-
-pub all_more : {X : Type 0} (P : X → Type 0) (xs : List X) (i : ℕ) (d : X) → i < length xs → AllByRecursion P (take i xs) → P (get_or xs i d) → AllByRecursion P (take (i + 1) xs)
-all_more P xs i d lt all is = rw (take_more xs i d lt) (all_append P (take i xs) (get_or xs i d) all is)
-
-pub all_taken : {X : Type 0} (P : X → Type 0) (xs : List X) (i : ℕ) → length xs ≤ i → AllByRecursion P (take i xs) → AllByRecursion P xs
-all_taken P xs i le all = rw (take_all i xs le) at all
-
-pub written_all : {X : Type 0} (f : X → List (List ℕ)) (xs : List X) (i : ℕ) (before now : List ℕ) → length xs ≤ i → now ≡ before ++ concat (flat_map f (take i xs)) → now ≡ before ++ concat (flat_map f xs)
-written_all f xs i before now le is = rw (take_all i xs le) at is
 
 pub kinds_all : (list : List HardwareAt) → AllByRecursion IsKind list → AllByRecursion IsHardwareAt (map hardware_view list)
 kinds_all [] all = tt
@@ -43,17 +19,6 @@ kinds_all (h ∷ list) all = (all.0, kinds_all list all.1)
 
 pub kinds_written : (list : List HardwareAt) → concat (flat_map kind_fields list) ≡ concat (flat_map hardware_at_fields (map hardware_view list))
 kinds_written list = ap (λ (l : List (List ℕ)). concat l) (kinds_viewed list)
-
-pub entries_more : (files : List FileEntry) (i : ℕ) (d : FileEntry) → i < length files
-    → concat (listed_fields (entry_fields_behind (length files)) [] (take (i + 1) files))
-    ≡ concat (listed_fields (entry_fields_behind (length files)) [] (take i files)) ++ concat (entry_fields (i + 1 == length files) (get_or files i d))
-entries_more files i d lt =
-    let s : List FileEntry → FileEntry → List (List ℕ) = entry_fields_behind (length files) in
-    let size : length (take i files) ≡ i = omega (arith, length-take i files) in
-    ap (λ (l : List FileEntry). concat (listed_fields s [] l)) (take_more files i d lt)
-    ∙ (ap (λ (l : List (List ℕ)). concat l) (listed_fields_more s [] (take i files) (get_or files i d))
-    ∙ (concat-append (listed_fields s [] (take i files)) (s (take i files) (get_or files i d))
-    ∙ ap (λ (n : ℕ). concat (listed_fields s [] (take i files)) ++ concat (entry_fields (n + 1 == length files) (get_or files i d))) size))
 
 pub positions_written : (list : List HardwareAt) (before middle now : List ℕ) → middle ≡ before ++ number_bytes 2 (length list) → now ≡ middle ++ concat (flat_map kind_fields list)
     → now ≡ before ++ concat (positions_fields (map hardware_view list))

@@ -1,11 +1,12 @@
 -- Load headers (docs/FORMATS.md).
 use Rattle.std.specs.Prelude.{ℕ, ◌+◌, ◌*◌, ◌/◌, List, [], length, map, nat_le, ◌==◌, Bool, ◌&&◌, if◌then◌else◌, Result}
 use Rattle.crc_fields.specs.CheckSums.{crc16_of}
-use Rattle.field_grammar.specs.Grammar.{Grammar, give, check, front, left, renamed, times, listed, expected, judged, sized, measured, ended, ◌>>=◌, ◌>>◌}
-use Rattle.field_grammar.specs.Fields.{raw, number, judged_padded}
+use Rattle.field_grammar.specs.Grammar.{Grammar, give, check, front, left, renamed, times, listed, expected, sized, measured, ended, ◌>>=◌, ◌>>◌}
+use Rattle.field_grammar.specs.Fields.{raw, number, judged_padded, section}
 use Rattle.field_grammar.specs.declared.fault.FieldFault.{FieldFault}
 use Rattle.field_grammar.specs.declared.fault.FieldFault.TheVariants as fields
-use Rattle.load_header.specs.Verdicts.{text_fault_of, name_fault_of, part_fault_of, verdict}
+use Rattle.load_base.specs.Verdicts.{text_fault_of, name_fault_of, verdict}
+use Rattle.part_number.specs.Verdicts.{part_fault_of}
 use Rattle.load_header.specs.declared.fault.HeaderFault.{HeaderFault}
 use Rattle.load_header.specs.declared.fault.HeaderFault.TheVariants as faults
 use Rattle.load_header.specs.declared.header.FileEntry.{FileEntry}
@@ -88,11 +89,9 @@ texts = do
   count ← u16
   times count text
 
--- the place where a section begins is what its pointer says, in words
-unfoldable pub section : ℕ → ℕ → Grammar HeaderFault (Unit {0})
-section which said = do
-  before ← front
-  check (said == length before / 2) (faults.Pointer which said (length before / 2))
+-- a section begins where pointer `which` says
+abbrev pub section_at : ℕ → ℕ → Grammar HeaderFault (Unit {0})
+section_at which said = section (faults.Pointer which said) said
 
 -- ---- the head
 
@@ -126,9 +125,9 @@ head = do
 -- the part number, the name of the type and its number
 unfoldable pub identity : Pointers → Grammar HeaderFault (List ℕ × List ℕ × ℕ)
 identity places = do
-  section 1 places.part
+  section_at 1 places.part
   number ← part
-  section 2 places.type_name
+  section_at 2 places.type_name
   type_name ← text
   id ← u16
   give (number, type_name, id)
@@ -149,9 +148,9 @@ positions = do
 -- the hardware that the load is for, and its positions
 unfoldable pub targets : Pointers → Grammar HeaderFault (List (List ℕ) × List HardwareView)
 targets places = do
-  section 3 places.hardware
+  section_at 3 places.hardware
   hardware ← texts
-  section 4 places.positions
+  section_at 4 places.positions
   at ← positions
   give (hardware, at)
 
@@ -193,7 +192,7 @@ entry_behind others count so_far = file_entry (others + length so_far + 1) (leng
 -- the section of a list of files that follows so many other files: a count and the entries
 unfoldable pub files : ℕ → ℕ → ℕ → Grammar HeaderFault (List FileEntry)
 files which said others = do
-  section which said
+  section_at which said
   count ← u16
   check (nat_le (others + count) 255) (faults.TooMany (others + count))
   listed count (entry_behind others count) []
@@ -210,14 +209,14 @@ all_files places = do
 -- the user data, behind its length in words
 unfoldable pub user_data : ℕ → Grammar HeaderFault (List ℕ)
 user_data said = do
-  section 7 said
+  section_at 7 said
   words ← u16
   renamed named (raw (2 * words))
 
 -- the length of the check value, of which there is none
 unfoldable pub no_check_value : ℕ → Grammar HeaderFault (Unit {0})
 no_check_value said = do
-  section 8 said
+  section_at 8 said
   size ← u16
   check (size == 0) faults.CheckValuePresent
 

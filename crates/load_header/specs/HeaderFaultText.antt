@@ -1,6 +1,6 @@
 -- How a header's faults are printed (docs/FORMATS.md).
 use Rattle.std.specs.Prelude.{ℕ, List, [], ◌∷◌, codes}
-use Rattle.load_header.specs.FaultTexts.{coded, with_nested, name_fault_text, text_fault_text, part_fault_text}
+use Rattle.fault_texts.specs.FaultTexts.{coded, with_nested, name_fault_text, text_fault_text, part_fault_text}
 use Rattle.load_header.specs.declared.fault.HeaderFault.{HeaderFault}
 use Rattle.load_header.specs.declared.fault.HeaderFault.TheVariants.{Short, Length, Version, Pointer, Pad, Part, CheckValuePresent, Distance, Sizes, HeaderCrc, TooLong, Name, Text, TooMany, Rest, Memory}
 

@@ -6,17 +6,13 @@ use Rattle.load_base.specs.Name.{IsName}
 use Rattle.load_base.specs.Text.{IsText}
 use Rattle.part_number.specs.PartNumber.{IsPartNumberText}
 use Rattle.field_grammar.specs.Grammar.{IsBytes}
-use Rattle.field_grammar.specs.Spelling.{listed_fields}
+use Rattle.field_grammar.specs.Spelling.{size_of, with_last, listed_fields}
 use Rattle.field_grammar.specs.Fields.{number_fields, padded_fields}
 use Rattle.load_header.specs.Header.{HeaderView, HardwareView, hardware_view, distance_of}
 use Rattle.load_header.specs.declared.header.FileEntry.{FileEntry}
 use Rattle.load_header.specs.declared.header.HardwareAt.{HardwareAt}
 use Rattle.load_header.specs.declared.reading.Pointers.{Pointers}
 use Rattle.load_header.specs.declared.measuring.Sizes.{Sizes}
-
--- how many bytes fields take
-abbrev pub size_of : List (List ℕ) → ℕ
-size_of fields = length (concat fields)
 
 -- ---- the sections
 
@@ -43,7 +39,7 @@ entry_fields last file = number_fields 2 (distance_of last (2 + size_of (file_bo
 
 -- the entry behind those so far, in a list of so many
 abbrev pub entry_fields_behind : ℕ → List FileEntry → FileEntry → List (List ℕ)
-entry_fields_behind count so_far file = entry_fields (length so_far + 1 == count) file
+entry_fields_behind count so_far file = with_last entry_fields count so_far file
 
 -- a count, and the entries
 unfoldable pub files_fields : List FileEntry → List (List ℕ)

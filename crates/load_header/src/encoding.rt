@@ -141,7 +141,7 @@ fn put_sections(out: &mut Writer, header: &LoadHeader) -> Result<(), NoMemory>
     Ok(())
 }
 
-#[tactic(auto, using(crate::proofs::Texts::part_size), unfolding(crate::specs::HeaderFields::identity_fields, crate::specs::HeaderFields::type_fields))]
+#[tactic(auto, using(part_number::specs::VerdictLaws::part_size), unfolding(crate::specs::HeaderFields::identity_fields, crate::specs::HeaderFields::type_fields))]
 fn put_identity(out: &mut Writer, header: &LoadHeader) -> Result<(), NoMemory>
     ensures fields { OnOk result (out.new ≡ out.old ++ concat (identity_fields (header_view header.now))) }
     ensures part { IsPartNumberText header.now.part }

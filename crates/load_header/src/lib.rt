@@ -4,7 +4,6 @@
 
 mod encoding;
 mod fault;
-pub mod fault_texts;
 mod header;
 mod laws;
 mod load_crc;

@@ -3,7 +3,8 @@ ghost use Rattle.std.specs.Prelude.{◌≡◌, ◌+◌, ◌*◌, ◌%◌, ◌<�
 ghost use Rattle.std.specs.List.{list_all};
 ghost use Rattle.field_grammar.specs.Fields.{padded_fields};
 ghost use Rattle.load_header.specs.Header.{hardware_view, header_view};
-ghost use Rattle.load_header.specs.HeaderFields.{size_of, file_body_fields, hardware_at_fields, texts_fields, positions_fields, files_fields, type_fields, user_fields, few_positions, has_size as has_file_size, few_members as few_members_of, few_files as few_files_of, short_enough, header_size as size_of_header, fits as fits_limits, AreSizes, AreSmall};
+ghost use Rattle.field_grammar.specs.Spelling.{size_of};
+ghost use Rattle.load_header.specs.HeaderFields.{file_body_fields, hardware_at_fields, texts_fields, positions_fields, files_fields, type_fields, user_fields, few_positions, has_size as has_file_size, few_members as few_members_of, few_files as few_files_of, short_enough, header_size as size_of_header, fits as fits_limits, AreSizes, AreSmall};
 
 use crate::header::{FileEntry, HardwareAt, LoadHeader};
 use crate::reading::{LONGEST_FILE, LONGEST_HEADER, MOST_FILES};
@@ -144,7 +145,7 @@ fn padded_size(length: usize) -> u64
     2 + length + length % 2
 }
 
-#[tactic(auto, using(crate::proofs::Sizes::size_padded))]
+#[tactic(auto, using(field_grammar::proofs::Sections::size_padded))]
 fn text_size(text: &Text) -> u64
     ensures size { result ≡ size_of (padded_fields text.now) }
     ensures small { result ≤ 258 }

@@ -3,7 +3,7 @@ ghost use Rattle.std.specs.Prelude.{◌≡◌, IfOk};
 ghost use Rattle.load_header.specs.HeaderFaultText.{header_fault_text};
 
 use crate::fault::HeaderFault;
-use crate::fault_texts::{coded, name_fault_text, part_fault_text, text_fault_text, with_nested};
+use fault_texts::{coded, name_fault_text, part_fault_text, text_fault_text, with_nested};
 use load_base::{Bytes, NoMemory};
 use std::alloc::Global;
 

@@ -2,7 +2,7 @@
 ghost use Rattle.std.specs.Prelude.{◌≡◌, [], ◌*◌, ◌/◌, ◌+◌, ◌==◌, ◌≤◌, ◌<◌, length, map, IfOk};
 ghost use Rattle.field_grammar.specs.Grammar.{times, listed};
 ghost use Rattle.field_grammar.specs.Answers.{answer, Decodes, Gives};
-ghost use Rattle.load_header.specs.Header.{text, name, part, texts, section, four, pointers, head, identity, hardware_at, positions, targets, file_size, file_body, file_entry, entry_behind, files, all_files, user_data, no_check_value, check_sums, tail, limit, header, hardware_view, header_view};
+ghost use Rattle.load_header.specs.Header.{text, name, part, texts, section_at, four, pointers, head, identity, hardware_at, positions, targets, file_size, file_body, file_entry, entry_behind, files, all_files, user_data, no_check_value, check_sums, tail, limit, header, hardware_view, header_view};
 ghost use Rattle.load_header.specs.declared.fault.HeaderFault.TheVariants.{Memory};
 
 use crate::fault::HeaderFault;
@@ -123,9 +123,9 @@ fn read_four(reader: &mut Reader) -> Result<(u32, u32, u32, u32), HeaderFault>
 }
 
 // The section begins where its pointer says.
-#[tactic(auto, unfolding(crate::specs::Header::section))]
+#[tactic(auto, unfolding(field_grammar::specs::Fields::section))]
 fn test_section(reader: &mut Reader, which: u64, said: u32) -> Result<(), HeaderFault>
-    ensures { Decodes Memory (λ u. u) (section which said) reader.old result reader.new }
+    ensures { Decodes Memory (λ u. u) (section_at which said) reader.old result reader.new }
 {
     let said = u64::from(said);
     let expected = reader.place() as u64 / 2;

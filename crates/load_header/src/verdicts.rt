@@ -11,6 +11,7 @@ use part_number::PartNumber;
 use std::alloc::Global;
 
 // The text that these bytes are, or the fault of the text whose bytes stand at this place.
+#[tactic(auto, using(load_base::specs::VerdictLaws::read_judged, load_base::specs::VerdictLaws::refused_judged))]
 pub(crate) fn text_of(alloc: Global, bytes: &[u8], place: u64) -> Result<Text, HeaderFault>
     ensures { Gives Memory (λ t. t) result (text_verdict place bytes.now) }
 {
@@ -31,6 +32,7 @@ fn text_refused(fault: TextFault, place: u64) -> HeaderFault
 }
 
 // The name that these bytes are, or the fault of the name whose bytes stand at this place.
+#[tactic(auto, using(load_base::specs::VerdictLaws::read_judged, load_base::specs::VerdictLaws::refused_judged))]
 pub(crate) fn name_of(bytes: &[u8], place: u64) -> Result<Name, HeaderFault>
     ensures { Gives Memory (λ t. t) result (name_verdict place bytes.now) }
 {
@@ -41,6 +43,7 @@ pub(crate) fn name_of(bytes: &[u8], place: u64) -> Result<Name, HeaderFault>
 }
 
 // The part number that these bytes are, or the fault that they make.
+#[tactic(auto, using(load_base::specs::VerdictLaws::read_judged, load_base::specs::VerdictLaws::refused_judged))]
 pub(crate) fn part_of(bytes: &[u8]) -> Result<PartNumber, HeaderFault>
     ensures { Gives Memory (λ t. t) result (part_verdict bytes.now) }
 {

@@ -4,7 +4,8 @@ ghost use Rattle.std.specs.List.{concat, list_all, flat_map, AllByRecursion};
 ghost use Rattle.load_base.specs.Text.{IsText};
 ghost use Rattle.field_grammar.specs.Fields.{number_bytes, padded_fields};
 ghost use Rattle.load_header.specs.Header.{hardware_view, distance_of};
-ghost use Rattle.load_header.specs.HeaderFields.{size_of, texts_fields, positions_fields, file_body_fields, entry_fields, entries_fields, files_fields, kind_fields, few_positions, has_size, AreTexts, IsFile, IsKind, IsHardwareAt};
+ghost use Rattle.field_grammar.specs.Spelling.{size_of};
+ghost use Rattle.load_header.specs.HeaderFields.{texts_fields, positions_fields, file_body_fields, entry_fields, entries_fields, files_fields, kind_fields, few_positions, has_size, AreTexts, IsFile, IsKind, IsHardwareAt};
 
 use crate::header::{FileEntry, HardwareAt};
 use crate::measuring::entry_size;

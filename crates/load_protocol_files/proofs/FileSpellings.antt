@@ -16,7 +16,8 @@ use Rattle.load_protocol_files.specs.Faults.{named}
 use Rattle.load_protocol_files.specs.declared.fault.FileFault.{FileFault}
 use Rattle.load_protocol_files.specs.declared.fault.FileFault.TheVariants as faults
 use Rattle.load_protocol_files.specs.Pieces.{u16, u16_fields}
-use Rattle.load_protocol_files.specs.Files.{head, tail, file, file_fields, FileSpells, HasOneSpelling}
+use Rattle.field_grammar.specs.OneSpelling.{HasOneSpelling}
+use Rattle.load_protocol_files.specs.Files.{head, tail, file, file_fields, FileSpells}
 use Rattle.load_protocol_files.proofs.PieceSpellings.{spelled-u16}
 
 -- ---- the head and the tail

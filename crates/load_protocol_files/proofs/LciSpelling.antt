@@ -3,12 +3,12 @@ use Rattle.std.proofs.Common.{ℕ, ◌<◌, ◌^◌, List, ◌++◌, refl}
 use Rattle.field_grammar.specs.Grammar.{pair}
 use Rattle.field_grammar.specs.Fields.{short_fields}
 use Rattle.field_grammar.specs.Spelling.{IsSpelledBy}
-use Rattle.field_grammar.proofs.Combined.{spelled-pair, spelled-mapped}
+use Rattle.field_grammar.proofs.Combined.{spelled-as, spelled-pair, spelled-mapped}
 use Rattle.load_base.specs.Text.{IsText}
 use Rattle.load_protocol_files.specs.declared.lci.Lci.{Lci}
 use Rattle.load_protocol_files.specs.Pieces.{u16, text, u16_fields}
 use Rattle.load_protocol_files.specs.Lci.{to_lci, lci_body, lci_fields, LciFits}
-use Rattle.load_protocol_files.proofs.PieceSpellings.{spelled-as, spelled-u16, spelled-text}
+use Rattle.load_protocol_files.proofs.PieceSpellings.{spelled-u16, spelled-text}
 
 from_lci : Lci → ℕ × List ℕ
 from_lci v = (v.status, v.description)

@@ -6,14 +6,14 @@ use Rattle.std.proofs.lemmas.List.Elements.{All-map}
 use Rattle.field_grammar.specs.Grammar.{pair}
 use Rattle.field_grammar.specs.Fields.{short_fields}
 use Rattle.field_grammar.specs.Spelling.{IsSpelledBy}
-use Rattle.field_grammar.proofs.Combined.{spelled-pair, spelled-mapped}
+use Rattle.field_grammar.proofs.Combined.{spelled-as, spelled-pair, spelled-mapped}
 use Rattle.load_base.specs.Text.{IsText}
 use Rattle.load_protocol_files.specs.declared.lcl.Hardware.{Hardware}
 use Rattle.load_protocol_files.specs.declared.lcl.Part.{Part}
 use Rattle.load_protocol_files.specs.declared.lcl.Lcl.{Lcl}
 use Rattle.load_protocol_files.specs.Pieces.{text, counted}
 use Rattle.load_protocol_files.specs.Lcl.{to_part, installed, installed_fields, InstalledFits, HardwareView, hardware_view, to_hardware, hardware, hardware_fields, HardwareFits, LclView, lcl_view, to_lcl, lcl_body, lcl_fields, LclFits}
-use Rattle.load_protocol_files.proofs.PieceSpellings.{spelled-as, spelled-text, spelled-counted_list}
+use Rattle.load_protocol_files.proofs.PieceSpellings.{spelled-text, spelled-counted_list}
 
 from_part : Part → List ℕ × (List ℕ × List ℕ)
 from_part v = (v.number, (v.amendment, v.designation))

@@ -3,12 +3,12 @@ use Rattle.std.proofs.Common.{◌<◌, ◌^◌, refl}
 use Rattle.field_grammar.specs.Grammar.{pair}
 use Rattle.field_grammar.specs.Fields.{short_fields}
 use Rattle.field_grammar.specs.Spelling.{IsSpelledBy}
-use Rattle.field_grammar.proofs.Combined.{spelled-pair, spelled-mapped}
+use Rattle.field_grammar.proofs.Combined.{spelled-as, spelled-pair, spelled-mapped}
 use Rattle.load_base.specs.Text.{IsText}
 use Rattle.load_protocol_files.specs.declared.lcs.Lcs.{Lcs}
 use Rattle.load_protocol_files.specs.Pieces.{u16, text, u16_fields}
 use Rattle.load_protocol_files.specs.Lcs.{LcsParts, lcs_parts, to_lcs, lcs_body, lcs_fields, LcsFits}
-use Rattle.load_protocol_files.proofs.PieceSpellings.{spelled-as, spelled-u16, spelled-text}
+use Rattle.load_protocol_files.proofs.PieceSpellings.{spelled-u16, spelled-text}
 
 from_lcs : Lcs → LcsParts
 from_lcs v = (v.counter, (v.status, (v.exception, (v.estimated, v.description))))

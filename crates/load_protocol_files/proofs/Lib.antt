@@ -2,10 +2,8 @@ pub mod FileSpellings
 pub mod LciSpelling
 pub mod PieceSpellings
 pub mod SmallFiles
-pub mod Verdicts
 pub mod LcsSpelling
 pub mod LuiSpelling
 pub mod LurSpelling
-pub mod Lists
 pub mod LusSpelling
 pub mod LclSpelling

@@ -4,18 +4,19 @@ use Rattle.std.specs.List.{All, concat, flat_map}
 use Rattle.std.proofs.lemmas.List.{length-append}
 use Rattle.std.proofs.lemmas.List.Folds.{concat-append}
 use Rattle.field_grammar.proofs.Numbers.{length_number_bytes}
-use Rattle.load_protocol_files.proofs.Lists.{at_most_each, short_size}
-use Rattle.load_protocol_files.proofs.Verdicts.{size_of_part_text}
+use Rattle.field_grammar.proofs.Written.{at_most_each}
+use Rattle.field_grammar.proofs.Sections.{size_short}
+use Rattle.part_number.specs.VerdictLaws.{part_size}
 use Rattle.field_grammar.specs.Grammar.{pair}
 use Rattle.field_grammar.specs.Fields.{short_fields}
 use Rattle.field_grammar.specs.Spelling.{IsSpelledBy}
-use Rattle.field_grammar.proofs.Combined.{spelled-pair, spelled-mapped}
+use Rattle.field_grammar.proofs.Combined.{spelled-as, spelled-pair, spelled-mapped}
 use Rattle.load_base.specs.Name.{IsName}
 use Rattle.part_number.specs.PartNumber.{IsPartNumberText}
 use Rattle.load_protocol_files.specs.declared.lur.Wanted.{Wanted}
 use Rattle.load_protocol_files.specs.Pieces.{name, part, counted, counted_fields}
 use Rattle.load_protocol_files.specs.Lur.{to_wanted, wanted, wanted_fields, WantedFits, LurView, to_lur, lur_body, lur_fields, LurFits}
-use Rattle.load_protocol_files.proofs.PieceSpellings.{spelled-as, spelled-name, spelled-part, spelled-counted_list}
+use Rattle.load_protocol_files.proofs.PieceSpellings.{spelled-name, spelled-part, spelled-counted_list}
 
 from_wanted : Wanted → List ℕ × List ℕ
 from_wanted v = (v.header, v.part)
@@ -42,7 +43,7 @@ spelled-lur =
 
 wanted_size : (v : Wanted) → WantedFits v → length (concat (wanted_fields v)) ≤ 81
 wanted_size v fits =
-    rw (concat-append, length-append, short_size v.header, short_size v.part) (omega (arith, fits.header.size.1, size_of_part_text v.part fits.part))
+    rw (concat-append, length-append, size_short v.header, size_short v.part) (omega (arith, fits.header.size.1, part_size v.part fits.part))
 
 -- it always fits the four bytes of its length
 pub lur_is_small : (v : LurView) (body : List ℕ) → body ≡ concat (lur_fields v) → LurFits v → 6 + length body < 2 ^ 32

@@ -5,7 +5,7 @@ use Rattle.std.proofs.lemmas.List.{length-append}
 use Rattle.field_grammar.specs.Grammar.{pair}
 use Rattle.field_grammar.specs.Fields.{short_fields}
 use Rattle.field_grammar.specs.Spelling.{IsSpelledBy}
-use Rattle.field_grammar.proofs.Combined.{spelled-pair, spelled-mapped}
+use Rattle.field_grammar.proofs.Combined.{spelled-as, spelled-pair, spelled-mapped}
 use Rattle.field_grammar.proofs.Numbers.{length_number_bytes}
 use Rattle.load_base.specs.Name.{IsName}
 use Rattle.load_base.specs.Text.{IsText}
@@ -13,9 +13,9 @@ use Rattle.part_number.specs.PartNumber.{IsPartNumberText}
 use Rattle.load_protocol_files.specs.declared.lus.LoadStatus.{LoadStatus}
 use Rattle.load_protocol_files.specs.Pieces.{u16, text, name, part, ratio, counted, u16_fields, ratio_digits, ratio_fields, counted_fields}
 use Rattle.load_protocol_files.specs.Lus.{LoadParts, load_parts, to_load_status, load_status, load_status_fields, LoadStatusFits, LusView, LusParts, lus_parts, progress, to_lus, lus_body, lus_fields, counts_fields, progress_fields, LusFits}
-use Rattle.load_protocol_files.proofs.PieceSpellings.{spelled-as, spelled-u16, spelled-text, spelled-name, spelled-part, spelled-ratio, spelled-counted_list}
-use Rattle.load_protocol_files.proofs.Lists.{at_most_each}
-use Rattle.load_protocol_files.proofs.Verdicts.{size_of_part_text}
+use Rattle.load_protocol_files.proofs.PieceSpellings.{spelled-u16, spelled-text, spelled-name, spelled-part, spelled-ratio, spelled-counted_list}
+use Rattle.field_grammar.proofs.Written.{at_most_each}
+use Rattle.part_number.specs.VerdictLaws.{part_size}
 
 from_load_status : LoadStatus → LoadParts
 from_load_status v = (v.header, (v.part, (v.ratio, (v.status, v.description))))
@@ -71,7 +71,7 @@ spelled-lus =
 load_status_size : (v : LoadStatus) → LoadStatusFits v → length (concat (load_status_fields v)) ≤ 342
 unfolding ratio_digits
 load_status_size v fits =
-    simp (length-append, length_number_bytes) (omega (arith, fits.header.size.1, size_of_part_text v.part fits.part, fits.description.size))
+    simp (length-append, length_number_bytes) (omega (arith, fits.header.size.1, part_size v.part fits.part, fits.description.size))
 
 -- it always fits the four bytes of its length
 pub lus_is_small : (v : LusView) (body : List ℕ) → body ≡ concat (lus_fields v) → LusFits v → 6 + length body < 2 ^ 32

@@ -1,88 +1,43 @@
 -- How the pieces of protocol files are spelled.
-use Rattle.std.proofs.Common.{◌≡◌, ℕ, zero, suc, ◌+◌, ◌/◌, ◌%◌, ◌<◌, ◌≤◌, ◌^◌, List, [], ◌∷◌, ◌++◌, length, Option, Some, None, Ok, Bool, true, false, ◌&&◌, refl, ap, subst, ◌∙◌, arith}
+use Rattle.std.proofs.Common.{◌≡◌, ℕ, zero, suc, ◌+◌, ◌/◌, ◌%◌, ◌<◌, ◌≤◌, ◌^◌, List, [], ◌∷◌, ◌++◌, length, Bool, true, false, ◌&&◌, refl, ap, subst, ◌∙◌, arith}
 use Rattle.std.specs.Prelude.{nat_le}
-use Rattle.std.specs.List.{concat, flat_map, All, AllByRecursion}
-use Rattle.std.proofs.lemmas.List.Elements.{All-from_recursion, recursion_from_All}
+use Rattle.std.specs.List.{concat, All}
 use Rattle.std.proofs.lemmas.Bool.Decides.{nat_tests}
 use Rattle.field_grammar.specs.Grammar.{Grammar, IsBytes}
-use Rattle.field_grammar.specs.Fields.{number, number_fields, short_fields, judged_short}
+use Rattle.field_grammar.specs.Fields.{number, number_fields, short_fields}
 use Rattle.field_grammar.specs.Spelling.{IsSpelledBy}
 use Rattle.field_grammar.proofs.Numbers.{wide2, spelled-number, spelled-raw}
-use Rattle.field_grammar.proofs.Texts.{Judges, spelled-judged_short}
-use Rattle.field_grammar.proofs.Combined.{spelled-renamed, spelled-counted}
+use Rattle.field_grammar.proofs.Judged.{spelled-right_short}
+use Rattle.field_grammar.proofs.Combined.{spelled-renamed, spelled-counted_all}
 use Rattle.load_base.specs.Text.{IsText}
-use Rattle.load_base.specs.Name.{IsName}
-use Rattle.part_number.specs.PartNumber.{IsPartNumberText}
-use Rattle.part_number.proofs.Places.{of_each}
+use Rattle.load_base.specs.Name.{IsName, IsNameFault}
+use Rattle.load_base.specs.Verdicts.{name_fault_of, text_fault_of}
+use Rattle.load_base.specs.VerdictLaws.{name_faults, text_faults}
+use Rattle.part_number.specs.PartNumber.{IsPartNumberText, IsPartFault}
+use Rattle.load_base.specs.Cases.{of_each}
+use Rattle.part_number.specs.Verdicts.{part_fault_of}
+use Rattle.part_number.specs.VerdictLaws.{part_faults, part_size}
 use Rattle.load_protocol_files.specs.Faults.{named}
 use Rattle.load_protocol_files.specs.declared.fault.FileFault.{FileFault}
 use Rattle.load_protocol_files.specs.declared.fault.FileFault.TheVariants as faults
-use Rattle.load_protocol_files.specs.Verdicts.{verdict, text_wrong, name_wrong, part_wrong}
-use Rattle.load_protocol_files.specs.Pieces.{u16, text, name, part, ratio, text_verdict, name_verdict, part_verdict, is_digit, is_ratio, ratio_value, u16_fields, ratio_digits, ratio_fields, counted, counted_fields}
-use Rattle.load_protocol_files.proofs.Verdicts.{is_text, is_name, is_part, bytes_of_text, bytes_of_name, bytes_of_part, text_passes, name_passes, part_passes, length_of_part}
-
--- another way to say which values fit
-pub spelled-as : {F A : Type 0} (g : Grammar F A) (s : A → List (List ℕ)) (P Q : A → Type 0) → ((x : A) → P x → Q x) → ((x : A) → Q x → P x) → IsSpelledBy g s P → IsSpelledBy g s Q
-spelled-as g s P Q there back one = record {
-  to = λ before fields after value follows.
-      let a = one.to before fields after value follows in
-      (a.0, there value a.1);
-  from = λ before after value fits. one.from before after value (back value fits);
-}
+use Rattle.load_protocol_files.specs.Pieces.{u16, text, name, part, ratio, is_digit, is_ratio, ratio_value, u16_fields, ratio_digits, ratio_fields, counted, counted_fields}
 
 pub spelled-u16 : IsSpelledBy u16 u16_fields (λ n. n < 2 ^ 16)
 spelled-u16 = spelled-renamed named (number 2) (number_fields 2) (λ n. n < 2 ^ 16) (spelled-number 2 wide2)
 
 -- ---- texts
 
-abbrev same : List ℕ → List ℕ
-same text = text
-
-verdict_is : {E : Type 0} (wrong : E → FileFault) (bytes value : List ℕ) (o : Option E) → verdict wrong bytes o ≡ Ok value → (o ≡ None) × (bytes ≡ value)
-verdict_is wrong bytes value None e = (refl, cc)
-verdict_is wrong bytes value (Some fault) e = absurd cc
-
-text_judges : Judges text_verdict same IsText
-text_judges = record {
-  there = λ place bytes value fit e.
-      let a = verdict_is (faults.Text place) bytes value (text_wrong bytes) e in
-      (a.1, subst IsText a.1 (is_text bytes a.0));
-  again = λ place value is. (bytes_of_text value is, text_passes place value is);
-}
-
-name_judges : Judges name_verdict same IsName
-name_judges = record {
-  there = λ place bytes value fit e.
-      let a = verdict_is (faults.Name place) bytes value (name_wrong bytes) e in
-      (a.1, subst IsName a.1 (is_name bytes a.0));
-  again = λ place value is. (bytes_of_name value is, name_passes place value is);
-}
-
-part_judges : Judges part_verdict same IsPartNumberText
-part_judges = record {
-  there = λ place bytes value fit e.
-      let a = verdict_is (faults.Part place) bytes value (part_wrong bytes) e in
-      (a.1, subst (λ (t : List ℕ). IsPartNumberText t) a.1 (is_part bytes a.0));
-  again = λ place value is. (bytes_of_part value is, part_passes place value is);
-}
-
 pub spelled-text : IsSpelledBy text short_fields IsText
 unfolding text
-spelled-text =
-    spelled-as (judged_short named text_verdict) short_fields (λ t. (length t < 2 ^ 8) × IsText t) IsText (λ t both. both.1) (λ t is. (omega (arith, is.size), is))
-    (spelled-judged_short named text_verdict same IsText text_judges)
+spelled-text = spelled-right_short named faults.Text text_fault_of IsText _ text_faults (λ t is. omega (arith, is.size))
 
 pub spelled-name : IsSpelledBy name short_fields IsName
 unfolding name
-spelled-name =
-    spelled-as (judged_short named name_verdict) short_fields (λ t. (length t < 2 ^ 8) × IsName t) IsName (λ t both. both.1) (λ t is. (omega (arith, is.size.1), is))
-    (spelled-judged_short named name_verdict same IsName name_judges)
+spelled-name = spelled-right_short named faults.Name name_fault_of IsName IsNameFault name_faults (λ t is. omega (arith, is.size.1))
 
 pub spelled-part : IsSpelledBy part short_fields (λ t. IsPartNumberText t)
 unfolding part
-spelled-part =
-    spelled-as (judged_short named part_verdict) short_fields (λ t. (length t < 2 ^ 8) × IsPartNumberText t) (λ t. IsPartNumberText t) (λ t both. both.1) (λ t is. (length_of_part t is, is))
-    (spelled-judged_short named part_verdict same (λ t. IsPartNumberText t) part_judges)
+spelled-part = spelled-right_short named faults.Part part_fault_of (λ t. IsPartNumberText t) IsPartFault part_faults (λ t is. omega (arith, part_size t is))
 
 -- ---- ratios
 
@@ -183,7 +138,4 @@ spelled-ratio = record {
 pub spelled-counted_list : {A : Type 0} (item : Grammar FileFault A) (s : A → List (List ℕ)) (P : A → Type 0) → IsSpelledBy item s P
     → IsSpelledBy (counted item) (counted_fields s) (λ items. (length items < 2 ^ 16) × All P items)
 unfolding counted_fields
-spelled-counted_list item s P one =
-    spelled-as (counted item) (λ items. u16_fields (length items) ++ flat_map s items) (λ items. (length items < 2 ^ 16) × AllByRecursion P items) (λ items. (length items < 2 ^ 16) × All P items)
-    (λ items both. (both.0, All-from_recursion P items both.1)) (λ items both. (both.0, recursion_from_All P items both.1))
-    (spelled-counted u16 item u16_fields s (λ n. n < 2 ^ 16) P spelled-u16 one)
+spelled-counted_list item s P one = spelled-counted_all u16 item u16_fields s (λ n. n < 2 ^ 16) P spelled-u16 one

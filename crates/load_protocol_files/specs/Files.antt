@@ -1,8 +1,7 @@
 -- What all protocol files have about their fields (docs/FORMATS.md).
-use Rattle.std.specs.Prelude.{◌≡◌, ℕ, ◌+◌, ◌<◌, ◌^◌, List, ◌∷◌, ◌++◌, length, Ok}
+use Rattle.std.specs.Prelude.{◌≡◌, ℕ, ◌+◌, ◌<◌, ◌^◌, List, ◌∷◌, ◌++◌, length}
 use Rattle.std.specs.List.{concat}
-use Rattle.field_grammar.specs.Grammar.{Grammar, give, renamed, sized, expected, ended, Fault, ◌>>=◌, ◌>>◌}
-use Rattle.field_grammar.specs.Answers.{answer}
+use Rattle.field_grammar.specs.Grammar.{Grammar, give, renamed, sized, expected, ended, ◌>>=◌, ◌>>◌}
 use Rattle.field_grammar.specs.Fields.{number, number_bytes}
 use Rattle.load_protocol_files.specs.declared.fault.FileFault.{FileFault}
 use Rattle.load_protocol_files.specs.declared.fault.FileFault.TheVariants as faults
@@ -40,11 +39,3 @@ pub record IsFileOf (body bytes : List ℕ) : Type 0 where
 -- the value fits, and the bytes are the file of its fields
 abbrev pub FileSpells : {A : Type 0} → (A → List (List ℕ)) → (A → Type 0) → A → List ℕ → Type 0
 FileSpells fields Fits value bytes = Fits value × IsFileOf (concat (fields value)) bytes
-
--- A value has one spelling, bytes spell one value, and they are read as that value. Nothing that is
--- spelled has a fault.
-pub record HasOneSpelling {A : Type 0} (g : Grammar FileFault A) (Spells : A → List ℕ → Type 0) : Type 0 where
-  pub one_spelling : (value : A) (bytes others : List ℕ) → Spells value bytes → Spells value others → bytes ≡ others
-  pub one_value : (value other : A) (bytes : List ℕ) → Spells value bytes → Spells other bytes → value ≡ other
-  pub read_again : (value : A) (bytes : List ℕ) → Spells value bytes → answer g bytes ≡ Ok value
-  pub no_fault : (value : A) (bytes : List ℕ) (fault : FileFault) → Spells value bytes → ¬ Fault g bytes fault

@@ -1,5 +1,4 @@
 pub mod Faults
-pub mod Verdicts
 pub mod Pieces
 pub mod Files
 pub mod Lci
@@ -9,4 +8,3 @@ pub mod Lur
 pub mod Lus
 pub mod Lcl
 pub mod FaultTexts
-pub mod NestedFaultTexts

@@ -3,10 +3,11 @@ use Rattle.std.specs.List.{flat_map}
 use Rattle.std.specs.Prelude.{ℕ, ◌+◌, ◌-◌, ◌*◌, ◌/◌, ◌%◌, List, [], ◌∷◌, ◌++◌, length, slice_index, Bool, nat_le, ◌&&◌, Result}
 use Rattle.field_grammar.specs.Grammar.{Grammar, give, check, front, renamed, times, ◌>>=◌, ◌>>◌}
 use Rattle.field_grammar.specs.Fields.{number, raw, judged_short, number_fields}
+use Rattle.load_base.specs.Verdicts.{verdict, name_fault_of, text_fault_of}
+use Rattle.part_number.specs.Verdicts.{part_fault_of}
 use Rattle.load_protocol_files.specs.declared.fault.FileFault.{FileFault}
 use Rattle.load_protocol_files.specs.declared.fault.FileFault.TheVariants as faults
 use Rattle.load_protocol_files.specs.Faults.{named}
-use Rattle.load_protocol_files.specs.Verdicts.{verdict, text_wrong, name_wrong, part_wrong}
 
 -- a number in two bytes
 abbrev pub u16 : Grammar FileFault ℕ
@@ -15,13 +16,13 @@ u16 = renamed named (number 2)
 -- ---- texts
 
 abbrev pub text_verdict : ℕ → List ℕ → Result (List ℕ) FileFault
-text_verdict place bytes = verdict (faults.Text place) bytes (text_wrong bytes)
+text_verdict place bytes = verdict (faults.Text place) (text_fault_of bytes) bytes
 
 abbrev pub name_verdict : ℕ → List ℕ → Result (List ℕ) FileFault
-name_verdict place bytes = verdict (faults.Name place) bytes (name_wrong bytes)
+name_verdict place bytes = verdict (faults.Name place) (name_fault_of bytes) bytes
 
 abbrev pub part_verdict : ℕ → List ℕ → Result (List ℕ) FileFault
-part_verdict place bytes = verdict (faults.Part place) bytes (part_wrong bytes)
+part_verdict place bytes = verdict (faults.Part place) (part_fault_of bytes) bytes
 
 -- a short text
 unfoldable pub text : Grammar FileFault (List ℕ)

@@ -1,5 +1,5 @@
 //! Laws of the six files. The function does nothing: its contract is what is proved.
-ghost use Rattle.load_protocol_files.specs.Files.{HasOneSpelling};
+ghost use Rattle.field_grammar.specs.OneSpelling.{HasOneSpelling};
 ghost use Rattle.load_protocol_files.specs.Lci.{lci, LciSpells};
 ghost use Rattle.load_protocol_files.specs.Lcl.{lcl, LclSpells};
 ghost use Rattle.load_protocol_files.specs.Lcs.{lcs, LcsSpells};

@@ -12,7 +12,6 @@ mod lcs;
 mod lui;
 mod lur;
 mod lus;
-mod nested_fault_text;
 mod pieces;
 mod putting;
 #[cfg(test)]

@@ -54,7 +54,7 @@ pub(crate) fn text_of(alloc: Global, reader: &mut Reader) -> Result<Text, FileFa
     Ok(text)
 }
 
-#[tactic(auto, using(crate::proofs::Verdicts::text_passes, crate::proofs::Verdicts::text_stops))]
+#[tactic(auto, using(load_base::specs::VerdictLaws::read_judged, load_base::specs::VerdictLaws::refused_judged))]
 fn judge_text(alloc: Global, place: u64, bytes: &[u8]) -> Result<Text, FileFault>
     ensures { Gives Memory (λ text. text) result (text_verdict place bytes.now) }
 {
@@ -77,7 +77,7 @@ pub(crate) fn name_of(reader: &mut Reader) -> Result<Name, FileFault>
     Ok(name)
 }
 
-#[tactic(auto, using(crate::proofs::Verdicts::name_passes, crate::proofs::Verdicts::name_stops))]
+#[tactic(auto, using(load_base::specs::VerdictLaws::read_judged, load_base::specs::VerdictLaws::refused_judged))]
 fn judge_name(place: u64, bytes: &[u8]) -> Result<Name, FileFault>
     ensures { result ≡ name_verdict place bytes.now }
 {
@@ -99,7 +99,7 @@ pub(crate) fn part_of(reader: &mut Reader) -> Result<PartNumber, FileFault>
     Ok(part)
 }
 
-#[tactic(auto, using(crate::proofs::Verdicts::part_passes, crate::proofs::Verdicts::part_stops))]
+#[tactic(auto, using(load_base::specs::VerdictLaws::read_judged, load_base::specs::VerdictLaws::refused_judged))]
 fn judge_part(place: u64, bytes: &[u8]) -> Result<PartNumber, FileFault>
     ensures { result ≡ part_verdict place bytes.now }
 {

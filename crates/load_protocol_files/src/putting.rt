@@ -29,7 +29,7 @@ pub(crate) fn put_name(out: &mut Writer, name: &Name) -> Result<(), NoMemory>
     Ok(())
 }
 
-#[tactic(auto, using(crate::proofs::Verdicts::length_of_part))]
+#[tactic(auto, using(part_number::specs::VerdictLaws::part_size))]
 pub(crate) fn put_part(out: &mut Writer, part: &PartNumber) -> Result<(), NoMemory>
     ensures fits { IsPartNumberText part.now }
     ensures ok { OnOk result (out.new ≡ out.old ++ concat (short_fields part.now)) }

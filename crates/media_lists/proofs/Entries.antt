@@ -9,31 +9,19 @@ use Rattle.field_grammar.specs.Spelling.{IsSpelledBy, IsPlacedBy, listed_fields,
 use Rattle.field_grammar.specs.Fields.{number_fields}
 use Rattle.field_grammar.proofs.Combined.{spelled-measured}
 use Rattle.field_grammar.proofs.Listed.{placed-listed}
-use Rattle.field_grammar.proofs.Numbers.{length_number_bytes}
 use Rattle.field_grammar.proofs.Placed.{placed}
-use Rattle.media_lists.specs.Lists.{u16, section}
+use Rattle.field_grammar.proofs.Sections.{size_number, placed-section}
+use Rattle.media_lists.specs.Lists.{u16, counted}
 use Rattle.media_lists.specs.Entries.{distance_of, entry, is_listed, new_entry, entry_behind, entries}
 use Rattle.media_lists.specs.ListFields.{entry_size, entry_fields, entry_fields_behind, entries_fields, HaveDistances, AreNew, AreEntries}
 use Rattle.media_lists.specs.declared.fault.ListFault.{ListFault}
 use Rattle.media_lists.specs.declared.fault.ListFault.TheVariants as faults
 use Rattle.media_lists.proofs.Pieces.{spelled-u16, spelled-counted_few}
 
-pub placed-section : (which said : ℕ) → IsPlacedBy (section which said) (λ before u. []) (λ before after u. said ≡ length before / 2)
-unfolding section
-placed-section which said = record {
-  to = λ before fields after value follows.
-      let (b, f1, o1, e1, h1, h2) = follows in
-      (rw (e1, h1.0, h2.0) refl, eqb-true said (length b / 2) h2.1 ∙ ap (λ (l : List ℕ). length l / 2) (sym h1.1));
-  from = λ before after value fits. (before, [], [], refl, (refl, refl), (refl, eq-eqb said (length before / 2) fits));
-}
-
-two_bytes : (n : ℕ) → length (concat (number_fields 2 n)) ≡ 2
-two_bytes n = simp (length-append, length_number_bytes) refl
-
 spelled-entry : {E : Type 0} (body : Grammar ListFault E) (f : E → List (List ℕ)) (P : E → Type 0) (number : ℕ) (last : Bool) → IsSpelledBy body f P
     → IsSpelledBy (entry body number last) (entry_fields f last) (λ e. (distance_of last (entry_size f e) < 2 ^ 16) × P e)
 unfolding entry
-spelled-entry body f P number last one = spelled-measured u16 (distance_of last) (faults.Distance number) body 2 (number_fields 2) f (λ n. n < 2 ^ 16) P two_bytes spelled-u16 one
+spelled-entry body f P number last one = spelled-measured u16 (distance_of last) (faults.Distance number) body 2 (number_fields 2) f (λ n. n < 2 ^ 16) P (size_number 2) spelled-u16 one
 
 not_true : (b : Bool) → not b ≡ true → b ≡ false
 not_true true e = absurd cc
@@ -128,7 +116,7 @@ unfolding entries entries_fields
 placed-entries {E = E} body name_of f P even one said = record {
   to = λ before fields after value follows.
       let (u0, f0, o0, e0, h0, (count, f1, o1, e1, h1, h3)) = follows in
-      let s = (placed-section 2 said).to before f0 (length (concat o0) + after) u0 h0 in
+      let s = (placed-section (faults.Pointer 2 said) said).to before f0 (length (concat o0) + after) u0 h0 in
       let a = spelled-counted_few.to (before ++ concat f0) f1 (length (concat o1) + after) count h1 in
       let there : List ℕ = (before ++ concat f0) ++ concat f1 in
       let b = (placed-entries_behind body name_of f P count one).to there o1 after value h3 in
@@ -151,7 +139,7 @@ placed-entries {E = E} body name_of f P even one said = record {
         [],
         number_fields 2 count ++ list,
         refl,
-        (placed-section 2 said).from before _ tt fits.0,
+        (placed-section (faults.Pointer 2 said) said).from before _ tt fits.0,
         (
           count,
           number_fields 2 count,

@@ -5,17 +5,18 @@ use Rattle.std.specs.List.{AllByRecursion, All}
 use Rattle.std.proofs.lemmas.Bool.{leb-true, le-leb}
 use Rattle.std.proofs.lemmas.List.{append-nil, take_more, take_all, take-map, get_or-map, length-map}
 use Rattle.std.proofs.lemmas.List.Elements.{All-nil, All-cons}
+use Rattle.part_number.specs.VerdictLaws.{part_size}
+use Rattle.field_grammar.specs.Spelling.{size_of}
 use Rattle.part_number.specs.PartNumber.{IsPartNumberText}
 use Rattle.field_grammar.specs.Grammar.{IsBytes}
 use Rattle.media_lists.specs.Lists.{ListView}
 use Rattle.media_lists.specs.Entries.{is_listed}
-use Rattle.media_lists.specs.ListFields.{size_of, entry_size, entries_fields, IsMember, HaveDistances, AreNew, AreEntries, IsMediaList}
+use Rattle.media_lists.specs.ListFields.{entry_size, entries_fields, IsMember, HaveDistances, AreNew, AreEntries, IsMediaList}
 use Rattle.media_lists.specs.Files.{file_body_fields, IsFile}
 use Rattle.media_lists.specs.Loads.{load_view, IsLoad}
 use Rattle.media_lists.specs.declared.lists.ListedFile.{ListedFile}
 use Rattle.media_lists.specs.declared.lists.LoadEntry.{LoadEntry}
 use Rattle.media_lists.proofs.Sizes.{size_file, whole_size}
-use Rattle.media_lists.proofs.Texts.{part_size}
 
 pub few_hardware : (members : ℕ) (loads : List LoadEntry) → AllByRecursion (IsLoad members) (map load_view loads) → All (λ load. length load.hardware.items ≤ 1024) loads
 few_hardware members [] each = All-nil (λ load. length load.hardware.items ≤ 1024)
@@ -27,16 +28,6 @@ pub each_at : {E : Type 0} (P : E → Type 0) (es : List E) (i : ℕ) (d : E) �
 each_at P [] i d lt is all = absurd (omega arith)
 each_at P (e ∷ es) zero d lt is all = subst P (sym is) all.0
 each_at P (e ∷ es) (suc i) d lt is all = each_at P es i d (omega (arith, lt)) is all.1
-
-each_append : {E : Type 0} (P : E → Type 0) (es : List E) (e : E) → AllByRecursion P es → P e → AllByRecursion P (es ++ e ∷ [])
-each_append P [] e all is = (is, tt)
-each_append P (x ∷ es) e all is = (all.0, each_append P es e all.1 is)
-
-pub each_more : {E : Type 0} (P : E → Type 0) (es : List E) (i : ℕ) (d : E) → i < length es → d ≡ get_or es i d → AllByRecursion P (take i es) → P d → AllByRecursion P (take (i + 1) es)
-each_more P es i d lt is all one = rw (take_more es i d lt) (each_append P (take i es) (get_or es i d) all (subst P is one))
-
-pub each_taken : {E : Type 0} (P : E → Type 0) (es : List E) (i : ℕ) → length es ≤ i → AllByRecursion P (take i es) → AllByRecursion P es
-each_taken P es i le all = subst (λ (l : List _). AllByRecursion P l) (take_all i es le) all
 
 -- ---- names of their own
 

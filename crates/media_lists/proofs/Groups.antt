@@ -4,20 +4,19 @@ use Rattle.std.specs.List.{concat}
 use Rattle.crc_fields.specs.CheckSums.{crc16_of}
 use Rattle.part_number.specs.PartNumber.{IsPartNumberText}
 use Rattle.field_grammar.specs.Grammar.{Follows, expected}
-use Rattle.field_grammar.specs.Spelling.{IsSpelledBy, IsPlacedBy}
+use Rattle.field_grammar.specs.Spelling.{IsSpelledBy, IsPlacedBy, size_of}
 use Rattle.field_grammar.specs.Fields.{number_fields, padded_fields}
 use Rattle.field_grammar.proofs.Combined.{spelled-expected}
 use Rattle.field_grammar.proofs.Placed.{placed-sized}
+use Rattle.field_grammar.proofs.Sections.{size_number, placed-section}
 use Rattle.field_grammar.proofs.Numbers.{length_number_bytes}
 use Rattle.media_lists.specs.Lists.{u16, u32, head, identity, tail}
-use Rattle.media_lists.specs.ListFields.{size_of, head_fields, identity_fields, user_fields}
+use Rattle.media_lists.specs.ListFields.{head_fields, identity_fields, user_fields}
 use Rattle.media_lists.specs.declared.fault.ListFault.{ListFault}
 use Rattle.media_lists.specs.declared.fault.ListFault.TheVariants as faults
 use Rattle.media_lists.specs.declared.reading.Pointers.{Pointers}
-use Rattle.media_lists.proofs.Sizes.{size_number}
 use Rattle.media_lists.proofs.Texts.{spelled-part}
 use Rattle.media_lists.proofs.Pieces.{spelled-u16, spelled-u32}
-use Rattle.media_lists.proofs.Entries.{placed-section}
 use Rattle.media_lists.proofs.Heads.{pointers_parts, ArePointers, spelled-pointers, membership_parts, IsMembership, spelled-membership, IsUserData, placed-user_data, placed-check_sum}
 
 -- ---- the head
@@ -93,7 +92,7 @@ unfolding identity identity_fields
 placed-identity said = record {
   to = λ before fields after value follows.
       let (u0, f0, o0, e0, h0, (set, f1, o1, e1, h1, (which, f2, o2, e2, h2, last))) = follows in
-      let a0 = (placed-section 1 said).to before f0 (length (concat o0) + after) u0 h0 in
+      let a0 = (placed-section (faults.Pointer 1 said) said).to before f0 (length (concat o0) + after) u0 h0 in
       let a1 = spelled-part.to (before ++ concat f0) f1 (length (concat o1) + after) set h1 in
       let a2 = spelled-membership.to ((before ++ concat f0) ++ concat f1) f2 (length (concat o2) + after) which h2 in
       let is : Identity = (set, which.0, which.1) in
@@ -104,7 +103,7 @@ placed-identity said = record {
     [],
     identity_parts value,
     refl,
-    (placed-section 1 said).from before _ tt fits.place,
+    (placed-section (faults.Pointer 1 said) said).from before _ tt fits.place,
     (
       value.0,
       padded_fields value.0,

@@ -3,19 +3,19 @@ use Rattle.std.proofs.Common.{◌≡◌, ℕ, ◌+◌, ◌*◌, ◌/◌, ◌%◌
 use Rattle.std.specs.List.{concat}
 use Rattle.std.proofs.lemmas.Bool.{leb-true, le-leb, eqb-true, eq-eqb, and_from}
 use Rattle.crc_fields.specs.CheckSums.{crc16_of}
-use Rattle.crc_fields.proofs.Widths.{crc16_fits}
+use Rattle.crc_fields.specs.WidthLaws.{crc16_fits}
 use Rattle.field_grammar.specs.Grammar.{IsBytes, renamed}
 use Rattle.field_grammar.specs.Spelling.{IsSpelledBy, IsPlacedBy}
 use Rattle.field_grammar.specs.Fields.{raw, number_fields}
 use Rattle.field_grammar.proofs.Combined.{spelled-renamed}
 use Rattle.field_grammar.proofs.Numbers.{spelled-raw}
 use Rattle.field_grammar.proofs.Placed.{placed-ended}
+use Rattle.field_grammar.proofs.Sections.{placed-section}
 use Rattle.media_lists.specs.Lists.{named, pointers, membership, user_data, check_sum, limit}
 use Rattle.media_lists.specs.ListFields.{IsMember, user_fields}
 use Rattle.media_lists.specs.declared.fault.ListFault.TheVariants as faults
 use Rattle.media_lists.specs.declared.reading.Pointers.{Pointers}
 use Rattle.media_lists.proofs.Pieces.{both, spelled-u8, spelled-u16, spelled-u32}
-use Rattle.media_lists.proofs.Entries.{placed-section}
 
 pub placed-limit : IsPlacedBy limit (λ before u. []) (λ before after u. after ≤ 1048576)
 unfolding limit
@@ -138,7 +138,7 @@ unfolding user_data user_fields
 placed-user_data said = record {
   to = λ before fields after value follows.
       let (u0, f0, o0, e0, h0, (words, f1, o1, e1, h1, h2)) = follows in
-      let a0 = (placed-section 3 said).to before f0 (length (concat o0) + after) u0 h0 in
+      let a0 = (placed-section (faults.Pointer 3 said) said).to before f0 (length (concat o0) + after) u0 h0 in
       let a1 = spelled-u16.to (before ++ concat f0) f1 (length (concat o1) + after) words h1 in
       let a2 = (spelled-bytes (2 * words)).to ((before ++ concat f0) ++ concat f1) o1 after value h2 in
       let half : words ≡ length value / 2 = omega (arith, a2.1.0) in
@@ -151,7 +151,7 @@ placed-user_data said = record {
         [],
         user_fields value,
         refl,
-        (placed-section 3 said).from before _ tt fits.place,
+        (placed-section (faults.Pointer 3 said) said).from before _ tt fits.place,
         (
           words,
           number_fields 2 words,

@@ -1,4 +1,3 @@
-pub mod Judged
 pub mod PathEnds
 pub mod Whole
 pub mod Seen

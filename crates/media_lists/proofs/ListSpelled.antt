@@ -5,17 +5,18 @@ use Rattle.std.proofs.lemmas.List.{append-nil}
 use Rattle.std.proofs.lemmas.List.Folds.{concat-append}
 use Rattle.crc_fields.specs.CheckSums.{crc16_of}
 use Rattle.field_grammar.specs.Grammar.{Grammar, Follows}
-use Rattle.field_grammar.specs.Spelling.{IsSpelledBy, SpellsWhole}
+use Rattle.field_grammar.specs.Spelling.{IsSpelledBy, SpellsWhole, size_of}
+use Rattle.field_grammar.proofs.Sections.{size_more, size_number}
 use Rattle.field_grammar.specs.Fields.{number_fields}
 use Rattle.media_lists.specs.Lists.{head, ListView, media_list}
 use Rattle.media_lists.specs.Entries.{entries}
-use Rattle.media_lists.specs.ListFields.{size_of, entry_size, entries_fields, head_fields, user_fields, entries_place, user_place, list_size, pointers_of, sections_fields, covered_fields, list_fields, IsMediaList}
+use Rattle.media_lists.specs.ListFields.{entry_size, entries_fields, head_fields, user_fields, entries_place, user_place, list_size, pointers_of, sections_fields, covered_fields, list_fields, IsMediaList}
 use Rattle.media_lists.specs.declared.fault.ListFault.{ListFault}
 use Rattle.media_lists.specs.declared.reading.Pointers.{Pointers}
 use Rattle.media_lists.proofs.Entries.{placed-entries}
 use Rattle.media_lists.proofs.Heads.{placed-limit, ArePointers, IsUserData}
 use Rattle.media_lists.proofs.Groups.{IsHead, head_to, head_from, Identity, identity_parts, placed-identity, placed-tail}
-use Rattle.media_lists.proofs.Sizes.{size_more, size_number, size_head, even_size}
+use Rattle.media_lists.proofs.Sizes.{size_head, even_size}
 
 -- a format of entries, and how its entries are spelled
 pub record HasEntries {E : Type 0} (body : ℕ → Grammar ListFault E) (f : E → List (List ℕ)) (P : ℕ → E → Type 0) : Type 0 where

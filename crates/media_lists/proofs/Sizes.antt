@@ -4,26 +4,18 @@ use Rattle.std.specs.List.{concat, flat_map}
 use Rattle.std.proofs.lemmas.List.{append-nil, take_more, take_all}
 use Rattle.std.proofs.lemmas.List.Concat.{flat_map-cons, flat_map-append}
 use Rattle.std.proofs.lemmas.List.Folds.{concat-append}
-use Rattle.field_grammar.specs.Spelling.{listed_fields}
+use Rattle.field_grammar.specs.Spelling.{size_of, listed_fields}
+use Rattle.field_grammar.proofs.Sections.{size_more, size_number, size_padded}
 use Rattle.field_grammar.specs.Fields.{number_fields, padded_fields}
 use Rattle.field_grammar.proofs.Numbers.{length_number_bytes}
 use Rattle.field_grammar.proofs.Texts.{length_pad_bytes}
 use Rattle.media_lists.specs.Lists.{ListView}
 use Rattle.media_lists.specs.Entries.{distance_of}
-use Rattle.media_lists.specs.ListFields.{size_of, entry_size, entry_fields_behind, entries_fields, head_fields, identity_fields, user_fields, list_size}
+use Rattle.media_lists.specs.ListFields.{entry_size, entry_fields_behind, entries_fields, head_fields, identity_fields, user_fields, list_size}
 use Rattle.media_lists.specs.Files.{file_body_fields}
 use Rattle.media_lists.specs.Loads.{texts_fields, load_body_fields, LoadView}
 use Rattle.media_lists.specs.declared.lists.ListedFile.{ListedFile}
 use Rattle.media_lists.specs.declared.reading.Pointers.{Pointers}
-
-pub size_more : (f g : List (List ℕ)) → size_of (f ++ g) ≡ size_of f + size_of g
-size_more f g = ap (λ (l : List ℕ). length l) (concat-append f g) ∙ length-append (concat f) (concat g)
-
-pub size_number : (n x : ℕ) → size_of (number_fields n x) ≡ n
-size_number n x = simp (append-nil, length_number_bytes) refl
-
-pub size_padded : (t : List ℕ) → size_of (padded_fields t) ≡ 2 + length t + length t % 2
-size_padded t = simp (length-append, append-nil, length_number_bytes, length_pad_bytes) (omega arith)
 
 pub size_head : (version size : ℕ) (p : Pointers) → size_of (head_fields version size p) ≡ 20
 unfolding head_fields

@@ -5,11 +5,11 @@ use Rattle.std.proofs.lemmas.List.{append-nil, take_more, take_all, length-take}
 use Rattle.std.proofs.lemmas.List.Concat.{flat_map-append, flat_map-cons}
 use Rattle.std.proofs.lemmas.List.Folds.{concat-append}
 use Rattle.crc_fields.specs.CheckSums.{crc16_of}
-use Rattle.field_grammar.specs.Spelling.{listed_fields}
+use Rattle.field_grammar.specs.Spelling.{size_of, listed_fields}
 use Rattle.field_grammar.specs.Fields.{number_bytes, number_fields, padded_fields}
 use Rattle.field_grammar.proofs.Listed.{listed_fields_more}
 use Rattle.media_lists.specs.Lists.{ListView}
-use Rattle.media_lists.specs.ListFields.{entry_fields, entry_fields_behind, entries_fields, head_fields, identity_fields, user_fields, size_of, entries_place, list_size, pointers_of, sections_fields, covered_fields, list_fields}
+use Rattle.media_lists.specs.ListFields.{entry_fields, entry_fields_behind, entries_fields, head_fields, identity_fields, user_fields, entries_place, list_size, pointers_of, sections_fields, covered_fields, list_fields}
 use Rattle.media_lists.specs.declared.reading.Pointers.{Pointers}
 use Rattle.media_lists.proofs.Sizes.{size_identity, whole_size}
 
@@ -17,30 +17,9 @@ use Rattle.media_lists.proofs.Sizes.{size_identity, whole_size}
 abbrev pub entries_to : {E : Type 0} → (E → List (List ℕ)) → List E → ℕ → List ℕ
 entries_to f es i = concat (listed_fields (entry_fields_behind f (length es)) [] (take i es))
 
-pub none_written : {E : Type 0} (f : E → List (List ℕ)) (es : List E) → entries_to f es 0 ≡ []
-unfolding listed_fields
-none_written f es = refl
-
-pub one_written : {E : Type 0} (f : E → List (List ℕ)) (es : List E) (i : ℕ) (d : E) → i < length es
-    → entries_to f es (i + 1) ≡ entries_to f es i ++ concat (entry_fields f (i + 1 == length es) (get_or es i d))
-one_written f es i d lt =
-    let s : List _ → _ → List (List ℕ) = entry_fields_behind f (length es) in
-    let size : length (take i es) ≡ i = omega (arith, length-take i es) in
-    ap (λ (l : List _). concat (listed_fields s [] l)) (take_more es i d lt)
-    ∙ (ap (λ (l : List (List ℕ)). concat l) (listed_fields_more s [] (take i es) (get_or es i d))
-    ∙ (concat-append (listed_fields s [] (take i es)) (s (take i es) (get_or es i d))
-    ∙ ap (λ (n : ℕ). concat (listed_fields s [] (take i es)) ++ concat (entry_fields f (n + 1 == length es) (get_or es i d))) size))
-
 pub begins : {E : Type 0} (f : E → List (List ℕ)) (es : List E) (start : List ℕ) → start ≡ start ++ entries_to f es 0
-begins f es start = sym (ap (λ (l : List ℕ). start ++ l) (none_written f es) ∙ append-nil start)
-
-pub goes_on : {E : Type 0} (f : E → List (List ℕ)) (es : List E) (i : ℕ) (d : E) (start now next : List ℕ) → i < length es → d ≡ get_or es i d
-    → now ≡ start ++ entries_to f es i → next ≡ now ++ concat (entry_fields f (i + 1 == length es) d) → next ≡ start ++ entries_to f es (i + 1)
-goes_on f es i d start now next lt is before one =
-    let more : entries_to f es (i + 1) ≡ entries_to f es i ++ concat (entry_fields f (i + 1 == length es) d) =
-    one_written f es i d lt ∙ ap (λ (e : _). entries_to f es i ++ concat (entry_fields f (i + 1 == length es) e)) (sym is) in
-    one ∙ (ap (λ (l : List ℕ). l ++ concat (entry_fields f (i + 1 == length es) d)) before
-    ∙ (append_assoc start (entries_to f es i) (concat (entry_fields f (i + 1 == length es) d)) ∙ ap (λ (l : List ℕ). start ++ l) (sym more)))
+unfolding listed_fields
+begins f es start = sym (append-nil start)
 
 -- a count and all the entries
 pub all_written : {E : Type 0} (f : E → List (List ℕ)) (es : List E) (i : ℕ) (before now : List ℕ) → length es ≤ i
@@ -49,18 +28,6 @@ unfolding entries_fields
 all_written f es i before now le is =
     is ∙ (ap (λ (l : List _). (before ++ number_bytes 2 (length es)) ++ concat (listed_fields (entry_fields_behind f (length es)) [] l)) (take_all i es le)
     ∙ append_assoc before (number_bytes 2 (length es)) (concat (listed_fields (entry_fields_behind f (length es)) [] es)))
-
--- ---- texts
-
-pub texts_go_on : (texts : List (List ℕ)) (i : ℕ) (d start now next : List ℕ) → i < length texts → d ≡ get_or texts i d
-    → now ≡ start ++ concat (flat_map padded_fields (take i texts)) → next ≡ now ++ concat (padded_fields d) → next ≡ start ++ concat (flat_map padded_fields (take (i + 1) texts))
-texts_go_on texts i d start now next lt is before one =
-    let last : flat_map padded_fields (get_or texts i d ∷ []) ≡ padded_fields d = flat_map-cons padded_fields (get_or texts i d) [] ∙ (append-nil (padded_fields (get_or texts i d)) ∙ ap (λ (t : List ℕ). padded_fields t) (sym is)) in
-    let more : concat (flat_map padded_fields (take (i + 1) texts)) ≡ concat (flat_map padded_fields (take i texts)) ++ concat (padded_fields d) =
-    ap (λ (l : List (List ℕ)). concat (flat_map padded_fields l)) (take_more texts i d lt)
-    ∙ (ap (λ (l : List (List ℕ)). concat l) (flat_map-append padded_fields (take i texts) (get_or texts i d ∷ []))
-    ∙ (concat-append (flat_map padded_fields (take i texts)) (flat_map padded_fields (get_or texts i d ∷ [])) ∙ ap (λ (l : List (List ℕ)). concat (flat_map padded_fields (take i texts)) ++ concat l) last)) in
-    one ∙ (ap (λ (l : List ℕ). l ++ concat (padded_fields d)) before ∙ (append_assoc start (concat (flat_map padded_fields (take i texts))) (concat (padded_fields d)) ∙ ap (λ (l : List ℕ). start ++ l) (sym more)))
 
 -- ---- the whole
 

@@ -4,7 +4,7 @@ use Rattle.std.specs.Prelude.{ℕ, ◌+◌, ◌/◌, List, [], length, ◌==◌,
 use Rattle.std.specs.List.{list_any}
 use Rattle.load_base.specs.Written.{same_bytes}
 use Rattle.field_grammar.specs.Grammar.{Grammar, give, check, listed, measured, ◌>>=◌, ◌>>◌}
-use Rattle.media_lists.specs.Lists.{u16, counted, section}
+use Rattle.media_lists.specs.Lists.{u16, counted, section_at}
 use Rattle.media_lists.specs.declared.fault.ListFault.{ListFault}
 use Rattle.media_lists.specs.declared.fault.ListFault.TheVariants as faults
 
@@ -34,6 +34,6 @@ entry_behind body name_of count so_far = new_entry body name_of (length so_far +
 -- a count and the entries, where the pointer says
 unfoldable pub entries : {E : Type 0} → Grammar ListFault E → (E → List ℕ) → ℕ → Grammar ListFault (List E)
 entries body name_of said = do
-  section 2 said
+  section_at 2 said
   count ← counted
   listed count (entry_behind body name_of count) []

@@ -1,4 +1,3 @@
-pub mod Verdicts
 pub mod Paths
 pub mod Lists
 pub mod Entries
@@ -6,5 +5,4 @@ pub mod NameOrder
 pub mod ListFields
 pub mod Files
 pub mod Loads
-pub mod FaultTexts
 pub mod ListFaultText

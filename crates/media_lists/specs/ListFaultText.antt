@@ -1,6 +1,6 @@
 -- How a media list's faults are printed (docs/FORMATS.md).
 use Rattle.std.specs.Prelude.{ℕ, List, [], ◌∷◌, codes}
-use Rattle.media_lists.specs.FaultTexts.{coded, with_nested, name_fault_text, text_fault_text, part_fault_text}
+use Rattle.fault_texts.specs.FaultTexts.{coded, with_nested, name_fault_text, text_fault_text, part_fault_text}
 use Rattle.media_lists.specs.declared.fault.PathFault.{PathFault}
 use Rattle.media_lists.specs.declared.fault.PathFault.TheVariants.{Path}
 use Rattle.media_lists.specs.declared.fault.WordFault.{WordFault}

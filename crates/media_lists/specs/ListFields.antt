@@ -4,15 +4,11 @@ use Rattle.std.specs.List.{concat, AllByRecursion}
 use Rattle.crc_fields.specs.CheckSums.{crc16_of}
 use Rattle.part_number.specs.PartNumber.{IsPartNumberText}
 use Rattle.field_grammar.specs.Grammar.{IsBytes}
-use Rattle.field_grammar.specs.Spelling.{listed_fields}
+use Rattle.field_grammar.specs.Spelling.{size_of, with_last, listed_fields}
 use Rattle.field_grammar.specs.Fields.{number_fields, padded_fields}
 use Rattle.media_lists.specs.Lists.{ListView}
 use Rattle.media_lists.specs.Entries.{distance_of, is_listed}
 use Rattle.media_lists.specs.declared.reading.Pointers.{Pointers}
-
--- how many bytes fields take
-abbrev pub size_of : List (List ℕ) → ℕ
-size_of fields = length (concat fields)
 
 -- ---- entries
 
@@ -26,7 +22,7 @@ entry_fields body_fields last this = number_fields 2 (distance_of last (entry_si
 
 -- the entry behind those so far, in a list of so many
 abbrev pub entry_fields_behind : {E : Type 0} → (E → List (List ℕ)) → ℕ → List E → E → List (List ℕ)
-entry_fields_behind body_fields count so_far this = entry_fields body_fields (length so_far + 1 == count) this
+entry_fields_behind body_fields count so_far this = with_last (entry_fields body_fields) count so_far this
 
 -- a count, and the entries
 unfoldable pub entries_fields : {E : Type 0} → (E → List (List ℕ)) → List E → List (List ℕ)

@@ -2,10 +2,11 @@
 use Rattle.std.specs.Prelude.{ℕ, ◌*◌, ◌/◌, List, length, nat_le, ◌==◌, Bool, ◌&&◌, Result}
 use Rattle.crc_fields.specs.CheckSums.{crc16_of}
 use Rattle.field_grammar.specs.Grammar.{Grammar, give, check, front, left, renamed, expected, sized, ended, ◌>>=◌, ◌>>◌}
-use Rattle.field_grammar.specs.Fields.{raw, number, judged_padded}
+use Rattle.field_grammar.specs.Fields.{raw, number, judged_padded, section}
 use Rattle.field_grammar.specs.declared.fault.FieldFault.{FieldFault}
 use Rattle.field_grammar.specs.declared.fault.FieldFault.TheVariants as fields
-use Rattle.media_lists.specs.Verdicts.{text_fault_of, name_fault_of, part_fault_of, verdict}
+use Rattle.load_base.specs.Verdicts.{text_fault_of, name_fault_of, verdict}
+use Rattle.part_number.specs.Verdicts.{part_fault_of}
 use Rattle.media_lists.specs.Paths.{path_fault_of}
 use Rattle.media_lists.specs.declared.fault.ListFault.{ListFault}
 use Rattle.media_lists.specs.declared.fault.ListFault.TheVariants as faults
@@ -64,11 +65,9 @@ counted = do
   check (nat_le count 1024) faults.TooLong
   give count
 
--- the place where a section begins is what its pointer says, in words
-unfoldable pub section : ℕ → ℕ → Grammar ListFault (Unit {0})
-section which said = do
-  before ← front
-  check (said == length before / 2) (faults.Pointer which said (length before / 2))
+-- a section begins where pointer `which` says
+abbrev pub section_at : ℕ → ℕ → Grammar ListFault (Unit {0})
+section_at which said = section (faults.Pointer which said) said
 
 -- ---- the head
 
@@ -116,7 +115,7 @@ member_of members = do
 -- the part number of the set, and which member of how many the list belongs to
 unfoldable pub identity : ℕ → Grammar ListFault (List ℕ × ℕ × ℕ)
 identity said = do
-  section 1 said
+  section_at 1 said
   set ← part
   which ← membership
   give (set, which.0, which.1)
@@ -126,7 +125,7 @@ identity said = do
 -- the user data, behind its length in words
 unfoldable pub user_data : ℕ → Grammar ListFault (List ℕ)
 user_data said = do
-  section 3 said
+  section_at 3 said
   words ← u16
   renamed named (raw (2 * words))
 

@@ -2,9 +2,10 @@
 //! and `LOADS.LUM`, which names every load with its header, member and hardware.
 #![tactic(auto)]
 
+#[cfg(test)]
+mod encode_tests;
 mod encoding;
 mod fault;
-pub mod fault_texts;
 mod fitting;
 mod laws;
 mod lists;
@@ -17,6 +18,8 @@ mod reading_files;
 mod reading_loads;
 #[cfg(test)]
 mod tests;
+#[cfg(test)]
+mod vectors;
 mod verdicts;
 mod writing;
 

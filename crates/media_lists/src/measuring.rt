@@ -4,8 +4,9 @@ ghost use Rattle.std.specs.List.{All, AllByRecursion};
 ghost use Rattle.load_base.specs.Name.{IsName};
 ghost use Rattle.load_base.specs.Text.{IsText};
 ghost use Rattle.part_number.specs.PartNumber.{IsPartNumberText};
+ghost use Rattle.field_grammar.specs.Spelling.{size_of};
 ghost use Rattle.field_grammar.specs.Fields.{padded_fields};
-ghost use Rattle.media_lists.specs.ListFields.{size_of, entry_size, entries_fields};
+ghost use Rattle.media_lists.specs.ListFields.{entry_size, entries_fields};
 ghost use Rattle.media_lists.specs.Files.{file_body_fields};
 ghost use Rattle.media_lists.specs.Loads.{load_view, texts_fields, load_body_fields, HasWords};
 
@@ -21,7 +22,7 @@ fn padded_size(length: usize) -> u64
     2 + length + length % 2
 }
 
-#[tactic(auto, using(crate::proofs::Sizes::size_padded))]
+#[tactic(auto, using(field_grammar::proofs::Sections::size_padded))]
 fn text_size(text: &Text) -> u64
     ensures size { result ≡ size_of (padded_fields text.now) }
     ensures small { result ≤ 258 }
@@ -30,7 +31,7 @@ fn text_size(text: &Text) -> u64
     padded_size(text.as_slice().len())
 }
 
-#[tactic(auto, using(crate::proofs::Sizes::size_padded))]
+#[tactic(auto, using(field_grammar::proofs::Sections::size_padded))]
 fn name_size(name: &Name) -> u64
     ensures size { result ≡ size_of (padded_fields name.now) }
     ensures small { result ≤ 66 }
@@ -39,7 +40,7 @@ fn name_size(name: &Name) -> u64
     padded_size(name.as_slice().len())
 }
 
-#[tactic(auto, using(crate::proofs::Sizes::size_padded, crate::proofs::Texts::part_size))]
+#[tactic(auto, using(field_grammar::proofs::Sections::size_padded, part_number::specs::VerdictLaws::part_size))]
 fn part_size(part: &PartNumber) -> u64
     ensures size { result ≡ size_of (padded_fields part.now) }
     ensures small { result ≡ 18 }

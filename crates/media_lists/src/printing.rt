@@ -3,7 +3,7 @@ ghost use Rattle.std.specs.Prelude.{◌≡◌, IfOk};
 ghost use Rattle.media_lists.specs.ListFaultText.{list_fault_text, word_fault_text as text_of_word_fault, path_fault_text as text_of_path_fault};
 
 use crate::fault::{ListFault, PathFault, WordFault};
-use crate::fault_texts::{coded, name_fault_text, part_fault_text, text_fault_text, with_nested};
+use fault_texts::{coded, name_fault_text, part_fault_text, text_fault_text, with_nested};
 use load_base::{Bytes, NoMemory};
 use std::alloc::Global;
 

@@ -1,7 +1,7 @@
 //! What the decoders of the two media lists share, part by part of their formats.
 ghost use Rattle.std.specs.Prelude.{◌≡◌, ◌≤◌, IfOk};
 ghost use Rattle.field_grammar.specs.Answers.{Decodes};
-ghost use Rattle.media_lists.specs.Lists.{text, name, part, path, counted, section, pointers, head, is_member as has_member, membership, member_of, identity, user_data, check_sum, tail, limit};
+ghost use Rattle.media_lists.specs.Lists.{text, name, part, path, counted, section_at, pointers, head, is_member as has_member, membership, member_of, identity, user_data, check_sum, tail, limit};
 ghost use Rattle.media_lists.specs.declared.fault.ListFault.TheVariants.{Memory};
 
 use crate::fault::ListFault;
@@ -70,9 +70,9 @@ fn read_pointers(reader: &mut Reader) -> Result<Pointers, ListFault>
     Ok(Pointers { set, entries, user })
 }
 
-#[tactic(auto, unfolding(crate::specs::Lists::section))]
+#[tactic(auto, unfolding(field_grammar::specs::Fields::section))]
 pub(crate) fn test_section(reader: &mut Reader, which: u64, said: u32) -> Result<(), ListFault>
-    ensures { Decodes Memory (λ u. u) (section which said) reader.old result reader.new }
+    ensures { Decodes Memory (λ u. u) (section_at which said) reader.old result reader.new }
 {
     let said = u64::from(said);
     let expected = reader.place() as u64 / 2;

@@ -45,7 +45,7 @@ fn put_pointers(out: &mut Writer, places: Pointers) -> Result<(), NoMemory>
     Ok(())
 }
 
-#[tactic(auto, using(crate::proofs::Texts::part_size), unfolding(crate::specs::ListFields::identity_fields))]
+#[tactic(auto, using(part_number::specs::VerdictLaws::part_size), unfolding(crate::specs::ListFields::identity_fields))]
 pub(crate) fn put_identity(
     out: &mut Writer,
     set: &PartNumber,
@@ -158,7 +158,7 @@ fn put_text(out: &mut Writer, text: &Text) -> Result<(), NoMemory>
     out.put_padded(text.as_slice())
 }
 
-#[tactic(auto, using(crate::proofs::Texts::part_size), unfolding(crate::specs::Loads::load_body_fields))]
+#[tactic(auto, using(part_number::specs::VerdictLaws::part_size), unfolding(crate::specs::Loads::load_body_fields))]
 fn put_load_body(out: &mut Writer, load: &LoadEntry) -> Result<(), NoMemory>
     requires { length load.now.hardware.items ≤ 1024 }
     ensures { OnOk result (out.new ≡ out.old ++ concat (load_body_fields (load_view load.now))) }

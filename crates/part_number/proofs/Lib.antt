@@ -1,6 +1,3 @@
-pub mod Digits
 pub mod Faults
+pub mod Judged
 pub mod Laws
-pub mod Places
-pub mod Read
-pub mod Texts

@@ -1,1 +1,4 @@
+pub mod Laws
 pub mod PartNumber
+pub mod VerdictLaws
+pub mod Verdicts

@@ -4,7 +4,9 @@
 ghost use Rattle.std.specs.Prelude.{◌≡◌, ℕ, ◌<◌, ◌++◌, List, true, false, codes, length, fold, bit_xor, IsOk, IfOk, IfErr, IfSome, IfNone};
 ghost use Rattle.load_base.specs.Bytes.{AllGood};
 ghost use Rattle.load_base.specs.PartText.{IsPartText};
+ghost use Rattle.load_base.specs.Verdicts.{judged, TellsFaults};
 ghost use Rattle.part_number.specs.PartNumber.{IsPartNumber, IsPartNumberText, IsPartFault, IsFirstBadPlace, HasGoodCharacters, part_number_text, maker_of, product_of, check_digits_of, check_of, hexadecimal, hexadecimal_digit, is_part_character, is_hexadecimal_digit, is_hyphen_place, is_good_at};
+ghost use Rattle.part_number.specs.Verdicts.{part_fault_of};
 
 use load_base::PartText;
 use std::marker::Model;
@@ -47,11 +49,13 @@ impl Model for PartNumber {
 impl PartNumber {
     /// Reads a whole text. Its length is tested first, then its bytes in their order, and at last its
     /// check digits.
+    #[tactic(auto, using(crate::proofs::Judged::part_is_read, crate::proofs::Judged::part_is_refused, crate::proofs::Judged::part_is_short))]
     pub fn read(bytes: &[u8]) -> Result<PartNumber, PartFault>
         ensures found { IfOk result (λ part. (part ≡ bytes.now) × IsPartNumberText bytes.now) }
         ensures only { IsPartNumberText bytes.now → IsOk result }
         ensures each_is_read { (maker product : List ℕ) → IsPartNumber bytes.now maker product → IsOk result }
         ensures refused { IfErr result (λ fault. IsPartFault bytes.now fault) }
+        ensures judged { result ≡ judged part_fault_of bytes.now }
     {
         let Ok(text) = <[u8; 15]>::try_from(bytes) else {
             return Err(PartFault::Length(bytes.len() as u64));
@@ -64,7 +68,7 @@ impl PartNumber {
 
     /// The part number of a maker and a product. The only refusal is P3, with the place that the first
     /// wrong character has in the finished text.
-    #[tactic(auto, using(crate::proofs::Faults::fault_of_text, crate::proofs::Read::made_from_text))]
+    #[tactic(auto, using(crate::proofs::Faults::fault_of_text, crate::specs::Laws::Read::made_from_text))]
     pub fn make(maker: &[u8; 3], product: &[u8; 8]) -> Result<PartNumber, PartFault>
         ensures made { IfOk result (λ part. IsPartNumber part maker.now product.now) }
         ensures only { AllGood is_part_character maker.now → AllGood is_part_character product.now → IsOk result }
@@ -75,7 +79,7 @@ impl PartNumber {
     }
 
     /// The same text without the promise of its check digits.
-    #[tactic(auto, using(crate::proofs::Texts::part_text_of_part))]
+    #[tactic(auto, using(crate::specs::Laws::Texts::part_text_of_part))]
     pub fn text(&self) -> PartText
         ensures { result ≡ self.now }
     {
@@ -108,6 +112,10 @@ pub fn part_number_laws()
     ensures no_fault { (text maker product : List ℕ) (fault : PartFault) → IsPartNumber text maker product → ¬ IsPartFault text fault }
     ensures one_fault { (text : List ℕ) (fault other : PartFault) → IsPartFault text fault → IsPartFault text other → fault ≡ other }
 
+    // A function of the bytes tells which, and what is right has 15 bytes.
+    ensures told { TellsFaults part_fault_of IsPartNumberText IsPartFault }
+    ensures size { (text : List ℕ) → IsPartNumberText text → length text ≡ 15 }
+
     ensures known { part_number_text (codes "XYZ") (codes "00000001") ≡ codes "XYZ5A-0000-0001" }
 {}
 
@@ -126,7 +134,7 @@ fn text_of(maker: &[u8; 3], product: &[u8; 8]) -> [u8; 15]
 }
 
 // The first thing that is wrong with a text of the right length.
-#[tactic(auto, using(crate::proofs::Read::wrong_check))]
+#[tactic(auto, using(crate::specs::Laws::Read::wrong_check))]
 fn first_fault(text: &[u8; 15]) -> Option<PartFault>
     ensures none { IfNone result (IsPartNumberText text.now) }
     ensures first { IfSome result (IsPartFault text.now) }
@@ -176,7 +184,7 @@ fn misplaced(place: usize) -> PartFault
 }
 
 // The value of the check digits of a text.
-#[tactic(auto, using(crate::proofs::Read::first_digit_is_good, crate::proofs::Read::second_digit_is_good, crate::proofs::Read::values_of_check_digits))]
+#[tactic(auto, using(crate::specs::Laws::Read::first_digit_is_good, crate::specs::Laws::Read::second_digit_is_good, crate::specs::Laws::Read::values_of_check_digits))]
 fn written_check(text: &[u8; 15]) -> u8
     requires { HasGoodCharacters text.now }
     ensures { check_digits_of text.now ≡ hexadecimal result }
@@ -185,7 +193,7 @@ fn written_check(text: &[u8; 15]) -> u8
 }
 
 // What they have to be.
-#[tactic(auto, using(crate::proofs::Read::sum_of_pieces))]
+#[tactic(auto, using(crate::specs::Laws::Read::sum_of_pieces))]
 fn computed_check(text: &[u8; 15]) -> u8
     ensures { result ≡ check_of (maker_of text.now) (product_of text.now) }
 {

@@ -1,4 +1,4 @@
-use Rattle.part_number.proofs.Texts.{part_number_text-laid_out}
+use Rattle.part_number.specs.Laws.Texts.{part_number_text-laid_out}
 use Rattle.part_number.proofs.text_of.Goals as goal
 
 pub returns : goal.returns

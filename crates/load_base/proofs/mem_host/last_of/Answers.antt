@@ -1,9 +1,8 @@
-use Rattle.std.proofs.Common.{◌≡◌, ℕ, List, Bool, true, false, Option, Some, None, take, refl, sym, ap, ◌∙◌}
+use Rattle.std.proofs.Common.{ℕ, List, Some, sym, ap, ◌∙◌}
 use Rattle.std.specs.Prelude.{option_map}
 use Rattle.load_base.specs.Host.{Files}
-use Rattle.load_base.specs.Written.{written_files, same_bytes, with_file}
-use Rattle.load_base.specs.declared.mem_host.Written.{Written}
-use Rattle.load_base.proofs.WrittenFiles.{no_files_yet, one_more, found_same, found_other}
+use Rattle.load_base.specs.Written.{same_bytes}
+use Rattle.load_base.proofs.WrittenFiles.{no_files_yet, found_same, found_other}
 use Rattle.load_base.proofs.mem_host.last_of.Goals as goal
 use Rattle.load_base.proofs.mem_host.last_of.Goals.{then-is_same, else-is_same}
 

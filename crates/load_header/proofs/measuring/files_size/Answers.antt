@@ -1,5 +1,5 @@
-use Rattle.std.proofs.Common.{arith, sym}
-use Rattle.load_header.proofs.Limits.{plain_entry, size_taken_entry}
+use Rattle.std.proofs.Common.{arith}
+use Rattle.load_header.proofs.Limits.{size_taken_entry}
 use Rattle.load_header.proofs.measuring.files_size.Goals as goal
 
 pub loop-file-preserved : goal.loop-file-preserved

@@ -1,7 +1,7 @@
 use Rattle.std.proofs.Common.{◌≡◌, ◌+◌, ◌*◌, ◌≤◌, take}
 use Rattle.std.specs.List.{flat_map}
 use Rattle.load_header.proofs.Limits.{plain_entry}
-use Rattle.load_header.specs.HeaderFields.{size_of}
+use Rattle.field_grammar.specs.Spelling.{size_of}
 use Rattle.load_header.proofs.measuring.files_size.Given as goal
 
 abbrev pub invariant-loop-file : goal.invariant-loop-file

@@ -1,4 +1,4 @@
-use Rattle.std.proofs.Common.{arith, sym}
+use Rattle.std.proofs.Common.{arith}
 use Rattle.load_header.proofs.Limits.{few_at, size_taken}
 use Rattle.load_header.specs.HeaderFields.{kind_fields}
 use Rattle.load_header.proofs.measuring.positions_size.Goals as goal

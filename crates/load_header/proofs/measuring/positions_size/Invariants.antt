@@ -1,6 +1,7 @@
 use Rattle.std.proofs.Common.{◌≡◌, ◌+◌, ◌*◌, ◌≤◌, take}
 use Rattle.std.specs.List.{flat_map}
-use Rattle.load_header.specs.HeaderFields.{size_of, kind_fields}
+use Rattle.field_grammar.specs.Spelling.{size_of}
+use Rattle.load_header.specs.HeaderFields.{kind_fields}
 use Rattle.load_header.proofs.measuring.positions_size.Given as goal
 
 abbrev pub invariant-loop-at : goal.invariant-loop-at

@@ -1,8 +1,9 @@
-use Rattle.std.proofs.Common.{arith, sym, ◌∙◌}
+use Rattle.std.proofs.Common.{arith}
 use Rattle.load_header.specs.Header.{header_view}
 use Rattle.load_header.proofs.Limits.{few_hardware, few_kept, few_of_each, few_data_files, few_support_files, size_type}
-use Rattle.load_header.proofs.Sizes.{size_padded, size_user}
-use Rattle.load_header.proofs.Texts.{part_size}
+use Rattle.field_grammar.proofs.Sections.{size_padded}
+use Rattle.load_header.proofs.Sizes.{size_user}
+use Rattle.part_number.specs.VerdictLaws.{part_size}
 use Rattle.load_header.proofs.measuring.sizes_of.Goals as goal
 
 pub padded_size-requires : goal.padded_size-requires

@@ -1,4 +1,4 @@
-use Rattle.std.proofs.Common.{arith, sym}
+use Rattle.std.proofs.Common.{arith}
 use Rattle.field_grammar.specs.Fields.{padded_fields}
 use Rattle.load_header.proofs.Limits.{size_taken}
 use Rattle.load_header.proofs.measuring.texts_size.Goals as goal

@@ -1,7 +1,7 @@
 use Rattle.std.proofs.Common.{◌≡◌, ◌+◌, ◌*◌, ◌≤◌, take}
 use Rattle.std.specs.List.{flat_map}
 use Rattle.field_grammar.specs.Fields.{padded_fields}
-use Rattle.load_header.specs.HeaderFields.{size_of}
+use Rattle.field_grammar.specs.Spelling.{size_of}
 use Rattle.load_header.proofs.measuring.texts_size.Given as goal
 
 abbrev pub invariant-loop-text : goal.invariant-loop-text

@@ -1,6 +1,6 @@
 use Rattle.std.proofs.Common.{◌∙◌}
 use Rattle.media_lists.specs.Files.{files_view, file_body_fields}
-use Rattle.media_lists.proofs.Texts.{part_size}
+use Rattle.part_number.specs.VerdictLaws.{part_size}
 use Rattle.media_lists.proofs.Writes.{sections_written, covered_written, list_written}
 use Rattle.media_lists.proofs.encoding.files_bytes.Goals as goal
 

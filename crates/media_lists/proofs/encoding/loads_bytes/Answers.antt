@@ -1,7 +1,7 @@
 use Rattle.std.proofs.Common.{arith, ◌∙◌}
 use Rattle.media_lists.proofs.Fits.{few_hardware}
 use Rattle.media_lists.specs.Loads.{loads_view, load_body_fields}
-use Rattle.media_lists.proofs.Texts.{part_size}
+use Rattle.part_number.specs.VerdictLaws.{part_size}
 use Rattle.media_lists.proofs.Sizes.{whole_size}
 use Rattle.media_lists.proofs.Writes.{sections_written, covered_written, list_written}
 use Rattle.media_lists.proofs.encoding.loads_bytes.Goals as goal

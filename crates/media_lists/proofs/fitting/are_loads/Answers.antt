@@ -1,7 +1,8 @@
 use Rattle.std.proofs.Common.{rules, arith}
 use Rattle.media_lists.specs.Loads.{load_view, load_body_fields, IsLoad}
 use Rattle.media_lists.proofs.Seen.{kept_fields, each_seen, each_unseen, distances_seen, distances_unseen, short_at}
-use Rattle.media_lists.proofs.Fits.{true_or_false, each_at, each_taken, distances_from}
+use Rattle.field_grammar.proofs.Written.{all_taken}
+use Rattle.media_lists.proofs.Fits.{true_or_false, each_at, distances_from}
 use Rattle.media_lists.proofs.fitting.are_loads.Goals as goal
 
 pub returns-then-not-is_load : goal.returns-then-not-is_load
@@ -17,7 +18,7 @@ returns-then-not-is_load c = (
 pub returns : goal.returns
 returns c = (
   λ so. (
-    each_unseen (IsLoad c.args.members) load_view c.args.loads.now (each_taken (λ load. IsLoad c.args.members (load_view load)) c.args.loads.now c.loop-index.index c.loop-index-test.false c.loop-index.invariant.each),
+    each_unseen (IsLoad c.args.members) load_view c.args.loads.now (all_taken (λ load. IsLoad c.args.members (load_view load)) c.args.loads.now c.loop-index.index c.loop-index-test.false c.loop-index.invariant.each),
     distances_unseen load_body_fields load_view c.args.loads.now (distances_from kept_fields c.args.loads.now (λ k d lt. c.loop-index.invariant.short k d (omega (arith, lt, c.loop-index-test.false)) lt)),
   ),
   λ all. search rules,

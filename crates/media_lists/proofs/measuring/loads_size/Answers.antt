@@ -1,5 +1,5 @@
 use Rattle.std.proofs.Common.{List, ℕ, arith, ap, sym, ◌∙◌}
-use Rattle.media_lists.specs.ListFields.{size_of}
+use Rattle.field_grammar.specs.Spelling.{size_of}
 use Rattle.media_lists.specs.Loads.{load_view, load_body_fields}
 use Rattle.media_lists.proofs.Seen.{kept_fields, entries_seen}
 use Rattle.media_lists.proofs.Sizes.{total_more, total_taken}

@@ -2,7 +2,7 @@ use Rattle.std.proofs.Common.{◌≡◌, ◌+◌, ◌*◌, ◌≤◌, take}
 use Rattle.std.specs.List.{flat_map, AllByRecursion}
 use Rattle.load_base.specs.Text.{IsText}
 use Rattle.field_grammar.specs.Fields.{padded_fields}
-use Rattle.media_lists.specs.ListFields.{size_of}
+use Rattle.field_grammar.specs.Spelling.{size_of}
 use Rattle.media_lists.proofs.measuring.texts_size.Given as goal
 
 abbrev pub invariant-loop-text : goal.invariant-loop-text

@@ -1,9 +1,11 @@
 use Rattle.std.proofs.Common.{List, ℕ, ◌++◌, length, ap, sym, ◌∙◌}
 use Rattle.std.specs.List.{concat}
 use Rattle.field_grammar.specs.Fields.{number_bytes}
+use Rattle.field_grammar.proofs.Written.{entries_more}
+use Rattle.media_lists.specs.ListFields.{entry_fields}
 use Rattle.media_lists.specs.Loads.{load_view, load_body_fields}
 use Rattle.media_lists.proofs.Seen.{kept_fields, entries_seen, distances_seen, short_at}
-use Rattle.media_lists.proofs.Writes.{begins, goes_on, all_written}
+use Rattle.media_lists.proofs.Writes.{begins, all_written}
 use Rattle.media_lists.proofs.writing.put_loads.Goals as goal
 
 pub loop-index-init : goal.loop-index-init
@@ -11,7 +13,7 @@ loop-index-init c = c.in_ok-put_u16.ensures.ok ∙ begins kept_fields c.args.loa
 
 pub loop-index-preserved : goal.loop-index-preserved
 loop-index-preserved c =
-    goes_on kept_fields c.args.loads.now c.loop-index.index c.index-loads-index.result (c.args.out.now ++ number_bytes 2 (length c.args.loads.now)) c.loop-index.out c.put_load.new.out
+    entries_more (entry_fields kept_fields) (c.args.out.now ++ number_bytes 2 (length c.args.loads.now)) c.loop-index.out c.put_load.new.out c.args.loads.now c.loop-index.index c.index-loads-index.result
     c.loop-index-test.true c.index-loads-index.is c.loop-index.invariant c.in_ok-put_load.ensures
 
 pub returns : goal.returns
