@@ -10,6 +10,8 @@ EndsWith end word = (length end ≤ length word) × (drop (length word - length 
 -- what the name of a file of this kind ends with
 abbrev pub ending_of : FileKind → List ℕ
 ending_of kinds.Header = codes ".LUH"
+ending_of kinds.LoadsList = codes "LOADS.LUM"
+ending_of kinds.FilesList = codes "FILES.LUM"
 ending_of kinds.Lci = codes ".LCI"
 ending_of kinds.Lcl = codes ".LCL"
 ending_of kinds.Lcs = codes ".LCS"

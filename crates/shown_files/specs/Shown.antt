@@ -14,7 +14,12 @@ use Rattle.load_protocol_files.specs.Lus.{lus, LusSpells}
 use Rattle.load_protocol_files.specs.FaultTexts.{file_fault_text}
 use Rattle.load_protocol_files.specs.declared.fault.FileFault.{FileFault}
 use Rattle.load_protocol_files.specs.declared.fault.FileFault.TheVariants as files
+use Rattle.media_lists.specs.Files.{files_list, FilesSpells}
+use Rattle.media_lists.specs.Loads.{loads_list, LoadsSpells}
+use Rattle.media_lists.specs.ListFaultText.{list_fault_text}
+use Rattle.media_lists.specs.declared.fault.ListFault.TheVariants as lists
 use Rattle.shown_files.specs.HeaderText.{shown_header}
+use Rattle.shown_files.specs.ListText.{shown_files_list, shown_loads_list}
 use Rattle.shown_files.specs.ProtocolText.{shown_lci, shown_lcl, shown_lcs, shown_lui, shown_lur, shown_lus}
 use Rattle.shown_files.specs.declared.kind.FileKind.{FileKind}
 use Rattle.shown_files.specs.declared.kind.FileKind.TheVariants as kinds
@@ -32,6 +37,8 @@ IsTextOfFault {F} memory IsFirst text_of bytes text = (fault : F) × IsFirst byt
 -- the text has the fields of a file of this kind that the bytes spell
 abbrev pub HasFields : FileKind → (bytes text : List ℕ) → Type 0
 HasFields kinds.Header bytes text = IsTextOfValue HeaderSpells (shown_header bytes) bytes text
+HasFields kinds.LoadsList bytes text = IsTextOfValue LoadsSpells (shown_loads_list bytes) bytes text
+HasFields kinds.FilesList bytes text = IsTextOfValue FilesSpells (shown_files_list bytes) bytes text
 HasFields kinds.Lci bytes text = IsTextOfValue LciSpells shown_lci bytes text
 HasFields kinds.Lcl bytes text = IsTextOfValue LclSpells shown_lcl bytes text
 HasFields kinds.Lcs bytes text = IsTextOfValue LcsSpells shown_lcs bytes text
@@ -46,6 +53,8 @@ IsFileFault IsFirst bytes text = IsTextOfFault files.Memory IsFirst file_fault_t
 -- the text is the first fault of the bytes as a file of this kind
 abbrev pub HasFault : FileKind → (bytes text : List ℕ) → Type 0
 HasFault kinds.Header bytes text = IsTextOfFault headers.Memory (Fault header) header_fault_text bytes text
+HasFault kinds.LoadsList bytes text = IsTextOfFault lists.Memory (Fault loads_list) list_fault_text bytes text
+HasFault kinds.FilesList bytes text = IsTextOfFault lists.Memory (Fault files_list) list_fault_text bytes text
 HasFault kinds.Lci bytes text = IsFileFault (Fault lci) bytes text
 HasFault kinds.Lcl bytes text = IsFileFault (Fault lcl) bytes text
 HasFault kinds.Lcs bytes text = IsFileFault (Fault lcs) bytes text

@@ -7,6 +7,10 @@ ghost use Rattle.shown_files.specs.Kinds.{EndsWith, IsNameOf};
 pub enum FileKind {
     /// A load header, `.LUH`.
     Header,
+    /// A list of a media set's loads, `LOADS.LUM`.
+    LoadsList,
+    /// A list of a media set's files, `FILES.LUM`.
+    FilesList,
     /// A configuration initialization file, `.LCI`.
     Lci,
     /// A configuration list file, `.LCL`.
@@ -29,6 +33,10 @@ impl FileKind {
     {
         if ends_with(name, b".LUH") {
             Some(FileKind::Header)
+        } else if ends_with(name, b"LOADS.LUM") {
+            Some(FileKind::LoadsList)
+        } else if ends_with(name, b"FILES.LUM") {
+            Some(FileKind::FilesList)
         } else if ends_with(name, b".LCI") {
             Some(FileKind::Lci)
         } else if ends_with(name, b".LCL") {

@@ -11,9 +11,11 @@ ghost use Rattle.shown_files.specs.Shown.{IsShown};
 
 use crate::header::header_text;
 use crate::kind::FileKind;
+use crate::lists::{files_list_text, loads_list_text};
 use crate::protocol::{lci_text, lcl_text, lcs_text, lui_text, lur_text, lus_text};
 use load_base::{Bytes, NoMemory};
 use load_header::{HeaderFault, LoadHeader, fault_text};
+use media_lists::{FilesList, ListFault, LoadsList};
 use load_protocol_files::{FileFault, Lci, Lcl, Lcs, Lui, Lur, Lus};
 use std::alloc::Global;
 
@@ -32,6 +34,8 @@ pub fn show(alloc: Global, kind: FileKind, bytes: &[u8]) -> Result<Shown, NoMemo
 {
     match kind {
         FileKind::Header => shown_header(alloc, bytes),
+        FileKind::LoadsList => shown_loads_list(alloc, bytes),
+        FileKind::FilesList => shown_files_list(alloc, bytes),
         FileKind::Lci => shown_lci(alloc, bytes),
         FileKind::Lcl => shown_lcl(alloc, bytes),
         FileKind::Lcs => shown_lcs(alloc, bytes),
@@ -48,6 +52,26 @@ fn shown_header(alloc: Global, bytes: &[u8]) -> Result<Shown, NoMemory>
         Ok(header) => Ok(Shown::Fields(header_text(alloc, bytes, &header)?)),
         Err(HeaderFault::Memory) => Err(NoMemory),
         Err(fault) => Ok(Shown::Fault(fault_text(alloc, &fault)?)),
+    }
+}
+
+fn shown_loads_list(alloc: Global, bytes: &[u8]) -> Result<Shown, NoMemory>
+    ensures { IfOk result (λ shown. IsShown kinds.LoadsList bytes.now shown) }
+{
+    match LoadsList::decode(alloc, bytes) {
+        Ok(list) => Ok(Shown::Fields(loads_list_text(alloc, bytes, &list)?)),
+        Err(ListFault::Memory) => Err(NoMemory),
+        Err(fault) => Ok(Shown::Fault(media_lists::fault_text(alloc, &fault)?)),
+    }
+}
+
+fn shown_files_list(alloc: Global, bytes: &[u8]) -> Result<Shown, NoMemory>
+    ensures { IfOk result (λ shown. IsShown kinds.FilesList bytes.now shown) }
+{
+    match FilesList::decode(alloc, bytes) {
+        Ok(list) => Ok(Shown::Fields(files_list_text(alloc, bytes, &list)?)),
+        Err(ListFault::Memory) => Err(NoMemory),
+        Err(fault) => Ok(Shown::Fault(media_lists::fault_text(alloc, &fault)?)),
     }
 }
 

@@ -1,0 +1,15 @@
+pub mod PathEnds
+pub mod Whole
+pub mod Seen
+pub mod PathLaws
+pub mod PathFronts
+pub mod Texts
+pub mod Pieces
+pub mod Sizes
+pub mod Entries
+pub mod Heads
+pub mod Groups
+pub mod ListSpelled
+pub mod Writes
+pub mod Fits
+pub mod NameOrder

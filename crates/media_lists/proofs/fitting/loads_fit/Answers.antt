@@ -1,0 +1,20 @@
+use Rattle.std.proofs.Common.{rules}
+use Rattle.media_lists.specs.Loads.{loads_view, load_name, load_body_fields, IsLoad}
+use Rattle.media_lists.proofs.Fits.{few_hardware, list_tells}
+use Rattle.media_lists.proofs.fitting.loads_fit.Goals as goal
+
+pub returns : goal.returns
+returns c =
+    let entries = rw c.as_slice-loads.ensures at c.loads_size.ensures.size in
+    let member = rw c.from.ensures at c.is_member.ensures in
+    let meet = rw c.as_slice-loads.ensures at c.loads_meet_limits.ensures in
+    let user = rw c.as_slice.ensures at c.is_user_data.ensures.fits in
+    let bytes = rw c.as_slice.ensures at c.is_user_data.ensures.bytes in
+    let total = rw c.len.ensures at c.list_size.ensures in
+    list_tells IsLoad load_name load_body_fields (loads_view c.args.list.now) c.loads_size.result c.list_size.result c.as_slice-set.ensures.is_part_number (search rules) bytes
+    (member.0 c.if-not-is_member.false) (user.0 c.if-not-is_user_data.false) (meet.0 c.if-not-loads_meet_limits.false) entries total
+
+pub loads_size-requires-clause-each : goal.loads_size-requires-clause-each
+loads_size-requires-clause-each c =
+    let meet = rw c.as_slice-loads.ensures at c.loads_meet_limits.ensures in
+    rw c.as_slice-loads.ensures (few_hardware c.args.list.now.members c.args.list.now.loads.items (meet.0 c.if-not-loads_meet_limits.false).each)

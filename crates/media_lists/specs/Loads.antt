@@ -1,0 +1,86 @@
+-- The list of a media set's loads, `LOADS.LUM` (docs/FORMATS.md).
+use Rattle.std.specs.Prelude.{ℕ, ◌≤◌, List, ◌++◌, length, map}
+use Rattle.std.specs.List.{flat_map, AllByRecursion}
+use Rattle.load_base.specs.Name.{IsName}
+use Rattle.load_base.specs.Text.{IsText}
+use Rattle.part_number.specs.PartNumber.{IsPartNumberText}
+use Rattle.field_grammar.specs.Grammar.{Grammar, give, times, ◌>>=◌}
+use Rattle.field_grammar.specs.Fields.{number_fields, padded_fields}
+use Rattle.media_lists.specs.Lists.{text, name, part, counted, member_of, ListView, media_list}
+use Rattle.media_lists.specs.Entries.{entries}
+use Rattle.media_lists.specs.ListFields.{IsMember, IsMediaList, ListSpells}
+use Rattle.media_lists.specs.declared.fault.ListFault.{ListFault}
+use Rattle.media_lists.specs.declared.lists.LoadsList.{LoadsList}
+use Rattle.media_lists.specs.declared.lists.LoadEntry.{LoadEntry}
+
+-- what a list of loads says, without the room of its lists
+pub record LoadView : Type 0 where
+  pub part : List ℕ
+  pub header_name : List ℕ
+  pub member : ℕ
+  pub hardware : List (List ℕ)
+
+abbrev pub LoadsView : Type 0
+LoadsView = ListView LoadView
+
+abbrev pub load_view : LoadEntry → LoadView
+load_view l = record { part = l.part; header_name = l.header_name; member = l.member; hardware = l.hardware.items }
+
+abbrev pub loads_view : LoadsList → LoadsView
+loads_view l = record { set = l.set; member = l.member; members = l.members; entries = map load_view l.loads.items; user = l.user.items }
+
+-- ---- as it is read
+
+-- a count, and so many texts
+unfoldable pub texts : Grammar ListFault (List (List ℕ))
+texts = do
+  count ← counted
+  times count text
+
+-- what an entry says of its load, behind the distance
+unfoldable pub load_body : ℕ → Grammar ListFault LoadView
+load_body members = do
+  number ← part
+  title ← name
+  member ← member_of members
+  hardware ← texts
+  give (record { part = number; header_name = title; member = member; hardware = hardware })
+
+abbrev pub load_name : LoadView → List ℕ
+load_name load = load.header_name
+
+abbrev pub load_entries : ℕ → ℕ → Grammar ListFault (List LoadView)
+load_entries members said = entries (load_body members) load_name said
+
+abbrev pub loads_list : Grammar ListFault LoadsView
+loads_list = media_list 0x9004 load_entries
+
+-- ---- as it is written
+
+-- a count, and so many texts
+unfoldable pub texts_fields : List (List ℕ) → List (List ℕ)
+texts_fields texts = number_fields 2 (length texts) ++ flat_map padded_fields texts
+
+unfoldable pub load_body_fields : LoadView → List (List ℕ)
+load_body_fields load = padded_fields load.part ++ (padded_fields load.header_name ++ (number_fields 2 load.member ++ texts_fields load.hardware))
+
+-- a load that a list of a set of so many members can name, for at most 1,024 kinds of hardware
+pub record IsLoad (members : ℕ) (load : LoadView) : Type 0 where
+  pub part : IsPartNumberText load.part
+  pub header_name : IsName load.header_name
+  pub member : IsMember members load.member
+  pub few : length load.hardware ≤ 1024
+  pub hardware : AllByRecursion IsText load.hardware
+
+-- what the words of an entry are by their types
+pub record HasWords (load : LoadView) : Type 0 where
+  pub part : IsPartNumberText load.part
+  pub header_name : IsName load.header_name
+  pub hardware : AllByRecursion IsText load.hardware
+
+abbrev pub IsLoadsList : LoadsView → Type 0
+IsLoadsList v = IsMediaList IsLoad load_name load_body_fields v
+
+-- The list has this one spelling, and can be written.
+abbrev pub LoadsSpells : LoadsView → List ℕ → Type 0
+LoadsSpells v bytes = ListSpells IsLoad load_name 0x9004 load_body_fields v bytes

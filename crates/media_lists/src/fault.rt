@@ -1,0 +1,95 @@
+//! Why bytes are no media list.
+ghost use Rattle.std.specs.Prelude.{◌≡◌};
+ghost use Rattle.media_lists.specs.declared.fault.ListFault.TheVariants.{Memory};
+ghost use Rattle.media_lists.specs.Lists.{named};
+
+use field_codec::FieldFault;
+use load_base::{NameFault, NoMemory, TextFault};
+use part_number::PartFault;
+
+/// Why bytes are no path: a `\` followed by 0 to 4 names, each followed by `\`, of at most 64 bytes (this
+/// project's layout, docs/FORMATS.md).
+#[derive(Clone, Copy, Debug, PartialEq, Eq)]
+pub enum PathFault {
+    /// Q1: the length of the longest front of the bytes that is a front of some path.
+    Path(u64),
+}
+
+/// Why a word of a media list is refused.
+#[derive(Clone, Copy, Debug, PartialEq, Eq)]
+pub enum WordFault {
+    /// A name's fault, N1 to N3.
+    Name(NameFault),
+    /// A part number's fault, P1 to P4.
+    Part(PartFault),
+    /// A text's fault, X1 or X2; never want of memory.
+    Text(TextFault),
+    /// A path's fault, Q1.
+    Path(PathFault),
+}
+
+/// Why bytes are no media list (this project's layout, docs/FORMATS.md). Places are byte offsets in the list,
+/// counted from 0, and entries count from 1.
+#[derive(Clone, Copy, Debug, PartialEq, Eq)]
+pub enum ListFault {
+    /// L1: a field doesn't fit; the place where it begins.
+    Short(u64),
+    /// L2: the list says that it has `said` words of 2 bytes, and has `found` bytes.
+    Length {
+        said: u64,
+        found: u64,
+    },
+    /// L3: another version than 0x9004 of a list of loads, or 0xA004 of a list of files.
+    Version(u64),
+    /// L4: the spare word isn't 0.
+    Spare(u64),
+    /// L5: pointer `which`, 1 to 3, says that its section begins at word `said`; it begins at `expected`.
+    Pointer {
+        which: u64,
+        said: u64,
+        expected: u64,
+    },
+    /// L6: a pad byte isn't 0; its place.
+    Pad(u64),
+    /// L7: a name, part number, text or path is refused; the place of its bytes.
+    Word {
+        place: u64,
+        fault: WordFault,
+    },
+    /// L8: the distance of an entry is neither its length in words nor, for the last, 0.
+    Distance(u64),
+    /// L9: there are no members, or the number of a member isn't 1 to their number; its place.
+    Member(u64),
+    /// L10: a name that stands in an earlier entry too.
+    Repeated(u64),
+    /// L11: more than 1,048,576 bytes, or a count of more than 1,024.
+    TooLong,
+    /// L12: bytes go on behind the check sum; the place of the first.
+    Rest(u64),
+    /// L13: the check sum is `found`, and `said` stands there.
+    Crc {
+        said: u64,
+        found: u64,
+    },
+    /// Memory is wanting.
+    Memory,
+}
+
+impl From<NoMemory> for ListFault {
+    ghost from_gives = { λ _ fault. fault ≡ Memory };
+
+    fn from(_: NoMemory) -> ListFault {
+        ListFault::Memory
+    }
+}
+
+impl From<FieldFault> for ListFault {
+    ghost from_gives = { λ field fault. fault ≡ named field };
+
+    fn from(field: FieldFault) -> ListFault {
+        match field {
+            FieldFault::Short(place) => ListFault::Short(place),
+            FieldFault::BadPad(place) => ListFault::Pad(place),
+        }
+    }
+}

@@ -1,0 +1,91 @@
+//! Whether the name of an entry stands in an earlier entry too, without a look at all of them.
+ghost use Rattle.std.specs.Prelude.{◌≡◌, ◌++◌, ◌<◌, ◌≤◌, ◌∷◌, [], length, map, true, not, IsTrue, IfOk, IfErr};
+ghost use Rattle.std.specs.List.{list_any, AllWithin};
+ghost use Rattle.std.specs.List.Sorted.{IsPartitionPoint};
+ghost use Rattle.load_base.specs.Written.{same_bytes};
+ghost use Rattle.media_lists.specs.Entries.{is_listed};
+ghost use Rattle.media_lists.specs.Loads.{load_view, load_name};
+ghost use Rattle.media_lists.specs.NameOrder.{name_at, by_bytes, IsOrder};
+
+use crate::lists::{ListedFile, LoadEntry};
+use crate::reading::MOST_ENTRIES;
+use arrayvec::ArrayVec;
+use std::cmp::Ordering;
+
+/// An entry of a list, which has the name of a file.
+pub(crate) trait Named {
+    ghost use Rattle.std.specs.Prelude.{List, ℕ};
+
+    ghost name_of: { Self → List ℕ };
+
+    fn name(&self) -> &[u8]
+        ensures { result.now ≡ name_of self.now };
+}
+
+impl Named for ListedFile {
+    ghost name_of = { λ file. file.name };
+
+    fn name(&self) -> &[u8] {
+        self.name.as_slice()
+    }
+}
+
+impl Named for LoadEntry {
+    ghost name_of = { λ load. load.header_name };
+
+    fn name(&self) -> &[u8] {
+        self.header_name.as_slice()
+    }
+}
+
+/// The places of entries in the order of their names. It takes no memory.
+pub(crate) type Order = ArrayVec<u16, MOST_ENTRIES>;
+
+/// Puts the name of the next entry in its place, unless it stands in one of these entries.
+pub(crate) fn is_new<E: Named>(order: &mut Order, entries: &[E], name: &[u8]) -> bool
+    requires few { length entries.now < 1024 }
+    requires order { IsOrder (map E.name_of entries.now) order.old.items }
+    ensures new { result ≡ not (is_listed E.name_of name.now entries.now) }
+    ensures order { IsTrue result → IsOrder (map E.name_of entries.now ++ name.now ∷ []) order.new.items }
+{
+    match find(order.as_slice(), entries, name) {
+        Ok(_) => false,
+        Err(at) => {
+            order.insert(at, entries.len() as u16);
+            true
+        }
+    }
+}
+
+/// The same of a load, as a list of loads sees it.
+pub(crate) fn is_new_load(order: &mut Order, loads: &[LoadEntry], name: &[u8]) -> bool
+    requires few { length loads.now < 1024 }
+    requires order { IsOrder (map load_name (map load_view loads.now)) order.old.items }
+    ensures new { result ≡ not (is_listed load_name name.now (map load_view loads.now)) }
+    ensures order { IsTrue result → IsOrder (map load_name (map load_view loads.now) ++ name.now ∷ []) order.new.items }
+{
+    is_new(order, loads, name)
+}
+
+// The place of the name in the order, or the one where it would stand.
+fn find<E: Named>(order: &[u16], entries: &[E], name: &[u8]) -> Result<usize, usize>
+    requires { IsOrder (map E.name_of entries.now) order.now }
+    ensures found { IfOk result (λ at. list_any (λ other. same_bytes other name.now) (map E.name_of entries.now) ≡ true) }
+    ensures within { IfErr result (λ at. at ≤ length order.now) }
+    ensures between { IfErr result (λ at. IsPartitionPoint (λ place. by_bytes (name_at (map E.name_of entries.now) place) name.now ≡ Ordering.Less) (λ place. by_bytes (name_at (map E.name_of entries.now) place) name.now ≡ Ordering.Greater) order.now at) }
+{
+    order.binary_search_by(|place| compared(entries, *place, name))
+}
+
+// The name at this place against this one.
+fn compared<E: Named>(entries: &[E], place: u16, name: &[u8]) -> Ordering
+    ensures { result ≡ by_bytes (name_at (map E.name_of entries.now) place) name.now }
+{
+    let place = place as usize;
+    if place < entries.len() {
+        entries[place].name().cmp(name)
+    } else {
+        let none: &[u8] = &[];
+        none.cmp(name)
+    }
+}

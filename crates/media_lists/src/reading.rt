@@ -1,0 +1,245 @@
+//! What the decoders of the two media lists share, part by part of their formats.
+ghost use Rattle.std.specs.Prelude.{◌≡◌, ◌≤◌, IfOk};
+ghost use Rattle.field_grammar.specs.Answers.{Decodes};
+ghost use Rattle.media_lists.specs.Lists.{text, name, part, path, counted, section_at, pointers, head, is_member as has_member, membership, member_of, identity, user_data, check_sum, tail, limit};
+ghost use Rattle.media_lists.specs.declared.fault.ListFault.TheVariants.{Memory};
+
+use crate::fault::ListFault;
+use crate::verdicts::{name_of, part_of, path_of, text_of};
+use crc_fields::crc16;
+use field_codec::Reader;
+use load_base::{Bytes, Name, Text};
+use part_number::PartNumber;
+use std::alloc::Global;
+
+/// The most bytes of a list.
+pub(crate) const LONGEST_LIST: usize = 1_048_576;
+
+/// The most entries of a list, and the most kinds of hardware of an entry.
+pub(crate) const MOST_ENTRIES: usize = 1_024;
+
+/// The words at which the sections begin, as the head says.
+#[derive(Clone, Copy)]
+pub(crate) struct Pointers {
+    pub(crate) set: u32,
+    pub(crate) entries: u32,
+    pub(crate) user: u32,
+}
+
+#[tactic(auto, unfolding(crate::specs::Lists::limit))]
+pub(crate) fn test_limit(reader: &mut Reader) -> Result<(), ListFault>
+    ensures { Decodes Memory (λ u. u) limit reader.old result reader.new }
+{
+    if reader.left() <= LONGEST_LIST {
+        Ok(())
+    } else {
+        Err(ListFault::TooLong)
+    }
+}
+
+// ---- the head
+
+#[tactic(auto, unfolding(crate::specs::Lists::head))]
+pub(crate) fn read_head(reader: &mut Reader, version: u16) -> Result<Pointers, ListFault>
+    ensures { Decodes Memory (λ p. p) (head version) reader.old result reader.new }
+{
+    let found = reader.left() as u64;
+    let said = u64::from(reader.take_u32()?);
+    if 2 * said != found {
+        return Err(ListFault::Length { said, found });
+    }
+    let here = reader.take_u16()?;
+    if here != version {
+        return Err(ListFault::Version(u64::from(here)));
+    }
+    let spare = reader.take_u16()?;
+    if spare != 0 {
+        return Err(ListFault::Spare(u64::from(spare)));
+    }
+    let pointers = read_pointers(reader)?;
+    Ok(pointers)
+}
+
+#[tactic(auto, unfolding(crate::specs::Lists::pointers))]
+fn read_pointers(reader: &mut Reader) -> Result<Pointers, ListFault>
+    ensures { Decodes Memory (λ p. p) pointers reader.old result reader.new }
+{
+    let set = reader.take_u32()?;
+    let entries = reader.take_u32()?;
+    let user = reader.take_u32()?;
+    Ok(Pointers { set, entries, user })
+}
+
+#[tactic(auto, unfolding(field_grammar::specs::Fields::section))]
+pub(crate) fn test_section(reader: &mut Reader, which: u64, said: u32) -> Result<(), ListFault>
+    ensures { Decodes Memory (λ u. u) (section_at which said) reader.old result reader.new }
+{
+    let said = u64::from(said);
+    let expected = reader.place() as u64 / 2;
+    if said == expected {
+        Ok(())
+    } else {
+        Err(ListFault::Pointer {
+            which,
+            said,
+            expected,
+        })
+    }
+}
+
+// ---- words
+
+#[tactic(auto, unfolding(crate::specs::Lists::text))]
+pub(crate) fn read_text(alloc: Global, reader: &mut Reader) -> Result<Text, ListFault>
+    ensures { Decodes Memory (λ t. t) text reader.old result reader.new }
+{
+    let size = reader.take_u16()? as usize;
+    let place = reader.place() as u64;
+    let bytes = reader.take_raw(size)?;
+    let text = text_of(alloc, bytes, place)?;
+    reader.take_pad(size)?;
+    Ok(text)
+}
+
+#[tactic(auto, unfolding(crate::specs::Lists::name))]
+pub(crate) fn read_name(reader: &mut Reader) -> Result<Name, ListFault>
+    ensures { Decodes Memory (λ t. t) name reader.old result reader.new }
+{
+    let size = reader.take_u16()? as usize;
+    let place = reader.place() as u64;
+    let bytes = reader.take_raw(size)?;
+    let name = name_of(bytes, place)?;
+    reader.take_pad(size)?;
+    Ok(name)
+}
+
+#[tactic(auto, unfolding(crate::specs::Lists::part))]
+pub(crate) fn read_part(reader: &mut Reader) -> Result<PartNumber, ListFault>
+    ensures { Decodes Memory (λ t. t) part reader.old result reader.new }
+{
+    let size = reader.take_u16()? as usize;
+    let place = reader.place() as u64;
+    let bytes = reader.take_raw(size)?;
+    let part = part_of(bytes, place)?;
+    reader.take_pad(size)?;
+    Ok(part)
+}
+
+#[tactic(auto, unfolding(crate::specs::Lists::path))]
+pub(crate) fn read_path(alloc: Global, reader: &mut Reader) -> Result<Text, ListFault>
+    ensures { Decodes Memory (λ t. t) path reader.old result reader.new }
+{
+    let size = reader.take_u16()? as usize;
+    let place = reader.place() as u64;
+    let bytes = reader.take_raw(size)?;
+    let path = path_of(alloc, bytes, place)?;
+    reader.take_pad(size)?;
+    Ok(path)
+}
+
+#[tactic(auto, unfolding(crate::specs::Lists::counted))]
+pub(crate) fn read_count(reader: &mut Reader) -> Result<usize, ListFault>
+    ensures count { Decodes Memory (λ n. n) counted reader.old result reader.new }
+    ensures few { IfOk result (λ n. n ≤ 1024) }
+{
+    let count = reader.take_u16()? as usize;
+    if count <= MOST_ENTRIES {
+        Ok(count)
+    } else {
+        Err(ListFault::TooLong)
+    }
+}
+
+// ---- members
+
+fn is_member(members: u64, member: u64) -> bool
+    ensures { result ≡ has_member members member }
+{
+    1 <= member && member <= members
+}
+
+#[tactic(auto, unfolding(crate::specs::Lists::membership))]
+fn read_membership(reader: &mut Reader) -> Result<(u8, u8), ListFault>
+    ensures { Decodes Memory (λ x. x) membership reader.old result reader.new }
+{
+    let member_place = reader.place() as u64;
+    let member = reader.take_u8()?;
+    let members_place = reader.place() as u64;
+    let members = reader.take_u8()?;
+    if members < 1 {
+        return Err(ListFault::Member(members_place));
+    }
+    if is_member(u64::from(members), u64::from(member)) {
+        Ok((member, members))
+    } else {
+        Err(ListFault::Member(member_place))
+    }
+}
+
+#[tactic(auto, unfolding(crate::specs::Lists::member_of))]
+pub(crate) fn read_member_of(reader: &mut Reader, members: u8) -> Result<u16, ListFault>
+    ensures { Decodes Memory (λ n. n) (member_of members) reader.old result reader.new }
+{
+    let place = reader.place() as u64;
+    let member = reader.take_u16()?;
+    if is_member(u64::from(members), u64::from(member)) {
+        Ok(member)
+    } else {
+        Err(ListFault::Member(place))
+    }
+}
+
+#[tactic(auto, unfolding(crate::specs::Lists::identity))]
+pub(crate) fn read_identity(
+    reader: &mut Reader,
+    said: u32,
+) -> Result<(PartNumber, u8, u8), ListFault>
+    ensures { Decodes Memory (λ x. x) (identity said) reader.old result reader.new }
+{
+    test_section(reader, 1, said)?;
+    let set = read_part(reader)?;
+    let (member, members) = read_membership(reader)?;
+    Ok((set, member, members))
+}
+
+// ---- the end
+
+#[tactic(auto, unfolding(crate::specs::Lists::tail))]
+pub(crate) fn read_tail(alloc: Global, reader: &mut Reader, said: u32) -> Result<Bytes, ListFault>
+    ensures { Decodes Memory (λ b. b.items) (tail said) reader.old result reader.new }
+{
+    let user = read_user_data(alloc, reader, said)?;
+    test_check_sum(reader)?;
+    Ok(user)
+}
+
+#[tactic(auto, unfolding(crate::specs::Lists::user_data))]
+fn read_user_data(alloc: Global, reader: &mut Reader, said: u32) -> Result<Bytes, ListFault>
+    ensures { Decodes Memory (λ b. b.items) (user_data said) reader.old result reader.new }
+{
+    test_section(reader, 3, said)?;
+    let words = reader.take_u16()? as usize;
+    let bytes = reader.take_raw(2 * words)?;
+    let mut user = Bytes::new(alloc);
+    user.extend(bytes)?;
+    Ok(user)
+}
+
+#[tactic(auto, unfolding(crate::specs::Lists::check_sum))]
+fn test_check_sum(reader: &mut Reader) -> Result<(), ListFault>
+    ensures { Decodes Memory (λ u. u) check_sum reader.old result reader.new }
+{
+    let found = crc16(reader.before());
+    let said = reader.take_u16()?;
+    if reader.left() != 0 {
+        return Err(ListFault::Rest(reader.place() as u64));
+    }
+    if said == found {
+        Ok(())
+    } else {
+        Err(ListFault::Crc {
+            said: u64::from(said),
+            found: u64::from(found),
+        })
+    }
+}
