@@ -6,6 +6,7 @@ use Rattle.crc_fields.specs.CheckSums.{crc16_of}
 use Rattle.media_lists.specs.Files.{FilesView}
 use Rattle.media_lists.specs.Loads.{LoadView, LoadsView}
 use Rattle.media_lists.specs.declared.lists.ListedFile.{ListedFile}
+use Rattle.media_lists.specs.declared.lists.TheConstants.{FILES_VERSION, LOADS_VERSION}
 use Rattle.shown_files.specs.Lines.{line, field_line, hex_16, user_line}
 
 -- `member N of M`
@@ -31,8 +32,8 @@ listed_file_line file = line (codes "file" ∷ file.name ∷ file.path ∷ decim
 -- the list of files that these bytes spell
 unfoldable pub shown_files_list : List ℕ → FilesView → List ℕ
 shown_files_list bytes l =
-    kind_line (codes "files") (length bytes / 2) 0xA004 ++ set_lines l.set l.member l.members
-    ++ flat_map listed_file_line l.files ++ user_line l.user ++ crc_line bytes
+    kind_line (codes "files") (length bytes / 2) FILES_VERSION ++ set_lines l.set l.member l.members
+    ++ flat_map listed_file_line l.entries ++ user_line l.user ++ crc_line bytes
 
 -- `load PART HEADER MEMBER HARDWARE`, with the number of its hardware
 unfoldable pub listed_load_line : LoadView → List ℕ
@@ -50,5 +51,5 @@ listed_load_lines load = listed_load_line load ++ flat_map load_hardware_line lo
 -- the list of loads that these bytes spell
 unfoldable pub shown_loads_list : List ℕ → LoadsView → List ℕ
 shown_loads_list bytes l =
-    kind_line (codes "loads") (length bytes / 2) 0x9004 ++ set_lines l.set l.member l.members
-    ++ flat_map listed_load_lines l.loads ++ user_line l.user ++ crc_line bytes
+    kind_line (codes "loads") (length bytes / 2) LOADS_VERSION ++ set_lines l.set l.member l.members
+    ++ flat_map listed_load_lines l.entries ++ user_line l.user ++ crc_line bytes

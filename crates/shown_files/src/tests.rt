@@ -12,6 +12,25 @@ static LAST_LUS: &[u8] =
 static LCL: &[u8] =
     b"\x00\x00\x00\x2C\x41\x33\x00\x01\x03HW1\x03SN1\x00\x02\x0FABC41-0000-0001\x01A\x00\x01B\x00\x03OPS";
 
+// The lists of a set of one load with one data file.
+static FILES_LIST: [u8; 86] = [
+    0x00, 0x00, 0x00, 0x2B, 0xA0, 0x04, 0x00, 0x00, 0x00, 0x00, 0x00, 0x0A, 0x00, 0x00, 0x00, 0x14,
+    0x00, 0x00, 0x00, 0x29, 0x00, 0x0F, 0x58, 0x59, 0x5A, 0x35, 0x41, 0x2D, 0x30, 0x30, 0x30, 0x30,
+    0x2D, 0x30, 0x30, 0x30, 0x31, 0x00, 0x01, 0x01, 0x00, 0x02, 0x00, 0x0A, 0x00, 0x07, 0x41, 0x50,
+    0x50, 0x2E, 0x4C, 0x55, 0x48, 0x00, 0x00, 0x01, 0x5C, 0x00, 0x00, 0x01, 0x24, 0x8A, 0x00, 0x00,
+    0x00, 0x07, 0x41, 0x50, 0x50, 0x2E, 0x42, 0x49, 0x4E, 0x00, 0x00, 0x01, 0x5C, 0x00, 0x00, 0x01,
+    0x29, 0xB1, 0x00, 0x00, 0x15, 0x69,
+];
+
+static LOADS_LIST: [u8; 86] = [
+    0x00, 0x00, 0x00, 0x2B, 0x90, 0x04, 0x00, 0x00, 0x00, 0x00, 0x00, 0x0A, 0x00, 0x00, 0x00, 0x14,
+    0x00, 0x00, 0x00, 0x29, 0x00, 0x0F, 0x58, 0x59, 0x5A, 0x35, 0x41, 0x2D, 0x30, 0x30, 0x30, 0x30,
+    0x2D, 0x30, 0x30, 0x30, 0x31, 0x00, 0x01, 0x01, 0x00, 0x01, 0x00, 0x00, 0x00, 0x0F, 0x41, 0x42,
+    0x43, 0x34, 0x31, 0x2D, 0x30, 0x30, 0x30, 0x30, 0x2D, 0x30, 0x30, 0x30, 0x31, 0x00, 0x00, 0x07,
+    0x41, 0x50, 0x50, 0x2E, 0x4C, 0x55, 0x48, 0x00, 0x00, 0x01, 0x00, 0x01, 0x00, 0x03, 0x48, 0x57,
+    0x31, 0x00, 0x00, 0x00, 0x81, 0x43,
+];
+
 fn fields(text: Shown) -> Result<Bytes, Fail> {
     match text {
         Shown::Fields(text) => Ok(text),
@@ -29,7 +48,17 @@ fn fault(text: Shown) -> Result<Bytes, Fail> {
 #[test]
 fn each_kind_shows_its_fields(rt: HostRuntime) -> Result<(), Fail> {
     let alloc = rt.alloc();
-    let rows: [(FileKind, &[u8], &[u8]); 6] = [
+    let rows: [(FileKind, &[u8], &[u8]); 8] = [
+        (
+            FileKind::LoadsList,
+            &LOADS_LIST,
+            b"loads 43 9004\nset XYZ5A-0000-0001\nmember 1 of 1\nload ABC41-0000-0001 APP.LUH 1 1\nhardware HW1\nuser -\ncrc 8143\n",
+        ),
+        (
+            FileKind::FilesList,
+            &FILES_LIST,
+            b"files 43 A004\nset XYZ5A-0000-0001\nmember 1 of 1\nfile APP.LUH \\ 1 248A\nfile APP.BIN \\ 1 29B1\nuser -\ncrc 1569\n",
+        ),
         (
             FileKind::Lci,
             b"\x00\x00\x00\x0C\x41\x33\x00\x01\x03Yes",
@@ -71,7 +100,11 @@ fn each_kind_shows_its_fields(rt: HostRuntime) -> Result<(), Fail> {
 #[test]
 fn each_kind_shows_its_first_fault(rt: HostRuntime) -> Result<(), Fail> {
     let alloc = rt.alloc();
-    let rows: [(FileKind, &[u8], &[u8]); 7] = [
+    let mut repeated = FILES_LIST;
+    repeated[70..73].copy_from_slice(b"LUH");
+    let rows: [(FileKind, &[u8], &[u8]); 9] = [
+        (FileKind::LoadsList, &FILES_LIST, b"L3 40964"),
+        (FileKind::FilesList, &repeated, b"L10 2"),
         (FileKind::Header, b"\x00\x00\x00", b"H1 0"),
         (FileKind::Lci, &LUR[..8], b"U2 32 8"),
         (FileKind::Lcs, b"\x00\x00\x00\x06\x41\x34", b"U3 16692"),
@@ -101,7 +134,11 @@ fn each_kind_shows_its_first_fault(rt: HostRuntime) -> Result<(), Fail> {
 
 #[test]
 fn the_end_of_a_name_tells_the_kind(rt: HostRuntime) {
-    let rows: [(&[u8], Option<FileKind>); 12] = [
+    let rows: [(&[u8], Option<FileKind>); 16] = [
+        (b"P/1/LOADS.LUM", Some(FileKind::LoadsList)),
+        (b"XFILES.LUM", Some(FileKind::FilesList)),
+        (b"OADS.LUM", None),
+        (b"loads.lum", None),
         (b"P/1/APP.LUH", Some(FileKind::Header)),
         (b".LCI", Some(FileKind::Lci)),
         (b"HW1_L.LCL", Some(FileKind::Lcl)),
