@@ -1,6 +1,12 @@
+pub mod Contents
 pub mod Faults
+pub mod Fields
 pub mod Identity
 pub mod Looks
+pub mod Manifest
+pub mod ManifestLaws
+pub mod ManifestSpelling
 pub mod Places
+pub mod SlotLaws
 pub mod Slots
 pub mod Stands
