@@ -1,5 +1,5 @@
 -- A manifest has one spelling.
-use Rattle.std.proofs.Common.{◌≡◌, ℕ, ◌+◌, ◌<◌, ◌≤◌, ◌^◌, List, [], ◌∷◌, ◌++◌, length, Bool, true, Option, Some, None, refl, sym, subst, arith}
+use Rattle.std.proofs.Common.{◌≡◌, ℕ, ◌+◌, ◌<◌, ◌≤◌, ◌^◌, List, [], ◌∷◌, ◌++◌, length, true, refl, sym, subst, arith}
 use Rattle.std.specs.Prelude.{nat_le, ◌&&◌, is_none, ◌↔◌}
 use Rattle.std.specs.List.{concat, flat_map, AllByRecursion}
 use Rattle.std.proofs.lemmas.Bool.Decides.{nat_tests}
@@ -10,10 +10,9 @@ use Rattle.load_base.specs.Name.{IsName}
 use Rattle.load_base.specs.PartText.{IsPartText}
 use Rattle.load_base.specs.Verdicts.{name_fault_of, part_text_fault_of}
 use Rattle.load_base.specs.VerdictLaws.{name_faults, part_text_faults}
-use Rattle.field_grammar.specs.Grammar.{Grammar, IsBytes, Spelled, pair}
+use Rattle.field_grammar.specs.Grammar.{IsBytes, Spelled, pair}
 use Rattle.field_grammar.specs.Fields.{number, raw, short, number_fields, short_fields}
 use Rattle.field_grammar.specs.Spelling.{IsSpelledBy, SpellsWhole}
-use Rattle.field_grammar.specs.declared.fault.FieldFault.{FieldFault}
 use Rattle.field_grammar.proofs.Combined.{spelled-pair, spelled-mapped, spelled-counted}
 use Rattle.field_grammar.proofs.Decoders.{spelling_is, spelled_by}
 use Rattle.field_grammar.proofs.Numbers.{wide2, wide4, spelled-number, spelled-raw}
@@ -21,46 +20,12 @@ use Rattle.field_grammar.proofs.Placed.{placed-ended}
 use Rattle.field_grammar.proofs.Texts.{IsShortText, spelled-short}
 use Rattle.disk_layout.specs.Places.{most_loads, most_files}
 use Rattle.disk_layout.specs.Fields.{sound}
+use Rattle.disk_layout.specs.FieldLaws.{spelled-as, spelled-sound, nothing_wrong, no_fault}
 use Rattle.disk_layout.specs.Manifest.{LoadEntry, manifest, counted_loads, counted_files, to_load, to_file, load_count, load_entry, file_entry, file_count, file_name, file_length, part, file_entry_fields, load_entry_fields, manifest_fields, FileFits, LoadFits, ManifestFits}
 use Rattle.disk_layout.specs.declared.manifest.ManifestFault.TheVariants.{Wrong}
 use Rattle.disk_layout.specs.declared.manifest.ManifestFile.{ManifestFile}
 
--- another way to say which values fit
-spelled-as : {F A : Type 0} (g : Grammar F A) (s : A → List (List ℕ)) (P Q : A → Type 0) → ((x : A) → P x → Q x) → ((x : A) → Q x → P x) → IsSpelledBy g s P → IsSpelledBy g s Q
-spelled-as g s P Q there back one = record {
-  to = λ before fields after value follows.
-      let a = one.to before fields after value follows in
-      (a.0, there value a.1);
-  from = λ before after value fits. one.from before after value (back value fits);
-}
-
 -- ---- the fields
-
--- a field that passes a test
-spelled-sound : {F A : Type 0} (wrong : ℕ → F) (g : Grammar FieldFault A) (test : A → Bool) (s : A → List (List ℕ)) (P : A → Type 0)
-    → IsSpelledBy g s P → IsSpelledBy (sound wrong g test) s (λ x. P x × (test x ≡ true))
-spelled-sound {A = A} wrong g test s P one = record {
-  to = λ before fields after value follows.
-      let (b, f1, o1, parts1, h1, (x, f2, o2, parts2, fx, (u, f3, o3, parts3, h3, last))) = follows in
-      let a = one.to (before ++ concat f1) f2 (length (concat o2) + after) x fx in
-      let whole : fields ≡ s x = rw (parts1, h1.0, parts2, parts3, h3.0, last.0, a.0, append-nil) refl in
-      subst (λ (v : A). (fields ≡ s v) × (P v × (test v ≡ true))) last.1 (whole, (a.1, h3.1));
-  from = λ before after value fits. (
-    before,
-    [],
-    s value,
-    refl,
-    (refl, refl),
-    (value, s value, [], sym (append-nil (s value)), one.from (before ++ []) (0 + after) value fits.0, (tt, [], [], refl, (refl, fits.1), (refl, refl))),
-  );
-}
-
-nothing_wrong : {E : Type 0} (found : Option E) → is_none found ≡ true → found ≡ None
-nothing_wrong None e = refl
-nothing_wrong (Some fault) e = absurd cc
-
-no_fault : {E : Type 0} (found : Option E) → found ≡ None → is_none found ≡ true
-no_fault found e = rw e refl
 
 spelled-load_count : IsSpelledBy load_count (number_fields 2) (λ n. n ≤ most_loads)
 unfolding load_count

@@ -1,13 +1,15 @@
 //! Laws of what a disk stands for.
 ghost use Rattle.std.specs.Prelude.{◌≡◌, ◌⊎◌, ◌↔◌, ◌≤◌, ◌+◌, ℕ, List, length};
 ghost use Rattle.std.specs.List.{concat};
-ghost use Rattle.disk_model.specs.Image.{Image, IsOfBytes};
+ghost use Rattle.disk_model.specs.Image.{Image, IsOfBytes, range};
 ghost use Rattle.field_grammar.specs.Grammar.{IsBytes, IsDecided, Spelled, Fault};
 ghost use Rattle.disk_layout.specs.Places.{IsBankSize, longest_identity, longest_manifest, most_loads, most_files, slot_a, slot_b, bank_at, number_at};
+ghost use Rattle.disk_layout.specs.Identity.{IsIdentity, identity_text, HasIdentity};
 ghost use Rattle.disk_layout.specs.Slots.{IsOpen, sequence_of, bank_of, manifest_place_of, manifest_length_of};
 ghost use Rattle.disk_layout.specs.Manifest.{LoadEntry, ManifestFits, manifest, manifest_fields};
 ghost use Rattle.disk_layout.specs.Stands.{StandingView, Outline, outline_of, HasOutline, StandsBy, Stands, StandsNot};
 ghost use Rattle.disk_layout.specs.declared.fault.RecoverFault.{RecoverFault};
+ghost use Rattle.disk_layout.specs.declared.identity.Identity.{Identity};
 ghost use Rattle.disk_layout.specs.declared.manifest.ManifestFault.{ManifestFault};
 ghost use Rattle.disk_layout.specs.declared.manifest.ManifestFault.TheVariants.{Wrong};
 
@@ -16,6 +18,7 @@ use crate::places::{
     MOST_FILES, MOST_LOADS, OPEN, PLACE_IN_SLOT, SEQUENCE_IN_SLOT, SLOT_A, SLOT_B, SLOT_LENGTH,
     SMALLEST_BANK,
 };
+use crc_fields::check_sum_laws;
 
 /// Every image of bytes stands for one configuration, or for none at one fault, and never both.
 pub fn stands_for_one_thing()
@@ -24,6 +27,15 @@ pub fn stands_for_one_thing()
     ensures one_standing { (image : Image) (s t : StandingView) → Stands image s → Stands image t → s ≡ t }
     ensures one_fault { (image : Image) (f g : RecoverFault) → StandsNot image f → StandsNot image g → f ≡ g }
 {}
+
+/// The text of an identity fits its place, and where it stands at the front of a disk, the disk has that
+/// identity.
+pub fn an_identity_is_read_again()
+    ensures short { (id : Identity) → IsIdentity id → length (identity_text id) ≤ longest_identity }
+    ensures read { (image : Image) (id : Identity) → IsIdentity id → range image 0 (length (identity_text id)) ≡ identity_text id → HasIdentity image id }
+{
+    check_sum_laws();
+}
 
 /// An image that has an outline stands for a configuration of that outline: its files are what stands
 /// before the manifest.
