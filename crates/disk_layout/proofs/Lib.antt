@@ -1,5 +1,3 @@
-pub mod Idents
-pub mod RulingSlot
-pub mod Manifests
+pub mod Cuts
 pub mod Verdict
 pub mod OneThing

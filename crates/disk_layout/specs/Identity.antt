@@ -1,14 +1,15 @@
 -- The identity at the front of a disk (docs/DISK.md).
-use Rattle.std.specs.Prelude.{ℕ, List, length, ◌==◌, nat_le, Bool, ◌&&◌}
-use Rattle.std.specs.List.{list_all}
-use Rattle.load_base.specs.Ident.{is_ident_byte}
+use Rattle.std.specs.Prelude.{ℕ, List, [], ◌∷◌, ◌++◌, length, ◌==◌, is_none}
+use Rattle.load_base.specs.Ident.{IsIdent}
+use Rattle.load_base.specs.Verdicts.{ident_fault_of}
 use Rattle.crc_fields.specs.CheckSums.{crc16_of}
 use Rattle.disk_model.specs.Image.{Image, range}
 use Rattle.field_grammar.specs.Grammar.{Grammar, give, check, front, renamed, ◌>>=◌, ◌>>◌, SpelledAtFront, Fault}
-use Rattle.field_grammar.specs.Fields.{number, short}
+use Rattle.field_grammar.specs.Fields.{number, short, number_bytes, short_text}
 use Rattle.field_grammar.specs.declared.fault.FieldFault.{FieldFault}
 use Rattle.field_grammar.specs.declared.fault.FieldFault.TheVariants.{Short, BadPad}
-use Rattle.disk_layout.specs.Places.{is_bank_size, longest_identity}
+use Rattle.disk_layout.specs.Fields.{sound}
+use Rattle.disk_layout.specs.Places.{is_bank_size, IsBankSize, longest_identity}
 use Rattle.disk_layout.specs.declared.identity.Identity.{Identity}
 
 -- A fault of an identity is the place at which it can't go on.
@@ -35,23 +36,11 @@ signature = do
 
 -- the bytes of a bank, in four bytes
 unfoldable pub bank_size : Grammar ℕ ℕ
-bank_size = do
-  before ← front
-  size ← renamed fault_place (number 4)
-  check (is_bank_size size) (length before)
-  give size
+bank_size = sound (λ place. place) (number 4) is_bank_size
 
--- 1 to 20 bytes, each of which an Ident may have
-abbrev pub is_ident : List ℕ → Bool
-is_ident text = nat_le 1 (length text) && nat_le (length text) 20 && list_all is_ident_byte text
-
--- An Ident as a short text. Whatever is wrong with it, the place is that of its length.
+-- an Ident as a short text
 unfoldable pub ident : Grammar ℕ (List ℕ)
-ident = do
-  before ← front
-  text ← renamed fault_place short
-  check (is_ident text) (length before)
-  give text
+ident = sound (λ place. place) short (λ text. is_none (ident_fault_of text))
 
 -- the CRC-16 of all that stands before it
 unfoldable pub check_sum : Grammar ℕ (Unit {0})
@@ -78,3 +67,21 @@ HasIdentity image id = SpelledAtFront identity (range image 0 longest_identity) 
 -- the disk begins with no identity: this is the first place at which it can't go on
 abbrev pub HasNoIdentity : Image → ℕ → Type 0
 HasNoIdentity image place = Fault identity (range image 0 longest_identity) place
+
+-- ---- as it is written
+
+-- what an identity can say
+pub record IsIdentity (id : Identity) : Type 0 where
+  pub bank : IsBankSize id.bank
+  pub hw : IsIdent id.hw
+  pub pos : IsIdent id.pos
+  pub serial : IsIdent id.serial
+
+-- signature and layout, the size of a bank, and the three Idents
+unfoldable pub identity_front : Identity → List ℕ
+identity_front id =
+    (0x41 ∷ 0x36 ∷ 0x31 ∷ 0x35 ∷ 0 ∷ 1 ∷ []) ++ (number_bytes 4 id.bank ++ (short_text id.hw ++ (short_text id.pos ++ short_text id.serial)))
+
+-- and their check sum
+unfoldable pub identity_text : Identity → List ℕ
+identity_text id = identity_front id ++ number_bytes 2 (crc16_of (identity_front id))

@@ -1,6 +1,15 @@
+pub mod Contents
 pub mod Faults
+pub mod FieldLaws
+pub mod Fields
 pub mod Identity
+pub mod IdentityLaws
 pub mod Looks
+pub mod Manifest
+pub mod ManifestLaws
+pub mod ManifestSpelling
 pub mod Places
+pub mod RangeLaws
+pub mod SlotLaws
 pub mod Slots
 pub mod Stands

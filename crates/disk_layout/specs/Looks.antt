@@ -5,6 +5,10 @@ use Rattle.disk_model.specs.State.{DiskState, OnlyReads}
 use Rattle.disk_layout.specs.declared.fault.RecoverFault.{RecoverFault}
 use Rattle.disk_layout.specs.declared.fault.RecoverFault.TheVariants.{DiskFailed, Memory}
 
+-- Where a call answers this failure, the disk failed in it and is stopped.
+pub record HasDiskCause {T F : Type 0} (failure : F) (old new : DiskState) (result : Result T F) : Type 0 where
+  pub failed : IsErrOf result failure → Rose old.faults new.faults × (new.stopped ≡ true)
+
 -- the disk reads as before, and runs
 pub record RunsOn (old new : DiskState) : Type 0 where
   pub reads : new.reads ≡ old.reads
@@ -27,4 +31,4 @@ pub record Looks {T : Type 0} (old new : DiskState) (result : Result T RecoverFa
   pub only_reads : OnlyReads old new
   pub ok : OnOk result (RunsOn old new)
   pub err : IfErr result (λ fault. RunsOnAfter old new fault)
-  pub failed : IsErrOf result DiskFailed → Rose old.faults new.faults × (new.stopped ≡ true)
+  pub cause : HasDiskCause DiskFailed old new result

@@ -29,6 +29,13 @@ IsBankSize size = (4096 ≤ size) × (size ≤ 67108864)
 abbrev pub longest_manifest : ℕ
 longest_manifest = 565794
 
+-- the most loads of a manifest, and the most files of a load
+abbrev pub most_loads : ℕ
+most_loads = 32
+
+abbrev pub most_files : ℕ
+most_files = 256
+
 -- the number in so many bytes from a place on, the highest first
 unfoldable pub number_at : ℕ → Image → ℕ → ℕ
 number_at bytes image place = big_number bytes (range image place bytes)

@@ -1,14 +1,18 @@
 -- What an image of a disk stands for, and why it stands for nothing (docs/DISK.md).
-use Rattle.std.specs.Prelude.{◌≡◌, ◌≢◌, ◌⊎◌, ℕ, ◌+◌, ◌<◌, ◌≤◌, List, [], ◌∷◌}
+use Rattle.std.specs.Prelude.{◌≡◌, ◌≢◌, ℕ, ◌+◌, ◌<◌, ◌≤◌, List}
 use Rattle.load_base.specs.Config.{LoadView, loads_view}
 use Rattle.disk_model.specs.Image.{Image, range}
-use Rattle.disk_layout.specs.Places.{slot_a, slot_b, bank_at, longest_manifest, number_at}
+use Rattle.field_grammar.specs.Grammar.{Spelled, Fault}
+use Rattle.disk_layout.specs.Places.{slot_a, slot_b, bank_at, longest_manifest}
 use Rattle.disk_layout.specs.Identity.{HasIdentity, HasNoIdentity}
 use Rattle.disk_layout.specs.Slots.{IsOpen, Rules, sequence_of, bank_of, manifest_place_of, manifest_length_of}
+use Rattle.disk_layout.specs.Manifest.{LoadEntry, manifest, total_length}
+use Rattle.disk_layout.specs.Contents.{entries_of, contents_of, HeadersAreFirst}
 use Rattle.disk_layout.specs.declared.identity.Identity.{Identity}
 use Rattle.disk_layout.specs.declared.standing.Standing.{Standing}
 use Rattle.disk_layout.specs.declared.fault.RecoverFault.{RecoverFault}
-use Rattle.disk_layout.specs.declared.fault.RecoverFault.TheVariants.{NotFormatted, NoOpenSlot, BadSlot, BadManifest, LoadsNotBuilt, DiskFailed, Memory}
+use Rattle.disk_layout.specs.declared.fault.RecoverFault.TheVariants.{NotFormatted, NoOpenSlot, BadSlot, BadManifest, DiskFailed, Memory}
+use Rattle.disk_layout.specs.declared.manifest.ManifestFault.TheVariants.{Wrong}
 
 -- a standing without the room of its lists
 pub record StandingView : Type 0 where
@@ -20,6 +24,17 @@ pub record StandingView : Type 0 where
 abbrev pub standing_view : Standing → StandingView
 standing_view s = record { identity = s.identity; bank = s.bank; sequence = s.sequence; loads = loads_view s.config }
 
+-- what can be said of a standing without its contents: the loads by their part numbers, and the names and lengths of
+-- their files
+pub record Outline : Type 0 where
+  pub identity : Identity
+  pub bank : ℕ
+  pub sequence : ℕ
+  pub loads : List LoadEntry
+
+abbrev pub outline_of : StandingView → Outline
+outline_of s = record { identity = s.identity; bank = s.bank; sequence = s.sequence; loads = entries_of s.loads }
+
 -- ---- the slot that rules
 
 -- what a slot says can be: its bank is one of the two, and its manifest is not too long and lies in the bank
@@ -28,10 +43,12 @@ pub record IsSoundSlot (image : Image) (id : Identity) (slot : ℕ) : Type 0 whe
   pub short : manifest_length_of image slot ≤ longest_manifest
   pub within : manifest_place_of image slot + manifest_length_of image slot ≤ id.bank
 
--- what it says can't be
-abbrev pub IsUnsoundSlot : Image → Identity → ℕ → Type 0
-IsUnsoundSlot image id slot =
-    (2 ≤ bank_of image slot) ⊎ ((longest_manifest < manifest_length_of image slot) ⊎ (id.bank < manifest_place_of image slot + manifest_length_of image slot))
+-- the first of these that can't be, and the place on the disk of what says so: the bank, the length, and the place
+pub data IsBadSlot (image : Image) (id : Identity) (slot place : ℕ) : Type 0 where
+  no_such_bank : 2 ≤ bank_of image slot → place ≡ slot + 20 → IsBadSlot image id slot place
+  too_long : bank_of image slot < 2 → longest_manifest < manifest_length_of image slot → place ≡ slot + 25 → IsBadSlot image id slot place
+  past_the_bank : bank_of image slot < 2 → manifest_length_of image slot ≤ longest_manifest
+      → id.bank < manifest_place_of image slot + manifest_length_of image slot → place ≡ slot + 21 → IsBadSlot image id slot place
 
 -- the target, and the slot that rules on its disk
 pub record IsRuledBy (image : Image) (id : Identity) (slot : ℕ) : Type 0 where
@@ -48,35 +65,40 @@ manifest_at image id slot = bank_at id.bank (bank_of image slot) + manifest_plac
 abbrev pub manifest_of : Image → Identity → ℕ → List ℕ
 manifest_of image id slot = range image (manifest_at image id slot) (manifest_length_of image slot)
 
--- how many loads it counts, in its first two bytes
-abbrev pub load_count : Image → Identity → ℕ → ℕ
-load_count image id slot = number_at 2 image (manifest_at image id slot)
-
 -- ---- what an image stands for
 
--- The identity, the slot that rules, and a manifest without loads, which has no contents before it.
+-- This slot rules, what it says can be, and the manifest that it names spells these loads, whose files have as many
+-- bytes as stand before it in the bank.
+pub record HasOutline (image : Image) (slot : ℕ) (o : Outline) : Type 0 where
+  pub ruled : IsRuledBy image o.identity slot
+  pub can_be : IsSoundSlot image o.identity slot
+  pub bank : o.bank ≡ bank_of image slot
+  pub sequence : o.sequence ≡ sequence_of image slot
+  pub manifest : Spelled manifest (manifest_of image o.identity slot) o.loads
+  pub lengths : total_length o.loads ≡ manifest_place_of image slot
+
+-- By this slot the image stands for a configuration: it has its outline, each load's header is its first file, and the
+-- files stand in the bank, one behind the other from its start on.
+pub record StandsBy (image : Image) (slot : ℕ) (s : StandingView) : Type 0 where
+  pub outline : HasOutline image slot (outline_of s)
+  pub headers : HeadersAreFirst s.loads
+  pub contents : contents_of s.loads ≡ range image (bank_at s.identity.bank s.bank) (manifest_place_of image slot)
+
+-- what an image stands for
 pub record Stands (image : Image) (s : StandingView) : Type 0 where
   pub slot : ℕ
-  pub ruled : IsRuledBy image s.identity slot
-  pub can_be : IsSoundSlot image s.identity slot
-  pub bank : s.bank ≡ bank_of image slot
-  pub sequence : s.sequence ≡ sequence_of image slot
-  pub manifest : manifest_of image s.identity slot ≡ 0 ∷ 0 ∷ []
-  pub contents : manifest_place_of image slot ≡ 0
-  pub loads : s.loads ≡ []
+  pub by : StandsBy image slot s
 
 -- the first condition of a standing that fails
 pub data StandsNot (image : Image) (f : RecoverFault) : Type 0 where
-  not_formatted : (place : ℕ) → HasNoIdentity image place → f ≡ NotFormatted → StandsNot image f
+  not_formatted : (place : ℕ) → HasNoIdentity image place → f ≡ NotFormatted place → StandsNot image f
   no_open_slot : (id : Identity) → HasIdentity image id → ¬ IsOpen image slot_a → ¬ IsOpen image slot_b → f ≡ NoOpenSlot → StandsNot image f
-  bad_slot : (id : Identity) (slot : ℕ) → IsRuledBy image id slot → IsUnsoundSlot image id slot → f ≡ BadSlot → StandsNot image f
-  no_count : (id : Identity) (slot : ℕ) → IsRuledBy image id slot → IsSoundSlot image id slot → manifest_length_of image slot < 2 → f ≡ BadManifest → StandsNot image f
-  has_loads : (id : Identity) (slot : ℕ) → IsRuledBy image id slot → IsSoundSlot image id slot → 2 ≤ manifest_length_of image slot
-      → load_count image id slot ≢ 0 → f ≡ LoadsNotBuilt → StandsNot image f
-  has_rest : (id : Identity) (slot : ℕ) → IsRuledBy image id slot → IsSoundSlot image id slot → 2 < manifest_length_of image slot
-      → load_count image id slot ≡ 0 → f ≡ BadManifest → StandsNot image f
-  misplaced : (id : Identity) (slot : ℕ) → IsRuledBy image id slot → IsSoundSlot image id slot → manifest_length_of image slot ≡ 2
-      → load_count image id slot ≡ 0 → manifest_place_of image slot ≢ 0 → f ≡ BadManifest → StandsNot image f
+  bad_slot : (id : Identity) (slot place : ℕ) → IsRuledBy image id slot → IsBadSlot image id slot place → f ≡ BadSlot place → StandsNot image f
+  bad_manifest : (id : Identity) (slot place : ℕ) → IsRuledBy image id slot → IsSoundSlot image id slot
+      → Fault manifest (manifest_of image id slot) (Wrong place) → f ≡ BadManifest (manifest_at image id slot + place) → StandsNot image f
+  other_lengths : (id : Identity) (slot : ℕ) (loads : List LoadEntry) → IsRuledBy image id slot → IsSoundSlot image id slot
+      → Spelled manifest (manifest_of image id slot) loads → total_length loads ≢ manifest_place_of image slot → f ≡ BadManifest (manifest_at image id slot)
+      → StandsNot image f
 
 -- A refusal of recovery names the condition that fails; one of the disk, or for want of memory, says nothing of the image.
 abbrev pub Refuses : Image → RecoverFault → Type 0

@@ -1,25 +1,36 @@
 //! Why nothing was recovered from a disk.
 ghost use Rattle.std.specs.Prelude.{◌≡◌};
 ghost use Rattle.disk_layout.specs.Faults.{recover_fault_of};
+ghost use Rattle.disk_layout.specs.declared.fault.RecoverFault.TheVariants.{Memory};
 
 use disk_model::DiskFault;
+use load_base::NoMemory;
+use thiserror::Error;
 
-/// Why a disk stands for no configuration, or why it couldn't be read.
-#[derive(Clone, Copy, Debug, PartialEq, Eq)]
+/// Why a disk stands for no configuration, or why it couldn't be read. A place is a byte offset on the
+/// disk, from 0 (docs/DISK.md).
+#[derive(Clone, Copy, Debug, PartialEq, Eq, Drop, Error)]
 pub enum RecoverFault {
-    /// V1: the front of the disk is no identity.
-    NotFormatted,
+    /// V1: the disk begins with no identity; the first place at which it can't go on. Whatever is wrong
+    /// with an Ident, that is the place of its length.
+    #[error("no identity stands at place {0}")]
+    NotFormatted(u64),
     /// V2: neither slot is open.
+    #[error("neither slot is open")]
     NoOpenSlot,
-    /// V3: what the ruling slot says can't be.
-    BadSlot,
-    /// V4: the manifest isn't in its form.
-    BadManifest,
-    /// V5: the manifest has loads, which this version doesn't read.
-    LoadsNotBuilt,
+    /// V3: what the ruling slot says can't be; the place of its bank, of the manifest's length, or of the
+    /// manifest's place, where the manifest passes the bank.
+    #[error("the ruling slot can't be right at place {0}")]
+    BadSlot(u64),
+    /// V4: the manifest isn't in its form; the first place at which it can't go on. Where the files'
+    /// lengths don't add up to the manifest's place in its bank, the place where the manifest begins.
+    #[error("the manifest can't be right at place {0}")]
+    BadManifest(u64),
     /// The disk failed.
+    #[error("the disk failed")]
     DiskFailed,
     /// Memory is wanting.
+    #[error("memory is wanting")]
     Memory,
 }
 
@@ -31,5 +42,13 @@ impl From<DiskFault> for RecoverFault {
             DiskFault::Failed => RecoverFault::DiskFailed,
             DiskFault::Memory => RecoverFault::Memory,
         }
+    }
+}
+
+impl From<NoMemory> for RecoverFault {
+    ghost from_gives = { λ _ result. result ≡ Memory };
+
+    fn from(_: NoMemory) -> RecoverFault {
+        RecoverFault::Memory
     }
 }

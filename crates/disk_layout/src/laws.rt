@@ -1,15 +1,24 @@
 //! Laws of what a disk stands for.
-ghost use Rattle.std.specs.Prelude.{◌≡◌, ◌⊎◌, ◌↔◌, ◌≤◌, ◌+◌, ◌-◌, ℕ};
-ghost use Rattle.disk_model.specs.Image.{Image, IsOfBytes};
-ghost use Rattle.disk_layout.specs.Places.{IsBankSize, longest_identity, longest_manifest, slot_a, slot_b, bank_at, number_at};
-ghost use Rattle.disk_layout.specs.Slots.{IsOpen, manifest_length_of};
-ghost use Rattle.disk_layout.specs.Stands.{StandingView, Stands, StandsNot};
+ghost use Rattle.std.specs.Prelude.{◌≡◌, ◌⊎◌, ◌↔◌, ◌≤◌, ◌+◌, ℕ, List, length};
+ghost use Rattle.std.specs.List.{concat};
+ghost use Rattle.disk_model.specs.Image.{Image, IsOfBytes, range};
+ghost use Rattle.field_grammar.specs.Grammar.{IsBytes, IsDecided, Spelled, Fault};
+ghost use Rattle.disk_layout.specs.Places.{IsBankSize, longest_identity, longest_manifest, most_loads, most_files, slot_a, slot_b, bank_at, number_at};
+ghost use Rattle.disk_layout.specs.Identity.{IsIdentity, identity_text, HasIdentity};
+ghost use Rattle.disk_layout.specs.Slots.{IsOpen, sequence_of, bank_of, manifest_place_of, manifest_length_of};
+ghost use Rattle.disk_layout.specs.Manifest.{LoadEntry, ManifestFits, manifest, manifest_fields};
+ghost use Rattle.disk_layout.specs.Stands.{StandingView, Outline, outline_of, HasOutline, StandsBy, Stands, StandsNot};
 ghost use Rattle.disk_layout.specs.declared.fault.RecoverFault.{RecoverFault};
+ghost use Rattle.disk_layout.specs.declared.identity.Identity.{Identity};
+ghost use Rattle.disk_layout.specs.declared.manifest.ManifestFault.{ManifestFault};
+ghost use Rattle.disk_layout.specs.declared.manifest.ManifestFault.TheVariants.{Wrong};
 
 use crate::places::{
-    BANKS, LARGEST_BANK, LONGEST_IDENTITY, LONGEST_MANIFEST, OPEN, SLOT_A, SLOT_B, SLOT_LENGTH,
+    BANK_IN_SLOT, BANKS, LARGEST_BANK, LENGTH_IN_SLOT, LONGEST_IDENTITY, LONGEST_MANIFEST,
+    MOST_FILES, MOST_LOADS, OPEN, PLACE_IN_SLOT, SEQUENCE_IN_SLOT, SLOT_A, SLOT_B, SLOT_LENGTH,
     SMALLEST_BANK,
 };
+use crc_fields::check_sum_laws;
 
 /// Every image of bytes stands for one configuration, or for none at one fault, and never both.
 pub fn stands_for_one_thing()
@@ -19,14 +28,43 @@ pub fn stands_for_one_thing()
     ensures one_fault { (image : Image) (f g : RecoverFault) → StandsNot image f → StandsNot image g → f ≡ g }
 {}
 
+/// The text of an identity fits its place, and where it stands at the front of a disk, the disk has that
+/// identity.
+pub fn an_identity_is_read_again()
+    ensures short { (id : Identity) → IsIdentity id → length (identity_text id) ≤ longest_identity }
+    ensures read { (image : Image) (id : Identity) → IsIdentity id → range image 0 (length (identity_text id)) ≡ identity_text id → HasIdentity image id }
+{
+    check_sum_laws();
+}
+
+/// An image that has an outline stands for a configuration of that outline: its files are what stands
+/// before the manifest.
+pub fn an_outline_is_filled()
+    ensures { (image : Image) (slot : ℕ) (o : Outline) → HasOutline image slot o → (s : StandingView) × StandsBy image slot s × (outline_of s ≡ o) }
+{}
+
+/// Bytes are one manifest, or fail at one of their places or at their end, and never for want of memory. Loads
+/// have one manifest. The lemmas of `specs/ManifestLaws.antt` and `specs/ManifestSpelling.antt` say the same to
+/// proofs.
+pub fn a_manifest_is_decided()
+    ensures decided { (bytes : List ℕ) → IsBytes bytes → IsDecided manifest bytes }
+    ensures spelling { (bytes : List ℕ) (loads : List LoadEntry) → Spelled manifest bytes loads ↔ (ManifestFits loads × (bytes ≡ concat (manifest_fields loads))) }
+    ensures a_place { (bytes : List ℕ) (fault : ManifestFault) → Fault manifest bytes fault → (place : ℕ) × (fault ≡ Wrong place) × (place ≤ length bytes) }
+{}
+
 /// The constants of [`crate::places`] are those of the layout.
 pub fn constants_are_those_of_the_layout()
     ensures identity { LONGEST_IDENTITY ≡ longest_identity }
     ensures bank_size { (size : ℕ) → IsBankSize size ↔ ((SMALLEST_BANK ≤ size) × (size ≤ LARGEST_BANK)) }
     ensures slots { (SLOT_A ≡ slot_a) × (SLOT_B ≡ slot_b) }
     ensures gate { (image : Image) (slot : ℕ) → IsOpen image slot ↔ (image slot ≡ OPEN) }
-    ensures slot_length { (image : Image) (slot : ℕ) → manifest_length_of image slot ≡ number_at 4 image (slot + SLOT_LENGTH - 4) }
+    ensures sequence { (image : Image) (slot : ℕ) → sequence_of image slot ≡ number_at 4 image (slot + SEQUENCE_IN_SLOT) }
+    ensures bank { (image : Image) (slot : ℕ) → bank_of image slot ≡ image (slot + BANK_IN_SLOT) }
+    ensures place { (image : Image) (slot : ℕ) → manifest_place_of image slot ≡ number_at 4 image (slot + PLACE_IN_SLOT) }
+    ensures length { (image : Image) (slot : ℕ) → manifest_length_of image slot ≡ number_at 4 image (slot + LENGTH_IN_SLOT) }
+    ensures slot_length { LENGTH_IN_SLOT + 4 ≡ SLOT_LENGTH }
     ensures banks { (size : ℕ) → bank_at size 0 ≡ BANKS }
     ensures second_bank { (size : ℕ) → bank_at size 1 ≡ BANKS + size }
     ensures manifest { LONGEST_MANIFEST ≡ longest_manifest }
+    ensures counts { (MOST_LOADS ≡ most_loads) × (MOST_FILES ≡ most_files) }
 {}

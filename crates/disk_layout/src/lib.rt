@@ -4,10 +4,17 @@
 mod fault;
 mod identity;
 mod laws;
+mod manifest;
 pub mod places;
+mod ruling;
 mod standing;
 
 pub use fault::RecoverFault;
 pub use identity::Identity;
-pub use laws::{constants_are_those_of_the_layout, stands_for_one_thing};
+pub use laws::{
+    a_manifest_is_decided, an_identity_is_read_again, an_outline_is_filled,
+    constants_are_those_of_the_layout, stands_for_one_thing,
+};
+pub use manifest::{Manifest, ManifestFault, ManifestFile, ManifestLoad};
+pub use ruling::Ruling;
 pub use standing::Standing;

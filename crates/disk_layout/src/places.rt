@@ -18,6 +18,18 @@ pub const SLOT_B: u32 = 4608;
 /// The bytes of a slot, from its gate to the end of its last field.
 pub const SLOT_LENGTH: usize = 29;
 
+/// Where a slot has its sequence number, counted from its start, as the next three.
+pub const SEQUENCE_IN_SLOT: u32 = 16;
+
+/// Where a slot names its bank.
+pub const BANK_IN_SLOT: u32 = 20;
+
+/// Where a slot says in which place of its bank the manifest begins.
+pub const PLACE_IN_SLOT: u32 = 21;
+
+/// Where a slot says how many bytes the manifest has.
+pub const LENGTH_IN_SLOT: u32 = 25;
+
 /// The gate of an open slot; with any other byte the slot is shut.
 pub const OPEN: u8 = 0xA5;
 
@@ -26,3 +38,9 @@ pub const BANKS: u32 = 8192;
 
 /// The most bytes of a manifest: 32 loads of 256 files with names of 64 bytes.
 pub const LONGEST_MANIFEST: u32 = 565_794;
+
+/// The most loads of a manifest.
+pub const MOST_LOADS: u16 = 32;
+
+/// The most files of a load, its header counted.
+pub const MOST_FILES: u16 = 256;

@@ -1,4 +1,10 @@
+pub mod Files
 pub mod IdentityReads
+pub mod Loads
+pub mod Looks
+pub mod ManifestReads
+pub mod Pieces
 pub mod Refusals
 pub mod Rulings
 pub mod SlotReads
+pub mod Standings

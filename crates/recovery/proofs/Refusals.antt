@@ -1,28 +1,36 @@
--- The refusals of the parts, as those of the whole recovery.
-use Rattle.std.proofs.Common.{◌≡◌, ℕ, ◌+◌, ◌<◌, ◌≤◌, ◌⊎◌, inl, inr, refl, sym, ap, ◌∙◌}
-use Rattle.disk_model.specs.Image.{Image}
-use Rattle.disk_layout.specs.Places.{bank_at, longest_manifest}
+-- What the parts find and refuse, as what the whole survey does.
+use Rattle.std.proofs.Common.{◌≡◌, ℕ, ◌+◌, List, inl, inr, refl, sym, ap, ◌∙◌}
+use Rattle.disk_model.specs.Image.{Image, range}
+use Rattle.field_grammar.specs.Grammar.{Spelled}
+use Rattle.disk_layout.specs.Places.{bank_at}
 use Rattle.disk_layout.specs.Identity.{HasIdentity}
-use Rattle.disk_layout.specs.Slots.{bank_of, manifest_place_of, manifest_length_of}
-use Rattle.disk_layout.specs.Stands.{IsSoundSlot, IsUnsoundSlot, IsRuledBy, manifest_at, load_count, StandsNot, Refuses}
-use Rattle.disk_layout.specs.Stands.StandsNot.{no_open_slot, bad_slot, no_count, has_loads, has_rest, misplaced as contents_before}
+use Rattle.disk_layout.specs.Slots.{bank_of}
+use Rattle.disk_layout.specs.Manifest.{LoadEntry, manifest, total_length}
+use Rattle.disk_layout.specs.Looks.{IsOfDisk}
+use Rattle.disk_layout.specs.Stands.{IsSoundSlot, IsBadSlot, IsRuledBy, manifest_at, manifest_of, HasOutline, Refuses}
+use Rattle.disk_layout.specs.Stands.IsBadSlot.{no_such_bank, too_long, past_the_bank}
+use Rattle.disk_layout.specs.Stands.StandsNot.{no_open_slot, bad_slot, bad_manifest, other_lengths}
 use Rattle.disk_layout.specs.declared.identity.Identity.{Identity}
 use Rattle.disk_layout.specs.declared.fault.RecoverFault.{RecoverFault}
-use Rattle.disk_layout.specs.declared.fault.RecoverFault.TheVariants.{NotFormatted, NoOpenSlot, BadSlot, BadManifest, LoadsNotBuilt, DiskFailed, Memory}
+use Rattle.disk_layout.specs.declared.fault.RecoverFault.TheVariants.{NotFormatted, NoOpenSlot, BadSlot, BadManifest, DiskFailed, Memory}
 use Rattle.recovery.specs.declared.slot.Slot.{Slot}
-use Rattle.recovery.specs.Parts.{IsSlotAt, RefusesSlots, IsSoundAt, RefusesSlot, IsWrongManifest, RefusesManifest}
-use Rattle.recovery.specs.Parts.IsWrongManifest.{short, loads, rest, misplaced}
+use Rattle.recovery.specs.Parts.{IsSlotAt, RefusesSlots, IsSoundAt, RefusesSlot, RefusesManifest}
+use Rattle.recovery.specs.Parts.RefusesSlot.{other_bank, long, past}
+
+-- a fault of the disk says nothing of the image
+pub of_disk : (image : Image) (fault : RecoverFault) → IsOfDisk fault → Refuses image fault
+of_disk image DiskFailed is = tt
+of_disk image Memory is = tt
+of_disk image (NotFormatted place) is = absurd is
+of_disk image NoOpenSlot is = absurd is
+of_disk image (BadSlot place) is = absurd is
+of_disk image (BadManifest place) is = absurd is
 
 -- ---- no slot rules
 
 pub slots_refuse : (image : Image) (id : Identity) (fault : RecoverFault) → HasIdentity image id → RefusesSlots image fault → Refuses image fault
-slots_refuse image id DiskFailed has refused = tt
-slots_refuse image id Memory has refused = tt
-slots_refuse image id NotFormatted has refused = no_open_slot id has refused.0 refused.1 refused.2
-slots_refuse image id NoOpenSlot has refused = no_open_slot id has refused.0 refused.1 refused.2
-slots_refuse image id BadSlot has refused = no_open_slot id has refused.0 refused.1 refused.2
-slots_refuse image id BadManifest has refused = no_open_slot id has refused.0 refused.1 refused.2
-slots_refuse image id LoadsNotBuilt has refused = no_open_slot id has refused.0 refused.1 refused.2
+slots_refuse image id fault has (inl is) = of_disk image fault is
+slots_refuse image id fault has (inr none) = rw none.2 (no_open_slot id has none.0 none.1 refl)
 
 -- ---- the slot that rules can be or not
 
@@ -33,42 +41,52 @@ can_be image id at slot is can = record {
   within = rw (← is.place, ← is.length) can.within;
 }
 
-cannot_be : (image : Image) (id : Identity) (at : ℕ) (slot : Slot) → IsSlotAt image at slot
-    → (2 ≤ slot.bank) ⊎ ((longest_manifest < slot.length) ⊎ (id.bank < slot.place + slot.length)) → IsUnsoundSlot image id at
-cannot_be image id at slot is (inl bank) = inl (rw (← is.bank) bank)
-cannot_be image id at slot is (inr (inl long)) = inr (inl (rw (← is.length) long))
-cannot_be image id at slot is (inr (inr past)) = inr (inr (rw (← is.place, ← is.length) past))
+refuses_bad : (image : Image) (id : Identity) (at place : ℕ) (fault : RecoverFault) → IsRuledBy image id at → IsBadSlot image id at place → fault ≡ BadSlot place → Refuses image fault
+refuses_bad image id at place fault ruled bad is = rw is (bad_slot id at place ruled bad refl)
 
 pub slot_refuses : (image : Image) (id : Identity) (at : ℕ) (slot : Slot) (fault : RecoverFault) → IsRuledBy image id at → IsSlotAt image at slot
-    → RefusesSlot id.bank slot fault → Refuses image fault
-slot_refuses image id at slot fault ruled is refused =
-    rw refused.0 (bad_slot id at ruled (cannot_be image id at slot is refused.1) refl)
+    → RefusesSlot id.bank at slot fault → Refuses image fault
+slot_refuses image id at slot fault ruled says (other_bank bank is) = refuses_bad image id at (at + 20) fault ruled (no_such_bank (rw (← says.bank) bank) refl) is
+slot_refuses image id at slot fault ruled says (long bank size is) =
+    refuses_bad image id at (at + 25) fault ruled (too_long (rw (← says.bank) bank) (rw (← says.length) size) refl) is
+slot_refuses image id at slot fault ruled says (past bank size end is) =
+    refuses_bad image id at (at + 21) fault ruled (past_the_bank (rw (← says.bank) bank) (rw (← says.length) size) (rw (← says.place, ← says.length) end) refl) is
 
 -- ---- the manifest that it names
 
 -- where the slot says that the manifest begins
-pub start_is : (image : Image) (id : Identity) (at start : ℕ) (slot : Slot) → IsSlotAt image at slot → start ≡ bank_at id.bank slot.bank + slot.place → start ≡ manifest_at image id at
-start_is image id at start slot is begins = begins ∙ ap (λ (b : ℕ). bank_at id.bank b + slot.place) is.bank ∙ ap (λ (p : ℕ). bank_at id.bank (bank_of image at) + p) is.place
+start_is : (image : Image) (id : Identity) (at : ℕ) (slot : Slot) → IsSlotAt image at slot → bank_at id.bank slot.bank + slot.place ≡ manifest_at image id at
+start_is image id at slot is =
+    ap (λ (b : ℕ). bank_at id.bank b + slot.place) is.bank ∙ ap (λ (p : ℕ). bank_at id.bank (bank_of image at) + p) is.place
 
-wrong_refuses : (image : Image) (id : Identity) (at : ℕ) (count length place : ℕ) (fault : RecoverFault) → IsRuledBy image id at → IsSoundSlot image id at
-    → count ≡ load_count image id at → length ≡ manifest_length_of image at → place ≡ manifest_place_of image at → IsWrongManifest count length place fault → StandsNot image fault
-wrong_refuses image id at count length place fault ruled can c l p (short less is) = no_count id at ruled can (rw (← l) less) is
-wrong_refuses image id at count length place fault ruled can c l p (loads more some is) = has_loads id at ruled can (rw (← l) more) (λ none. some (c ∙ none)) is
-wrong_refuses image id at count length place fault ruled can c l p (rest more none is) = has_rest id at ruled can (rw (← l) more) (sym c ∙ none) is
-wrong_refuses image id at count length place fault ruled can c l p (misplaced two none some is) =
-    contents_before id at ruled can (sym l ∙ two) (sym c ∙ none) (λ first. some (p ∙ first)) is
+-- the bytes that it names
+bytes_are : (image : Image) (id : Identity) (at : ℕ) (slot : Slot) → IsSlotAt image at slot
+    → range image (bank_at id.bank slot.bank + slot.place) slot.length ≡ manifest_of image id at
+bytes_are image id at slot is =
+    ap (λ (p : ℕ). range image p slot.length) (start_is image id at slot is) ∙ ap (λ (n : ℕ). range image (manifest_at image id at) n) is.length
 
-manifest_cases : (image : Image) (count length place : ℕ) (fault : RecoverFault) → (IsWrongManifest count length place fault → StandsNot image fault)
-    → RefusesManifest count length place fault → Refuses image fault
-manifest_cases image count length place DiskFailed step refused = tt
-manifest_cases image count length place Memory step refused = tt
-manifest_cases image count length place NotFormatted step refused = step refused
-manifest_cases image count length place NoOpenSlot step refused = step refused
-manifest_cases image count length place BadSlot step refused = step refused
-manifest_cases image count length place BadManifest step refused = step refused
-manifest_cases image count length place LoadsNotBuilt step refused = step refused
+pub manifest_refuses : (image : Image) (id : Identity) (at : ℕ) (slot : Slot) (fault : RecoverFault) → IsRuledBy image id at → IsSoundSlot image id at → IsSlotAt image at slot
+    → RefusesManifest image (bank_at id.bank slot.bank + slot.place) slot.length slot.place fault → Refuses image fault
+manifest_refuses image id at slot fault ruled can says (inl (inl is)) = of_disk image fault is
+manifest_refuses image id at slot fault ruled can says (inl (inr wrong)) =
+    let (place, faulty, is) = wrong in
+    rw is (bad_manifest id at place ruled can (rw (bytes_are image id at slot says) at faulty) (ap (λ (p : ℕ). BadManifest (p + place)) (start_is image id at slot says)))
+manifest_refuses image id at slot fault ruled can says (inr other) =
+    rw other.is (
+    other_lengths id at other.loads ruled can (rw (bytes_are image id at slot says) at other.spelled) (λ same. other.differ (same ∙ sym says.place))
+    (ap (λ (p : ℕ). BadManifest p) (start_is image id at slot says))
+    )
 
-pub manifest_refuses : (image : Image) (id : Identity) (at : ℕ) (count length place : ℕ) (fault : RecoverFault) → IsRuledBy image id at → IsSoundSlot image id at
-    → count ≡ load_count image id at → length ≡ manifest_length_of image at → place ≡ manifest_place_of image at → RefusesManifest count length place fault → Refuses image fault
-manifest_refuses image id at count length place fault ruled can c l p refused =
-    manifest_cases image count length place fault (wrong_refuses image id at count length place fault ruled can c l p) refused
+-- ---- all of it
+
+pub has_outline : (image : Image) (id : Identity) (at : ℕ) (slot : Slot) (loads : List LoadEntry) → IsRuledBy image id at → IsSoundAt id.bank slot → IsSlotAt image at slot
+    → Spelled manifest (range image (bank_at id.bank slot.bank + slot.place) slot.length) loads → total_length loads ≡ slot.place
+    → HasOutline image at (record { identity = id; bank = slot.bank; sequence = slot.sequence; loads = loads })
+has_outline image id at slot loads ruled can says spelled lengths = record {
+  ruled = ruled;
+  can_be = can_be image id at slot says can;
+  bank = says.bank;
+  sequence = says.sequence;
+  manifest = rw (bytes_are image id at slot says) at spelled;
+  lengths = lengths ∙ says.place;
+}

@@ -1,11 +1,19 @@
 -- What the parts of a recovery find.
-use Rattle.std.specs.Prelude.{◌≡◌, ◌≢◌, ◌⊎◌, ℕ, ◌+◌, ◌<◌, ◌≤◌}
-use Rattle.disk_model.specs.Image.{Image}
+use Rattle.std.specs.Prelude.{◌≡◌, ◌≢◌, ◌⊎◌, ◌↔◌, ℕ, ◌+◌, ◌<◌, ◌≤◌, List, length, Bool, true}
+use Rattle.disk_model.specs.Image.{Image, range}
+use Rattle.field_grammar.specs.Grammar.{Spelled, Fault}
 use Rattle.disk_layout.specs.Places.{slot_a, slot_b, longest_manifest}
-use Rattle.disk_layout.specs.Slots.{IsOpen, sequence_of, bank_of, manifest_place_of, manifest_length_of}
+use Rattle.disk_layout.specs.Slots.{IsOpen, IsSlot, Rules, sequence_of, bank_of, manifest_place_of, manifest_length_of}
+use Rattle.disk_layout.specs.Manifest.{LoadEntry, manifest, total_length}
+use Rattle.disk_layout.specs.Looks.{IsOfDisk}
 use Rattle.disk_layout.specs.declared.fault.RecoverFault.{RecoverFault}
-use Rattle.disk_layout.specs.declared.fault.RecoverFault.TheVariants.{NoOpenSlot, BadSlot, BadManifest, LoadsNotBuilt, DiskFailed, Memory}
+use Rattle.disk_layout.specs.declared.fault.RecoverFault.TheVariants.{NoOpenSlot, BadSlot, BadManifest}
+use Rattle.disk_layout.specs.declared.manifest.ManifestFault.{ManifestFault}
+use Rattle.disk_layout.specs.declared.manifest.ManifestFault.TheVariants.{Wrong, Memory}
 use Rattle.recovery.specs.declared.slot.Slot.{Slot}
+use Rattle.recovery.specs.declared.surveying.Ruler.{Ruler}
+
+-- ---- the slots
 
 -- what the slot at this place says
 pub record IsSlotAt (image : Image) (at : ℕ) (slot : Slot) : Type 0 where
@@ -15,11 +23,19 @@ pub record IsSlotAt (image : Image) (at : ℕ) (slot : Slot) : Type 0 where
   pub place : slot.place ≡ manifest_place_of image at
   pub length : slot.length ≡ manifest_length_of image at
 
+-- whether another slot than this one is open
+abbrev pub TellsOther : Image → ℕ → Bool → Type 0
+TellsOther image at open_too = (other : ℕ) → IsSlot other → other ≢ at → (open_too ≡ true) ↔ IsOpen image other
+
+-- this slot rules, and says this
+pub record IsRulerOn (image : Image) (ruler : Ruler) : Type 0 where
+  pub rules : Rules image ruler.at
+  pub says : IsSlotAt image ruler.at ruler.slot
+  pub other : TellsOther image ruler.at ruler.other_is_open
+
 -- neither slot is open, or the disk or memory failed
 abbrev pub RefusesSlots : Image → RecoverFault → Type 0
-RefusesSlots image DiskFailed = Unit {0}
-RefusesSlots image Memory = Unit {0}
-RefusesSlots image fault = ¬ IsOpen image slot_a × ¬ IsOpen image slot_b × (fault ≡ NoOpenSlot)
+RefusesSlots image fault = IsOfDisk fault ⊎ (¬ IsOpen image slot_a × ¬ IsOpen image slot_b × (fault ≡ NoOpenSlot))
 
 -- what the slot says can be on a disk with banks of this size
 pub record IsSoundAt (size : ℕ) (slot : Slot) : Type 0 where
@@ -27,25 +43,33 @@ pub record IsSoundAt (size : ℕ) (slot : Slot) : Type 0 where
   pub short : slot.length ≤ longest_manifest
   pub within : slot.place + slot.length ≤ size
 
--- what it says can't be
-abbrev pub RefusesSlot : ℕ → Slot → RecoverFault → Type 0
-RefusesSlot size slot fault = (fault ≡ BadSlot) × ((2 ≤ slot.bank) ⊎ ((longest_manifest < slot.length) ⊎ (size < slot.place + slot.length)))
+-- the first that can't be in what the slot at this place says
+pub data RefusesSlot (size at : ℕ) (slot : Slot) (fault : RecoverFault) : Type 0 where
+  other_bank : 2 ≤ slot.bank → fault ≡ BadSlot (at + 20) → RefusesSlot size at slot fault
+  long : slot.bank < 2 → longest_manifest < slot.length → fault ≡ BadSlot (at + 25) → RefusesSlot size at slot fault
+  past : slot.bank < 2 → slot.length ≤ longest_manifest → size < slot.place + slot.length → fault ≡ BadSlot (at + 21) → RefusesSlot size at slot fault
 
--- a manifest with this count, length and place is that of a configuration without loads
-pub record IsEmptyManifest (count length place : ℕ) : Type 0 where
-  pub none : count ≡ 0
-  pub two : length ≡ 2
-  pub first : place ≡ 0
+-- ---- the manifest
 
--- what is wrong with it
-pub data IsWrongManifest (count length place : ℕ) (fault : RecoverFault) : Type 0 where
-  short : length < 2 → fault ≡ BadManifest → IsWrongManifest count length place fault
-  loads : 2 ≤ length → count ≢ 0 → fault ≡ LoadsNotBuilt → IsWrongManifest count length place fault
-  rest : 2 < length → count ≡ 0 → fault ≡ BadManifest → IsWrongManifest count length place fault
-  misplaced : length ≡ 2 → count ≡ 0 → place ≢ 0 → fault ≡ BadManifest → IsWrongManifest count length place fault
+-- a load has a file at least, its header
+abbrev pub HasFiles : LoadEntry → Type 0
+HasFiles entry = 1 ≤ length entry.files
 
--- what it is instead, or the disk or memory failed
-abbrev pub RefusesManifest : (count length place : ℕ) → RecoverFault → Type 0
-RefusesManifest count length place DiskFailed = Unit {0}
-RefusesManifest count length place Memory = Unit {0}
-RefusesManifest count length place fault = IsWrongManifest count length place fault
+-- the bytes are no manifest from this place on, or memory was wanting
+abbrev pub RefusesManifestBytes : List ℕ → ManifestFault → Type 0
+RefusesManifestBytes bytes (Wrong place) = Fault manifest bytes (Wrong place) × (place ≤ length bytes)
+RefusesManifestBytes bytes Memory = Unit {0}
+
+-- these bytes are no manifest from one place on, or the disk or memory failed
+abbrev pub RefusesBytes : Image → (start size : ℕ) → RecoverFault → Type 0
+RefusesBytes image start size fault = IsOfDisk fault ⊎ ((place : ℕ) × Fault manifest (range image start size) (Wrong place) × (fault ≡ BadManifest (start + place)))
+
+-- the lengths of its files don't add up to its place
+pub record HasOtherLengths (image : Image) (start size place : ℕ) (fault : RecoverFault) : Type 0 where
+  pub loads : List LoadEntry
+  pub spelled : Spelled manifest (range image start size) loads
+  pub differ : total_length loads ≢ place
+  pub is : fault ≡ BadManifest start
+
+abbrev pub RefusesManifest : Image → (start size place : ℕ) → RecoverFault → Type 0
+RefusesManifest image start size place fault = RefusesBytes image start size fault ⊎ HasOtherLengths image start size place fault

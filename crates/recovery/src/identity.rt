@@ -67,19 +67,20 @@ fn read_bank_size(reader: &mut Reader) -> Result<u32, u64>
     ensures size { IfOk result (λ size. IsBankSize size) }
 {
     let place = reader.place() as u64;
-    let size = reader.take_u32().map_err(place_of)?;
-    if size < SMALLEST_BANK || size > LARGEST_BANK {
-        return Err(place);
+    match reader.take_u32() {
+        Ok(size) if SMALLEST_BANK <= size && size <= LARGEST_BANK => Ok(size),
+        _ => Err(place),
     }
-    Ok(size)
 }
 
-#[tactic(auto, using(disk_layout::proofs::Idents::ident_passes), unfolding(disk_layout::specs::Identity::ident))]
+#[tactic(auto, unfolding(disk_layout::specs::Identity::ident))]
 fn read_ident(reader: &mut Reader) -> Result<Ident, u64>
     ensures { Parses (λ text. text) ident reader.old result reader.new }
 {
     let place = reader.place() as u64;
-    let text = reader.take_short().map_err(place_of)?;
+    let Ok(text) = reader.take_short() else {
+        return Err(place);
+    };
     match Ident::read(text) {
         Ok(ident) => Ok(ident),
         Err(_) => Err(place),

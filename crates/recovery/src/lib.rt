@@ -1,9 +1,16 @@
 //! What a disk stands for, read from the disk.
 #![tactic(auto)]
 
+mod contents;
 mod identity;
-mod reading;
+mod looking;
+mod manifest;
+mod recovering;
 mod slot;
+mod surveying;
 
-pub use disk_layout::{Identity, RecoverFault, Standing};
-pub use reading::recover;
+pub use disk_layout::{
+    Identity, Manifest, ManifestFile, ManifestLoad, RecoverFault, Ruling, Standing,
+};
+pub use recovering::recover;
+pub use surveying::{Surveyed, survey};

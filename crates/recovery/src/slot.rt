@@ -1,9 +1,9 @@
 //! A slot of a disk, read from its bytes.
-ghost use Rattle.std.specs.Prelude.{◌≡◌, length, slice_index, slice_range};
+ghost use Rattle.std.specs.Prelude.{◌≡◌, ◌↔◌, ◌≤◌, IsTrue, length, slice_index, slice_range};
 ghost use Rattle.byteorder.specs.Endian.{big_number};
 
 use byteorder::{BigEndian, ByteOrder};
-use disk_layout::places::SLOT_LENGTH;
+use disk_layout::places::{OPEN, SLOT_LENGTH};
 
 /// What a slot says.
 #[derive(Clone, Copy)]
@@ -30,4 +30,11 @@ pub(crate) fn slot_of(bytes: &[u8]) -> Slot
         place: BigEndian::read_u32(&bytes[21..25]),
         length: BigEndian::read_u32(&bytes[25..29]),
     }
+}
+
+/// Slot A is open, and slot B isn't both open and of a greater sequence.
+pub(crate) fn rules_over(a: &Slot, b: &Slot) -> bool
+    ensures { IsTrue result ↔ ((a.now.gate ≡ OPEN) × (b.now.gate ≡ OPEN → b.now.sequence ≤ a.now.sequence)) }
+{
+    a.gate == OPEN && (b.gate != OPEN || b.sequence <= a.sequence)
 }

@@ -1,0 +1,82 @@
+-- What was laid out stands there.
+use Rattle.std.proofs.Common.{◌≡◌, ℕ, ◌+◌, ◌<◌, ◌≤◌, ◌⊎◌, List, [], ◌∷◌, length, take, drop, get_or, refl, sym, ap, inl, inr, ◌∙◌, arith}
+use Rattle.byteorder.specs.Endian.{big_number}
+use Rattle.disk_model.specs.Image.{Image, range, overlay}
+use Rattle.disk_model.proofs.Overlays.{overlay_outside}
+use Rattle.disk_model.proofs.Ranges.{take_range, drop_range, byte_of_range}
+use Rattle.disk_layout.specs.Places.{slot_a, slot_b, longest_identity, number_at}
+use Rattle.disk_layout.specs.Identity.{HasIdentity, identity_text}
+use Rattle.disk_layout.specs.declared.identity.Identity.{Identity}
+use Rattle.bank_store.specs.Formatting.{IsShut, IsLaidOut}
+use Rattle.bank_store.proofs.Images.{written, apart}
+
+abbrev no_loads : List ℕ
+no_loads = 0 ∷ 0 ∷ []
+
+-- sequence 1, bank 0, and a manifest of 2 bytes at its start
+abbrev first_slot : List ℕ
+first_slot = 0 ∷ 0 ∷ 0 ∷ 1 ∷ 0 ∷ 0 ∷ 0 ∷ 0 ∷ 0 ∷ 0 ∷ 0 ∷ 0 ∷ 2 ∷ []
+
+-- the image with the manifest, slot A's body and these bytes at its front
+abbrev pub laid : Image → List ℕ → Image
+laid image front = overlay (overlay (overlay image 8192 no_loads) 4112 first_slot) 0 front
+
+body_is : (image : Image) (front : List ℕ) → length front ≤ longest_identity → range (laid image front) 4112 13 ≡ first_slot
+body_is image front short =
+    apart (overlay (overlay image 8192 no_loads) 4112 first_slot) (laid image front) 0 (length front) 4112 13 (overlay_outside (overlay (overlay image 8192 no_loads) 4112 first_slot) 0 front) (inr (omega (arith, short)))
+    ∙ written (overlay image 8192 no_loads) 4112 first_slot
+
+-- a part of what stands there
+part_is : (image : Image) (at n k m : ℕ) (bytes : List ℕ) → range image at n ≡ bytes → k + m ≤ n → range image (at + k) m ≡ take m (drop k bytes)
+part_is image at n k m bytes is within =
+    sym (ap (λ (l : List ℕ). take m (drop k l)) (sym is) ∙ ap (take m) (drop_range image at n k) ∙ take_range image (at + k) _ m (omega (arith, within)))
+
+number_is : (image : Image) (n place : ℕ) (bytes : List ℕ) → range image place n ≡ bytes → number_at n image place ≡ big_number n bytes
+unfolding number_at
+number_is image n place bytes is = ap (λ (l : List ℕ). big_number n l) is
+
+manifest_is : (image : Image) (front : List ℕ) → length front ≤ longest_identity → range (laid image front) 8192 2 ≡ no_loads
+manifest_is image front short =
+    let one : Image = overlay image 8192 no_loads in
+    let two : Image = overlay one 4112 first_slot in
+    apart two (laid image front) 0 (length front) 8192 2 (overlay_outside two 0 front) (inr (omega (arith, short)))
+    ∙ apart one two 4112 13 8192 2 (overlay_outside one 4112 first_slot) (inr (omega arith)) ∙ written image 8192 no_loads
+
+-- a gate stays as it was
+gate_is : (image : Image) (front : List ℕ) (slot : ℕ) → length front ≤ longest_identity → (slot ≡ slot_a) ⊎ (slot ≡ slot_b) → laid image front slot ≡ image slot
+gate_is image front slot short is =
+    let one : Image = overlay image 8192 no_loads in
+    let two : Image = overlay one 4112 first_slot in
+    overlay_outside two 0 front slot (inr (past slot is)) ∙ overlay_outside one 4112 first_slot slot (beside slot is) ∙ overlay_outside image 8192 no_loads slot (inl (early slot is))
+  where
+    past : (s : ℕ) → (s ≡ slot_a) ⊎ (s ≡ slot_b) → 0 + length front ≤ s
+    past s (inl e) = omega (arith, e, short)
+    past s (inr e) = omega (arith, e, short)
+
+    beside : (s : ℕ) → (s ≡ slot_a) ⊎ (s ≡ slot_b) → (s < 4112) ⊎ (4112 + 13 ≤ s)
+    beside s (inl e) = inl (omega (arith, e))
+    beside s (inr e) = inr (omega (arith, e))
+
+    early : (s : ℕ) → (s ≡ slot_a) ⊎ (s ≡ slot_b) → s < 8192
+    early s (inl e) = omega (arith, e)
+    early s (inr e) = omega (arith, e)
+
+-- what was laid out; `read` is the law that a written identity is read again
+pub is_laid_out : (image : Image) (id : Identity) → IsShut image → length (identity_text id) ≤ longest_identity
+    → ((i : Image) → range i 0 (length (identity_text id)) ≡ identity_text id → HasIdentity i id) → IsLaidOut id (laid image (identity_text id))
+is_laid_out image id shut short read =
+    let front : List ℕ = identity_text id in
+    let whole : Image = laid image front in
+    let body = body_is image front short in
+    record {
+      shut = record { a = λ opened. shut.a (sym (gate_is image front slot_a short (inl refl)) ∙ opened); b = λ opened. shut.b (sym (gate_is image front slot_b short (inr refl)) ∙ opened) };
+      identity = read whole (written (overlay (overlay image 8192 no_loads) 4112 first_slot) 0 front);
+      sequence = number_is whole 4 4112 (0 ∷ 0 ∷ 0 ∷ 1 ∷ []) (part_is whole 4112 13 0 4 first_slot body (omega arith));
+      bank = byte_is whole body;
+      place = number_is whole 4 4117 (0 ∷ 0 ∷ 0 ∷ 0 ∷ []) (part_is whole 4112 13 5 4 first_slot body (omega arith));
+      length = number_is whole 4 4121 (0 ∷ 0 ∷ 0 ∷ 2 ∷ []) (part_is whole 4112 13 9 4 first_slot body (omega arith));
+      manifest = ap (λ (p : ℕ). range whole p 2) (omega arith) ∙ manifest_is image front short;
+    }
+  where
+    byte_is : (i : Image) → range i 4112 13 ≡ first_slot → i 4116 ≡ 0
+    byte_is i is = sym (byte_of_range i 4112 13 4 (omega arith)) ∙ ap (λ (l : List ℕ). get_or l 4 0) is

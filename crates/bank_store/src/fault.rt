@@ -1,0 +1,34 @@
+//! Why the store didn't do what it was asked.
+ghost use Rattle.std.specs.Prelude.{◌≡◌};
+ghost use Rattle.bank_store.specs.Faults.{store_fault_of};
+
+use disk_model::DiskFault;
+use thiserror::Error;
+
+/// Why the store didn't do what it was asked.
+#[derive(Clone, Copy, Debug, PartialEq, Eq, Drop, Error)]
+pub enum StoreFault {
+    /// K1: the contents and their manifest pass the bank. How many bytes they need, and how many it has.
+    #[error("{need} bytes are needed in a bank of {have}")]
+    BankFull { need: u64, have: u32 },
+    /// K2: the sequence number that rules is the last one.
+    #[error("the sequence numbers are spent")]
+    SequenceSpent,
+    /// K3: the disk failed, and its count of faults rose.
+    #[error("the disk failed")]
+    DiskFailed,
+    /// Memory is wanting.
+    #[error("memory is wanting")]
+    Memory,
+}
+
+impl From<DiskFault> for StoreFault {
+    ghost from_gives = { λ fault result. result ≡ store_fault_of fault };
+
+    fn from(fault: DiskFault) -> StoreFault {
+        match fault {
+            DiskFault::Failed => StoreFault::DiskFailed,
+            DiskFault::Memory => StoreFault::Memory,
+        }
+    }
+}

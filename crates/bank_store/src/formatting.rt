@@ -1,0 +1,90 @@
+//! Formatting a disk.
+ghost use Rattle.std.specs.Prelude.{◌≡◌, Some, false, OnOk, IfErr};
+ghost use Rattle.disk_model.specs.Image.{Image};
+ghost use Rattle.disk_model.specs.Moments.{LeavesOnly};
+ghost use Rattle.disk_model.specs.State.{IsSettled, Torn};
+ghost use Rattle.disk_layout.specs.Places.{IsBankSize, slot_a};
+ghost use Rattle.disk_layout.specs.Stands.{Stands};
+ghost use Rattle.bank_store.specs.Acts.{Acts, AddsOnly, IsOfDisk};
+ghost use Rattle.bank_store.specs.Formatting.{formatted, IsShut, GatesTorn, WhileFormatting, IsLaidOut, IsOpened};
+
+use crate::StoreFault;
+use crate::front::Front;
+use disk_layout::places::{BANKS, OPEN, SEQUENCE_IN_SLOT, SLOT_A, SLOT_B};
+use disk_layout::{Identity, an_identity_is_read_again};
+use disk_model::Disk;
+
+// A gate that isn't open.
+const SHUT: u8 = 0;
+
+// The manifest of a configuration without loads.
+const NO_LOADS: [u8; 2] = [0, 0];
+
+// What the first slot says from its sequence on: sequence 1, bank 0, and a manifest of 2 bytes at its start.
+const FIRST_SLOT: [u8; 13] = [0, 0, 0, 1, 0, 0, 0, 0, 0, 0, 0, 0, 2];
+
+/// Makes a disk stand for this target with bank 0, sequence 1 and no loads, whatever it stood for before.
+///
+/// First both gates are shut; then the manifest, slot A's body and the identity are written; then gate A is
+/// opened; and after each of the three steps the disk is synced. A power loss within the first step leaves
+/// what was there but for the gates, and after it either a disk with both gates shut, which stands for
+/// nothing, or the formatted one. The bank size of the identity is 4,096 to 67,108,864.
+pub fn format<K: Disk>(disk: &mut K, identity: &Identity) -> Result<(), StoreFault>
+    requires running { (K.state disk.old).stopped ≡ false }
+    requires bank_size { IsBankSize identity.now.bank }
+    ensures formatted { OnOk result ((image : Image) → (K.state disk.new).reads ≡ Some image → Stands image (formatted identity.now)) }
+    ensures settled { OnOk result (IsSettled (K.state disk.new)) }
+    ensures refused { IfErr result (λ fault. IsOfDisk fault) }
+    ensures any_moment { LeavesOnly (K.state disk.old).clock (WhileFormatting (K.state disk.old).now identity.now) (K.state disk.new) }
+    ensures acts { Acts (K.state disk.old) (K.state disk.new) result }
+{
+    shut_gates(disk)?;
+    lay_out(disk, identity)?;
+    open_slot_a(disk)?;
+    Ok(())
+}
+
+// Neither slot is open.
+fn shut_gates<K: Disk>(disk: &mut K) -> Result<(), StoreFault>
+    requires { (K.state disk.old).stopped ≡ false }
+    ensures shut { OnOk result ((image : Image) → (K.state disk.new).now image → IsShut image) }
+    ensures any_moment { AddsOnly (K.state disk.old) (K.state disk.new) (GatesTorn (K.state disk.old).now) }
+    ensures refused { IfErr result (λ fault. IsOfDisk fault) }
+    ensures acts { Acts (K.state disk.old) (K.state disk.new) result }
+{
+    disk.write(SLOT_A, &[SHUT])?;
+    disk.write(SLOT_B, &[SHUT])?;
+    disk.sync()?;
+    Ok(())
+}
+
+// Writes the manifest, slot A's body and the identity.
+fn lay_out<K: Disk>(disk: &mut K, identity: &Identity) -> Result<(), StoreFault>
+    requires running { (K.state disk.old).stopped ≡ false }
+    requires bank_size { IsBankSize identity.now.bank }
+    ensures laid_out { OnOk result (((image : Image) → (K.state disk.old).now image → IsShut image) → (image : Image) → (K.state disk.new).now image → IsLaidOut identity.now image) }
+    ensures any_moment { ((image : Image) → (K.state disk.old).now image → IsShut image) → AddsOnly (K.state disk.old) (K.state disk.new) (λ image. IsShut image) }
+    ensures refused { IfErr result (λ fault. IsOfDisk fault) }
+    ensures acts { Acts (K.state disk.old) (K.state disk.new) result }
+{
+    an_identity_is_read_again();
+    let front = Front::of(identity);
+    disk.write(BANKS, &NO_LOADS)?;
+    disk.write(SLOT_A + SEQUENCE_IN_SLOT, &FIRST_SLOT)?;
+    disk.write(0, front.as_slice())?;
+    disk.sync()?;
+    Ok(())
+}
+
+fn open_slot_a<K: Disk>(disk: &mut K) -> Result<(), StoreFault>
+    requires { (K.state disk.old).stopped ≡ false }
+    ensures opened { OnOk result ((image : Image) → (K.state disk.new).reads ≡ Some image → IsOpened (K.state disk.old).now image) }
+    ensures settled { OnOk result (IsSettled (K.state disk.new)) }
+    ensures any_moment { AddsOnly (K.state disk.old) (K.state disk.new) (Torn slot_a 1 (K.state disk.old).now) }
+    ensures refused { IfErr result (λ fault. IsOfDisk fault) }
+    ensures acts { Acts (K.state disk.old) (K.state disk.new) result }
+{
+    disk.write(SLOT_A, &[OPEN])?;
+    disk.sync()?;
+    Ok(())
+}

@@ -1,0 +1,104 @@
+ghost use Rattle.std.specs.Prelude.{◌≡◌, IfOk};
+
+use crate::{Identity, StoreFault, format};
+use disk_model::{Call, Disk, FileDisk, MemDisk, Note};
+use load_base::Ident;
+use std::fs;
+use std::test::Fail;
+
+// The first bytes of the disk that target HW1, position L, serial number SN1 has with banks of 4096 bytes.
+const FRONT: [u8; 22] = [
+    0x41, 0x36, 0x31, 0x35, 0, 1, 0, 0, 0x10, 0, 3, 0x48, 0x57, 0x31, 1, 0x4C, 3, 0x53, 0x4E, 0x31,
+    0xB4, 0x3C,
+];
+
+fn target(bank: u32) -> Result<Identity, Fail>
+    ensures { IfOk result (λ identity. identity.bank ≡ bank) }
+{
+    Ok(Identity {
+        hw: Ident::read(b"HW1")?,
+        pos: Ident::read(b"L")?,
+        serial: Ident::read(b"SN1")?,
+        bank,
+    })
+}
+
+// What a call writes and where; a sync writes nothing.
+fn written(note: &Note) -> (u32, &[u8]) {
+    match &note.call {
+        Call::Write { at, bytes } => (*at, bytes.as_slice()),
+        Call::Sync | Call::Restart => (0, &[]),
+    }
+}
+
+#[test]
+fn a_disk_is_formatted_in_three_steps(rt: HostRuntime) -> Result<(), Fail> {
+    let mut junk = [0x5A; 9000];
+    junk[4096] = 0xA5;
+    junk[4608] = 0xA5;
+    let mut disk = MemDisk::new(rt.alloc(), &junk)?;
+    format(&mut disk, &target(4096)?)?;
+    let steps: [(u32, &[u8]); 9] = [
+        (4096, &[0]),
+        (4608, &[0]),
+        (0, &[]),
+        (8192, &[0, 0]),
+        (4112, &[0, 0, 0, 1, 0, 0, 0, 0, 0, 0, 0, 0, 2]),
+        (0, &FRONT),
+        (0, &[]),
+        (4096, &[0xA5]),
+        (0, &[]),
+    ];
+    assert_eq!(rt; disk.notes().len(), steps.len());
+    for (note, step) in disk.notes().iter().zip(steps) {
+        assert_eq!(rt; written(note), step);
+        assert!(rt; note.done);
+    }
+    let mut wanted = junk;
+    for (at, bytes) in steps {
+        for (i, byte) in bytes.iter().enumerate() {
+            if let Some(cell) = wanted.get_mut((at as usize).wrapping_add(i)) {
+                *cell = *byte;
+            }
+        }
+    }
+    assert_eq!(rt; disk.as_slice(), wanted.as_slice());
+    Ok(())
+}
+
+#[test]
+fn each_failing_call_stops_formatting(rt: HostRuntime) -> Result<(), Fail> {
+    for call in 1..=9u32 {
+        let mut disk = MemDisk::new(rt.alloc(), &[])?;
+        disk.fail_at(call)?;
+        assert_eq!(rt;
+            format(&mut disk, &target(67_108_864)?),
+            Err(StoreFault::DiskFailed),
+            "at call {call}"
+        );
+        assert_eq!(rt; disk.notes().len(), call as usize, "at call {call}");
+        disk.restart()?;
+    }
+    let mut disk = MemDisk::new(rt.alloc(), &[])?;
+    disk.fail_at(10)?;
+    assert_eq!(rt; format(&mut disk, &target(67_108_864)?), Ok(()));
+    Ok(())
+}
+
+#[test]
+fn a_file_is_formatted(rt: HostRuntime) -> Result<(), Fail> {
+    let name = "a_file_is_formatted.disk";
+    let mut disk = FileDisk::new(&rt, name);
+    format(&mut disk, &target(4096)?)?;
+    let file = fs::read(&rt, name)?;
+    assert_eq!(rt; file.len(), 8194);
+    assert!(rt; file.as_slice().starts_with(&FRONT));
+    assert_eq!(rt; file.as_slice()[4096], 0xA5);
+    fs::remove_file(&rt, name)?;
+    let mut folder = FileDisk::new(&rt, ".");
+    assert_eq!(rt;
+        format(&mut folder, &target(4096)?),
+        Err(StoreFault::DiskFailed)
+    );
+    Ok(())
+}

@@ -1,9 +1,0 @@
-use Rattle.std.proofs.Common.{ℕ, List, refl, subst}
-use Rattle.field_grammar.specs.Grammar.{Fault}
-use Rattle.disk_layout.specs.Identity.{identity}
-use Rattle.disk_layout.specs.Stands.StandsNot.{not_formatted}
-use Rattle.recovery.proofs.reading.identity_on.Goals as goal
-
-pub returns-in-Err-clause-refused : goal.returns-in-Err-clause-refused
-returns-in-Err-clause-refused g c image told =
-    not_formatted c.in-Err.field-0 (subst (λ (front : List ℕ). Fault identity front c.in-Err.field-0) (c.in_ok-read_from.ensures.bytes image told) c.in-Err.ensures.refused) refl
