@@ -6,6 +6,7 @@ mod ended;
 mod show;
 mod text;
 
+pub use bank_store;
 pub use ended::{Ended, run};
 pub use recovery;
 pub use text::listing_text;
