@@ -1,5 +1,5 @@
 -- What a run of the program prints, its status, and the cause of each (docs/PROMISES.md).
-use Rattle.std.specs.Prelude.{◌≡◌, ◌≢◌, ℕ, ◌<◌, List, length, true, Option, Some, None, take, codes}
+use Rattle.std.specs.Prelude.{◌≡◌, ◌≢◌, ℕ, ◌<◌, List, length, true, false, Option, Some, None, take, codes}
 use Rattle.load_base.specs.Counts.{Rose}
 use Rattle.load_base.specs.Host.{Files, longest_file}
 use Rattle.load_base.specs.Sink.{GoesOn}
@@ -10,14 +10,16 @@ use Rattle.load_header.specs.HeaderFaultText.{header_fault_text}
 use Rattle.load_header.specs.declared.fault.HeaderFault.{HeaderFault}
 use Rattle.load_header.specs.declared.fault.HeaderFault.TheVariants as headers
 use Rattle.disk_model.specs.Image.{Image}
-use Rattle.disk_model.specs.State.{DiskState}
+use Rattle.disk_model.specs.State.{DiskState, IsSettled}
+use Rattle.bank_store.specs.Formatting.{formatted}
+use Rattle.disk_layout.specs.declared.identity.Identity.{Identity}
 use Rattle.disk_layout.specs.Places.{IsBankSize}
 use Rattle.disk_layout.specs.Looks.{IsOfDisk, RunsOn}
 use Rattle.disk_layout.specs.Stands.{StandingView, Stands, StandsNot}
 use Rattle.disk_layout.specs.declared.fault.RecoverFault.{RecoverFault}
 use Rattle.loader_cli.specs.Words.{Form, IsForm}
-use Rattle.loader_cli.specs.Words.Form.{list, show_header}
-use Rattle.loader_cli.specs.Texts.{listing, refused_words, refused_input, disk_fault, host_fault, no_configuration}
+use Rattle.loader_cli.specs.Words.Form.{list, format, show_header}
+use Rattle.loader_cli.specs.Texts.{listing, formatted_line, refused_words, refused_input, disk_fault, host_fault, no_configuration}
 use Rattle.loader_cli.specs.HeaderText.{shown_header}
 
 -- ---- `list`
@@ -32,6 +34,16 @@ pub data Lists (old new : DiskState) (status : ℕ) (text : List ℕ) : Type 0 w
   -- 8: the disk stands for nothing, at this fault, and runs on
   no_listing : (fault : RecoverFault) → ((image : Image) → old.reads ≡ Some image → StandsNot image fault) → ¬ IsOfDisk fault → RunsOn old new
       → status ≡ 8 → text ≡ no_configuration fault → Lists old new status text
+
+-- ---- `format HW POS SERIAL BANK`
+
+-- the status, the text, and what it says of the disk, where the disk tells its content
+pub data Formats (old new : DiskState) (id : Identity) (status : ℕ) (text : List ℕ) : Type 0 where
+  -- 0: a power loss leaves nothing but the disk as it reads, it stands for this target without loads, and it runs on
+  formatted_it : ((image : Image) → new.reads ≡ Some image → Stands image (formatted id)) → IsSettled new → new.stopped ≡ false
+      → status ≡ 0 → text ≡ formatted_line id → Formats old new id status text
+  -- 5: the disk failed in this call
+  formatting_failed : Rose old.faults new.faults → new.stopped ≡ true → status ≡ 5 → text ≡ disk_fault → Formats old new id status text
 
 -- ---- `show FILE`
 
@@ -70,6 +82,7 @@ pub data Says (words : List (List ℕ)) (old new : DiskState) (files : Option Fi
   -- 2: the words have none of the forms
   refused : ((form : Form) → ¬ IsForm words form) → status ≡ 2 → text ≡ refused_words → Says words old new files before after status text
   lists : IsForm words list → Lists old new status text → Says words old new files before after status text
+  formats : (id : Identity) → IsForm words (format id) → Formats old new id status text → Says words old new files before after status text
   shows : (file : List ℕ) → IsForm words (show_header file) → Shows files before after file status text → Says words old new files before after status text
 
 -- What a run is given and what it leaves: its words, the disk, the host's files and faults, and the sink's output

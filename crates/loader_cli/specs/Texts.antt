@@ -7,7 +7,7 @@ use Rattle.crc_fields.specs.CheckSums.{crc16_of}
 use Rattle.disk_layout.specs.Stands.{StandingView}
 use Rattle.disk_layout.specs.declared.identity.Identity.{Identity}
 use Rattle.disk_layout.specs.declared.fault.RecoverFault.{RecoverFault}
-use Rattle.disk_layout.specs.declared.fault.RecoverFault.TheVariants.{NotFormatted, NoOpenSlot, BadSlot, BadManifest, LoadsNotBuilt, DiskFailed, Memory}
+use Rattle.disk_layout.specs.declared.fault.RecoverFault.TheVariants.{NotFormatted, NoOpenSlot, BadSlot, BadManifest, DiskFailed, Memory}
 
 -- words with one space between them, and a line feed
 abbrev pub line : List (List ℕ) → List ℕ
@@ -61,21 +61,29 @@ load_lines load = load_line load ++ flat_map file_line load.files
 abbrev pub listing : StandingView → List ℕ
 listing s = target_line s.identity ++ bank_line s.bank s.sequence ++ loads_line (length s.loads) ++ flat_map load_lines s.loads
 
+-- `formatted HW POS SERIAL BANK`, with the bytes of a bank
+abbrev pub formatted_line : Identity → List ℕ
+formatted_line id = line (codes "formatted" ∷ id.hw ∷ id.pos ∷ id.serial ∷ decimal id.bank ∷ [])
+
 -- ---- refusals
 
--- The code of a fault. Those of the disk and of memory aren't printed so.
-abbrev pub fault_code : RecoverFault → List ℕ
-fault_code NotFormatted = codes "V1"
-fault_code NoOpenSlot = codes "V2"
-fault_code BadSlot = codes "V3"
-fault_code BadManifest = codes "V4"
-fault_code LoadsNotBuilt = codes "V5"
-fault_code DiskFailed = []
-fault_code Memory = []
+-- `CODE PLACE`
+abbrev pub placed : (code : List ℕ) (place : ℕ) → List ℕ
+placed code place = code ++ 32 ∷ decimal place
 
--- `no configuration CODE`
+-- A fault of what stands on a disk: its code, and its place where it has one. Those of the disk and of memory aren't
+-- printed so.
+abbrev pub recover_fault_text : RecoverFault → List ℕ
+recover_fault_text (NotFormatted place) = placed (codes "V1") place
+recover_fault_text NoOpenSlot = codes "V2"
+recover_fault_text (BadSlot place) = placed (codes "V3") place
+recover_fault_text (BadManifest place) = placed (codes "V4") place
+recover_fault_text DiskFailed = []
+recover_fault_text Memory = []
+
+-- `no configuration FAULT`
 abbrev pub no_configuration : RecoverFault → List ℕ
-no_configuration fault = line (codes "no" ∷ codes "configuration" ∷ fault_code fault ∷ [])
+no_configuration fault = line (codes "no" ∷ codes "configuration" ∷ recover_fault_text fault ∷ [])
 
 abbrev pub refused_words : List ℕ
 refused_words = line (codes "refused" ∷ codes "words" ∷ [])

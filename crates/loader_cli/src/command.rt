@@ -1,12 +1,22 @@
 //! The forms of words that the program knows.
-ghost use Rattle.std.specs.Prelude.{◌≡◌, ◌↔◌, IsTrue, IfSome, IfNone, codes};
-ghost use Rattle.loader_cli.specs.Words.{Form, IsForm, IsWord, EndsWith, form_of, texts_of};
+ghost use Rattle.std.specs.Prelude.{◌≡◌, ◌≢◌, ◌↔◌, ◌<◌, ◌^◌, ℕ, IsTrue, IfSome, IfNone, codes};
+ghost use Rattle.std.specs.Fmt.{decimal};
+ghost use Rattle.disk_layout.specs.Places.{IsBankSize};
+ghost use Rattle.disk_layout.specs.declared.identity.Identity.{Identity};
+ghost use Rattle.loader_cli.specs.Words.{Form, IsForm, IsWord, EndsWith, NamesTarget, form_of, texts_of};
+
+use disk_layout::Identity;
+use disk_layout::places::{LARGEST_BANK, SMALLEST_BANK};
+use itoa::Buffer;
+use load_base::Ident;
 
 /// What the words after the program's name ask for.
 #[derive(Clone, Copy)]
 pub(crate) enum Command<'w> {
     /// `list`: recover the disk and print what it stands for.
     List,
+    /// `format HW POS SERIAL BANK`: make the disk that of this target.
+    Format(Identity),
     /// `show FILE`, where FILE ends with `.LUH`: print the fields of a load header.
     ShowHeader(&'w str),
 }
@@ -19,12 +29,70 @@ impl<'w> Command<'w> {
     {
         match words {
             [word] if is_text(word.as_str(), "list") => Some(Command::List),
+            [word, hw, pos, serial, bank] if is_text(word.as_str(), "format") => {
+                match target(hw.as_str(), pos.as_str(), serial.as_str(), bank.as_str()) {
+                    Some(identity) => Some(Command::Format(identity)),
+                    None => None,
+                }
+            }
             [word, file] if is_text(word.as_str(), "show") && is_header_name(file.as_str()) => {
                 Some(Command::ShowHeader(file.as_str()))
             }
             _ => None,
         }
     }
+}
+
+// The target that these words name.
+fn target(hw: &str, pos: &str, serial: &str, bank: &str) -> Option<Identity>
+    ensures some { IfSome result (λ id. NamesTarget hw.now pos.now serial.now bank.now id) }
+    ensures none { IfNone result ((id : Identity) → ¬ NamesTarget hw.now pos.now serial.now bank.now id) }
+{
+    let Ok(hw) = Ident::read(hw.as_bytes()) else {
+        return None;
+    };
+    let Ok(pos) = Ident::read(pos.as_bytes()) else {
+        return None;
+    };
+    let Ok(serial) = Ident::read(serial.as_bytes()) else {
+        return None;
+    };
+    let bank = bank_size(bank)?;
+    Some(Identity {
+        hw,
+        pos,
+        serial,
+        bank,
+    })
+}
+
+// The size of a bank in decimal digits.
+fn bank_size(word: &str) -> Option<u32>
+    ensures some { IfSome result (λ size. (word.now ≡ decimal size) × IsBankSize size) }
+    ensures none { IfNone result ((size : ℕ) → IsBankSize size → word.now ≢ decimal size) }
+{
+    match number(word) {
+        Some(size) if SMALLEST_BANK <= size && size <= LARGEST_BANK => Some(size),
+        _ => None,
+    }
+}
+
+// A number in decimal digits, without a sign or a leading zero.
+fn number(word: &str) -> Option<u32>
+    ensures some { IfSome result (λ n. (word.now ≡ decimal n) × (n < 2 ^ 32)) }
+    ensures none { IfNone result ((n : ℕ) → n < 2 ^ 32 → word.now ≢ decimal n) }
+{
+    match word.parse::<u32>() {
+        Ok(number) if is_decimal(word, number) => Some(number),
+        _ => None,
+    }
+}
+
+fn is_decimal(word: &str, number: u32) -> bool
+    ensures { IsTrue result ↔ (word.now ≡ decimal number) }
+{
+    let mut digits = Buffer::new();
+    is_text(word, digits.format(number))
 }
 
 fn is_text<'t>(word: &'t str, text: &'t str) -> bool

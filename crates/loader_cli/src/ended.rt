@@ -1,13 +1,19 @@
 //! The top call.
 ghost use Rattle.std.specs.Prelude.{◌≡◌, ℕ, List, false, IfOk};
+ghost use Rattle.disk_model.specs.Moments.{LeavesOnly};
 ghost use Rattle.disk_model.specs.State.{OnlyReads};
+ghost use Rattle.disk_layout.specs.Places.{IsBankSize};
+ghost use Rattle.disk_layout.specs.declared.identity.Identity.{Identity};
+ghost use Rattle.bank_store.specs.Formatting.{WhileFormatting};
 ghost use Rattle.loader_cli.specs.Words.{texts_of, IsForm};
-ghost use Rattle.loader_cli.specs.Words.Form.{list as list_form, show_header as show_form};
-ghost use Rattle.loader_cli.specs.Runs.{Lists, Says, Ends};
+ghost use Rattle.loader_cli.specs.Words.Form.{list as list_form, format as format_form, show_header as show_form};
+ghost use Rattle.loader_cli.specs.Runs.{Lists, Formats, Says, Ends};
 
 use crate::command::Command;
 use crate::show::show_header;
-use crate::text::{listing_text, no_configuration_text, text_of};
+use crate::text::{formatted_text, listing_text, no_configuration_text, text_of};
+use bank_store::{StoreFault, format};
+use disk_layout::Identity;
 use disk_model::Disk;
 use load_base::{Bytes, Host, NoMemory, Sink, WriteFault};
 use recovery::{RecoverFault, recover};
@@ -30,8 +36,11 @@ pub struct Ended {
     pub status: u8,
 }
 
-/// Runs the program on the words after its name: `list`, or `show FILE` with the name of a load header. The output
-/// goes out in one piece at the end.
+/// Runs the program on the words after its name: `list`, `format HW POS SERIAL BANK`, or `show FILE` with the name of a
+/// load header. The output goes out in one piece at the end.
+///
+/// Only `list` and `format` use the disk, and only `format` writes. While it does, a power loss leaves what there was
+/// but for the gates of the two slots, or a disk that stands for nothing, or the formatted one.
 pub fn run<H: Host, O: Sink, K: Disk>(
     alloc: Global,
     words: &[String],
@@ -52,10 +61,12 @@ pub fn run<H: Host, O: Sink, K: Disk>(
       sink_faults = O.faults out.old;
       sink_faults_after = O.faults out.new;
     }) result.status }
-    ensures disk_untouched { ¬ IsForm (texts_of words.now) list_form → disk.new ≡ disk.old }
+    ensures disk_untouched { ¬ IsForm (texts_of words.now) list_form → ((id : Identity) → ¬ IsForm (texts_of words.now) (format_form id)) → disk.new ≡ disk.old }
     ensures host_untouched { ((file : List ℕ) → ¬ IsForm (texts_of words.now) (show_form file)) → host.new ≡ host.old }
     ensures files_kept { H.files host.new ≡ H.files host.old }
-    ensures only_reads { OnlyReads (K.state disk.old) (K.state disk.new) }
+    ensures only_reads { ((id : Identity) → ¬ IsForm (texts_of words.now) (format_form id)) → OnlyReads (K.state disk.old) (K.state disk.new) }
+    ensures while_formatting { (id : Identity) → IsForm (texts_of words.now) (format_form id)
+        → LeavesOnly (K.state disk.old).clock (WhileFormatting (K.state disk.old).now id) (K.state disk.new) }
 {
     match answer(alloc, words, host, disk) {
         Err(NoMemory) => Ended { status: 6 },
@@ -76,14 +87,17 @@ fn answer<H: Host, K: Disk>(
 ) -> Result<(u8, Bytes), NoMemory>
     requires { (K.state disk.old).stopped ≡ false }
     ensures says { IfOk result (λ said. Says (texts_of words.now) (K.state disk.old) (K.state disk.new) (H.files host.old) (H.faults host.old) (H.faults host.new) said.0 said.1.items) }
-    ensures disk_untouched { ¬ IsForm (texts_of words.now) list_form → disk.new ≡ disk.old }
+    ensures disk_untouched { ¬ IsForm (texts_of words.now) list_form → ((id : Identity) → ¬ IsForm (texts_of words.now) (format_form id)) → disk.new ≡ disk.old }
     ensures host_untouched { ((file : List ℕ) → ¬ IsForm (texts_of words.now) (show_form file)) → host.new ≡ host.old }
     ensures files_kept { H.files host.new ≡ H.files host.old }
-    ensures only_reads { OnlyReads (K.state disk.old) (K.state disk.new) }
+    ensures only_reads { ((id : Identity) → ¬ IsForm (texts_of words.now) (format_form id)) → OnlyReads (K.state disk.old) (K.state disk.new) }
+    ensures while_formatting { (id : Identity) → IsForm (texts_of words.now) (format_form id)
+        → LeavesOnly (K.state disk.old).clock (WhileFormatting (K.state disk.old).now id) (K.state disk.new) }
 {
     match Command::read(words) {
         None => Ok((2, text_of(alloc, b"refused words\n")?)),
         Some(Command::List) => Ok(list(alloc, disk)?),
+        Some(Command::Format(identity)) => Ok(format_disk(alloc, disk, &identity)?),
         Some(Command::ShowHeader(file)) => Ok(show_header(alloc, host, file)?),
     }
 }
@@ -100,5 +114,23 @@ fn list<K: Disk>(alloc: Global, disk: &mut K) -> Result<(u8, Bytes), NoMemory>
             RecoverFault::DiskFailed => Ok((5, text_of(alloc, b"disk fault\n")?)),
             reason => Ok((8, no_configuration_text(alloc, reason)?)),
         },
+    }
+}
+
+fn format_disk<K: Disk>(
+    alloc: Global,
+    disk: &mut K,
+    identity: &Identity,
+) -> Result<(u8, Bytes), NoMemory>
+    requires running { (K.state disk.old).stopped ≡ false }
+    requires bank_size { IsBankSize identity.now.bank }
+    ensures says { IfOk result (λ said. Formats (K.state disk.old) (K.state disk.new) identity.now said.0 said.1.items) }
+    ensures while_formatting { LeavesOnly (K.state disk.old).clock (WhileFormatting (K.state disk.old).now identity.now) (K.state disk.new) }
+{
+    match format(disk, identity) {
+        Ok(()) => Ok((0, formatted_text(alloc, identity)?)),
+        Err(StoreFault::DiskFailed) => Ok((5, text_of(alloc, b"disk fault\n")?)),
+        // Nothing else refuses formatting.
+        Err(_) => Err(NoMemory),
     }
 }

@@ -7,6 +7,7 @@ mod header_text;
 mod show;
 mod text;
 
+pub use bank_store;
 pub use ended::{Ended, run};
 pub use recovery;
 pub use text::listing_text;

@@ -1,5 +1,8 @@
+ghost use Rattle.std.specs.Prelude.{◌≡◌, false, IfOk};
+ghost use Rattle.disk_model.specs.MemDisk.{state_of};
+
 use super::*;
-use disk_model::{FileDisk, MemDisk};
+use disk_model::{Disk, FileDisk, MemDisk};
 use load_base::{
     Bytes, Config, Host, Ident, List, Load, MemHost, MemSink, Name, PartText, StdHost, StdSink,
     StoredFile,
@@ -65,7 +68,7 @@ fn lists_what_rules_or_says_why_not(rt: HostRuntime) -> Result<(), Fail> {
     let listing = "target HW1 L SN1\nbank 0 sequence 1\nloads 0\n";
     let seventh = "target HW1 L SN1\nbank 0 sequence 7\nloads 0\n";
     let rows = [
-        ("zeros", [0; DISK], 8, "no configuration V1\n"),
+        ("zeros", [0; DISK], 8, "no configuration V1 0\n"),
         ("formatted", formatted(), 0, listing),
         (
             "two slots",
@@ -79,46 +82,269 @@ fn lists_what_rules_or_says_why_not(rt: HostRuntime) -> Result<(), Fail> {
             "another layout",
             changed(5, &[2]),
             8,
-            "no configuration V1\n",
+            "no configuration V1 5\n",
         ),
         (
             "another sum",
             changed(21, &[0x3D]),
             8,
-            "no configuration V1\n",
+            "no configuration V1 20\n",
         ),
         ("shut", changed(4096, &[0]), 8, "no configuration V2\n"),
-        ("bank 2", changed(4116, &[2]), 8, "no configuration V3\n"),
+        (
+            "bank 2",
+            changed(4116, &[2]),
+            8,
+            "no configuration V3 4116\n",
+        ),
         (
             "past the bank",
             changed(4117, &[0, 0, 0x0F, 0xFF]),
             8,
-            "no configuration V3\n",
+            "no configuration V3 4117\n",
         ),
         (
             "no count",
             changed(4121, &[0, 0, 0, 1]),
             8,
-            "no configuration V4\n",
+            "no configuration V4 8192\n",
         ),
         (
             "a rest",
             changed(4121, &[0, 0, 0, 3]),
             8,
-            "no configuration V4\n",
+            "no configuration V4 8194\n",
         ),
         (
             "contents",
             changed(4117, &[0, 0, 0, 1]),
             8,
-            "no configuration V4\n",
+            "no configuration V4 8193\n",
         ),
-        ("a load", changed(8192, &[0, 1]), 8, "no configuration V5\n"),
+        (
+            "a load",
+            changed(8192, &[0, 1]),
+            8,
+            "no configuration V4 8194\n",
+        ),
     ];
     for (name, bytes, status, text) in rows {
         let (found, out) = run_on(alloc, &words, bytes)?;
         assert_eq!(rt; found, status, "{name}");
         assert_eq!(rt; out.as_slice(), text.as_bytes(), "{name}");
+    }
+    Ok(())
+}
+
+// A disk with one load in bank 0: a header of four bytes, and a file of nine.
+static LOADED: &[u8] =
+    b"HEAD123456789\x00\x01ABC41-0000-0001\x00\x02\x07APP.LUH\x00\x00\x00\x04\x07APP.BIN\x00\x00\x00\x09";
+
+// That disk with these bytes from a place on.
+fn loaded(alloc: Global, at: usize, bytes: &[u8]) -> Result<MemDisk, Fail>
+    ensures { IfOk result (λ disk. (state_of disk).stopped ≡ false) }
+{
+    let mut disk = [0; 8300];
+    put(&mut disk, 0, &formatted());
+    put(&mut disk, 4117, &[0, 0, 0, 13, 0, 0, 0, 43]);
+    put(&mut disk, 8192, LOADED);
+    put(&mut disk, at, bytes);
+    Ok(MemDisk::new(alloc, &disk)?)
+}
+
+fn put(disk: &mut [u8], at: usize, bytes: &[u8]) {
+    for (i, byte) in bytes.iter().enumerate() {
+        if let Some(cell) = disk.get_mut(at.wrapping_add(i)) {
+            *cell = *byte;
+        }
+    }
+}
+
+#[test]
+fn lists_a_load_or_says_where_it_is_wrong(rt: HostRuntime) -> Result<(), Fail> {
+    let alloc = rt.alloc();
+    let words = words_of(alloc, &["list"])?;
+    let listing = "target HW1 L SN1
+bank 0 sequence 1
+loads 1
+load ABC41-0000-0001 APP.LUH 2
+file APP.LUH 4 AF7F
+file APP.BIN 9 29B1
+";
+    let rows: [(&str, usize, &[u8], u8, &str); 25] = [
+        ("as it is", 0, &[], 0, listing),
+        ("the third byte", 2, &[0], 8, "no configuration V1 2\n"),
+        (
+            "a small bank",
+            6,
+            &[0, 0, 0x0F, 0xFF],
+            8,
+            "no configuration V1 6\n",
+        ),
+        (
+            "a large bank",
+            6,
+            &[4, 0, 0, 1],
+            8,
+            "no configuration V1 6\n",
+        ),
+        ("a small letter", 11, &[0x68], 8, "no configuration V1 10\n"),
+        ("no position", 14, &[0], 8, "no configuration V1 14\n"),
+        ("a long serial", 16, &[200], 8, "no configuration V1 16\n"),
+        (
+            "a long manifest",
+            4121,
+            &[0, 8, 0xA2, 0x23],
+            8,
+            "no configuration V3 4121\n",
+        ),
+        (
+            "one byte less",
+            4124,
+            &[42],
+            8,
+            "no configuration V4 8244\n",
+        ),
+        (
+            "one byte more",
+            4124,
+            &[44],
+            8,
+            "no configuration V4 8248\n",
+        ),
+        ("no load", 8206, &[0], 8, "no configuration V4 8207\n"),
+        ("two loads", 8206, &[2], 8, "no configuration V4 8248\n"),
+        ("33 loads", 8206, &[33], 8, "no configuration V4 8205\n"),
+        (
+            "a space in the part",
+            8210,
+            b" ",
+            8,
+            "no configuration V4 8207\n",
+        ),
+        ("no file", 8223, &[0], 8, "no configuration V4 8222\n"),
+        ("one file", 8223, &[1], 8, "no configuration V4 8236\n"),
+        ("three files", 8223, &[3], 8, "no configuration V4 8248\n"),
+        ("257 files", 8222, &[1, 1], 8, "no configuration V4 8222\n"),
+        ("an empty name", 8224, &[0], 8, "no configuration V4 8224\n"),
+        (
+            "a name with a slash",
+            8228,
+            b"/",
+            8,
+            "no configuration V4 8224\n",
+        ),
+        ("a long name", 8236, &[12], 8, "no configuration V4 8236\n"),
+        ("a long file", 8232, &[1], 8, "no configuration V4 8232\n"),
+        ("a longer file", 8235, &[5], 8, "no configuration V4 8205\n"),
+        (
+            "a shorter file",
+            8247,
+            &[8],
+            8,
+            "no configuration V4 8205\n",
+        ),
+        (
+            "another place",
+            4120,
+            &[14],
+            8,
+            "no configuration V4 8206\n",
+        ),
+    ];
+    for (name, at, bytes, status, text) in rows {
+        let mut disk = loaded(alloc, at, bytes)?;
+        let mut out = MemSink::new(alloc);
+        let ended = run(alloc, &words, &mut MemHost::new(alloc), &mut out, &mut disk);
+        assert_eq!(rt; out.as_slice(), text.as_bytes(), "{name}");
+        assert_eq!(rt; ended.status, status, "{name}");
+        assert_eq!(rt; disk.notes().len(), 0, "{name}");
+    }
+    Ok(())
+}
+
+#[test]
+fn lists_a_load_of_256_files(rt: HostRuntime) -> Result<(), Fail> {
+    let alloc = rt.alloc();
+    let words = words_of(alloc, &["list"])?;
+    let mut contents = Bytes::new(alloc);
+    let mut names = Bytes::new(alloc);
+    let mut lines = Bytes::new(alloc);
+    lines.extend(b"target HW1 L SN1\nbank 0 sequence 1\nloads 1\nload ABC41-0000-0001 AAA 256\n")?;
+    for i in 0..=255u8 {
+        contents.extend(b"1")?;
+        let letters = [b'A' + i / 64, b'A' + i / 8 % 8, b'A' + i % 8];
+        names.extend(&[3])?;
+        names.extend(&letters)?;
+        names.extend(&[0, 0, 0, 1])?;
+        lines.extend(b"file ")?;
+        lines.extend(&letters)?;
+        lines.extend(b" 1 C782\n")?;
+    }
+    contents.extend(b"\x00\x01ABC41-0000-0001\x01\x00")?;
+    contents.extend(names.as_slice())?;
+    let mut bytes = [0; 10_771];
+    put(&mut bytes, 0, &formatted());
+    put(&mut bytes, 4117, &[0, 0, 1, 0, 0, 0, 8, 19]);
+    put(&mut bytes, 8192, contents.as_slice());
+    let mut disk = MemDisk::new(alloc, &bytes)?;
+    let mut out = MemSink::new(alloc);
+    let ended = run(alloc, &words, &mut MemHost::new(alloc), &mut out, &mut disk);
+    assert_eq!(rt; out.as_slice(), lines.as_slice());
+    assert_eq!(rt; ended.status, 0);
+    Ok(())
+}
+
+#[test]
+fn formats_a_disk(rt: HostRuntime) -> Result<(), Fail> {
+    let alloc = rt.alloc();
+    let list = words_of(alloc, &["list"])?;
+    for (words, formatted, listed) in [
+        (
+            &["format", "HW1", "L", "SN1", "4096"],
+            "formatted HW1 L SN1 4096\n",
+            "target HW1 L SN1\nbank 0 sequence 1\nloads 0\n",
+        ),
+        (
+            &["format", "FMC-1", "R", "SN77", "67108864"],
+            "formatted FMC-1 R SN77 67108864\n",
+            "target FMC-1 R SN77\nbank 0 sequence 1\nloads 0\n",
+        ),
+    ] {
+        let mut disk = loaded(alloc, 4608, &[0xA5])?;
+        let mut out = MemSink::new(alloc);
+        let words = words_of(alloc, words)?;
+        let ended = run(alloc, &words, &mut MemHost::new(alloc), &mut out, &mut disk);
+        assert_eq!(rt; out.as_slice(), formatted.as_bytes());
+        assert_eq!(rt; ended.status, 0);
+        assert_eq!(rt; disk.notes().len(), 9);
+        disk.restart()?;
+        let mut out = MemSink::new(alloc);
+        let ended = run(alloc, &list, &mut MemHost::new(alloc), &mut out, &mut disk);
+        assert_eq!(rt; out.as_slice(), listed.as_bytes());
+        assert_eq!(rt; ended.status, 0);
+    }
+    Ok(())
+}
+
+// The disk is called nine times: for the two gates, the manifest, slot A and the identity, the gate of slot A, and
+// a sync after each of the three steps.
+#[test]
+fn each_call_of_format_fails_in_turn(rt: HostRuntime) -> Result<(), Fail> {
+    let alloc = rt.alloc();
+    let words = words_of(alloc, &["format", "HW1", "L", "SN1", "4096"])?;
+    for call in 1..=10u32 {
+        let mut disk = loaded(alloc, 0, &[])?;
+        disk.fail_at(call)?;
+        let mut out = MemSink::new(alloc);
+        let ended = run(alloc, &words, &mut MemHost::new(alloc), &mut out, &mut disk);
+        let (status, text) = if call < 10 {
+            (5, "disk fault\n")
+        } else {
+            (0, "formatted HW1 L SN1 4096\n")
+        };
+        assert_eq!(rt; ended.status, status, "call {call}");
+        assert_eq!(rt; out.as_slice(), text.as_bytes(), "call {call}");
     }
     Ok(())
 }
@@ -141,6 +367,20 @@ fn refuses_all_other_words(rt: HostRuntime) -> Result<(), Fail> {
         &["show", "APP APP.LUH"],
         &["show", "APP\x7F.LUH"],
         &["Show", "APP.LUH"],
+        &["format"],
+        &["format", "HW1", "L", "SN1"],
+        &["format", "HW1", "L", "SN1", "4096", "4096"],
+        &["format", "HW1", "L", "SN1", "4095"],
+        &["format", "HW1", "L", "SN1", "67108865"],
+        &["format", "HW1", "L", "SN1", "04096"],
+        &["format", "HW1", "L", "SN1", "+4096"],
+        &["format", "HW1", "L", "SN1", "4096 "],
+        &["format", "HW1", "L", "SN1", "4294971392"],
+        &["format", "HW1", "L", "SN1", ""],
+        &["format", "hw1", "L", "SN1", "4096"],
+        &["format", "HW1", "", "SN1", "4096"],
+        &["format", "HW1", "L", "SERIAL-NUMBER-OF-21-B", "4096"],
+        &["Format", "HW1", "L", "SN1", "4096"],
     ] {
         let words = words_of(alloc, words)?;
         let (status, out) = run_on(alloc, &words, formatted())?;

@@ -4,7 +4,7 @@ ghost use Rattle.std.specs.Fmt.{decimal};
 ghost use Rattle.std.specs.List.{flat_map};
 ghost use Rattle.load_base.specs.Config.{file_view, load_view};
 ghost use Rattle.disk_layout.specs.Stands.{standing_view};
-ghost use Rattle.loader_cli.specs.Texts.{line, hex_digit as hex_digit_of, hex_8, hex_16, hex_32, file_line, load_line, load_lines, target_line, bank_line, loads_line, listing, fault_code, no_configuration};
+ghost use Rattle.loader_cli.specs.Texts.{line, hex_digit as hex_digit_of, hex_8, hex_16, hex_32, file_line, load_line, load_lines, target_line, bank_line, loads_line, listing, formatted_line, placed, recover_fault_text, no_configuration};
 
 use crc_fields::crc16;
 use disk_layout::{Identity, RecoverFault, Standing};
@@ -24,28 +24,52 @@ pub fn listing_text(alloc: Global, standing: &Standing) -> Result<Bytes, NoMemor
     Ok(out)
 }
 
+/// What was formatted: its target, and the bytes of a bank.
+pub(crate) fn formatted_text(alloc: Global, identity: &Identity) -> Result<Bytes, NoMemory>
+    ensures { IfOk result (λ text. text.items ≡ formatted_line identity.now) }
+{
+    let mut out = Bytes::new(alloc);
+    out.extend(b"formatted ")?;
+    out.extend(identity.hw.as_slice())?;
+    out.extend(b" ")?;
+    out.extend(identity.pos.as_slice())?;
+    out.extend(b" ")?;
+    out.extend(identity.serial.as_slice())?;
+    out.extend(b" ")?;
+    put_number(alloc, &mut out, u64::from(identity.bank))?;
+    out.extend(b"\n")?;
+    Ok(out)
+}
+
 /// Why there is no listing.
 pub(crate) fn no_configuration_text(alloc: Global, fault: RecoverFault) -> Result<Bytes, NoMemory>
     ensures { IfOk result (λ text. text.items ≡ no_configuration fault) }
 {
     let mut out = Bytes::new(alloc);
     out.extend(b"no configuration ")?;
-    out.extend(code_of(fault))?;
+    put_fault(alloc, &mut out, fault)?;
     out.extend(b"\n")?;
     Ok(out)
 }
 
-fn code_of(fault: RecoverFault) -> &'static [u8]
-    ensures { result.now ≡ fault_code fault }
+fn put_fault(alloc: Global, out: &mut Bytes, fault: RecoverFault) -> Result<(), NoMemory>
+    ensures { OnOk result (out.new.items ≡ out.old.items ++ recover_fault_text fault) }
 {
     match fault {
-        RecoverFault::NotFormatted => b"V1",
-        RecoverFault::NoOpenSlot => b"V2",
-        RecoverFault::BadSlot => b"V3",
-        RecoverFault::BadManifest => b"V4",
-        RecoverFault::LoadsNotBuilt => b"V5",
-        RecoverFault::DiskFailed | RecoverFault::Memory => b"",
+        RecoverFault::NotFormatted(place) => put_placed(alloc, out, b"V1", place),
+        RecoverFault::NoOpenSlot => out.extend(b"V2"),
+        RecoverFault::BadSlot(place) => put_placed(alloc, out, b"V3", place),
+        RecoverFault::BadManifest(place) => put_placed(alloc, out, b"V4", place),
+        RecoverFault::DiskFailed | RecoverFault::Memory => Ok(()),
     }
+}
+
+fn put_placed(alloc: Global, out: &mut Bytes, code: &[u8], place: u64) -> Result<(), NoMemory>
+    ensures { OnOk result (out.new.items ≡ out.old.items ++ placed code.now place) }
+{
+    out.extend(code)?;
+    out.extend(b" ")?;
+    put_number(alloc, out, place)
 }
 
 /// These bytes as a text of their own.
