@@ -34,14 +34,6 @@ pub record NamesTarget (hw pos serial bank : List ℕ) (id : Identity) : Type 0 
   pub bank_is : bank ≡ decimal id.bank
   pub fits : IsIdentity id
 
--- these words name this target, the bytes of a bank in decimal digits
-pub record NamesTarget (hw pos serial bank : List ℕ) (id : Identity) : Type 0 where
-  pub hw_is : hw ≡ id.hw
-  pub pos_is : pos ≡ id.pos
-  pub serial_is : serial ≡ id.serial
-  pub bank_is : bank ≡ decimal id.bank
-  pub fits : IsIdentity id
-
 -- the words ask for this
 abbrev pub IsForm : List (List ℕ) → Form → Type 0
 IsForm words list = words ≡ codes "list" ∷ []
