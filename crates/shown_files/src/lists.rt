@@ -141,16 +141,16 @@ fn put_load_line(alloc: Global, out: &mut Bytes, load: &LoadEntry) -> Result<(),
     out.extend(load.part.as_slice())?;
     out.extend(b" ")?;
     out.extend(load.header_name.as_slice())?;
-    put_two_numbers(alloc, out, u64::from(load.member), load.hardware.len() as u64)
+    put_two_numbers(
+        alloc,
+        out,
+        u64::from(load.member),
+        load.hardware.len() as u64,
+    )
 }
 
 // Two numbers at the end of a line, each behind a space.
-fn put_two_numbers(
-    alloc: Global,
-    out: &mut Bytes,
-    first: u64,
-    second: u64,
-) -> Result<(), NoMemory>
+fn put_two_numbers(alloc: Global, out: &mut Bytes, first: u64, second: u64) -> Result<(), NoMemory>
     ensures { OnOk result (out.new.items ≡ out.old.items ++ (32 ∷ decimal first ++ 32 ∷ decimal second ++ 10 ∷ [])) }
 {
     out.extend(b" ")?;

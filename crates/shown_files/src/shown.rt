@@ -15,8 +15,8 @@ use crate::lists::{files_list_text, loads_list_text};
 use crate::protocol::{lci_text, lcl_text, lcs_text, lui_text, lur_text, lus_text};
 use load_base::{Bytes, NoMemory};
 use load_header::{HeaderFault, LoadHeader, fault_text};
-use media_lists::{FilesList, ListFault, LoadsList};
 use load_protocol_files::{FileFault, Lci, Lcl, Lcs, Lui, Lur, Lus};
+use media_lists::{FilesList, ListFault, LoadsList};
 use std::alloc::Global;
 
 /// What is shown of a file.
