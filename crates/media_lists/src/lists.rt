@@ -64,9 +64,10 @@ impl FilesList {
         files_of(alloc, bytes)
     }
 
-    /// Whether the list meets the limits of the format, so that it has a spelling: at most 1,024 entries, each with a path of docs/FORMATS.md,
-    /// each member's number from 1 to that of the members, no name of a file twice, an even number of at most
-    /// 131,070 bytes of user data, and at most 1,048,576 bytes in all. It takes no memory.
+    /// Whether the list meets the limits of the format (this project's layout, docs/FORMATS.md), so that it has
+    /// a spelling: at most 1,024 files, each with a path and the number of a member; no name twice; a member's
+    /// number from 1 to `members`; an even number of at most 131,070 bytes of user data; and at most 1,048,576
+    /// bytes in all. It takes no memory.
     pub fn fits(&self) -> bool
         ensures { IsTrue result ↔ IsFilesList (files_view self.now) }
     {
@@ -124,9 +125,11 @@ impl LoadsList {
         loads_of(alloc, bytes)
     }
 
-    /// Whether the list meets the limits of the format, so that it has a spelling: at most 1,024 entries and as many kinds of hardware of each,
-    /// each member's number from 1 to that of the members, no name of a header twice, an even number of at most
-    /// 131,070 bytes of user data and of each entry but the last, and at most 1,048,576 bytes in all. It takes no memory.
+    /// Whether the list meets the limits of the format (this project's layout, docs/FORMATS.md), so that it has
+    /// a spelling: at most 1,024 loads, each for at most 1,024 kinds of hardware and with the number of a
+    /// member; at most 131,070 bytes of each entry but the last; no header's name twice; a member's number from
+    /// 1 to `members`; an even number of at most 131,070 bytes of user data; and at most 1,048,576 bytes in all.
+    /// It takes no memory.
     pub fn fits(&self) -> bool
         ensures { IsTrue result ↔ IsLoadsList (loads_view self.now) }
     {
