@@ -28,7 +28,7 @@ use Rattle.bank_store.proofs.Images.{apart}
 pub same_image : (a b : Image) → ◌≡◌ {A = Option Image} (Some a) (Some b) → a ≡ b
 same_image a b e = cc
 
-other_place : (at place : ℕ) → ¬ (place ≡ at) → (place < at) ⊎ (at + 1 ≤ place)
+pub other_place : (at place : ℕ) → ¬ (place ≡ at) → (place < at) ⊎ (at + 1 ≤ place)
 other_place at place other = elim (cases_lt place at) [
   | inl before ↦ inl before
   | inr from ↦ elim (cases_eq place at) [ inl is ↦ absurd (other is) | inr differs ↦ inr (omega (arith, from, differs)) ]

@@ -1,5 +1,5 @@
 -- What was laid out stands there.
-use Rattle.std.proofs.Common.{◌≡◌, ℕ, ◌+◌, ◌<◌, ◌≤◌, ◌⊎◌, List, [], ◌∷◌, length, take, drop, get_or, refl, sym, ap, inl, inr, ◌∙◌, arith}
+use Rattle.std.proofs.Common.{◌≡◌, ℕ, ◌+◌, ◌<◌, ◌≤◌, ◌⊎◌, List, [], ◌∷◌, length, take, drop, get_or, refl, sym, ap, subst, inl, inr, ◌∙◌, arith}
 use Rattle.byteorder.specs.Endian.{big_number}
 use Rattle.disk_model.specs.Image.{Image, range, overlay}
 use Rattle.disk_model.proofs.Overlays.{overlay_outside}
@@ -7,7 +7,8 @@ use Rattle.disk_model.proofs.Ranges.{take_range, drop_range, byte_of_range}
 use Rattle.disk_layout.specs.Places.{slot_a, slot_b, longest_identity, number_at}
 use Rattle.disk_layout.specs.Identity.{HasIdentity, identity_text}
 use Rattle.disk_layout.specs.declared.identity.Identity.{Identity}
-use Rattle.bank_store.specs.Formatting.{IsShut, IsLaidOut}
+use Rattle.bank_store.specs.Formatting.{IsShut, IsLaidOut, IsUntouched, gates_shut, laid_out, a_opened}
+use Rattle.bank_store.proofs.Gates.{other_place}
 use Rattle.bank_store.proofs.Images.{written, apart}
 
 abbrev no_loads : List ℕ
@@ -80,3 +81,22 @@ is_laid_out image id shut short read =
   where
     byte_is : (i : Image) → range i 4112 13 ≡ first_slot → i 4116 ≡ 0
     byte_is i is = sym (byte_of_range i 4112 13 4 (omega arith)) ∙ ap (λ (l : List ℕ). get_or l 4 0) is
+
+-- ---- what is not written
+
+beside : (image : Image) (at n place : ℕ) (bytes : List ℕ) → length bytes ≡ n → (place < at) ⊎ (at + n ≤ place) → overlay image at bytes place ≡ image place
+beside image at n place bytes size out = overlay_outside image at bytes place (subst (λ (m : ℕ). (place < at) ⊎ (at + m ≤ place)) (sym size) out)
+
+pub rest_stays : (id : Identity) (before : Image) (place : ℕ) → IsUntouched id place → a_opened (laid_out id (gates_shut before)) place ≡ before place
+rest_stays id before place is =
+    let first : Image = overlay before slot_a (0 ∷ []) in
+    let shut : Image = gates_shut before in
+    let one : Image = overlay shut 8192 no_loads in
+    let two : Image = overlay one 4112 first_slot in
+    let three : Image = overlay two 0 (identity_text id) in
+    let body : (place < 4112) ⊎ (4112 + 13 ≤ place) = elim is.body [ inl early ↦ inl (omega (arith, early)) | inr late ↦ inr (omega (arith, late)) ] in
+    let manifest : (place < 8192) ⊎ (8192 + 2 ≤ place) = elim is.manifest [ inl early ↦ inl early | inr late ↦ inr (omega (arith, late)) ] in
+    beside three slot_a 1 place (0xA5 ∷ []) refl (other_place slot_a place is.a)
+    ∙ beside two 0 (length (identity_text id)) place (identity_text id) refl (inr (omega (arith, is.identity)))
+    ∙ beside one 4112 13 place first_slot refl body ∙ beside shut 8192 2 place no_loads refl manifest
+    ∙ beside first slot_b 1 place (0 ∷ []) refl (other_place slot_b place is.b) ∙ beside before slot_a 1 place (0 ∷ []) refl (other_place slot_a place is.a)

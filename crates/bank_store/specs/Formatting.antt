@@ -1,8 +1,8 @@
 -- What formatting leaves on a disk (docs/DISK.md).
-use Rattle.std.specs.Prelude.{◌≡◌, ◌⊎◌, ℕ, [], ◌∷◌}
-use Rattle.disk_model.specs.Image.{Image, range, SameOutside}
+use Rattle.std.specs.Prelude.{◌≡◌, ◌⊎◌, ℕ, [], ◌∷◌, ◌+◌, ◌<◌, ◌≤◌, length}
+use Rattle.disk_model.specs.Image.{Image, range, overlay, SameOutside}
 use Rattle.disk_layout.specs.Places.{slot_a, slot_b, bank_at}
-use Rattle.disk_layout.specs.Identity.{HasIdentity}
+use Rattle.disk_layout.specs.Identity.{HasIdentity, identity_text}
 use Rattle.disk_layout.specs.Slots.{IsOpen, sequence_of, bank_of, manifest_place_of, manifest_length_of}
 use Rattle.disk_layout.specs.Stands.{StandingView, Stands}
 use Rattle.disk_layout.specs.declared.identity.Identity.{Identity}
@@ -45,3 +45,31 @@ pub record IsOpened (images : Image → Type 0) (image : Image) : Type 0 where
   pub was : images before
   pub same : SameOutside slot_a 1 before image
   pub gate : IsOpen image slot_a
+
+-- ---- the changes
+
+-- the image with both gates shut
+abbrev pub gates_shut : Image → Image
+gates_shut image = overlay (overlay image slot_a (0 ∷ [])) slot_b (0 ∷ [])
+
+-- the image with an empty manifest, slot A's body from its sequence on (sequence 1, bank 0, and a manifest of 2 bytes at
+-- its start), and an identity
+abbrev pub laid_out : Identity → Image → Image
+laid_out id image =
+    overlay (overlay (overlay image 8192 (0 ∷ 0 ∷ [])) 4112 (0 ∷ 0 ∷ 0 ∷ 1 ∷ 0 ∷ 0 ∷ 0 ∷ 0 ∷ 0 ∷ 0 ∷ 0 ∷ 0 ∷ 2 ∷ [])) 0 (identity_text id)
+
+-- the image with the gate of slot A open
+abbrev pub a_opened : Image → Image
+a_opened image = overlay image slot_a (0xA5 ∷ [])
+
+-- formatting writes nothing at this place
+pub record IsUntouched (id : Identity) (place : ℕ) : Type 0 where
+  pub identity : length (identity_text id) ≤ place
+  pub a : ¬ (place ≡ slot_a)
+  pub b : ¬ (place ≡ slot_b)
+  pub body : (place < slot_a + 16) ⊎ (slot_a + 29 ≤ place)
+  pub manifest : (place < 8192) ⊎ (8194 ≤ place)
+
+-- all else stays
+abbrev pub KeepsRest : Identity → Image → Image → Type 0
+KeepsRest id before after = (place : ℕ) → IsUntouched id place → after place ≡ before place

@@ -6,7 +6,7 @@ ghost use Rattle.disk_model.specs.State.{IsSettled, Torn};
 ghost use Rattle.disk_layout.specs.Places.{IsBankSize, slot_a};
 ghost use Rattle.disk_layout.specs.Stands.{Stands};
 ghost use Rattle.bank_store.specs.Acts.{Acts, AddsOnly, IsOfDisk};
-ghost use Rattle.bank_store.specs.Formatting.{formatted, IsShut, GatesTorn, WhileFormatting, IsLaidOut, IsOpened};
+ghost use Rattle.bank_store.specs.Formatting.{formatted, IsShut, GatesTorn, WhileFormatting, IsLaidOut, IsOpened, gates_shut, laid_out, a_opened, KeepsRest};
 
 use crate::StoreFault;
 use crate::front::Front;
@@ -28,11 +28,12 @@ const FIRST_SLOT: [u8; 13] = [0, 0, 0, 1, 0, 0, 0, 0, 0, 0, 0, 0, 2];
 /// First both gates are shut; then the manifest, slot A's body and the identity are written; then gate A is
 /// opened; and after each of the three steps the disk is synced. A power loss within the first step leaves
 /// what was there but for the gates, and after it either a disk with both gates shut, which stands for
-/// nothing, or the formatted one. The bank size of the identity is 4,096 to 67,108,864.
+/// nothing, or the formatted one. All other bytes stay. The bank size of the identity is 4,096 to 67,108,864.
 pub fn format<K: Disk>(disk: &mut K, identity: &Identity) -> Result<(), StoreFault>
     requires running { (K.state disk.old).stopped ≡ false }
     requires bank_size { IsBankSize identity.now.bank }
     ensures formatted { OnOk result ((image : Image) → (K.state disk.new).reads ≡ Some image → Stands image (formatted identity.now)) }
+    ensures rest { OnOk result ((before after : Image) → (K.state disk.old).reads ≡ Some before → (K.state disk.new).reads ≡ Some after → KeepsRest identity.now before after) }
     ensures settled { OnOk result (IsSettled (K.state disk.new)) }
     ensures refused { IfErr result (λ fault. IsOfDisk fault) }
     ensures any_moment { LeavesOnly (K.state disk.old).clock (WhileFormatting (K.state disk.old).now identity.now) (K.state disk.new) }
@@ -47,6 +48,7 @@ pub fn format<K: Disk>(disk: &mut K, identity: &Identity) -> Result<(), StoreFau
 // Neither slot is open.
 fn shut_gates<K: Disk>(disk: &mut K) -> Result<(), StoreFault>
     requires { (K.state disk.old).stopped ≡ false }
+    ensures reads { OnOk result ((image : Image) → (K.state disk.old).reads ≡ Some image → (K.state disk.new).reads ≡ Some (gates_shut image)) }
     ensures shut { OnOk result ((image : Image) → (K.state disk.new).now image → IsShut image) }
     ensures any_moment { AddsOnly (K.state disk.old) (K.state disk.new) (GatesTorn (K.state disk.old).now) }
     ensures refused { IfErr result (λ fault. IsOfDisk fault) }
@@ -62,6 +64,7 @@ fn shut_gates<K: Disk>(disk: &mut K) -> Result<(), StoreFault>
 fn lay_out<K: Disk>(disk: &mut K, identity: &Identity) -> Result<(), StoreFault>
     requires running { (K.state disk.old).stopped ≡ false }
     requires bank_size { IsBankSize identity.now.bank }
+    ensures reads { OnOk result ((image : Image) → (K.state disk.old).reads ≡ Some image → (K.state disk.new).reads ≡ Some (laid_out identity.now image)) }
     ensures laid_out { OnOk result (((image : Image) → (K.state disk.old).now image → IsShut image) → (image : Image) → (K.state disk.new).now image → IsLaidOut identity.now image) }
     ensures any_moment { ((image : Image) → (K.state disk.old).now image → IsShut image) → AddsOnly (K.state disk.old) (K.state disk.new) (λ image. IsShut image) }
     ensures refused { IfErr result (λ fault. IsOfDisk fault) }
@@ -78,6 +81,7 @@ fn lay_out<K: Disk>(disk: &mut K, identity: &Identity) -> Result<(), StoreFault>
 
 fn open_slot_a<K: Disk>(disk: &mut K) -> Result<(), StoreFault>
     requires { (K.state disk.old).stopped ≡ false }
+    ensures reads { OnOk result ((image : Image) → (K.state disk.old).reads ≡ Some image → (K.state disk.new).reads ≡ Some (a_opened image)) }
     ensures opened { OnOk result ((image : Image) → (K.state disk.new).reads ≡ Some image → IsOpened (K.state disk.old).now image) }
     ensures settled { OnOk result (IsSettled (K.state disk.new)) }
     ensures any_moment { AddsOnly (K.state disk.old) (K.state disk.new) (Torn slot_a 1 (K.state disk.old).now) }

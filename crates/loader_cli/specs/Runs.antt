@@ -7,7 +7,7 @@ use Rattle.shown_files.specs.Shown.{HasFields, HasFault}
 use Rattle.shown_files.specs.declared.kind.FileKind.{FileKind}
 use Rattle.disk_model.specs.Image.{Image}
 use Rattle.disk_model.specs.State.{DiskState, IsSettled}
-use Rattle.bank_store.specs.Formatting.{formatted}
+use Rattle.bank_store.specs.Formatting.{formatted, KeepsRest}
 use Rattle.disk_layout.specs.declared.identity.Identity.{Identity}
 use Rattle.disk_layout.specs.Places.{IsBankSize}
 use Rattle.disk_layout.specs.Looks.{IsOfDisk, RunsOn}
@@ -34,8 +34,10 @@ pub data Lists (old new : DiskState) (status : ℕ) (text : List ℕ) : Type 0 w
 
 -- the status, the text, and what it says of the disk, where the disk tells its content
 pub data Formats (old new : DiskState) (id : Identity) (status : ℕ) (text : List ℕ) : Type 0 where
-  -- 0: a power loss leaves nothing but the disk as it reads, it stands for this target without loads, and it runs on
-  formatted_it : ((image : Image) → new.reads ≡ Some image → Stands image (formatted id)) → IsSettled new → new.stopped ≡ false
+  -- 0: a power loss leaves nothing but the disk as it reads, it stands for this target without loads and has all other bytes
+  -- that it had, and it runs on
+  formatted_it : ((image : Image) → new.reads ≡ Some image → Stands image (formatted id))
+      → ((before after : Image) → old.reads ≡ Some before → new.reads ≡ Some after → KeepsRest id before after) → IsSettled new → new.stopped ≡ false
       → status ≡ 0 → text ≡ formatted_line id → Formats old new id status text
   -- 5: the disk failed in this call
   formatting_failed : Rose old.faults new.faults → new.stopped ≡ true → status ≡ 5 → text ≡ disk_fault → Formats old new id status text

@@ -1,4 +1,4 @@
-use Rattle.std.proofs.Common.{inl, inr}
+use Rattle.std.proofs.Common.{inl, inr, sym, ap, ◌∙◌}
 use Rattle.disk_model.specs.Image.{Image}
 use Rattle.disk_model.specs.Moments.{LeavesOnly}
 use Rattle.disk_model.specs.State.{DiskState, Torn}
@@ -7,7 +7,8 @@ use Rattle.disk_layout.specs.declared.identity.Identity.{Identity}
 use Rattle.std.specs.Prelude.{ℕ, ◌≤◌}
 use Rattle.bank_store.specs.Acts.{AddsOnly}
 use Rattle.bank_store.specs.Formatting.{IsShut, GatesTorn, IsLaidOut, WhileFormatting}
-use Rattle.bank_store.proofs.Gates.{opened_or_shut, opened_is, as_it_was}
+use Rattle.bank_store.proofs.Gates.{same_image, opened_or_shut, opened_is, as_it_was}
+use Rattle.bank_store.proofs.Layouts.{rest_stays}
 use Rattle.bank_store.proofs.Moments.{adds_joined, leaves_only}
 use Rattle.bank_store.proofs.formatting.format.Goals as goal
 
@@ -38,3 +39,11 @@ pub returns-clause-formatted : goal.returns-clause-formatted
 returns-clause-formatted g c image told =
     let shut = c.in_ok-shut_gates.ensures.shut in
     opened_is c.args.identity.now c.requires.bank_size (g.K.Disk.state c.lay_out.new.disk).now (c.in_ok-lay_out.ensures.laid_out shut) image (c.in_ok-open_slot_a.ensures.opened image told)
+
+pub returns-clause-rest : goal.returns-clause-rest
+returns-clause-rest g c before after told later place untouched =
+    let first = c.in_ok-shut_gates.ensures.reads before told in
+    let second = c.in_ok-lay_out.ensures.reads _ first in
+    let third = c.in_ok-open_slot_a.ensures.reads _ second in
+    let is = same_image after _ (sym later ∙ third) in
+    ap (λ (i : Image). i place) is ∙ rest_stays c.args.identity.now before place untouched

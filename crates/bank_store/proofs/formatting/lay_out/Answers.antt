@@ -1,4 +1,4 @@
-use Rattle.std.proofs.Common.{List, ℕ, ◌∙◌, sym, ap, subst}
+use Rattle.std.proofs.Common.{Some, List, ℕ, ◌∙◌, sym, ap, subst}
 use Rattle.disk_model.specs.Image.{Image}
 use Rattle.bank_store.specs.Formatting.{IsLaidOut}
 use Rattle.bank_store.proofs.Gates.{same_image}
@@ -20,3 +20,8 @@ returns-clause-laid_out g c shut image may =
     subst (λ (i : Image). IsLaidOut id i) (sym (is ∙ ap (λ (front : List ℕ). laid before.0 front) text))
     (is_laid_out before.0 id (shut before.0 (g.met.K.Disk.reads_now c.args.disk.now before.0 before.1)) (c.an_identity_is_read_again.ensures.short id fits)
     (λ i. c.an_identity_is_read_again.ensures.read i id fits))
+
+pub returns-clause-reads : goal.returns-clause-reads
+returns-clause-reads g c image told =
+    let written = c.in_ok-write-3.ensures.bytes _ (c.in_ok-write-2.ensures.bytes _ (c.in_ok-write.ensures.bytes image told)) in
+    c.in_ok-sync.ensures.kept ∙ written ∙ ap (λ (front : List ℕ). Some (laid image front)) (c.as_slice.ensures ∙ c.of-front.ensures.text)

@@ -16,3 +16,6 @@ returns-clause-opened g c image told =
       same = λ place out. ap (λ (i : Image). i place) is ∙ overlay_outside before.0 slot_a (0xA5 ∷ []) place out;
       gate = ap (λ (i : Image). i slot_a) is ∙ overlay_inside before.0 slot_a (0xA5 ∷ []) 0 (omega arith);
     }
+
+pub returns-clause-reads : goal.returns-clause-reads
+returns-clause-reads g c image told = c.in_ok-sync.ensures.kept ∙ c.in_ok-write.ensures.bytes image told

@@ -34,3 +34,6 @@ returns-clause-shut g c image may =
     let both = c.in_ok-write-2.ensures.bytes _ first in
     let is = same_image image _ (sym told ∙ c.in_ok-sync.ensures.kept ∙ both) in
     subst (λ (i : Image). IsShut i) (sym is) (is_shut before.0)
+
+pub returns-clause-reads : goal.returns-clause-reads
+returns-clause-reads g c image told = c.in_ok-sync.ensures.kept ∙ c.in_ok-write-2.ensures.bytes _ (c.in_ok-write.ensures.bytes image told)
