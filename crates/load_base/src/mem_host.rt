@@ -26,12 +26,13 @@ pub struct MemHost {
 
 impl MemHost {
     ghost use Rattle.load_base.specs.Written.{no_files};
-    ghost use Rattle.load_base.specs.MemHost.{files_of, failing_calls, faults_of};
+    ghost use Rattle.load_base.specs.MemHost.{files_of, failing_calls, next_call, faults_of};
 
     /// A host without files and without faults.
     pub fn new(alloc: Global) -> MemHost
         ensures files { files_of result ≡ no_files }
         ensures failing { failing_calls result ≡ [] }
+        ensures next { next_call result ≡ 1 }
         ensures faults { faults_of result ≡ 0 }
     {
         MemHost {
@@ -47,6 +48,7 @@ impl MemHost {
     pub fn fail_at(&mut self, call: u32) -> Result<(), NoMemory>
         ensures ok { OnOk result (failing_calls self.new ≡ failing_calls self.old ++ call ∷ []) }
         ensures err { OnErr result (failing_calls self.new ≡ failing_calls self.old) }
+        ensures next { next_call self.new ≡ next_call self.old }
         ensures files { files_of self.new ≡ files_of self.old }
         ensures faults { faults_of self.new ≡ faults_of self.old }
     {

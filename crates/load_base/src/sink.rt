@@ -38,12 +38,13 @@ pub struct MemSink {
 }
 
 impl MemSink {
-    ghost use Rattle.load_base.specs.MemSink.{bytes_put, failing_calls, faults_of};
+    ghost use Rattle.load_base.specs.MemSink.{bytes_put, failing_calls, next_call, faults_of};
 
     /// An empty sink without faults.
     pub fn new(alloc: Global) -> MemSink
         ensures bytes { bytes_put result ≡ [] }
         ensures failing { failing_calls result ≡ [] }
+        ensures next { next_call result ≡ 1 }
         ensures faults { faults_of result ≡ 0 }
     {
         MemSink {
@@ -58,6 +59,7 @@ impl MemSink {
     pub fn fail_at(&mut self, call: u32) -> Result<(), NoMemory>
         ensures ok { OnOk result (failing_calls self.new ≡ failing_calls self.old ++ call ∷ []) }
         ensures err { OnErr result (failing_calls self.new ≡ failing_calls self.old) }
+        ensures next { next_call self.new ≡ next_call self.old }
         ensures bytes { bytes_put self.new ≡ bytes_put self.old }
         ensures faults { faults_of self.new ≡ faults_of self.old }
     {
