@@ -263,6 +263,26 @@ file APP.BIN 9 29B1
     Ok(())
 }
 
+// The disk is read six times: for the identity, each slot, the manifest, and each of the two files.
+#[test]
+fn each_read_of_a_load_fails_in_turn(rt: HostRuntime) -> Result<(), Fail> {
+    let alloc = rt.alloc();
+    let words = words_of(alloc, &["list"])?;
+    for call in 1..=7u32 {
+        let mut disk = loaded(alloc, 0, &[])?;
+        disk.fail_at(call)?;
+        let mut out = MemSink::new(alloc);
+        let ended = run(alloc, &words, &mut MemHost::new(alloc), &mut out, &mut disk);
+        assert_eq!(rt; ended.status, if call < 7 { 5 } else { 0 }, "call {call}");
+        assert_eq!(rt;
+            out.as_slice() == b"disk fault\n".as_slice(),
+            call < 7,
+            "call {call}"
+        );
+    }
+    Ok(())
+}
+
 #[test]
 fn lists_a_load_of_256_files(rt: HostRuntime) -> Result<(), Fail> {
     let alloc = rt.alloc();

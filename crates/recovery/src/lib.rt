@@ -14,3 +14,6 @@ pub use disk_layout::{
 };
 pub use recovering::recover;
 pub use surveying::{Surveyed, survey};
+
+#[cfg(test)]
+mod tests;

@@ -1,0 +1,98 @@
+use crate::{RecoverFault, Ruling, recover, survey};
+use disk_model::{FileDisk, MemDisk};
+use std::fs;
+use std::test::Fail;
+
+// A disk for target HW1, position L, serial number SN1 with banks of 4096 bytes, of which bank 0 has one load of
+// one file of three bytes, and bank 1 none. Slot A names bank 0 with sequence 7, slot B bank 1 with sequence 8.
+fn two_slots() -> [u8; 12_290] {
+    let mut disk = [0; 12_290];
+    put(
+        &mut disk,
+        0,
+        b"A615\x00\x01\x00\x00\x10\x00\x03HW1\x01L\x03SN1\xB4\x3C",
+    );
+    put(&mut disk, 4096, &[0xA5]);
+    put(&mut disk, 4112, &[0, 0, 0, 7, 0, 0, 0, 0, 3, 0, 0, 0, 27]);
+    put(&mut disk, 4608, &[0xA5]);
+    put(&mut disk, 4624, &[0, 0, 0, 8, 1, 0, 0, 0, 0, 0, 0, 0, 2]);
+    put(
+        &mut disk,
+        8192,
+        b"abc\x00\x01ABC41-0000-0001\x00\x01\x03A.B\x00\x00\x00\x03",
+    );
+    disk
+}
+
+fn put(disk: &mut [u8], at: usize, bytes: &[u8]) {
+    for (i, byte) in bytes.iter().enumerate() {
+        if let Some(cell) = disk.get_mut(at.wrapping_add(i)) {
+            *cell = *byte;
+        }
+    }
+}
+
+#[test]
+fn a_survey_tells_what_rules(rt: HostRuntime) -> Result<(), Fail> {
+    let alloc = rt.alloc();
+    for (gate_a, gate_b, slot, bank, sequence, other_is_open, loads) in [
+        (0xA5, 0xA5, 4608, 1, 8, true, 0),
+        (0x5A, 0xA5, 4608, 1, 8, false, 0),
+        (0xA5, 0x00, 4096, 0, 7, false, 1),
+    ] {
+        let mut bytes = two_slots();
+        put(&mut bytes, 4096, &[gate_a]);
+        put(&mut bytes, 4608, &[gate_b]);
+        let mut disk = MemDisk::new(alloc, &bytes)?;
+        let surveyed = survey(alloc, &mut disk)?;
+        let wanted = Ruling {
+            slot,
+            bank,
+            sequence,
+            other_is_open,
+        };
+        assert_eq!(rt; surveyed.ruling, wanted);
+        assert_eq!(rt; surveyed.identity.hw.as_slice(), b"HW1".as_slice());
+        assert_eq!(rt; surveyed.manifest.loads.len(), loads);
+        assert_eq!(rt; disk.notes().len(), 0);
+    }
+    Ok(())
+}
+
+#[test]
+fn the_contents_come_with_a_recovery(rt: HostRuntime) -> Result<(), Fail> {
+    let alloc = rt.alloc();
+    let mut bytes = two_slots();
+    put(&mut bytes, 4608, &[0]);
+    let mut disk = MemDisk::new(alloc, &bytes)?;
+    let standing = recover(alloc, &mut disk)?;
+    assert_eq!(rt; standing.sequence, 7);
+    for load in standing.config.loads.as_slice() {
+        assert_eq!(rt; load.part.as_slice(), b"ABC41-0000-0001".as_slice());
+        assert_eq!(rt; load.header_name.as_slice(), b"A.B".as_slice());
+        assert_eq!(rt; load.files.len(), 1);
+        for file in load.files.as_slice() {
+            assert_eq!(rt; file.bytes.as_slice(), b"abc".as_slice());
+        }
+    }
+    assert_eq!(rt; standing.config.loads.len(), 1);
+    Ok(())
+}
+
+#[test]
+fn a_missing_file_is_not_formatted(rt: HostRuntime) -> Result<(), Fail> {
+    let alloc = rt.alloc();
+    let name = "a_missing_file.disk";
+    let mut disk = FileDisk::new(&rt, name);
+    let Err(fault) = survey(alloc, &mut disk) else {
+        return Err(Fail::new("a missing file was surveyed"));
+    };
+    assert_eq!(rt; fault, RecoverFault::NotFormatted(0));
+    fs::remove_file(&rt, name)?;
+    let mut folder = FileDisk::new(&rt, ".");
+    let Err(fault) = recover(alloc, &mut folder) else {
+        return Err(Fail::new("a folder was recovered"));
+    };
+    assert_eq!(rt; fault, RecoverFault::DiskFailed);
+    Ok(())
+}
