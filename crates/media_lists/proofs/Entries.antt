@@ -1,8 +1,8 @@
 -- How the entries of a list are spelled, at their places.
-use Rattle.std.proofs.Common.{◌≡◌, ℕ, ◌+◌, ◌/◌, ◌%◌, ◌<◌, ◌≤◌, ◌^◌, List, [], ◌∷◌, ◌++◌, length, Bool, true, false, refl, sym, ap, subst, ◌∙◌, arith, length-append}
+use Rattle.std.proofs.Common.{◌≡◌, ℕ, ◌+◌, ◌/◌, ◌%◌, ◌<◌, ◌≤◌, ◌^◌, List, [], ◌∷◌, ◌++◌, length, Bool, true, false, refl, sym, subst, arith, length-append}
 use Rattle.std.specs.Prelude.{◌==◌, not}
 use Rattle.std.specs.List.{concat, AllByRecursion}
-use Rattle.std.proofs.lemmas.Bool.{eqb-true, eq-eqb, ne_eqb}
+use Rattle.std.proofs.lemmas.Bool.{eq-eqb, ne_eqb}
 use Rattle.std.proofs.lemmas.List.{append-nil}
 use Rattle.field_grammar.specs.Grammar.{Grammar, listed}
 use Rattle.field_grammar.specs.Spelling.{IsSpelledBy, IsPlacedBy, listed_fields, AllPlaced}
@@ -11,7 +11,7 @@ use Rattle.field_grammar.proofs.Combined.{spelled-measured}
 use Rattle.field_grammar.proofs.Listed.{placed-listed}
 use Rattle.field_grammar.proofs.Placed.{placed}
 use Rattle.field_grammar.proofs.Sections.{size_number, placed-section}
-use Rattle.media_lists.specs.Lists.{u16, counted}
+use Rattle.media_lists.specs.Lists.{u16}
 use Rattle.media_lists.specs.Entries.{distance_of, entry, is_listed, new_entry, entry_behind, entries}
 use Rattle.media_lists.specs.ListFields.{entry_size, entry_fields, entry_fields_behind, entries_fields, HaveDistances, AreNew, AreEntries}
 use Rattle.media_lists.specs.declared.fault.ListFault.{ListFault}

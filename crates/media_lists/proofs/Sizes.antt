@@ -1,9 +1,8 @@
 -- How many bytes the sections of a list take.
 use Rattle.std.proofs.Common.{◌≡◌, ℕ, ◌+◌, ◌%◌, ◌<◌, ◌≤◌, List, [], ◌∷◌, ◌++◌, length, take, get_or, refl, sym, ap, ◌∙◌, arith, length-append, ◌==◌}
-use Rattle.std.specs.List.{concat, flat_map}
+use Rattle.std.specs.List.{flat_map}
 use Rattle.std.proofs.lemmas.List.{append-nil, take_more, take_all}
 use Rattle.std.proofs.lemmas.List.Concat.{flat_map-cons, flat_map-append}
-use Rattle.std.proofs.lemmas.List.Folds.{concat-append}
 use Rattle.field_grammar.specs.Spelling.{size_of, listed_fields}
 use Rattle.field_grammar.proofs.Sections.{size_more, size_number, size_padded}
 use Rattle.field_grammar.specs.Fields.{number_fields, padded_fields}

@@ -1,15 +1,13 @@
 -- What an encoder has written, entry by entry and section by section.
-use Rattle.std.proofs.Common.{◌≡◌, ℕ, ◌+◌, ◌/◌, ◌<◌, ◌≤◌, List, [], ◌∷◌, ◌++◌, length, take, get_or, refl, sym, ap, ◌∙◌, arith, append_assoc, ◌==◌}
-use Rattle.std.specs.List.{concat, flat_map}
-use Rattle.std.proofs.lemmas.List.{append-nil, take_more, take_all, length-take}
-use Rattle.std.proofs.lemmas.List.Concat.{flat_map-append, flat_map-cons}
+use Rattle.std.proofs.Common.{◌≡◌, ℕ, ◌+◌, ◌/◌, ◌≤◌, List, [], ◌++◌, length, take, refl, sym, ap, ◌∙◌, arith, append_assoc}
+use Rattle.std.specs.List.{concat}
+use Rattle.std.proofs.lemmas.List.{append-nil, take_all}
 use Rattle.std.proofs.lemmas.List.Folds.{concat-append}
 use Rattle.crc_fields.specs.CheckSums.{crc16_of}
 use Rattle.field_grammar.specs.Spelling.{size_of, listed_fields}
-use Rattle.field_grammar.specs.Fields.{number_bytes, number_fields, padded_fields}
-use Rattle.field_grammar.proofs.Listed.{listed_fields_more}
+use Rattle.field_grammar.specs.Fields.{number_bytes, number_fields}
 use Rattle.media_lists.specs.Lists.{ListView}
-use Rattle.media_lists.specs.ListFields.{entry_fields, entry_fields_behind, entries_fields, head_fields, identity_fields, user_fields, entries_place, list_size, pointers_of, sections_fields, covered_fields, list_fields}
+use Rattle.media_lists.specs.ListFields.{entry_fields_behind, entries_fields, head_fields, identity_fields, user_fields, entries_place, list_size, pointers_of, sections_fields, covered_fields, list_fields}
 use Rattle.media_lists.specs.declared.reading.Pointers.{Pointers}
 use Rattle.media_lists.proofs.Sizes.{size_identity, whole_size}
 

@@ -1,5 +1,5 @@
 -- How the media lists are written, field by field (docs/FORMATS.md).
-use Rattle.std.specs.Prelude.{◌≡◌, ℕ, ◌+◌, ◌/◌, ◌%◌, ◌<◌, ◌≤◌, ◌^◌, List, [], ◌∷◌, ◌++◌, length, ◌==◌, Bool, false, ⊤}
+use Rattle.std.specs.Prelude.{◌≡◌, ℕ, ◌+◌, ◌/◌, ◌%◌, ◌<◌, ◌≤◌, ◌^◌, List, [], ◌∷◌, ◌++◌, length, Bool, false, ⊤}
 use Rattle.std.specs.List.{concat, AllByRecursion}
 use Rattle.crc_fields.specs.CheckSums.{crc16_of}
 use Rattle.part_number.specs.PartNumber.{IsPartNumberText}

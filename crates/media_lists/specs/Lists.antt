@@ -1,5 +1,5 @@
 -- What the two media lists share (docs/FORMATS.md).
-use Rattle.std.specs.Prelude.{ℕ, ◌*◌, ◌/◌, List, length, nat_le, ◌==◌, Bool, ◌&&◌, Result}
+use Rattle.std.specs.Prelude.{ℕ, ◌*◌, List, length, nat_le, ◌==◌, Bool, ◌&&◌, Result}
 use Rattle.crc_fields.specs.CheckSums.{crc16_of}
 use Rattle.field_grammar.specs.Grammar.{Grammar, give, check, front, left, renamed, expected, sized, ended, ◌>>=◌, ◌>>◌}
 use Rattle.field_grammar.specs.Fields.{raw, number, judged_padded, section}

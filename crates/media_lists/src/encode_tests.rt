@@ -74,7 +74,12 @@ fn many_files(alloc: Global, count: usize, path: &[u8]) -> Result<FilesList, Lis
 }
 
 /// A load for so many kinds of hardware, each of so many bytes.
-fn load_for(alloc: Global, title: &[u8], kinds: usize, size: usize) -> Result<LoadEntry, ListFault> {
+fn load_for(
+    alloc: Global,
+    title: &[u8],
+    kinds: usize,
+    size: usize,
+) -> Result<LoadEntry, ListFault> {
     let kind = [b'K'; 255];
     let mut hardware = List::new(alloc);
     for _ in 0..kinds {
@@ -337,9 +342,15 @@ fn a_list_has_at_most_1048576_bytes(rt: HostRuntime) -> Result<(), ListFault> {
     for _ in 0..1_048_576 {
         zeros.push(0)?;
     }
-    assert_eq!(rt; refusal(rt.alloc(), zeros.as_slice())?.as_slice(), b"L2 0 1048576".as_slice());
+    assert_eq!(rt;
+        refusal(rt.alloc(), zeros.as_slice())?.as_slice(),
+        b"L2 0 1048576".as_slice()
+    );
     zeros.push(0)?;
-    assert_eq!(rt; refusal(rt.alloc(), zeros.as_slice())?.as_slice(), b"L11".as_slice());
+    assert_eq!(rt;
+        refusal(rt.alloc(), zeros.as_slice())?.as_slice(),
+        b"L11".as_slice()
+    );
     Ok(())
 }
 
