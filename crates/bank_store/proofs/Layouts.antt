@@ -28,11 +28,11 @@ body_is image front short =
     ∙ written (overlay image 8192 no_loads) 4112 first_slot
 
 -- a part of what stands there
-part_is : (image : Image) (at n k m : ℕ) (bytes : List ℕ) → range image at n ≡ bytes → k + m ≤ n → range image (at + k) m ≡ take m (drop k bytes)
+pub part_is : (image : Image) (at n k m : ℕ) (bytes : List ℕ) → range image at n ≡ bytes → k + m ≤ n → range image (at + k) m ≡ take m (drop k bytes)
 part_is image at n k m bytes is within =
     sym (ap (λ (l : List ℕ). take m (drop k l)) (sym is) ∙ ap (take m) (drop_range image at n k) ∙ take_range image (at + k) _ m (omega (arith, within)))
 
-number_is : (image : Image) (n place : ℕ) (bytes : List ℕ) → range image place n ≡ bytes → number_at n image place ≡ big_number n bytes
+pub number_is : (image : Image) (n place : ℕ) (bytes : List ℕ) → range image place n ≡ bytes → number_at n image place ≡ big_number n bytes
 unfolding number_at
 number_is image n place bytes is = ap (λ (l : List ℕ). big_number n l) is
 

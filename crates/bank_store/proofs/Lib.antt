@@ -1,5 +1,17 @@
+pub mod Activated
+pub mod Begun
+pub mod Carried
+pub mod Continuing
+pub mod Footprint
 pub mod Gates
+pub mod Giving
 pub mod Images
 pub mod Layouts
 pub mod Moments
+pub mod Near
+pub mod Opened
+pub mod Premises
+pub mod Ready
+pub mod Sealing
 pub mod Sizes
+pub mod Working

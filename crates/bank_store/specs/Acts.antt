@@ -1,5 +1,5 @@
 -- What a call of the store does to the disk, whatever it answers (docs/DISK.md).
-use Rattle.std.specs.Prelude.{◌≡◌, ◌⊎◌, ℕ, ◌≤◌, true, false, Result, is_some, OnOk, IsErrOf}
+use Rattle.std.specs.Prelude.{◌≡◌, ◌⊎◌, ℕ, ◌≤◌, true, false, Result, Ok, Err, is_some, OnOk, IsErrOf}
 use Rattle.load_base.specs.Counts.{Rose}
 use Rattle.disk_model.specs.Image.{Image}
 use Rattle.disk_model.specs.State.{DiskState}
@@ -33,3 +33,8 @@ pub record Acts {T : Type 0} (old new : DiskState) (result : Result T StoreFault
 pub record AddsOnly (old new : DiskState) (P : Image → Type 0) : Type 0 where
   pub each : (t u : ℕ) (image : Image) → new.between t u image → old.between t u image ⊎ P image
   pub here : (image : Image) → new.now image → P image
+
+-- the call was done, or refused for what was asked: neither the disk nor memory failed
+abbrev pub IsAnswered : {T : Type 0} → Result T StoreFault → Type 0
+IsAnswered (Ok x) = Unit {0}
+IsAnswered (Err fault) = ¬ IsOfDisk fault

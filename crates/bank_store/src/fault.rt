@@ -1,8 +1,10 @@
 //! Why the store didn't do what it was asked.
 ghost use Rattle.std.specs.Prelude.{◌≡◌};
 ghost use Rattle.bank_store.specs.Faults.{store_fault_of};
+ghost use Rattle.bank_store.specs.declared.fault.StoreFault.TheVariants.{Memory};
 
 use disk_model::DiskFault;
+use load_base::NoMemory;
 use thiserror::Error;
 
 /// Why the store didn't do what it was asked.
@@ -30,5 +32,13 @@ impl From<DiskFault> for StoreFault {
             DiskFault::Failed => StoreFault::DiskFailed,
             DiskFault::Memory => StoreFault::Memory,
         }
+    }
+}
+
+impl From<NoMemory> for StoreFault {
+    ghost from_gives = { λ _ result. result ≡ Memory };
+
+    fn from(_: NoMemory) -> StoreFault {
+        StoreFault::Memory
     }
 }

@@ -88,14 +88,14 @@ impl Front {
 }
 
 #[tactic(auto, unfolding(field_grammar::specs::Fields::number_bytes))]
-fn u8_bytes(value: u8) -> [u8; 1]
+pub(crate) fn u8_bytes(value: u8) -> [u8; 1]
     ensures { result ≡ number_bytes 1 value }
 {
     [value]
 }
 
 #[tactic(auto, unfolding(field_grammar::specs::Fields::number_bytes))]
-fn u16_bytes(value: u16) -> [u8; 2]
+pub(crate) fn u16_bytes(value: u16) -> [u8; 2]
     ensures { result ≡ number_bytes 2 value }
 {
     let mut bytes = [0; 2];
@@ -104,7 +104,7 @@ fn u16_bytes(value: u16) -> [u8; 2]
 }
 
 #[tactic(auto, unfolding(field_grammar::specs::Fields::number_bytes))]
-fn u32_bytes(value: u32) -> [u8; 4]
+pub(crate) fn u32_bytes(value: u32) -> [u8; 4]
     ensures { result ≡ number_bytes 4 value }
 {
     let mut bytes = [0; 4];

@@ -4,10 +4,15 @@
 mod fault;
 mod formatting;
 mod front;
+mod laws;
+mod stage;
+mod store;
 
 pub use disk_layout::Identity;
 pub use fault::StoreFault;
 pub use formatting::format;
+pub use laws::a_settled_disk_works;
+pub use store::Store;
 
 #[cfg(test)]
 mod tests;

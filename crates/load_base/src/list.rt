@@ -85,6 +85,16 @@ impl<T> List<T> {
         self.inner.pop()
     }
 
+    /// Takes all members off, and keeps their room.
+    pub fn clear(&mut self)
+    where
+        T: Drop,
+        ensures items { self.new.items ≡ [] }
+        ensures room { self.old.room ≤ self.new.room }
+    {
+        self.inner.clear();
+    }
+
     pub fn as_slice(&self) -> &[T]
         ensures { result.now ≡ self.now.items }
     {

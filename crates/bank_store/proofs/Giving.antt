@@ -1,0 +1,204 @@
+-- What a store holds of what was given, as more is given.
+use Rattle.std.proofs.Common.{◌≡◌, ◌≢◌, inl, ℕ, ◌+◌, ◌-◌, ◌<◌, ◌≤◌, List, [], ◌∷◌, ◌++◌, length, map, refl, sym, ◌∙◌, ap, ap₂, subst, arith, append_assoc, length-append}
+use Rattle.std.specs.List.{All, concat, flat_map}
+use Rattle.std.proofs.lemmas.Grind.{flat_map-append}
+use Rattle.std.proofs.lemmas.List.{append-nil, map-append, nil_from_length}
+use Rattle.std.proofs.lemmas.List.Folds.{concat-append}
+use Rattle.std.proofs.lemmas.List.Elements.{All-push, All-nil, All-cons, All-head, All-tail}
+use Rattle.load_base.specs.Config.{FileView}
+use Rattle.load_base.specs.Host.{longest_file}
+use Rattle.load_base.specs.Name.{IsName}
+use Rattle.load_base.specs.PartText.{IsPartText}
+use Rattle.field_grammar.specs.Fields.{number_bytes, number_fields, short_fields}
+use Rattle.disk_model.specs.Image.{Image, range, overlay}
+use Rattle.disk_model.proofs.Ranges.{length_range}
+use Rattle.disk_model.proofs.Overlays.{range_beside_overlay, range_of_overlay}
+use Rattle.disk_layout.specs.Places.{most_loads, most_files}
+use Rattle.disk_layout.specs.Manifest.{file_entry_fields}
+use Rattle.disk_layout.specs.Contents.{file_entry_of, bytes_of}
+use Rattle.disk_layout.specs.RangeLaws.{ranges_joined}
+use Rattle.bank_store.specs.Store.{IsFilling, work_at, RulesAs}
+use Rattle.bank_store.specs.Given.{Given, GivenLoad, nothing_given, with_load, with_bytes, with_file, file_to_last, Misses, bytes_given, given_fields, IsFile, IsLoad, HasGiven}
+use Rattle.bank_store.specs.declared.store.Store.{Store}
+use Rattle.bank_store.specs.declared.stage.Stage.{Stage}
+use Rattle.bank_store.specs.declared.stage.Stage.TheVariants as stages
+use Rattle.bank_store.specs.declared.stage.Filling.{Filling}
+use Rattle.bank_store.proofs.Carried.{work_carried}
+
+pub same_filling : (a b : Filling) → ◌≡◌ {A = Stage} (stages.Filling a) (stages.Filling b) → a ≡ b
+same_filling a b e = cc
+
+abbrev files_of : GivenLoad → List FileView
+files_of load = load.files
+
+-- ---- a load begins
+
+fields_more : (loads : List GivenLoad) (load : GivenLoad) → concat (flat_map given_fields (loads ++ load ∷ [])) ≡ concat (flat_map given_fields loads) ++ concat (given_fields load)
+fields_more loads load =
+    ap concat (flat_map-append given_fields loads (load ∷ [])) ∙ concat-append (flat_map given_fields loads) (flat_map given_fields (load ∷ []))
+    ∙ ap (λ (l : List (List ℕ)). concat (flat_map given_fields loads) ++ concat l) (append-nil (given_fields load))
+
+new_fields : (part : List ℕ) (announced : ℕ) → concat (given_fields (record { part = part; announced = announced; files = [] })) ≡ part ++ number_bytes 2 announced
+new_fields part announced = ap (λ (l : List ℕ). part ++ l) (append-nil (number_bytes 2 announced))
+
+misses_more : (loads : List GivenLoad) (load : GivenLoad) (missing : ℕ) → Misses 0 loads → length load.files + missing ≡ load.announced → Misses missing (loads ++ load ∷ [])
+misses_more [] load missing was is = is
+misses_more (first ∷ []) load missing was is = (omega (arith, was), is)
+misses_more (first ∷ next ∷ loads) load missing was is = (was.0, misses_more (next ∷ loads) load missing was.1 is)
+
+bytes_with_load : (part : List ℕ) (announced : ℕ) (g : Given) → bytes_given (with_load part announced g) ≡ bytes_given g
+bytes_with_load part announced g =
+    ap (λ (l : List FileView). bytes_of l ++ g.bytes) (flat_map-append files_of g.loads (record { part = part; announced = announced; files = [] } ∷ []) ∙ append-nil (flat_map files_of g.loads))
+
+pub given_load : (old new : Store) (image : Image) (part : List ℕ) (files : ℕ) (far : Filling) (g : Given) → RulesAs old new → IsFilling old far → far.missing ≡ 0 → far.loads < most_loads
+    → IsFilling new (record { loads = far.loads + 1; missing = files; end = far.end; start = far.start }) → new.body.items ≡ (old.body.items ++ part) ++ number_bytes 2 files
+    → IsPartText part → 1 ≤ files → files ≤ most_files → HasGiven old image g → HasGiven new image (with_load part files g)
+given_load old new image part files far g rules filling none few stage body is_part some most was =
+    let same : was.far ≡ far = same_filling was.far far (sym was.stage ∙ filling) in
+    let load : GivenLoad = record { part = part; announced = files; files = [] } in
+    let bytes = bytes_with_load part files g in
+    record {
+      far = record { loads = far.loads + 1; missing = files; end = far.end; start = far.start };
+      stage = stage;
+      loads = length-append g.loads (load ∷ []) ∙ ap (λ (n : ℕ). n + 1) (was.loads ∙ ap (λ (f : Filling). f.loads) same);
+      few = omega (arith, few);
+      missing = misses_more g.loads load files (subst (λ (n : ℕ). Misses n g.loads) (ap (λ (f : Filling). f.missing) same ∙ none) was.missing) (omega arith);
+      each = All-push (λ (l : GivenLoad). IsLoad l) g.loads load was.each (record { part = is_part; some = some; few = most; files = All-nil (λ (f : FileView). IsFile f) });
+      body = body ∙ append_assoc old.body.items part (number_bytes 2 files) ∙ ap (λ (l : List ℕ). l ++ (part ++ number_bytes 2 files)) was.body
+          ∙ sym (fields_more g.loads load ∙ ap (λ (l : List ℕ). concat (flat_map given_fields g.loads) ++ l) (new_fields part files));
+      end = ap length bytes ∙ was.end ∙ ap (λ (f : Filling). f.end) same;
+      start = ap (λ (f : Filling). f.start + length g.bytes) (sym same) ∙ was.start ∙ ap (λ (f : Filling). f.end) same;
+      written = ap (λ (n : ℕ). range image n far.end) (work_carried old new rules) ∙ ap (λ (f : Filling). range image (work_at old) f.end) (sym same) ∙ was.written ∙ sym bytes;
+    }
+
+-- ---- a file ends
+
+module _ (file : FileView) where
+  length_last : (loads : List GivenLoad) → length (file_to_last file loads) ≡ length loads
+  length_last [] = refl
+  length_last (load ∷ []) = refl
+  length_last (load ∷ next ∷ loads) = let more = length_last (next ∷ loads) in omega (arith, more)
+
+  misses_less : (loads : List GivenLoad) (missing : ℕ) → 1 ≤ missing → Misses missing loads → Misses (missing - 1) (file_to_last file loads)
+  misses_less [] missing some was = absurd (omega (arith, some, was))
+  misses_less (load ∷ []) missing some was = omega (arith, some, was, length-append load.files (file ∷ []))
+  misses_less (load ∷ next ∷ []) missing some was = (was.0, misses_less (next ∷ []) missing some was.1)
+  misses_less (load ∷ next ∷ third ∷ loads) missing some was = (was.0, misses_less (next ∷ third ∷ loads) missing some was.1)
+
+  files_last : (loads : List GivenLoad) → loads ≢ [] → flat_map files_of (file_to_last file loads) ≡ flat_map files_of loads ++ file ∷ []
+  files_last [] some = absurd (some refl)
+  files_last (load ∷ []) some = append-nil (load.files ++ file ∷ []) ∙ ap (λ (l : List FileView). l ++ file ∷ []) (sym (append-nil load.files))
+  files_last (load ∷ next ∷ loads) some =
+      ap (λ (l : List FileView). load.files ++ l) (files_last (next ∷ loads) (λ e. cc)) ∙ sym (append_assoc load.files (flat_map files_of (next ∷ loads)) (file ∷ []))
+
+  one_more_file : (load : GivenLoad) → given_fields (record { part = load.part; announced = load.announced; files = load.files ++ file ∷ [] }) ≡ given_fields load ++ file_entry_fields (file_entry_of file)
+  one_more_file load =
+      let entries : flat_map file_entry_fields (map file_entry_of (load.files ++ file ∷ [])) ≡ flat_map file_entry_fields (map file_entry_of load.files) ++ file_entry_fields (file_entry_of file) =
+      ap (flat_map file_entry_fields) (map-append file_entry_of load.files (file ∷ [])) ∙ flat_map-append file_entry_fields (map file_entry_of load.files) (file_entry_of file ∷ []) in
+      ap (λ (l : List (List ℕ)). load.part ∷ number_bytes 2 load.announced ∷ l) entries
+
+  fields_last : (loads : List GivenLoad) → loads ≢ [] → concat (flat_map given_fields (file_to_last file loads)) ≡ concat (flat_map given_fields loads) ++ concat (file_entry_fields (file_entry_of file))
+  fields_last loads some = ap concat (by_loads loads some) ∙ concat-append (flat_map given_fields loads) (file_entry_fields (file_entry_of file))
+    where
+      by_loads : (loads : List GivenLoad) → loads ≢ [] → flat_map given_fields (file_to_last file loads) ≡ flat_map given_fields loads ++ file_entry_fields (file_entry_of file)
+      by_loads [] some = absurd (some refl)
+      by_loads (load ∷ []) some =
+          append-nil _ ∙ one_more_file load ∙ ap (λ (l : List (List ℕ)). l ++ file_entry_fields (file_entry_of file)) (sym (append-nil (given_fields load)))
+      by_loads (load ∷ next ∷ loads) some =
+          ap (λ (l : List (List ℕ)). given_fields load ++ l) (by_loads (next ∷ loads) (λ e. cc))
+          ∙ sym (append_assoc (given_fields load) (flat_map given_fields (next ∷ loads)) (file_entry_fields (file_entry_of file)))
+
+  loads_last : IsFile file → (loads : List GivenLoad) → All (λ (l : GivenLoad). IsLoad l) loads → All (λ (l : GivenLoad). IsLoad l) (file_to_last file loads)
+  loads_last fits [] each = each
+  loads_last fits (load ∷ []) each =
+      let is : IsLoad load = All-head (λ (l : GivenLoad). IsLoad l) load [] each in
+      All-cons (λ (l : GivenLoad). IsLoad l) (record { part = load.part; announced = load.announced; files = load.files ++ file ∷ [] }) []
+      (record { part = is.part; some = is.some; few = is.few; files = All-push (λ (f : FileView). IsFile f) load.files file is.files fits }) (All-nil (λ (l : GivenLoad). IsLoad l))
+  loads_last fits (load ∷ next ∷ loads) each =
+      All-cons (λ (l : GivenLoad). IsLoad l) load (file_to_last file (next ∷ loads)) (All-head (λ (l : GivenLoad). IsLoad l) load (next ∷ loads) each)
+      (loads_last fits (next ∷ loads) (All-tail (λ (l : GivenLoad). IsLoad l) load (next ∷ loads) each))
+
+bytes_with_file : (name : List ℕ) (g : Given) → g.loads ≢ [] → bytes_given (with_file name g) ≡ bytes_given g
+bytes_with_file name g some =
+    let file : FileView = record { name = name; bytes = g.bytes } in
+    append-nil (bytes_of (flat_map files_of (file_to_last file g.loads))) ∙ ap bytes_of (files_last file g.loads some)
+    ∙ flat_map-append (λ (f : FileView). f.bytes) (flat_map files_of g.loads) (file ∷ []) ∙ ap (λ (l : List ℕ). bytes_of (flat_map files_of g.loads) ++ l) (append-nil g.bytes)
+
+entry_bytes : (name : List ℕ) (size : ℕ) (body : List ℕ) → body ++ concat (short_fields name ++ number_fields 4 size) ≡ ((body ++ number_bytes 1 (length name)) ++ name) ++ number_bytes 4 size
+entry_bytes name size body =
+    ap (λ (l : List ℕ). body ++ (number_bytes 1 (length name) ++ (name ++ l))) (append-nil (number_bytes 4 size))
+    ∙ sym (append_assoc (body ++ number_bytes 1 (length name)) name (number_bytes 4 size) ∙ append_assoc body (number_bytes 1 (length name)) (name ++ number_bytes 4 size))
+
+no_loads_missing : (loads : List GivenLoad) (missing : ℕ) → 1 ≤ missing → Misses missing loads → loads ≢ []
+no_loads_missing [] missing some was e = absurd (omega (arith, some, was))
+no_loads_missing (load ∷ loads) missing some was e = cc
+
+pub given_file : (old new : Store) (image : Image) (name : List ℕ) (far : Filling) (g : Given) → RulesAs old new → IsFilling old far → 1 ≤ far.missing → far.end ≤ far.start + longest_file
+    → IsFilling new (record { loads = far.loads; missing = far.missing - 1; end = far.end; start = far.end })
+    → new.body.items ≡ ((old.body.items ++ number_bytes 1 (length name)) ++ name) ++ number_bytes 4 (far.end - far.start)
+    → IsName name → HasGiven old image g → HasGiven new image (with_file name g)
+given_file old new image name far g rules filling left short stage body is_name was =
+    let same : was.far ≡ far = same_filling was.far far (sym was.stage ∙ filling) in
+    let file : FileView = record { name = name; bytes = g.bytes } in
+    let misses : Misses far.missing g.loads = subst (λ (n : ℕ). Misses n g.loads) (ap (λ (f : Filling). f.missing) same) was.missing in
+    let some : g.loads ≢ [] = no_loads_missing g.loads far.missing left misses in
+    let bytes = bytes_with_file name g some in
+    let start : far.start + length g.bytes ≡ far.end = ap (λ (f : Filling). f.start + length g.bytes) (sym same) ∙ was.start ∙ ap (λ (f : Filling). f.end) same in
+    let size : far.end - far.start ≡ length g.bytes = omega (arith, start) in
+    record {
+      far = record { loads = far.loads; missing = far.missing - 1; end = far.end; start = far.end };
+      stage = stage;
+      loads = length_last file g.loads ∙ was.loads ∙ ap (λ (f : Filling). f.loads) same;
+      few = subst (λ (f : Filling). f.loads ≤ most_loads) same was.few;
+      missing = misses_less file g.loads far.missing left misses;
+      each = loads_last file (record { name = is_name; short = omega (arith, start, short) }) g.loads was.each;
+      body = body ∙ ap (λ (n : ℕ). ((old.body.items ++ number_bytes 1 (length name)) ++ name) ++ number_bytes 4 n) size
+          ∙ ap (λ (l : List ℕ). ((l ++ number_bytes 1 (length name)) ++ name) ++ number_bytes 4 (length g.bytes)) was.body
+          ∙ sym (entry_bytes name (length g.bytes) (concat (flat_map given_fields g.loads))) ∙ sym (fields_last file g.loads some);
+      end = ap length bytes ∙ was.end ∙ ap (λ (f : Filling). f.end) same;
+      start = omega arith;
+      written = ap (λ (n : ℕ). range image n far.end) (work_carried old new rules) ∙ ap (λ (f : Filling). range image (work_at old) f.end) (sym same) ∙ was.written ∙ sym bytes;
+    }
+
+-- ---- nothing, and more bytes
+
+pub given_nothing : (store : Store) (image : Image) → IsFilling store (record { loads = 0; missing = 0; end = 0; start = 0 }) → store.body.items ≡ [] → HasGiven store image nothing_given
+given_nothing store image stage body = record {
+  far = record { loads = 0; missing = 0; end = 0; start = 0 };
+  stage = stage;
+  loads = refl;
+  few = omega arith;
+  missing = refl;
+  each = All-nil (λ (l : GivenLoad). IsLoad l);
+  body = body;
+  end = refl;
+  start = refl;
+  written = nil_from_length (range image (work_at store) 0) (length_range image (work_at store) 0);
+}
+
+pub given_bytes : (old new : Store) (image now : Image) (more : List ℕ) (far : Filling) (g : Given) → RulesAs old new → IsFilling old far
+    → IsFilling new (record { loads = far.loads; missing = far.missing; end = far.end + length more; start = far.start }) → new.body.items ≡ old.body.items
+    → now ≡ overlay image (work_at old + far.end) more → HasGiven old image g → HasGiven new now (with_bytes more g)
+given_bytes old new image now more far g rules filling stage body is was =
+    let same : was.far ≡ far = same_filling was.far far (sym was.stage ∙ filling) in
+    let files = bytes_of (flat_map files_of g.loads) in
+    let bytes : bytes_given (with_bytes more g) ≡ bytes_given g ++ more = sym (append_assoc files g.bytes more) in
+    let at = work_at old in
+    let front : range (overlay image (at + far.end) more) at far.end ≡ bytes_given g =
+    range_beside_overlay image (at + far.end) more at far.end (inl (omega arith)) ∙ ap (λ (f : Filling). range image at f.end) (sym same) ∙ was.written in
+    let behind : range (overlay image (at + far.end) more) (at + far.end) (length more) ≡ more = range_of_overlay image (at + far.end) (length more) more refl in
+    record {
+      far = record { loads = far.loads; missing = far.missing; end = far.end + length more; start = far.start };
+      stage = stage;
+      loads = was.loads ∙ ap (λ (f : Filling). f.loads) same;
+      few = subst (λ (f : Filling). f.loads ≤ most_loads) same was.few;
+      missing = subst (λ (n : ℕ). Misses n g.loads) (ap (λ (f : Filling). f.missing) same) was.missing;
+      each = was.each;
+      body = body ∙ was.body;
+      end = ap length bytes ∙ length-append (bytes_given g) more ∙ ap (λ (n : ℕ). n + length more) (was.end ∙ ap (λ (f : Filling). f.end) same);
+      start =
+          let start : far.start + length g.bytes ≡ far.end = ap (λ (f : Filling). f.start + length g.bytes) (sym same) ∙ was.start ∙ ap (λ (f : Filling). f.end) same in
+          omega (arith, start, length-append g.bytes more);
+      written = ap (λ (n : ℕ). range now n (far.end + length more)) (work_carried old new rules) ∙ ap (λ (i : Image). range i at (far.end + length more)) is
+          ∙ sym (ranges_joined (overlay image (at + far.end) more) at far.end (at + far.end) (length more) refl) ∙ ap₂ (λ (a : List ℕ) (b : List ℕ). a ++ b) front behind ∙ sym bytes;
+    }

@@ -1,0 +1,399 @@
+//! Installs a configuration into the bank that doesn't rule.
+ghost use Rattle.std.specs.Prelude.{◌≡◌, ◌⊎◌, ◌↔◌, ℕ, ◌+◌, ◌-◌, ◌*◌, ◌<◌, ◌≤◌, List, [], true, false, Some, length, IsOk, IfErr, OnOk, IsErrOf};
+ghost use Rattle.load_base.specs.Host.{longest_file};
+ghost use Rattle.disk_model.specs.Image.{Image};
+ghost use Rattle.disk_model.specs.Moments.{LeavesOnly};
+ghost use Rattle.disk_model.specs.State.{DiskState, IsSettled, HasCause};
+ghost use Rattle.disk_layout.specs.Places.{IsBankSize, most_loads, most_files};
+ghost use Rattle.disk_layout.specs.Stands.{StandingView, Stands};
+ghost use Rattle.bank_store.specs.declared.fault.StoreFault.TheVariants.{BankFull, SequenceSpent};
+ghost use Rattle.bank_store.specs.declared.stage.Filling.{Filling};
+ghost use Rattle.bank_store.specs.Bounds.{IsStore, is_slot_place};
+
+use crate::fault::StoreFault;
+use crate::front::{u8_bytes, u16_bytes, u32_bytes};
+use crate::stage::{Filling, Stage};
+use disk_layout::Ruling;
+use disk_layout::places::{BANKS, LONGEST_MANIFEST, OPEN, SEQUENCE_IN_SLOT, SLOT_A, SLOT_B};
+use disk_model::{Disk, DiskFault};
+use load_base::{Bytes, Name, PartText};
+use std::alloc::Global;
+
+/// The gate of a slot that is shut.
+const SHUT: u8 = 0;
+
+/// Installs a configuration into the bank that doesn't rule, while the ruling one stays whole. It holds no
+/// disk: each call that writes is lent the disk whose recovery gave the store.
+///
+/// An installation goes `prepare`, `begin`, then for each load `start_load` and for each of its files
+/// `append` as often as pieces of it come and `end_file`, then `seal` and `activate`. The ruling slot's own
+/// place and bank are never written; the other slot's gate is the last byte that is.
+#[derive(Drop)]
+pub struct Store {
+    size: u32,
+    slot: u32,
+    bank: u8,
+    sequence: u32,
+    other_is_open: bool,
+    body: Bytes,
+    stage: Stage,
+    ghost keeps: { IsStore size slot bank sequence other_is_open body stage },
+}
+
+impl Store {
+    ghost use Rattle.bank_store.specs.Store.{size_of, slot_of, bank_of, sequence_of, is_other_open, stage_of, work_at, RulesAs, Switches, IsIdle, IsFilling, IsSealed, IsPrepared, load_announced, bytes_appended, file_ended, manifest_length, slot_body, with_manifest, with_slot};
+    ghost use Rattle.bank_store.specs.Given.{Given, GivenLoad, HasGiven, nothing_given, with_load, with_bytes, with_file, installed};
+    ghost use Rattle.bank_store.specs.Safe.{StandsFor, Works, KeepsRuling, IsReady, IsShutFor, KeepsNear, Continues, StillStands};
+    ghost use Rattle.bank_store.specs.Acts.{Acts, GoesOn, IsAnswered};
+    ghost use Rattle.bank_store.specs.Bounds.{other_slot};
+
+    /// A store for a disk on which this slot rules, with banks of so many bytes. It takes no memory yet.
+    pub fn new(alloc: Global, size: u32, ruling: Ruling) -> Store
+        requires size { IsBankSize size }
+        requires slot { is_slot_place ruling.slot ≡ true }
+        requires bank { ruling.bank < 2 }
+        ensures idle { IsIdle result }
+        ensures size { size_of result ≡ size }
+        ensures slot { slot_of result ≡ ruling.slot }
+        ensures bank { bank_of result ≡ ruling.bank }
+        ensures sequence { sequence_of result ≡ ruling.sequence }
+        ensures other { is_other_open result ≡ ruling.other_is_open }
+    {
+        Store {
+            size,
+            slot: ruling.slot,
+            bank: ruling.bank,
+            sequence: ruling.sequence,
+            other_is_open: ruling.other_is_open,
+            body: Bytes::new(alloc),
+            stage: Stage::Idle,
+        }
+    }
+
+    /// Reserves the memory that an installation takes, the 565,794 bytes of the longest manifest.
+    #[tactic(auto, using(crate::proofs::Continuing::continues_idle))]
+    pub fn prepare(&mut self) -> Result<(), StoreFault>
+        requires { IsIdle self.old }
+        ensures prepared { OnOk result (IsPrepared self.new) }
+        ensures same_stage { IsIdle self.new }
+        ensures continues { Continues self.old self.new }
+    {
+        self.body.reserve(LONGEST_MANIFEST as usize)?;
+        Ok(())
+    }
+
+    /// Begins an installation: shuts the other slot where it is open, and syncs.
+    ///
+    /// SequenceSpent where the ruling sequence number is 4,294,967,295; then nothing was done.
+    pub fn begin<K: Disk>(&mut self, disk: &mut K) -> Result<(), StoreFault>
+        requires prepared { IsPrepared self.old }
+        requires running { (K.state disk.old).stopped ≡ false }
+        ensures begun { OnOk result (IsFilling self.new (record { loads = 0; missing = 0; end = 0; start = 0 })) }
+        ensures spent { IsErrOf result SequenceSpent ↔ (sequence_of self.old ≡ 4294967295) }
+        ensures refused { IfErr result (λ fault. self.new ≡ self.old) }
+        ensures untouched { IsErrOf result SequenceSpent → disk.new ≡ disk.old }
+        ensures not_full { (need have : ℕ) → ¬ IsErrOf result (BankFull need have) }
+        ensures rules { RulesAs self.old self.new }
+        ensures acts { Acts (K.state disk.old) (K.state disk.new) result }
+        ensures running { IsAnswered result → (K.state disk.new).stopped ≡ false }
+        ensures safe { KeepsRuling self.old (K.state disk.old) (K.state disk.new) }
+        ensures works { Works self.old (K.state disk.old) → IsAnswered result → Works self.new (K.state disk.new) }
+        ensures stands { IsAnswered result → StillStands self.old self.new (K.state disk.old) (K.state disk.new) }
+        ensures given { OnOk result ((image : Image) → (K.state disk.new).reads ≡ Some image → HasGiven self.new image nothing_given) }
+        ensures manifest { OnOk result (manifest_length self.new ≡ 2) }
+        ensures settled { OnOk result (IsSettled (K.state disk.new)) }
+    {
+        if self.sequence == u32::MAX {
+            return Err(StoreFault::SequenceSpent);
+        }
+        self.shut_other(disk)?;
+        disk.sync()?;
+        self.other_is_open = false;
+        self.stage = Stage::Filling(Filling {
+            loads: 0,
+            missing: 0,
+            end: 0,
+            start: 0,
+        });
+        Ok(())
+    }
+
+    // Shuts the other slot where it is open.
+    fn shut_other<K: Disk>(&self, disk: &mut K) -> Result<(), DiskFault>
+        requires running { (K.state disk.old).stopped ≡ false }
+        ensures goes_on { GoesOn (K.state disk.old) (K.state disk.new) }
+        ensures cause { HasCause (K.state disk.old) (K.state disk.new) result }
+        ensures safe { KeepsRuling self.now (K.state disk.old) (K.state disk.new) }
+        ensures shut { OnOk result ((image now : Image) (s : StandingView) → (K.state disk.old).reads ≡ Some image → (K.state disk.new).reads ≡ Some now
+            → StandsFor self.now image s → IsShutFor self.now now s) }
+    {
+        if !self.other_is_open {
+            return Ok(());
+        }
+        disk.write(self.other(), &[SHUT])
+    }
+
+    /// Announces a load of 1 to 256 files, behind those before it, which are complete: 31 at most. It always
+    /// answers Ok, and takes no memory.
+    #[tactic(auto, using(crate::proofs::Giving::given_load, crate::proofs::Sizes::load_more))]
+    pub fn start_load(&mut self, part: PartText, files: u16) -> Result<(), StoreFault>
+        requires filling { (far : Filling) × IsFilling self.old far × (far.loads < most_loads) × (far.missing ≡ 0) }
+        requires files { (1 ≤ files) × (files ≤ most_files) }
+        ensures done { IsOk result }
+        ensures goes_on { (far : Filling) → IsFilling self.old far → IsFilling self.new (load_announced files far) }
+        ensures manifest { manifest_length self.new ≡ manifest_length self.old + 17 }
+        ensures given { (image : Image) (g : Given) → HasGiven self.old image g → HasGiven self.new image (with_load part files g) }
+        ensures continues { Continues self.old self.new }
+    {
+        let Stage::Filling(far) = self.stage else {
+            unreachable!()
+        };
+        self.body.extend(part.as_slice())?;
+        self.body.extend(&u16_bytes(files))?;
+        self.stage = Stage::Filling(Filling {
+            loads: far.loads + 1,
+            missing: files,
+            ..far
+        });
+        Ok(())
+    }
+
+    /// Writes a piece of the file that ends next, behind what came before. No bytes make no call of the disk.
+    ///
+    /// BankFull where the contents would pass the bank; then nothing was written.
+    pub fn append<K: Disk>(&mut self, disk: &mut K, bytes: &[u8]) -> Result<(), StoreFault>
+        requires filling { (far : Filling) × IsFilling self.old far × (1 ≤ far.missing) }
+        requires running { (K.state disk.old).stopped ≡ false }
+        ensures full { (need have : ℕ) → IsErrOf result (BankFull need have) ↔
+            ((far : Filling) × IsFilling self.old far × (need ≡ far.end + length bytes.now) × (have ≡ size_of self.old) × (have < need)) }
+        ensures untouched { (need have : ℕ) → IsErrOf result (BankFull need have) → disk.new ≡ disk.old }
+        ensures nothing { bytes.now ≡ [] → disk.new ≡ disk.old }
+        ensures refused { IfErr result (λ fault. self.new ≡ self.old) }
+        ensures goes_on { OnOk result ((far : Filling) → IsFilling self.old far → IsFilling self.new (bytes_appended (length bytes.now) far)) }
+        ensures manifest { manifest_length self.new ≡ manifest_length self.old }
+        ensures not_spent { ¬ IsErrOf result SequenceSpent }
+        ensures rules { RulesAs self.old self.new }
+        ensures acts { Acts (K.state disk.old) (K.state disk.new) result }
+        ensures running { IsAnswered result → (K.state disk.new).stopped ≡ false }
+        ensures safe { KeepsRuling self.old (K.state disk.old) (K.state disk.new) }
+        ensures works { Works self.old (K.state disk.old) → IsAnswered result → Works self.new (K.state disk.new) }
+        ensures stands { IsAnswered result → StillStands self.old self.new (K.state disk.old) (K.state disk.new) }
+        ensures given { OnOk result ((image now : Image) (g : Given) → (K.state disk.old).reads ≡ Some image → (K.state disk.new).reads ≡ Some now
+            → HasGiven self.old image g → HasGiven self.new now (with_bytes bytes.now g)) }
+    {
+        let Stage::Filling(far) = self.stage else {
+            unreachable!()
+        };
+        let need = u64::from(far.end) + bytes.len() as u64;
+        if need > u64::from(self.size) {
+            return Err(StoreFault::BankFull {
+                need,
+                have: self.size,
+            });
+        }
+        if bytes.is_empty() {
+            return Ok(());
+        }
+        disk.write(self.work() + far.end, bytes)?;
+        self.stage = Stage::Filling(Filling {
+            end: far.end + bytes.len() as u32,
+            ..far
+        });
+        Ok(())
+    }
+
+    /// Ends the file whose bytes came last, at most 16,777,215 of them, under this name. It always answers
+    /// Ok, and takes no memory.
+    #[tactic(auto, using(crate::proofs::Giving::given_file, crate::proofs::Sizes::file_more))]
+    pub fn end_file(&mut self, name: Name) -> Result<(), StoreFault>
+        requires filling { (far : Filling) × IsFilling self.old far × (1 ≤ far.missing) × (far.end ≤ far.start + longest_file) }
+        ensures done { IsOk result }
+        ensures goes_on { (far : Filling) → IsFilling self.old far → IsFilling self.new (file_ended far) }
+        ensures manifest { manifest_length self.new ≡ manifest_length self.old + (5 + length name) }
+        ensures given { (image : Image) (g : Given) → HasGiven self.old image g → HasGiven self.new image (with_file name g) }
+        ensures continues { Continues self.old self.new }
+    {
+        let Stage::Filling(far) = self.stage else {
+            unreachable!()
+        };
+        let name = name.as_slice();
+        self.body.extend(&u8_bytes(name.len() as u8))?;
+        self.body.extend(name)?;
+        self.body.extend(&u32_bytes(far.end - far.start))?;
+        self.stage = Stage::Filling(Filling {
+            missing: far.missing - 1,
+            start: far.end,
+            ..far
+        });
+        Ok(())
+    }
+
+    /// Writes the manifest behind the contents, and all of the other slot but its gate, and syncs.
+    ///
+    /// BankFull where contents and manifest together pass the bank; then nothing was written.
+    pub fn seal<K: Disk>(&mut self, disk: &mut K) -> Result<(), StoreFault>
+        requires filling { (far : Filling) × IsFilling self.old far × (far.missing ≡ 0) }
+        requires running { (K.state disk.old).stopped ≡ false }
+        ensures sealed { OnOk result (IsSealed self.new) }
+        ensures full { (need have : ℕ) → IsErrOf result (BankFull need have) ↔
+            ((far : Filling) × IsFilling self.old far × (need ≡ far.end + manifest_length self.old) × (have ≡ size_of self.old) × (have < need)) }
+        ensures untouched { (need have : ℕ) → IsErrOf result (BankFull need have) → disk.new ≡ disk.old }
+        ensures refused { IfErr result (λ fault. self.new ≡ self.old) }
+        ensures not_spent { ¬ IsErrOf result SequenceSpent }
+        ensures rules { RulesAs self.old self.new }
+        ensures acts { Acts (K.state disk.old) (K.state disk.new) result }
+        ensures running { IsAnswered result → (K.state disk.new).stopped ≡ false }
+        ensures safe { KeepsRuling self.old (K.state disk.old) (K.state disk.new) }
+        ensures works { Works self.old (K.state disk.old) → IsAnswered result → Works self.new (K.state disk.new) }
+        ensures stands { IsAnswered result → StillStands self.old self.new (K.state disk.old) (K.state disk.new) }
+        ensures settled { OnOk result (IsSettled (K.state disk.new)) }
+        ensures ready { OnOk result ((image now : Image) (s : StandingView) (g : Given) → (K.state disk.old).reads ≡ Some image → (K.state disk.new).reads ≡ Some now
+            → StandsFor self.old image s → HasGiven self.old image g → IsReady self.new now s g.loads) }
+    {
+        let Stage::Filling(far) = self.stage else {
+            unreachable!()
+        };
+        let length = self.body.len() + 2;
+        let need = u64::from(far.end) + length as u64;
+        if need > u64::from(self.size) {
+            return Err(StoreFault::BankFull {
+                need,
+                have: self.size,
+            });
+        }
+        self.write_manifest(disk, far)?;
+        self.write_slot(disk, far.end, length as u32)?;
+        disk.sync()?;
+        self.stage = Stage::Sealed;
+        Ok(())
+    }
+
+    // Writes the manifest behind the contents: how many loads there are, and what the body says of each.
+    fn write_manifest<K: Disk>(&self, disk: &mut K, far: Filling) -> Result<(), DiskFault>
+        requires filling { IsFilling self.now far }
+        requires within { far.end + manifest_length self.now ≤ size_of self.now }
+        requires running { (K.state disk.old).stopped ≡ false }
+        ensures goes_on { GoesOn (K.state disk.old) (K.state disk.new) }
+        ensures cause { HasCause (K.state disk.old) (K.state disk.new) result }
+        ensures near { KeepsNear self.now (K.state disk.old) (K.state disk.new) }
+        ensures written { OnOk result ((image : Image) → (K.state disk.old).reads ≡ Some image
+            → (K.state disk.new).reads ≡ Some (with_manifest self.now far image)) }
+    {
+        let at = self.work() + far.end;
+        disk.write(at, &u16_bytes(far.loads))?;
+        disk.write(at + 2, self.body.as_slice())
+    }
+
+    // Writes the body of the other slot, all but its gate: that its bank rules with the next sequence number, and where
+    // in it the manifest begins and how many bytes it has.
+    fn write_slot<K: Disk>(&self, disk: &mut K, place: u32, length: u32) -> Result<(), DiskFault>
+        requires shut { is_other_open self.now ≡ false }
+        requires goes_on { sequence_of self.now < 4294967295 }
+        requires running { (K.state disk.old).stopped ≡ false }
+        ensures goes_on { GoesOn (K.state disk.old) (K.state disk.new) }
+        ensures cause { HasCause (K.state disk.old) (K.state disk.new) result }
+        ensures near { KeepsNear self.now (K.state disk.old) (K.state disk.new) }
+        ensures written { OnOk result ((image : Image) → (K.state disk.old).reads ≡ Some image
+            → (K.state disk.new).reads ≡ Some (with_slot self.now place length image)) }
+    {
+        let at = self.other() + SEQUENCE_IN_SLOT;
+        disk.write(at, &self.slot_bytes(place, length))
+    }
+
+    // What the other slot is to say behind its gate, from its sequence number on.
+    #[tactic(auto, unfolding(field_grammar::specs::Fields::number_bytes))]
+    fn slot_bytes(&self, place: u32, length: u32) -> [u8; 13]
+        requires { sequence_of self.now < 4294967295 }
+        ensures { result ≡ slot_body self.now place length }
+    {
+        let [s0, s1, s2, s3] = u32_bytes(self.sequence + 1);
+        let [p0, p1, p2, p3] = u32_bytes(place);
+        let [l0, l1, l2, l3] = u32_bytes(length);
+        let bank = 1 - self.bank;
+        [s0, s1, s2, s3, bank, p0, p1, p2, p3, l0, l1, l2, l3]
+    }
+
+    /// Opens the gate of the other slot and syncs. With Ok the new configuration rules, and the store is that
+    /// of the disk on which it does.
+    pub fn activate<K: Disk>(&mut self, disk: &mut K) -> Result<(), StoreFault>
+        requires sealed { IsSealed self.old }
+        requires running { (K.state disk.old).stopped ≡ false }
+        ensures switches { OnOk result (Switches self.old self.new) }
+        ensures refused { IfErr result (λ fault. self.new ≡ self.old) }
+        ensures only_failures { IsOk result ⊎ ¬ IsAnswered result }
+        ensures acts { Acts (K.state disk.old) (K.state disk.new) result }
+        ensures running { OnOk result ((K.state disk.new).stopped ≡ false) }
+        ensures safe { Works self.old (K.state disk.old) → (image : Image) (s : StandingView) (loads : List GivenLoad) → (K.state disk.old).reads ≡ Some image
+            → StandsFor self.old image s → IsReady self.old image s loads
+            → LeavesOnly (K.state disk.old).clock (λ left. Stands left s ⊎ Stands left (installed s loads)) (K.state disk.new) }
+        ensures settled { OnOk result (IsSettled (K.state disk.new)) }
+        ensures rules { OnOk result (Works self.old (K.state disk.old) → (image : Image) (s : StandingView) (loads : List GivenLoad) → (K.state disk.old).reads ≡ Some image
+            → StandsFor self.old image s → IsReady self.old image s loads
+            → (left : Image) → (K.state disk.new).now left → Stands left (installed s loads)) }
+        ensures works { OnOk result (Works self.old (K.state disk.old) → Works self.new (K.state disk.new)) }
+        ensures stands { OnOk result ((image now : Image) (s : StandingView) (loads : List GivenLoad) → (K.state disk.old).reads ≡ Some image → (K.state disk.new).reads ≡ Some now
+            → StandsFor self.old image s → IsReady self.old image s loads → StandsFor self.new now (installed s loads)) }
+    {
+        let slot = self.other();
+        disk.write(slot, &[OPEN])?;
+        disk.sync()?;
+        self.forget();
+        self.slot = slot;
+        self.bank = 1 - self.bank;
+        self.sequence += 1;
+        self.other_is_open = true;
+        Ok(())
+    }
+
+    /// Gives an installation up. What was written stays in the other bank and is written over by the next one;
+    /// the other slot stays shut. Where none has begun, nothing changes.
+    #[tactic(auto, using(crate::proofs::Continuing::continues_idle))]
+    pub fn abandon(&mut self)
+        ensures idle { IsIdle self.new }
+        ensures unchanged { IsIdle self.old → self.new ≡ self.old }
+        ensures continues { Continues self.old self.new }
+    {
+        if !matches!(self.stage, Stage::Idle) {
+            self.forget();
+        }
+    }
+
+    // No installation is begun.
+    fn forget(&mut self)
+        ensures idle { IsIdle self.new }
+        ensures rules { RulesAs self.old self.new }
+        ensures gate { is_other_open self.new ≡ is_other_open self.old }
+    {
+        self.body.clear();
+        self.stage = Stage::Idle;
+    }
+
+    /// The sequence number that rules.
+    pub fn sequence(&self) -> u32
+        ensures { result ≡ sequence_of self.now }
+    {
+        self.sequence
+    }
+
+    /// The bank that rules, 0 or 1.
+    pub fn bank(&self) -> u8
+        ensures { result ≡ bank_of self.now }
+    {
+        self.bank
+    }
+
+    // Where the slot begins that doesn't rule.
+    fn other(&self) -> u32
+        ensures { result ≡ other_slot (slot_of self.now) }
+    {
+        SLOT_A + SLOT_B - self.slot
+    }
+
+    // Where the bank begins that doesn't rule.
+    fn work(&self) -> u32
+        ensures place { result ≡ work_at self.now }
+        ensures within { result + size_of self.now ≤ 134225920 }
+    {
+        BANKS + self.size * u32::from(1 - self.bank)
+    }
+}
