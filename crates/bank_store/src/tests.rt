@@ -1,8 +1,9 @@
 ghost use Rattle.std.specs.Prelude.{◌≡◌, IfOk};
 
-use crate::{Identity, StoreFault, format};
+use crate::{Identity, Store, StoreFault, format};
+use disk_layout::Ruling;
 use disk_model::{Call, Disk, FileDisk, MemDisk, Note};
-use load_base::Ident;
+use load_base::{Ident, Name, PartText};
 use std::fs;
 use std::test::Fail;
 
@@ -100,5 +101,43 @@ fn a_file_is_formatted(rt: HostRuntime) -> Result<(), Fail> {
         format(&mut folder, &target(4096)?),
         Err(StoreFault::DiskFailed)
     );
+    Ok(())
+}
+
+#[test]
+fn a_load_is_installed_beside_what_rules(rt: HostRuntime) -> Result<(), Fail> {
+    let mut disk = MemDisk::new(rt.alloc(), &[])?;
+    format(&mut disk, &target(4096)?)?;
+    let ruling = Ruling {
+        slot: 4096,
+        bank: 0,
+        sequence: 1,
+        other_is_open: false,
+    };
+    let mut store = Store::new(rt.alloc(), 4096, ruling);
+    store.prepare()?;
+    store.begin(&mut disk)?;
+    store.start_load(PartText::read(b"MMM12-0001-ABCD")?, 1)?;
+    store.append(&mut disk, b"ab")?;
+    store.append(&mut disk, b"c")?;
+    store.end_file(Name::read(b"H.LUH")?)?;
+    store.seal(&mut disk)?;
+    store.activate(&mut disk)?;
+    assert_eq!(rt; (store.sequence(), store.bank()), (2, 1));
+    let places: [(usize, &[u8]); 5] = [
+        (4096, &[0xA5]),
+        (4608, &[0xA5]),
+        (4624, &[0, 0, 0, 2, 1, 0, 0, 0, 3, 0, 0, 0, 29]),
+        (8192, &[0, 0]),
+        (
+            12288,
+            b"abc\x00\x01MMM12-0001-ABCD\x00\x01\x05H.LUH\x00\x00\x00\x03",
+        ),
+    ];
+    for (at, bytes) in places {
+        let held = disk.as_slice().get(at..).unwrap_or(&[]);
+        assert!(rt; held.starts_with(bytes), "at {at}");
+    }
+    assert_eq!(rt; disk.as_slice().len(), 12320);
     Ok(())
 }
