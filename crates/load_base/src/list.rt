@@ -70,6 +70,7 @@ impl<T> List<T> {
         ensures ok { OnOk result (more ≤ self.new.room) }
         ensures items { self.new.items ≡ self.old.items }
         ensures room { self.old.room ≤ self.new.room }
+        ensures has_room { more ≤ self.old.room → IsOk result }
     {
         self.inner.reserve(more)?;
         Ok(())
@@ -85,12 +86,12 @@ impl<T> List<T> {
         self.inner.pop()
     }
 
-    /// Takes all members off, and keeps their room.
+    /// Takes all members off, and leaves room for as many more pushes.
     pub fn clear(&mut self)
     where
         T: Drop,
         ensures items { self.new.items ≡ [] }
-        ensures room { self.old.room ≤ self.new.room }
+        ensures room { self.new.room ≡ self.old.room + length self.old.items }
     {
         self.inner.clear();
     }
