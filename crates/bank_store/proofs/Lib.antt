@@ -5,7 +5,9 @@ pub mod Continuing
 pub mod Footprint
 pub mod Gates
 pub mod Giving
+pub mod Going
 pub mod Images
+pub mod Installed
 pub mod Layouts
 pub mod Moments
 pub mod Near
@@ -14,4 +16,5 @@ pub mod Premises
 pub mod Ready
 pub mod Sealing
 pub mod Sizes
+pub mod Wholes
 pub mod Working

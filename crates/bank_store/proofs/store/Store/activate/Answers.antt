@@ -1,6 +1,5 @@
 use Rattle.std.proofs.Common.{◌≡◌, ◌⊎◌, ℕ, ◌+◌, [], ◌∷◌, true, refl, sym, ◌∙◌, ap, subst}
 use Rattle.disk_model.specs.Image.{Image, overlay}
-use Rattle.disk_model.proofs.Moments.{sync_goes_on}
 use Rattle.disk_layout.specs.Stands.{Stands, StandsBy}
 use Rattle.bank_store.specs.Bounds.{other_slot}
 use Rattle.bank_store.specs.Store.{IsIdle, RulesAs, Switches, other_bank}
@@ -8,21 +7,22 @@ use Rattle.bank_store.specs.Given.{installed}
 use Rattle.bank_store.specs.declared.store.Store.{Store}
 use Rattle.bank_store.proofs.Activated.{while_opening, opened_by, switched_stands, switched_works}
 use Rattle.bank_store.proofs.Gates.{same_image}
+use Rattle.bank_store.proofs.Moments.{adds_sync}
 use Rattle.bank_store.proofs.store.Store.activate.Goals as goal
 
 pub returns-in_err-write-clause-safe : goal.returns-in_err-write-clause-safe
 returns-in_err-write-clause-safe g c works image s loads told was ready =
-    while_opening c.args.self.now (g.K.Disk.state c.args.disk.now) _ c.other-slot.result image s loads _ c.other-slot.ensures works told was ready (g.met.K.Disk.only_now c.args.disk.now) c.write.ensures.elapses
+    while_opening c.args.self.now (g.K.Disk.state c.args.disk.now) _ c.other-slot.result image s loads _ c.other-slot.ensures works told was ready c.write.ensures.elapses
 
 pub returns-in_err-sync-clause-safe : goal.returns-in_err-sync-clause-safe
 returns-in_err-sync-clause-safe g c works image s loads told was ready =
-    sync_goes_on (g.K.Disk.state c.args.disk.now).clock (λ left. Stands left s ⊎ Stands left (installed s loads)) _ _ _
-    (while_opening c.args.self.now (g.K.Disk.state c.args.disk.now) _ c.other-slot.result image s loads _ c.other-slot.ensures works told was ready (g.met.K.Disk.only_now c.args.disk.now) c.write.ensures.elapses) c.sync.ensures.elapses
+    adds_sync (g.K.Disk.state c.args.disk.now) _ _ (λ left. Stands left s ⊎ Stands left (installed s loads)) _
+    (while_opening c.args.self.now (g.K.Disk.state c.args.disk.now) _ c.other-slot.result image s loads _ c.other-slot.ensures works told was ready c.write.ensures.elapses) c.sync.ensures.elapses
 
 pub returns-clause-safe : goal.returns-clause-safe
 returns-clause-safe g c works image s loads told was ready =
-    sync_goes_on (g.K.Disk.state c.args.disk.now).clock (λ left. Stands left s ⊎ Stands left (installed s loads)) _ _ _
-    (while_opening c.args.self.now (g.K.Disk.state c.args.disk.now) _ c.other-slot.result image s loads _ c.other-slot.ensures works told was ready (g.met.K.Disk.only_now c.args.disk.now) c.write.ensures.elapses) c.sync.ensures.elapses
+    adds_sync (g.K.Disk.state c.args.disk.now) _ _ (λ left. Stands left s ⊎ Stands left (installed s loads)) _
+    (while_opening c.args.self.now (g.K.Disk.state c.args.disk.now) _ c.other-slot.result image s loads _ c.other-slot.ensures works told was ready c.write.ensures.elapses) c.sync.ensures.elapses
 
 pub returns-clause-rules : goal.returns-clause-rules
 returns-clause-rules g c works image s loads told was ready left may =

@@ -10,11 +10,11 @@ use Rattle.bank_store.proofs.store.Store.shut_other.Goals as goal
 pub returns-then-not-self-clause-safe : goal.returns-then-not-self-clause-safe
 returns-then-not-self-clause-safe g c works image s told was =
     let disk = g.K.Disk.state c.args.disk.now in
-    rules_still c.args.self.now disk.clock disk image s was (near_start c.args.self.now disk image works told (g.met.K.Disk.only_now c.args.disk.now))
+    rules_still c.args.self.now disk disk image s was (near_start c.args.self.now disk image works told)
 
 pub returns-clause-safe : goal.returns-clause-safe
 returns-clause-safe g c works image s told was =
-    while_shutting c.args.self.now (g.K.Disk.state c.args.disk.now) _ c.other.result image s _ c.other.ensures c.if-not-self.false works told was (g.met.K.Disk.only_now c.args.disk.now) c.write.ensures.elapses
+    while_shutting c.args.self.now (g.K.Disk.state c.args.disk.now) _ c.other.result image s _ c.other.ensures c.if-not-self.false works told was c.write.ensures.elapses
 
 pub returns-clause-shut : goal.returns-clause-shut
 returns-clause-shut g c =
