@@ -1,11 +1,11 @@
 -- Calls of an installation, one after the other.
-use Rattle.std.proofs.Common.{◌≡◌, ℕ, ◌≤◌, Option, Some, Result, Ok, Err, true, false, refl, sym, subst, ◌∙◌, arith}
+use Rattle.std.proofs.Common.{◌≡◌, ◌⊎◌, inl, inr, ℕ, ◌≤◌, Option, Some, Result, Ok, Err, true, false, refl, sym, subst, ◌∙◌, arith}
 use Rattle.std.specs.Prelude.{is_ok, is_some, IsOk, OnOk, OnErr}
 use Rattle.load_base.specs.Counts.{Rose}
 use Rattle.disk_model.specs.Image.{Image}
 use Rattle.disk_model.specs.State.{DiskState}
 use Rattle.disk_layout.specs.Stands.{StandingView, Stands}
-use Rattle.bank_store.specs.Acts.{Acts, GoesOn}
+use Rattle.bank_store.specs.Acts.{Acts, GoesOn, IsAnswered}
 use Rattle.bank_store.specs.Safe.{StandsFor, Works, Continues}
 use Rattle.bank_store.specs.Store.{RulesAs}
 use Rattle.bank_store.specs.Whole.{Goes}
@@ -15,6 +15,7 @@ use Rattle.bank_store.proofs.Gates.{same_image}
 use Rattle.bank_store.proofs.Images.{told_before}
 use Rattle.bank_store.proofs.Moments.{adds_none, adds_joined}
 use Rattle.bank_store.proofs.Near.{near_stands}
+use Rattle.bank_store.proofs.Rests.{rest_unread, rest_then}
 
 -- ---- nothing is called
 
@@ -52,6 +53,7 @@ continued before after disk x running continues = record {
   safe = λ works image s told was. adds_none disk (λ left. Stands left s) (ruled_now before disk image s works told was);
   works = λ works answered. works_continued before after disk continues works;
   stands = λ answered image now s told later was. continues.stands now s (subst (λ (i : Image). StandsFor before i s) (same_image image now (sym told ∙ later)) was);
+  rest = λ answered. rest_unread before disk disk refl;
 }
 
 -- a call that doesn't touch the disk
@@ -72,6 +74,7 @@ goes_nowhere store disk x running = record {
   safe = λ works image s told was. adds_none disk (λ left. Stands left s) (ruled_now store disk image s works told was);
   works = λ works answered. works;
   stands = λ answered image now s told later was. subst (λ (i : Image). StandsFor store i s) (same_image image now (sym told ∙ later)) was;
+  rest = λ answered. rest_unread store disk disk refl;
 }
 
 pub goes_is : {T : Type 0} (a b : Store) (d e : DiskState) (one two : Result T StoreFault) → one ≡ two → Goes a b d e one → Goes a b d e two
@@ -125,6 +128,7 @@ goes_then a b c d e f x result first second = record {
   stands = λ answered image now s told later was.
       let next = told_on d.reads e.reads image first.acts.goes_on.tells told in
       second.stands answered next.0 now s next.1 later (first.stands tt image next.0 s told next.1 was);
+  rest = λ answered. rest_then a b d e f first.rules (λ image told. told_on d.reads e.reads image first.acts.goes_on.tells told) (first.rest tt) (second.rest answered);
 }
 
 pub always : {T E A : Type 0} (result : Result T E) → A → OnOk result A
@@ -134,3 +138,12 @@ always (Err e) a = tt
 pub on_err_by : {T E A B : Type 0} (result : Result T E) → (A → B) → OnErr result A → OnErr result B
 on_err_by (Ok x) f a = tt
 on_err_by (Err e) f a = f a
+
+-- an answer that isn't a failure is Ok, where nothing else is answered
+pub answered_rest : {T A : Type 0} (result : Result T StoreFault) → IsOk result ⊎ ¬ IsAnswered result → IsAnswered result → OnOk result A → A
+answered_rest (Ok x) either answered a = a
+answered_rest {T = T} (Err e) (inl done) answered a = absurd (not_ok e done)
+  where
+    not_ok : (e : StoreFault) → is_ok {T = T} (Err e) ≡ true → ⊥
+    not_ok e is = cc
+answered_rest (Err e) (inr not) answered a = absurd (not answered)

@@ -14,6 +14,7 @@ pub mod Near
 pub mod Opened
 pub mod Premises
 pub mod Ready
+pub mod Rests
 pub mod Sealing
 pub mod Sizes
 pub mod Wholes

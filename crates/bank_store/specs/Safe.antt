@@ -76,6 +76,15 @@ pub record IsShutFor (store : Store) (image : Image) (s : StandingView) : Type 0
   pub by : StandsBy image store.slot s
   pub shut : ¬ IsOpen image (other_slot store.slot)
 
+-- a place of the other bank or of the other slot
+abbrev pub IsBeside : Store → ℕ → Type 0
+IsBeside store place =
+    ((work_at store ≤ place) × (place < work_at store + store.size)) ⊎ ((other_slot store.slot ≤ place) × (place < other_slot store.slot + 29))
+
+-- What is read in any other place is what was read there.
+abbrev pub LeavesRest : Store → DiskState → DiskState → Type 0
+LeavesRest store old new = (image now : Image) → old.reads ≡ Some image → new.reads ≡ Some now → (place : ℕ) → ¬ IsBeside store place → now place ≡ image place
+
 -- What holds of a store and a disk before a call that doesn't touch the disk holds after it.
 pub record Continues (old new : Store) : Type 0 where
   pub rules : RulesAs old new

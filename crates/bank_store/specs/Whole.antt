@@ -10,7 +10,7 @@ use Rattle.disk_layout.specs.Contents.{bytes_of, contents_of, HeaderIsFirst}
 use Rattle.disk_layout.specs.Stands.{StandingView, Stands}
 use Rattle.bank_store.specs.Acts.{Acts, AddsOnly, IsAnswered}
 use Rattle.bank_store.specs.Given.{Given, GivenLoad}
-use Rattle.bank_store.specs.Safe.{Works, KeepsRuling, StillStands}
+use Rattle.bank_store.specs.Safe.{Works, KeepsRuling, StillStands, LeavesRest}
 use Rattle.bank_store.specs.Store.{RulesAs}
 use Rattle.bank_store.specs.declared.fault.StoreFault.{StoreFault}
 use Rattle.bank_store.specs.declared.stage.Filling.{Filling}
@@ -115,6 +115,7 @@ pub record Goes {T : Type 0} (before after : Store) (old new : DiskState) (resul
   pub safe : KeepsRuling before old new
   pub works : Works before old → IsAnswered result → Works after new
   pub stands : IsAnswered result → StillStands before after old new
+  pub rest : IsAnswered result → LeavesRest before old new
 
 -- ---- what the whole leaves
 

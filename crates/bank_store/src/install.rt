@@ -22,7 +22,7 @@ use load_base::{Load, StoredFile};
 impl Store {
     ghost use Rattle.bank_store.specs.Store.{size_of, slot_of, sequence_of, RulesAs, Switches, IsIdle, IsFilling, IsSealed, IsPrepared, file_ended, bytes_appended, manifest_length};
     ghost use Rattle.bank_store.specs.Given.{Given, GivenLoad, HasGiven, nothing_given, with_bytes, with_file, configured};
-    ghost use Rattle.bank_store.specs.Safe.{StandsFor, Works, IsReady};
+    ghost use Rattle.bank_store.specs.Safe.{StandsFor, Works, IsReady, LeavesRest};
     ghost use Rattle.bank_store.specs.Acts.{Acts, AddsOnly, GoesOn, IsAnswered};
     ghost use Rattle.bank_store.specs.Whole.{AreInstallable, IsInstallable, file_entry_size, load_entry_size, manifest_size, files_of, entries_size, PassesWithin, Passes, Fits, whole, all_given, with_whole, behind, with_files, all_filled, load_filled, files_filled, Goes, OpensGate};
 
@@ -46,6 +46,7 @@ impl Store {
             → (left : Image) → (K.state disk.new).now left → Stands left (configured s (map load_view loads.now))) }
         ensures settled { OnOk result (IsSettled (K.state disk.new)) }
         ensures works { Works self.old (K.state disk.old) → IsAnswered result → Works self.new (K.state disk.new) }
+        ensures rest { IsAnswered result → LeavesRest self.old (K.state disk.old) (K.state disk.new) }
         ensures switches { OnOk result (Switches self.old self.new) }
         ensures given_up { OnErr result (IsIdle self.new × RulesAs self.old self.new) }
         ensures prepared { OnOk result (IsPrepared self.new) }
@@ -80,6 +81,7 @@ impl Store {
             → (left : Image) → (K.state disk.new).now left → Stands left (configured s (map load_view loads.now))) }
         ensures settled { OnOk result (IsSettled (K.state disk.new)) }
         ensures works { Works self.old (K.state disk.old) → IsAnswered result → Works self.new (K.state disk.new) }
+        ensures rest { IsAnswered result → LeavesRest self.old (K.state disk.old) (K.state disk.new) }
         ensures switches { OnOk result (Switches self.old self.new) }
         ensures rules { OnErr result (RulesAs self.old self.new) }
         ensures prepared { OnOk result (IsPrepared self.new) }

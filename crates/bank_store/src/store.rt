@@ -42,7 +42,7 @@ pub struct Store {
 impl Store {
     ghost use Rattle.bank_store.specs.Store.{size_of, slot_of, bank_of, sequence_of, is_other_open, stage_of, work_at, RulesAs, Switches, IsIdle, IsFilling, IsSealed, IsPrepared, room_of, load_announced, bytes_appended, file_ended, manifest_length, slot_body, with_manifest, with_slot};
     ghost use Rattle.bank_store.specs.Given.{Given, GivenLoad, HasGiven, nothing_given, with_load, with_bytes, with_file, installed};
-    ghost use Rattle.bank_store.specs.Safe.{StandsFor, Works, KeepsRuling, IsReady, IsShutFor, KeepsNear, Continues, StillStands};
+    ghost use Rattle.bank_store.specs.Safe.{StandsFor, Works, KeepsRuling, IsReady, IsShutFor, KeepsNear, Continues, StillStands, LeavesRest};
     ghost use Rattle.bank_store.specs.Acts.{Acts, AddsOnly, GoesOn, IsAnswered};
     ghost use Rattle.bank_store.specs.Bounds.{other_slot};
 
@@ -99,6 +99,7 @@ impl Store {
         ensures running { IsAnswered result → (K.state disk.new).stopped ≡ false }
         ensures safe { KeepsRuling self.old (K.state disk.old) (K.state disk.new) }
         ensures works { Works self.old (K.state disk.old) → IsAnswered result → Works self.new (K.state disk.new) }
+        ensures rest { IsAnswered result → LeavesRest self.old (K.state disk.old) (K.state disk.new) }
         ensures stands { IsAnswered result → StillStands self.old self.new (K.state disk.old) (K.state disk.new) }
         ensures given { OnOk result ((image : Image) → (K.state disk.new).reads ≡ Some image → HasGiven self.new image nothing_given) }
         ensures manifest { OnOk result (manifest_length self.new ≡ 2) }
@@ -125,6 +126,7 @@ impl Store {
         ensures goes_on { GoesOn (K.state disk.old) (K.state disk.new) }
         ensures cause { HasCause (K.state disk.old) (K.state disk.new) result }
         ensures safe { KeepsRuling self.now (K.state disk.old) (K.state disk.new) }
+        ensures rest { OnOk result (LeavesRest self.now (K.state disk.old) (K.state disk.new)) }
         ensures shut { OnOk result ((image now : Image) (s : StandingView) → (K.state disk.old).reads ≡ Some image → (K.state disk.new).reads ≡ Some now
             → StandsFor self.now image s → IsShutFor self.now now s) }
     {
@@ -178,6 +180,7 @@ impl Store {
         ensures running { IsAnswered result → (K.state disk.new).stopped ≡ false }
         ensures safe { KeepsRuling self.old (K.state disk.old) (K.state disk.new) }
         ensures works { Works self.old (K.state disk.old) → IsAnswered result → Works self.new (K.state disk.new) }
+        ensures rest { IsAnswered result → LeavesRest self.old (K.state disk.old) (K.state disk.new) }
         ensures stands { IsAnswered result → StillStands self.old self.new (K.state disk.old) (K.state disk.new) }
         ensures given { OnOk result ((image now : Image) (g : Given) → (K.state disk.old).reads ≡ Some image → (K.state disk.new).reads ≡ Some now
             → HasGiven self.old image g → HasGiven self.new now (with_bytes bytes.now g)) }
@@ -246,6 +249,7 @@ impl Store {
         ensures running { IsAnswered result → (K.state disk.new).stopped ≡ false }
         ensures safe { KeepsRuling self.old (K.state disk.old) (K.state disk.new) }
         ensures works { Works self.old (K.state disk.old) → IsAnswered result → Works self.new (K.state disk.new) }
+        ensures rest { IsAnswered result → LeavesRest self.old (K.state disk.old) (K.state disk.new) }
         ensures stands { IsAnswered result → StillStands self.old self.new (K.state disk.old) (K.state disk.new) }
         ensures settled { OnOk result (IsSettled (K.state disk.new)) }
         ensures ready { OnOk result ((image now : Image) (s : StandingView) (g : Given) → (K.state disk.old).reads ≡ Some image → (K.state disk.new).reads ≡ Some now
@@ -333,6 +337,7 @@ impl Store {
             → StandsFor self.old image s → IsReady self.old image s loads
             → (left : Image) → (K.state disk.new).now left → Stands left (installed s loads)) }
         ensures works { OnOk result (Works self.old (K.state disk.old) → Works self.new (K.state disk.new)) }
+        ensures rest { OnOk result (LeavesRest self.old (K.state disk.old) (K.state disk.new)) }
         ensures stands { OnOk result ((image now : Image) (s : StandingView) (loads : List GivenLoad) → (K.state disk.old).reads ≡ Some image → (K.state disk.new).reads ≡ Some now
             → StandsFor self.old image s → IsReady self.old image s loads → StandsFor self.new now (installed s loads)) }
     {

@@ -8,6 +8,7 @@ use Rattle.bank_store.specs.declared.store.Store.{Store}
 use Rattle.bank_store.proofs.Activated.{while_opening, opened_by, switched_stands, switched_works}
 use Rattle.bank_store.proofs.Gates.{same_image}
 use Rattle.bank_store.proofs.Moments.{adds_sync}
+use Rattle.bank_store.proofs.Rests.{rest_gate}
 use Rattle.bank_store.proofs.store.Store.activate.Goals as goal
 
 pub returns-in_err-write-clause-safe : goal.returns-in_err-write-clause-safe
@@ -59,3 +60,7 @@ returns-clause-stands g c image now s loads told later was ready =
     switched_stands store _ image now s loads c.other-slot.result
     (switched store c.forget.new.self _ c.other-slot.result c.forget.ensures.rules c.other-slot.ensures refl refl refl refl refl c.forget.ensures.idle)
     c.other-slot.ensures (same_image now _ (sym later ∙ c.in_ok-sync.ensures.kept ∙ c.in_ok-write.ensures.bytes image told)) was ready
+
+pub returns-clause-rest : goal.returns-clause-rest
+returns-clause-rest g c image now told later place out =
+    rest_gate c.args.self.now image now c.other-slot.result _ place c.other-slot.ensures (same_image now _ (sym later ∙ c.in_ok-sync.ensures.kept ∙ c.in_ok-write.ensures.bytes image told)) out

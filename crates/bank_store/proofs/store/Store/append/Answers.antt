@@ -1,12 +1,14 @@
-use Rattle.std.proofs.Common.{◌≡◌, ◌+◌, ℕ, length, refl, sym, ◌∙◌, ap, arith}
-use Rattle.disk_model.specs.Image.{overlay}
+use Rattle.std.proofs.Common.{◌≡◌, ◌+◌, ℕ, length, refl, sym, ◌∙◌, ap, subst, arith}
+use Rattle.disk_model.specs.Image.{Image, overlay}
+use Rattle.bank_store.specs.Safe.{SameButForWork}
 use Rattle.bank_store.specs.Store.{work_at, RulesAs}
 use Rattle.bank_store.proofs.Carried.{stands_carried}
 use Rattle.bank_store.proofs.Continuing.{given_of, has_work, filling_not_sealed}
 use Rattle.bank_store.proofs.Gates.{same_image}
 use Rattle.bank_store.proofs.Giving.{given_bytes}
 use Rattle.bank_store.proofs.Near.{IsWork}
-use Rattle.bank_store.proofs.Working.{bank_is_work, near_start, near_write, rules_still, works_on, still_ruled}
+use Rattle.bank_store.proofs.Working.{bank_is_work, near_start, near_write, rules_still, works_on, still_ruled, near_overlay}
+use Rattle.bank_store.proofs.Rests.{rest_unread, rest_near}
 use Rattle.bank_store.proofs.store.Store.append.Goals as goal
 
 pub returns-then-need-from-clause-safe : goal.returns-then-need-from-clause-safe
@@ -67,3 +69,17 @@ returns-clause-given g c image now given told later was =
     let is : now ≡ overlay image (work_at store + c.in-Filling.far.end) c.args.bytes.now =
     same_image now _ (sym later ∙ c.in_ok-write.ensures.bytes image told) ∙ ap (λ (at : ℕ). overlay image (at + c.in-Filling.far.end) c.args.bytes.now) c.work.ensures.place in
     given_bytes store _ image now c.args.bytes.now c.in-Filling.far given (record { size = refl; slot = refl; bank = refl; sequence = refl }) c.in-Filling.is refl refl is was
+
+pub returns-then-need-from-clause-rest : goal.returns-then-need-from-clause-rest
+returns-then-need-from-clause-rest g c answered = rest_unread c.args.self.now (g.K.Disk.state c.args.disk.now) (g.K.Disk.state c.args.disk.now) refl
+
+pub returns-then-is_empty-clause-rest : goal.returns-then-is_empty-clause-rest
+returns-then-is_empty-clause-rest g c answered = rest_unread c.args.self.now (g.K.Disk.state c.args.disk.now) (g.K.Disk.state c.args.disk.now) refl
+
+pub returns-clause-rest : goal.returns-clause-rest
+returns-clause-rest g c answered image now told later place out =
+    let store = c.args.self.now in
+    let work : IsWork store (c.work.result + c.in-Filling.far.end) (length c.args.bytes.now) =
+    bank_is_work store _ _ (omega (arith, c.work.ensures.place)) (omega (arith, c.work.ensures.place, c.if-need-from.false, c.from.ensures, c.from-2.ensures)) in
+    rest_near store image now place
+    (subst (λ (i : Image). SameButForWork store image i) (sym (same_image now _ (sym later ∙ c.in_ok-write.ensures.bytes image told))) (near_overlay store image _ c.args.bytes.now work)) out

@@ -4,6 +4,7 @@ use Rattle.bank_store.proofs.Begun.{begun_stands, begun_works}
 use Rattle.bank_store.proofs.Giving.{given_nothing}
 use Rattle.bank_store.proofs.Moments.{adds_sync}
 use Rattle.bank_store.proofs.Working.{near_start, rules_still}
+use Rattle.bank_store.proofs.Rests.{rest_unread}
 use Rattle.bank_store.proofs.store.Store.begin.Goals as goal
 
 pub returns-then-self-clause-safe : goal.returns-then-self-clause-safe
@@ -32,3 +33,9 @@ returns-clause-stands g c answered image now s told later was =
 
 pub returns-clause-given : goal.returns-clause-given
 returns-clause-given g c image told = given_nothing _ image refl (c.args.self.now.keeps.idle c.requires.prepared.idle)
+
+pub returns-then-self-clause-rest : goal.returns-then-self-clause-rest
+returns-then-self-clause-rest g c answered = rest_unread c.args.self.now (g.K.Disk.state c.args.disk.now) (g.K.Disk.state c.args.disk.now) refl
+
+pub returns-clause-rest : goal.returns-clause-rest
+returns-clause-rest g c answered image now told later place out = c.in_ok-shut_other.ensures.rest image now told (sym c.in_ok-sync.ensures.kept ∙ later) place out

@@ -23,6 +23,7 @@ returns-clause-goes g c =
       safe = c.append.ensures.safe;
       works = c.append.ensures.works;
       stands = c.append.ensures.stands;
+      rest = c.append.ensures.rest;
     }) in
     goes_then c.args.self.now c.append.new.self c.end_file.new.self disk now now c.in_ok-append.field-0 c.end_file.result first
     (continues_goes c.append.new.self c.end_file.new.self now c.end_file.result c.end_file.ensures.done first.acts.running c.end_file.ensures.continues)

@@ -1,4 +1,4 @@
-use Rattle.std.proofs.Common.{◌≡◌, inl, inr, ℕ, map, subst, ◌∙◌}
+use Rattle.std.proofs.Common.{refl, ◌≡◌, inl, inr, ℕ, map, subst, ◌∙◌}
 use Rattle.load_base.specs.Config.{load_view}
 use Rattle.disk_layout.specs.Stands.{Stands}
 use Rattle.bank_store.specs.Bounds.{other_slot}
@@ -8,6 +8,7 @@ use Rattle.bank_store.proofs.Begun.{on_ok_by}
 use Rattle.bank_store.proofs.Going.{on_err_by, ruled_now, works_continued}
 use Rattle.bank_store.proofs.Installed.{any_moment, alone_moment}
 use Rattle.bank_store.proofs.Moments.{adds_none}
+use Rattle.bank_store.proofs.Rests.{rest_unread, rest_then}
 use Rattle.bank_store.proofs.store.Store.install.Goals as goal
 
 pub returns-in_err-prepare-clause-safe : goal.returns-in_err-prepare-clause-safe
@@ -104,3 +105,18 @@ pub returns-else-is_err-clause-works : goal.returns-else-is_err-clause-works
 returns-else-is_err-clause-works g c works answered =
     let disk = g.K.Disk.state c.args.disk.now in
     c.install_prepared-result.ensures.works (works_continued c.args.self.now c.prepare.new.self disk c.prepare.ensures.continues works) answered
+
+pub returns-in_err-prepare-clause-rest : goal.returns-in_err-prepare-clause-rest
+returns-in_err-prepare-clause-rest g c answered = rest_unread c.args.self.now (g.K.Disk.state c.args.disk.now) (g.K.Disk.state c.args.disk.now) refl
+
+pub returns-then-is_err-clause-rest : goal.returns-then-is_err-clause-rest
+returns-then-is_err-clause-rest g c answered =
+    let disk = g.K.Disk.state c.args.disk.now in
+    rest_then c.args.self.now c.prepare.new.self disk disk (g.K.Disk.state c.install_prepared-result.new.disk) c.prepare.ensures.continues.rules (λ image told. (image, told))
+    (rest_unread c.args.self.now disk disk refl) (c.install_prepared-result.ensures.rest answered)
+
+pub returns-else-is_err-clause-rest : goal.returns-else-is_err-clause-rest
+returns-else-is_err-clause-rest g c answered =
+    let disk = g.K.Disk.state c.args.disk.now in
+    rest_then c.args.self.now c.prepare.new.self disk disk (g.K.Disk.state c.install_prepared-result.new.disk) c.prepare.ensures.continues.rules (λ image told. (image, told))
+    (rest_unread c.args.self.now disk disk refl) (c.install_prepared-result.ensures.rest answered)

@@ -6,6 +6,8 @@ use Rattle.bank_store.specs.Whole.{whole}
 use Rattle.bank_store.proofs.Begun.{on_ok_by}
 use Rattle.bank_store.proofs.Going.{told_on}
 use Rattle.bank_store.proofs.Installed.{configured_whole, opens_for, either_configured}
+use Rattle.bank_store.proofs.Rests.{rest_then}
+use Rattle.bank_store.proofs.Going.{answered_rest}
 use Rattle.bank_store.proofs.store.Store.install_prepared.Goals as goal
 
 pub returns-in_err-write_all-clause-safe : goal.returns-in_err-write_all-clause-safe
@@ -47,3 +49,15 @@ returns-clause-installed g c =
     (rules (c.in_ok-write_all.ensures.goes.works works tt) middle.0 s (map whole loads) middle.1 (c.in_ok-write_all.ensures.goes.stands tt image middle.0 s told middle.1 was)
     (c.in_ok-write_all.ensures.ready image middle.0 s told middle.1 was) left may))
     c.activate.ensures.rules
+
+pub returns-clause-rest : goal.returns-clause-rest
+returns-clause-rest g c answered =
+    let disk = g.K.Disk.state c.args.disk.now in
+    let sealed = g.K.Disk.state c.write_all.new.disk in
+    rest_then c.args.self.now c.write_all.new.self disk sealed (g.K.Disk.state c.activate.new.disk) c.write_all.ensures.goes.rules
+    (λ image told. told_on disk.reads sealed.reads image c.write_all.ensures.goes.acts.goes_on.tells told) (c.in_ok-write_all.ensures.goes.rest tt)
+    (answered_rest c.activate.result c.activate.ensures.only_failures answered c.activate.ensures.rest)
+
+pub returns-in_err-write_all-clause-rest : goal.returns-in_err-write_all-clause-rest
+returns-in_err-write_all-clause-rest g c =
+    let p = err_from_is_err_and c.from_residual.result c.from_residual.ensures.1 in rw (p.1, p.2) c.in_err-write_all.ensures.goes.rest

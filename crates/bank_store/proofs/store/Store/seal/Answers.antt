@@ -1,11 +1,13 @@
-use Rattle.std.proofs.Common.{◌≡◌, ◌+◌, ◌≤◌, ℕ, refl, sym, ◌∙◌, ap, arith}
+use Rattle.std.proofs.Common.{◌≡◌, ◌+◌, ◌≤◌, ℕ, refl, sym, ◌∙◌, ap, subst, arith}
+use Rattle.disk_model.specs.Image.{Image}
 use Rattle.bank_store.specs.Store.{RulesAs, manifest_length, with_manifest, with_slot}
 use Rattle.bank_store.specs.Safe.{SameButForWork}
 use Rattle.bank_store.proofs.Continuing.{given_of, missing_none, begun_shut}
 use Rattle.bank_store.proofs.Gates.{same_image}
 use Rattle.bank_store.proofs.Moments.{adds_sync}
-use Rattle.bank_store.proofs.Ready.{sealed_image, stands_sealed, is_ready, sealed_work}
+use Rattle.bank_store.proofs.Ready.{sealed_image, near_sealed, stands_sealed, is_ready, sealed_work}
 use Rattle.bank_store.proofs.Working.{near_start, near_then, rules_still, works_on}
+use Rattle.bank_store.proofs.Rests.{rest_unread, rest_near}
 use Rattle.bank_store.proofs.store.Store.seal.Goals as goal
 
 pub returns-then-need-from-clause-safe : goal.returns-then-need-from-clause-safe
@@ -81,3 +83,16 @@ returns-clause-ready g c image now s given told later was has =
     ∙ ap (λ (n : ℕ). with_slot store far.end (n + 2) (with_manifest store far image)) c.len-length.ensures in
     is_ready store _ far image now s given (record { size = refl; slot = refl; bank = refl; sequence = refl }) refl c.in-Filling.is
     (missing_none store far c.requires.filling.0 c.in-Filling.is c.requires.filling.1 c.requires.filling.2) fits is was has
+
+pub returns-then-need-from-clause-rest : goal.returns-then-need-from-clause-rest
+returns-then-need-from-clause-rest g c answered = rest_unread c.args.self.now (g.K.Disk.state c.args.disk.now) (g.K.Disk.state c.args.disk.now) refl
+
+pub returns-clause-rest : goal.returns-clause-rest
+returns-clause-rest g c answered image now told later place out =
+    let store = c.args.self.now in
+    let far = c.in-Filling.far in
+    let fits : far.end + manifest_length store ≤ store.size = omega (arith, c.if-need-from.false, c.from.ensures, c.from-2.ensures, c.len-length.ensures) in
+    let is : now ≡ sealed_image store far image =
+    same_image now _ (sym later ∙ c.in_ok-sync.ensures.kept ∙ c.in_ok-write_slot.ensures.written _ (c.in_ok-write_manifest.ensures.written image told))
+    ∙ ap (λ (n : ℕ). with_slot store far.end (n + 2) (with_manifest store far image)) c.len-length.ensures in
+    rest_near store image now place (subst (λ (i : Image). SameButForWork store image i) (sym is) (near_sealed store far image (begun_shut store far c.in-Filling.is) fits)) out

@@ -13,7 +13,7 @@ returns-in_err-give-clause-goes g c =
     let disk = g.K.Disk.state c.args.disk.now in
     let begun = g.K.Disk.state c.begin.new.disk in
     let first = goes_is c.args.self.now c.begin.new.self disk begun c.begin.result (Ok tt) c.in_ok-begin.was
-    (record { rules = c.begin.ensures.rules; acts = c.begin.ensures.acts; running = c.begin.ensures.running; safe = c.begin.ensures.safe; works = c.begin.ensures.works; stands = c.begin.ensures.stands }) in
+    (record { rules = c.begin.ensures.rules; acts = c.begin.ensures.acts; running = c.begin.ensures.running; safe = c.begin.ensures.safe; works = c.begin.ensures.works; stands = c.begin.ensures.stands; rest = c.begin.ensures.rest }) in
     goes_then c.args.self.now c.begin.new.self c.give.new.self disk begun (g.K.Disk.state c.give.new.disk) tt (Err c.in_err-give.field-0.0) first
     (goes_is _ _ _ _ c.give.result (Err c.in_err-give.field-0.0) c.in_err-give.was c.give.ensures.goes))
 
@@ -31,11 +31,11 @@ returns-clause-goes g c =
     let given = g.K.Disk.state c.give.new.disk in
     let sealed = g.K.Disk.state c.seal.new.disk in
     let first = goes_is c.args.self.now c.begin.new.self disk begun c.begin.result (Ok tt) c.in_ok-begin.was
-    (record { rules = c.begin.ensures.rules; acts = c.begin.ensures.acts; running = c.begin.ensures.running; safe = c.begin.ensures.safe; works = c.begin.ensures.works; stands = c.begin.ensures.stands }) in
+    (record { rules = c.begin.ensures.rules; acts = c.begin.ensures.acts; running = c.begin.ensures.running; safe = c.begin.ensures.safe; works = c.begin.ensures.works; stands = c.begin.ensures.stands; rest = c.begin.ensures.rest }) in
     let second = goes_is c.begin.new.self c.give.new.self begun given c.give.result (Ok tt) c.in_ok-give.was c.give.ensures.goes in
     goes_then c.args.self.now c.give.new.self c.seal.new.self disk given sealed tt c.seal.result
     (goes_then c.args.self.now c.begin.new.self c.give.new.self disk begun given tt (Ok tt) first second)
-    (record { rules = c.seal.ensures.rules; acts = c.seal.ensures.acts; running = c.seal.ensures.running; safe = c.seal.ensures.safe; works = c.seal.ensures.works; stands = c.seal.ensures.stands })
+    (record { rules = c.seal.ensures.rules; acts = c.seal.ensures.acts; running = c.seal.ensures.running; safe = c.seal.ensures.safe; works = c.seal.ensures.works; stands = c.seal.ensures.stands; rest = c.seal.ensures.rest })
 
 pub returns-clause-ready : goal.returns-clause-ready
 returns-clause-ready g c =
