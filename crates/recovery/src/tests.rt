@@ -1,5 +1,5 @@
-use crate::{RecoverFault, Ruling, recover, survey};
-use disk_model::{FileDisk, MemDisk};
+use crate::{RecoverFault, recover, survey};
+use disk_model::{Call, FileDisk, MemDisk, Note};
 use std::fs;
 use std::test::Fail;
 
@@ -32,29 +32,47 @@ fn put(disk: &mut [u8], at: usize, bytes: &[u8]) {
     }
 }
 
+// Where the first and the last write of these calls begin.
+fn first_and_last(notes: &[Note]) -> (u32, u32) {
+    let mut places = (0, 0);
+    for note in notes {
+        if let Call::Write { at, .. } = note.call {
+            if places.0 == 0 {
+                places.0 = at;
+            }
+            places.1 = at;
+        }
+    }
+    places
+}
+
+// An installation shuts the other slot first where it is open, and else begins with the other bank; its last
+// write opens the other slot.
 #[test]
 fn a_survey_tells_what_rules(rt: HostRuntime) -> Result<(), Fail> {
     let alloc = rt.alloc();
-    for (gate_a, gate_b, slot, bank, sequence, other_is_open, loads) in [
-        (0xA5, 0xA5, 4608, 1, 8, true, 0),
-        (0x5A, 0xA5, 4608, 1, 8, false, 0),
-        (0xA5, 0x00, 4096, 0, 7, false, 1),
+    for (gate_a, gate_b, sequence_b, bank, sequence, loads, places) in [
+        (0xA5, 0xA5, 8, 1, 8, 0, (4096, 4096)),
+        (0x5A, 0xA5, 8, 1, 8, 0, (8192, 4096)),
+        (0xA5, 0xA5, 7, 0, 7, 1, (4608, 4608)),
+        (0xA5, 0x00, 8, 0, 7, 1, (12_288, 4608)),
     ] {
         let mut bytes = two_slots();
         put(&mut bytes, 4096, &[gate_a]);
         put(&mut bytes, 4608, &[gate_b]);
+        put(&mut bytes, 4627, &[sequence_b]);
         let mut disk = MemDisk::new(alloc, &bytes)?;
         let surveyed = survey(alloc, &mut disk)?;
-        let wanted = Ruling {
-            slot,
-            bank,
-            sequence,
-            other_is_open,
-        };
-        assert_eq!(rt; surveyed.ruling, wanted);
         assert_eq!(rt; surveyed.identity.hw.as_slice(), b"HW1".as_slice());
         assert_eq!(rt; surveyed.manifest.loads.len(), loads);
         assert_eq!(rt; disk.notes().len(), 0);
+        let mut store = surveyed.store;
+        assert_eq!(rt; (store.bank(), store.sequence()), (bank, sequence));
+        store.prepare()?;
+        store.begin(&mut disk)?;
+        store.seal(&mut disk)?;
+        store.activate(&mut disk)?;
+        assert_eq!(rt; first_and_last(disk.notes()), places);
     }
     Ok(())
 }
