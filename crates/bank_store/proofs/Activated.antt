@@ -4,12 +4,11 @@ use Rattle.std.specs.Prelude.{is_some}
 use Rattle.std.proofs.lemmas.Bool.{cases_eq}
 use Rattle.disk_model.specs.Image.{Image, overlay, SameOutside}
 use Rattle.disk_model.specs.State.{DiskState, IsSettled, Elapses, Torn}
-use Rattle.disk_model.specs.Moments.{LeavesOnly}
 use Rattle.disk_model.specs.declared.disk.DiskFault.{DiskFault}
-use Rattle.disk_model.proofs.Moments.{started, goes_on}
 use Rattle.disk_model.proofs.Overlays.{overlay_is, overlay_outside}
 use Rattle.disk_layout.specs.Slots.{IsOpen, IsSlot}
 use Rattle.disk_layout.specs.Stands.{StandingView, StandsBy, Stands}
+use Rattle.bank_store.specs.Acts.{AddsOnly}
 use Rattle.bank_store.specs.Bounds.{other_slot}
 use Rattle.bank_store.specs.Store.{IsSealed, Switches, other_bank}
 use Rattle.bank_store.specs.Given.{GivenLoad, installed}
@@ -19,6 +18,7 @@ use Rattle.bank_store.specs.declared.stage.Stage.{Stage}
 use Rattle.bank_store.proofs.Continuing.{idle_not_sealed}
 use Rattle.bank_store.proofs.Gates.{same_image}
 use Rattle.bank_store.proofs.Images.{told_before}
+use Rattle.bank_store.proofs.Moments.{adds_first}
 use Rattle.bank_store.proofs.Near.{slot_from, shut_stands}
 
 abbrev EitherStands : StandingView → List GivenLoad → Image → Type 0
@@ -44,11 +44,10 @@ gate_torn store image left s loads was ready same = elim (cases_eq (left (other_
 ]
 
 pub while_opening : {T : Type 0} (store : Store) (old new : DiskState) (at : ℕ) (image : Image) (s : StandingView) (loads : List GivenLoad) (result : Result T DiskFault) → at ≡ other_slot store.slot
-    → Works store old → old.reads ≡ Some image → StandsFor store image s → IsReady store image s loads → ((t u : ℕ) (left : Image) → old.clock ≤ t → old.between t u left → old.now left)
-    → Elapses old new (Torn at 1 old.now) result → LeavesOnly old.clock (λ left. Stands left s ⊎ Stands left (installed s loads)) new
-while_opening store old new at image s loads result is works told was ready only elapses =
-    goes_on old.clock (EitherStands s loads) old new (Torn at 1 old.now) result
-    (started old (EitherStands s loads) only (λ left may. subst (EitherStands s loads) (alone left may) (inl (record { slot = store.slot; by = was.by })))) elapses
+    → Works store old → old.reads ≡ Some image → StandsFor store image s → IsReady store image s loads
+    → Elapses old new (Torn at 1 old.now) result → AddsOnly old new (λ left. Stands left s ⊎ Stands left (installed s loads))
+while_opening store old new at image s loads result is works told was ready elapses =
+    adds_first old new (Torn at 1 old.now) (EitherStands s loads) result elapses
     (λ left torn. gate_torn store image left s loads was ready
     (λ place out. torn.same place (subst (λ (n : ℕ). (place < n) ⊎ (n + 1 ≤ place)) (sym is) out) ∙ ap (λ (i : Image). i place) (sym (alone torn.before torn.was))))
   where

@@ -3,12 +3,11 @@ use Rattle.std.proofs.Common.{◌≡◌, ◌⊎◌, ℕ, ◌+◌, ◌<◌, ◌�
 use Rattle.std.specs.Prelude.{is_some}
 use Rattle.disk_model.specs.Image.{Image, overlay}
 use Rattle.disk_model.specs.State.{DiskState, IsSettled, Elapses, Torn}
-use Rattle.disk_model.specs.Moments.{LeavesOnly}
 use Rattle.disk_model.specs.declared.disk.DiskFault.{DiskFault}
-use Rattle.disk_model.proofs.Moments.{started, goes_on}
 use Rattle.disk_model.proofs.Overlays.{overlay_inside, overlay_outside}
 use Rattle.disk_layout.specs.Slots.{IsOpen}
 use Rattle.disk_layout.specs.Stands.{StandingView, StandsBy, Stands}
+use Rattle.bank_store.specs.Acts.{AddsOnly}
 use Rattle.bank_store.specs.Bounds.{other_slot}
 use Rattle.bank_store.specs.Store.{IsFilling, RulesAs}
 use Rattle.bank_store.specs.Given.{nothing_given}
@@ -19,7 +18,8 @@ use Rattle.bank_store.proofs.Continuing.{has_work, not_sealed}
 use Rattle.bank_store.proofs.Gates.{same_image}
 use Rattle.bank_store.proofs.Giving.{given_nothing}
 use Rattle.bank_store.proofs.Images.{told_before}
-use Rattle.bank_store.proofs.Near.{near_stands, shut_stands, torn_gate_stands}
+use Rattle.bank_store.proofs.Moments.{adds_first}
+use Rattle.bank_store.proofs.Near.{shut_stands, torn_gate_stands}
 
 pub on_ok_by : {T E A B : Type 0} (result : Result T E) → (A → B) → OnOk result A → OnOk result B
 on_ok_by (Ok x) f a = f a
@@ -38,11 +38,9 @@ shut_gate store image s at is was =
     zero_not byte is opened = omega (arith, is, opened)
 
 pub while_shutting : {T : Type 0} (store : Store) (old new : DiskState) (at : ℕ) (image : Image) (s : StandingView) (result : Result T DiskFault) → at ≡ other_slot store.slot → store.other_is_open ≡ true
-    → Works store old → old.reads ≡ Some image → StandsFor store image s → ((t u : ℕ) (left : Image) → old.clock ≤ t → old.between t u left → old.now left)
-    → Elapses old new (Torn at 1 old.now) result → LeavesOnly old.clock (λ left. Stands left s) new
-while_shutting store old new at image s result is opened works told was only elapses =
-    goes_on old.clock (λ left. Stands left s) old new (Torn at 1 old.now) result
-    (started old (λ left. Stands left s) only (λ left may. record { slot = store.slot; by = (near_stands store image left s was (works.near image left told may)).by })) elapses
+    → Works store old → old.reads ≡ Some image → StandsFor store image s → Elapses old new (Torn at 1 old.now) result → AddsOnly old new (λ left. Stands left s)
+while_shutting store old new at image s result is opened works told was elapses =
+    adds_first old new (Torn at 1 old.now) (λ left. Stands left s) result elapses
     (λ left torn. torn_gate_stands store image left s opened was
     (λ place out apart. torn.same place (subst (λ (n : ℕ). (place < n) ⊎ (n + 1 ≤ place)) (sym is) apart) ∙ works.near image torn.before told torn.was place out))
 

@@ -48,7 +48,7 @@ continues_idle old new rules gate is = record {
   sealed = λ sealed. absurd (idle_not_sealed (sym is ∙ sealed));
 }
 
-filling_not_idle : (far : Filling) → ◌≡◌ {A = Stage} (stages.Filling far) stages.Idle → ⊥
+pub filling_not_idle : (far : Filling) → ◌≡◌ {A = Stage} (stages.Filling far) stages.Idle → ⊥
 filling_not_idle far e = cc
 
 -- while contents are coming the other slot is shut

@@ -5,13 +5,17 @@ pub mod Continuing
 pub mod Footprint
 pub mod Gates
 pub mod Giving
+pub mod Going
 pub mod Images
+pub mod Installed
 pub mod Layouts
 pub mod Moments
 pub mod Near
 pub mod Opened
 pub mod Premises
 pub mod Ready
+pub mod Rests
 pub mod Sealing
 pub mod Sizes
+pub mod Wholes
 pub mod Working

@@ -7,6 +7,17 @@ use Rattle.disk_model.specs.declared.disk.DiskFault.{DiskFault}
 use Rattle.std.specs.Prelude.{Result}
 use Rattle.bank_store.specs.Acts.{AddsOnly}
 
+-- where nothing is called
+pub adds_none : (disk : DiskState) (P : Image → Type 0) → ((image : Image) → disk.now image → P image) → AddsOnly disk disk P
+adds_none disk P here = record { each = λ t u image might. inl might; here = here }
+
+-- images of which more is known have the less
+pub adds_less : (old new : DiskState) (P Q : Image → Type 0) → ((image : Image) → P image → Q image) → AddsOnly old new P → AddsOnly old new Q
+adds_less old new P Q less adds = record {
+  each = λ t u image might. elim (adds.each t u image might) [ inl before ↦ inl before | inr is ↦ inr (less image is) ];
+  here = λ image may. less image (adds.here image may);
+}
+
 -- over the first call
 pub adds_first : {T : Type 0} (old new : DiskState) (inside P : Image → Type 0) (result : Result T DiskFault) → Elapses old new inside result
     → ((image : Image) → inside image → P image) → AddsOnly old new P
@@ -40,3 +51,7 @@ leaves_only old new P only were adds = record {
   ];
   here = adds.here;
 }
+
+-- over a sync or a restart
+pub adds_sync : {T : Type 0} (a b c : DiskState) (P : Image → Type 0) (result : Result T DiskFault) → AddsOnly a b P → Elapses b c b.now result → AddsOnly a c P
+adds_sync a b c P result was elapses = adds_more a b c b.now P result was elapses was.here

@@ -5,17 +5,17 @@ use Rattle.std.proofs.lemmas.Bool.{cases_lt}
 use Rattle.disk_model.specs.Image.{Image, overlay}
 use Rattle.disk_model.specs.State.{DiskState, Elapses, Torn, IsSettled}
 use Rattle.disk_model.proofs.Overlays.{overlay_outside}
-use Rattle.disk_model.specs.Moments.{LeavesOnly}
 use Rattle.disk_model.specs.declared.disk.DiskFault.{DiskFault}
-use Rattle.disk_model.proofs.Moments.{started, write_goes_on, leaves_more}
 use Rattle.disk_layout.specs.Stands.{StandingView, Stands}
+use Rattle.bank_store.specs.Acts.{AddsOnly}
 use Rattle.bank_store.specs.Bounds.{other_slot}
 use Rattle.bank_store.specs.Store.{work_at, RulesAs, IsSealed}
-use Rattle.bank_store.specs.Safe.{StandsFor, SameButForWork, Works, HasWork}
+use Rattle.bank_store.specs.Safe.{StandsFor, SameButForWork, Works, HasWork, KeepsNear}
 use Rattle.bank_store.specs.declared.store.Store.{Store}
 use Rattle.bank_store.proofs.Near.{IsWork, near_stands, near_torn, near_on, near_back}
 use Rattle.bank_store.proofs.Carried.{near_carried, stands_carried}
 use Rattle.bank_store.proofs.Images.{told_before}
+use Rattle.bank_store.proofs.Moments.{adds_none, adds_less, adds_more, adds_joined}
 
 -- a part of the other bank
 pub bank_is_work : (store : Store) (at n : ℕ) → work_at store ≤ at → at + n ≤ work_at store + store.size → IsWork store at n
@@ -41,32 +41,37 @@ slot_is_work store at n shut begins ends = record {
   ];
 }
 
--- at the start of a call, from what is read; `only` is the law `only_now`
-pub near_start : (store : Store) (disk : DiskState) (image : Image) → Works store disk → disk.reads ≡ Some image
-    → ((t u : ℕ) (left : Image) → disk.clock ≤ t → disk.between t u left → disk.now left) → LeavesOnly disk.clock (SameButForWork store image) disk
-near_start store disk image works told only = started disk (SameButForWork store image) only (λ left may. works.near image left told may)
+-- at the start of a call, from what is read
+pub near_start : (store : Store) (disk : DiskState) (image : Image) → Works store disk → disk.reads ≡ Some image → AddsOnly disk disk (SameButForWork store image)
+near_start store disk image works told = adds_none disk (SameButForWork store image) (λ left may. works.near image left told may)
 
 -- over a write
-pub near_write : {T : Type 0} (store : Store) (since : ℕ) (image : Image) (old new : DiskState) (at n : ℕ) (result : Result T DiskFault) → IsWork store at n
-    → LeavesOnly since (SameButForWork store image) old → Elapses old new (Torn at n old.now) result → LeavesOnly since (SameButForWork store image) new
-near_write store since image old new at n result work was elapses =
-    write_goes_on since (SameButForWork store image) old new at n result was elapses (λ before after near same. near_torn store image before after at n work near same)
+pub near_write : {T : Type 0} (store : Store) (first : DiskState) (image : Image) (old new : DiskState) (at n : ℕ) (result : Result T DiskFault) → IsWork store at n
+    → AddsOnly first old (SameButForWork store image) → Elapses old new (Torn at n old.now) result → AddsOnly first new (SameButForWork store image)
+near_write store first image old new at n result work was elapses =
+    adds_more first old new (Torn at n old.now) (SameButForWork store image) result was elapses
+    (λ left torn. near_torn store image torn.before left at n work (was.here torn.before torn.was) torn.same)
+
+-- over calls that keep near
+pub near_then : (store : Store) (first old new : DiskState) (image : Image) → AddsOnly first old (SameButForWork store image) → KeepsNear store old new → AddsOnly first new (SameButForWork store image)
+near_then store first old new image was keeps =
+    adds_joined first old new (SameButForWork store image) (SameButForWork store image) (SameButForWork store image) was (keeps image was.here) (λ left is. is) (λ left is. is)
 
 -- the same configuration rules all the time
-pub rules_still : (store : Store) (since : ℕ) (disk : DiskState) (image : Image) (s : StandingView) → StandsFor store image s → LeavesOnly since (SameButForWork store image) disk
-    → LeavesOnly since (λ left. Stands left s) disk
-rules_still store since disk image s was near =
-    leaves_more since (SameButForWork store image) (λ left. Stands left s) disk (λ left same. record { slot = store.slot; by = (near_stands store image left s was same).by }) near
+pub rules_still : (store : Store) (first disk : DiskState) (image : Image) (s : StandingView) → StandsFor store image s → AddsOnly first disk (SameButForWork store image)
+    → AddsOnly first disk (λ left. Stands left s)
+rules_still store first disk image s was near =
+    adds_less first disk (SameButForWork store image) (λ left. Stands left s) (λ left same. record { slot = store.slot; by = (near_stands store image left s was same).by }) near
 
 -- what an installation writes leaves the rest as it was
 pub near_overlay : (store : Store) (image : Image) (at : ℕ) (bytes : List ℕ) → IsWork store at (length bytes) → SameButForWork store image (overlay image at bytes)
 near_overlay store image at bytes work place out = overlay_outside image at bytes place (work.within place out)
 
 -- A call after which the same rules still works; `here` is the law `reads_now`.
-pub works_on : (old new : Store) (before after : DiskState) (since : ℕ) → RulesAs old new → new.other_is_open ≡ old.other_is_open → is_some after.reads ≡ is_some before.reads
-    → ((image : Image) → after.reads ≡ Some image → after.now image) → ((image : Image) → before.reads ≡ Some image → LeavesOnly since (SameButForWork old image) after)
+pub works_on : (old new : Store) (before after first : DiskState) → RulesAs old new → new.other_is_open ≡ old.other_is_open → is_some after.reads ≡ is_some before.reads
+    → ((image : Image) → after.reads ≡ Some image → after.now image) → ((image : Image) → before.reads ≡ Some image → AddsOnly first after (SameButForWork old image))
     → ((image now : Image) → before.reads ≡ Some image → after.reads ≡ Some now → HasWork new now) → (IsSealed new → IsSettled after) → Works old before → Works new after
-works_on old new before after since rules gate tells here near work settled works = record {
+works_on old new before after first rules gate tells here near work settled works = record {
   stands = λ now told.
       let first = told_before before.reads after.reads now tells told in
       let s = works.stands first.0 first.1 in

@@ -100,6 +100,10 @@ pub record HasGiven (store : Store) (image : Image) (g : Given) : Type 0 where
   pub start : far.start + length g.bytes ≡ far.end
   pub written : range image (work_at store) far.end ≡ bytes_given g
 
--- the configuration of these loads, on the target where this one ruled
+-- the configuration with these loads that follows one on its target: in the other bank, with the next sequence number
+abbrev pub configured : StandingView → List LoadView → StandingView
+configured s loads = record { identity = s.identity; bank = other_bank s.bank; sequence = s.sequence + 1; loads = loads }
+
+-- the configuration of the loads that were given
 abbrev pub installed : StandingView → List GivenLoad → StandingView
-installed s loads = record { identity = s.identity; bank = other_bank s.bank; sequence = s.sequence + 1; loads = map load_of loads }
+installed s loads = configured s (map load_of loads)

@@ -6,3 +6,4 @@ pub mod Front
 pub mod Given
 pub mod Safe
 pub mod Store
+pub mod Whole

@@ -2,9 +2,9 @@
 use Rattle.std.specs.Prelude.{◌≡◌, ◌⊎◌, ℕ, ◌+◌, ◌<◌, ◌≤◌, true, false, List, Some, [], ◌∷◌}
 use Rattle.disk_model.specs.Image.{Image, overlay}
 use Rattle.disk_model.specs.State.{DiskState, IsSettled}
-use Rattle.disk_model.specs.Moments.{LeavesOnly}
 use Rattle.disk_layout.specs.Slots.{IsOpen}
 use Rattle.disk_layout.specs.Stands.{StandingView, Stands, StandsBy}
+use Rattle.bank_store.specs.Acts.{AddsOnly}
 use Rattle.bank_store.specs.Bounds.{other_slot}
 use Rattle.bank_store.specs.Store.{work_at, IsSealed, RulesAs}
 use Rattle.bank_store.specs.declared.store.Store.{Store}
@@ -61,20 +61,29 @@ pub record Works (store : Store) (disk : DiskState) : Type 0 where
   pub near : (image left : Image) → disk.reads ≡ Some image → disk.now left → SameButForWork store image left
   pub settled : IsSealed store → IsSettled disk
 
--- a call after which each image since its start stands for what ruled at its start
+-- Inside the call and after it a power loss leaves what stands for what ruled at the call's start.
 abbrev pub KeepsRuling : Store → DiskState → DiskState → Type 0
 KeepsRuling store old new =
-    Works store old → (image : Image) (s : StandingView) → old.reads ≡ Some image → StandsFor store image s → LeavesOnly old.clock (λ left. Stands left s) new
+    Works store old → (image : Image) (s : StandingView) → old.reads ≡ Some image → StandsFor store image s → AddsOnly old new (λ left. Stands left s)
 
--- calls after which each image since a moment still differs from one only where an installation writes
+-- Where each image now differs from this one only where an installation writes, so does each that the calls add.
 abbrev pub KeepsNear : Store → DiskState → DiskState → Type 0
 KeepsNear store old new =
-    (since : ℕ) (image : Image) → LeavesOnly since (SameButForWork store image) old → LeavesOnly since (SameButForWork store image) new
+    (image : Image) → ((left : Image) → old.now left → SameButForWork store image left) → AddsOnly old new (SameButForWork store image)
 
 -- by the ruling slot the image stands for this configuration, and the other slot is shut
 pub record IsShutFor (store : Store) (image : Image) (s : StandingView) : Type 0 where
   pub by : StandsBy image store.slot s
   pub shut : ¬ IsOpen image (other_slot store.slot)
+
+-- a place of the other bank or of the other slot
+abbrev pub IsBeside : Store → ℕ → Type 0
+IsBeside store place =
+    ((work_at store ≤ place) × (place < work_at store + store.size)) ⊎ ((other_slot store.slot ≤ place) × (place < other_slot store.slot + 29))
+
+-- What is read in any other place is what was read there.
+abbrev pub LeavesRest : Store → DiskState → DiskState → Type 0
+LeavesRest store old new = (image now : Image) → old.reads ≡ Some image → new.reads ≡ Some now → (place : ℕ) → ¬ IsBeside store place → now place ≡ image place
 
 -- What holds of a store and a disk before a call that doesn't touch the disk holds after it.
 pub record Continues (old new : Store) : Type 0 where

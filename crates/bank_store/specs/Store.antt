@@ -83,6 +83,10 @@ bytes_appended n far = record { loads = far.loads; missing = far.missing; end = 
 abbrev pub file_ended : Filling → Filling
 file_ended far = record { loads = far.loads; missing = far.missing - 1; end = far.end; start = far.end }
 
+-- how many more bytes of a manifest surely take no memory
+abbrev pub room_of : Store → ℕ
+room_of store = store.body.room
+
 -- how many bytes the manifest has of what was given so far
 abbrev pub manifest_length : Store → ℕ
 manifest_length store = length store.body.items + 2

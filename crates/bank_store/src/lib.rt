@@ -4,12 +4,13 @@
 mod fault;
 mod formatting;
 mod front;
+mod install;
 mod laws;
 mod stage;
 mod store;
 
 pub use disk_layout::Identity;
-pub use fault::StoreFault;
+pub use fault::{StoreFault, store_fault_text};
 pub use formatting::format;
 pub use laws::a_settled_disk_works;
 pub use store::Store;

@@ -2,11 +2,10 @@
 ghost use Rattle.std.specs.Prelude.{◌≡◌, ◌⊎◌, ◌↔◌, ℕ, ◌+◌, ◌-◌, ◌*◌, ◌<◌, ◌≤◌, List, [], true, false, Some, length, IsOk, IfErr, OnOk, IsErrOf};
 ghost use Rattle.load_base.specs.Host.{longest_file};
 ghost use Rattle.disk_model.specs.Image.{Image};
-ghost use Rattle.disk_model.specs.Moments.{LeavesOnly};
 ghost use Rattle.disk_model.specs.State.{DiskState, IsSettled, HasCause};
 ghost use Rattle.disk_layout.specs.Places.{IsBankSize, most_loads, most_files};
 ghost use Rattle.disk_layout.specs.Stands.{StandingView, Stands};
-ghost use Rattle.bank_store.specs.declared.fault.StoreFault.TheVariants.{BankFull, SequenceSpent};
+ghost use Rattle.bank_store.specs.declared.fault.StoreFault.TheVariants.{BankFull, SequenceSpent, Memory};
 ghost use Rattle.bank_store.specs.declared.stage.Filling.{Filling};
 ghost use Rattle.bank_store.specs.Bounds.{IsStore, is_slot_place};
 
@@ -41,10 +40,10 @@ pub struct Store {
 }
 
 impl Store {
-    ghost use Rattle.bank_store.specs.Store.{size_of, slot_of, bank_of, sequence_of, is_other_open, stage_of, work_at, RulesAs, Switches, IsIdle, IsFilling, IsSealed, IsPrepared, load_announced, bytes_appended, file_ended, manifest_length, slot_body, with_manifest, with_slot};
+    ghost use Rattle.bank_store.specs.Store.{size_of, slot_of, bank_of, sequence_of, is_other_open, stage_of, work_at, RulesAs, Switches, IsIdle, IsFilling, IsSealed, IsPrepared, room_of, load_announced, bytes_appended, file_ended, manifest_length, slot_body, with_manifest, with_slot};
     ghost use Rattle.bank_store.specs.Given.{Given, GivenLoad, HasGiven, nothing_given, with_load, with_bytes, with_file, installed};
-    ghost use Rattle.bank_store.specs.Safe.{StandsFor, Works, KeepsRuling, IsReady, IsShutFor, KeepsNear, Continues, StillStands};
-    ghost use Rattle.bank_store.specs.Acts.{Acts, GoesOn, IsAnswered};
+    ghost use Rattle.bank_store.specs.Safe.{StandsFor, Works, KeepsRuling, IsReady, IsShutFor, KeepsNear, Continues, StillStands, LeavesRest};
+    ghost use Rattle.bank_store.specs.Acts.{Acts, AddsOnly, GoesOn, IsAnswered};
     ghost use Rattle.bank_store.specs.Bounds.{other_slot};
 
     /// A store for a disk on which this slot rules, with banks of so many bytes. It takes no memory yet.
@@ -76,6 +75,8 @@ impl Store {
         requires { IsIdle self.old }
         ensures prepared { OnOk result (IsPrepared self.new) }
         ensures same_stage { IsIdle self.new }
+        ensures again { IsPrepared self.old → IsOk result }
+        ensures only_memory { IfErr result (λ fault. fault ≡ Memory) }
         ensures continues { Continues self.old self.new }
     {
         self.body.reserve(LONGEST_MANIFEST as usize)?;
@@ -98,6 +99,7 @@ impl Store {
         ensures running { IsAnswered result → (K.state disk.new).stopped ≡ false }
         ensures safe { KeepsRuling self.old (K.state disk.old) (K.state disk.new) }
         ensures works { Works self.old (K.state disk.old) → IsAnswered result → Works self.new (K.state disk.new) }
+        ensures rest { IsAnswered result → LeavesRest self.old (K.state disk.old) (K.state disk.new) }
         ensures stands { IsAnswered result → StillStands self.old self.new (K.state disk.old) (K.state disk.new) }
         ensures given { OnOk result ((image : Image) → (K.state disk.new).reads ≡ Some image → HasGiven self.new image nothing_given) }
         ensures manifest { OnOk result (manifest_length self.new ≡ 2) }
@@ -124,6 +126,7 @@ impl Store {
         ensures goes_on { GoesOn (K.state disk.old) (K.state disk.new) }
         ensures cause { HasCause (K.state disk.old) (K.state disk.new) result }
         ensures safe { KeepsRuling self.now (K.state disk.old) (K.state disk.new) }
+        ensures rest { OnOk result (LeavesRest self.now (K.state disk.old) (K.state disk.new)) }
         ensures shut { OnOk result ((image now : Image) (s : StandingView) → (K.state disk.old).reads ≡ Some image → (K.state disk.new).reads ≡ Some now
             → StandsFor self.now image s → IsShutFor self.now now s) }
     {
@@ -177,6 +180,7 @@ impl Store {
         ensures running { IsAnswered result → (K.state disk.new).stopped ≡ false }
         ensures safe { KeepsRuling self.old (K.state disk.old) (K.state disk.new) }
         ensures works { Works self.old (K.state disk.old) → IsAnswered result → Works self.new (K.state disk.new) }
+        ensures rest { IsAnswered result → LeavesRest self.old (K.state disk.old) (K.state disk.new) }
         ensures stands { IsAnswered result → StillStands self.old self.new (K.state disk.old) (K.state disk.new) }
         ensures given { OnOk result ((image now : Image) (g : Given) → (K.state disk.old).reads ≡ Some image → (K.state disk.new).reads ≡ Some now
             → HasGiven self.old image g → HasGiven self.new now (with_bytes bytes.now g)) }
@@ -245,6 +249,7 @@ impl Store {
         ensures running { IsAnswered result → (K.state disk.new).stopped ≡ false }
         ensures safe { KeepsRuling self.old (K.state disk.old) (K.state disk.new) }
         ensures works { Works self.old (K.state disk.old) → IsAnswered result → Works self.new (K.state disk.new) }
+        ensures rest { IsAnswered result → LeavesRest self.old (K.state disk.old) (K.state disk.new) }
         ensures stands { IsAnswered result → StillStands self.old self.new (K.state disk.old) (K.state disk.new) }
         ensures settled { OnOk result (IsSettled (K.state disk.new)) }
         ensures ready { OnOk result ((image now : Image) (s : StandingView) (g : Given) → (K.state disk.old).reads ≡ Some image → (K.state disk.new).reads ≡ Some now
@@ -319,18 +324,20 @@ impl Store {
         requires sealed { IsSealed self.old }
         requires running { (K.state disk.old).stopped ≡ false }
         ensures switches { OnOk result (Switches self.old self.new) }
+        ensures prepared { OnOk result (IsPrepared self.new) }
         ensures refused { IfErr result (λ fault. self.new ≡ self.old) }
         ensures only_failures { IsOk result ⊎ ¬ IsAnswered result }
         ensures acts { Acts (K.state disk.old) (K.state disk.new) result }
         ensures running { OnOk result ((K.state disk.new).stopped ≡ false) }
         ensures safe { Works self.old (K.state disk.old) → (image : Image) (s : StandingView) (loads : List GivenLoad) → (K.state disk.old).reads ≡ Some image
             → StandsFor self.old image s → IsReady self.old image s loads
-            → LeavesOnly (K.state disk.old).clock (λ left. Stands left s ⊎ Stands left (installed s loads)) (K.state disk.new) }
+            → AddsOnly (K.state disk.old) (K.state disk.new) (λ left. Stands left s ⊎ Stands left (installed s loads)) }
         ensures settled { OnOk result (IsSettled (K.state disk.new)) }
         ensures rules { OnOk result (Works self.old (K.state disk.old) → (image : Image) (s : StandingView) (loads : List GivenLoad) → (K.state disk.old).reads ≡ Some image
             → StandsFor self.old image s → IsReady self.old image s loads
             → (left : Image) → (K.state disk.new).now left → Stands left (installed s loads)) }
         ensures works { OnOk result (Works self.old (K.state disk.old) → Works self.new (K.state disk.new)) }
+        ensures rest { OnOk result (LeavesRest self.old (K.state disk.old) (K.state disk.new)) }
         ensures stands { OnOk result ((image now : Image) (s : StandingView) (loads : List GivenLoad) → (K.state disk.old).reads ≡ Some image → (K.state disk.new).reads ≡ Some now
             → StandsFor self.old image s → IsReady self.old image s loads → StandsFor self.new now (installed s loads)) }
     {
@@ -350,6 +357,7 @@ impl Store {
     #[tactic(auto, using(crate::proofs::Continuing::continues_idle))]
     pub fn abandon(&mut self)
         ensures idle { IsIdle self.new }
+        ensures prepared { ¬ IsIdle self.old → IsPrepared self.new }
         ensures unchanged { IsIdle self.old → self.new ≡ self.old }
         ensures continues { Continues self.old self.new }
     {
@@ -363,6 +371,7 @@ impl Store {
         ensures idle { IsIdle self.new }
         ensures rules { RulesAs self.old self.new }
         ensures gate { is_other_open self.new ≡ is_other_open self.old }
+        ensures room { room_of self.new ≡ room_of self.old + (manifest_length self.old - 2) }
     {
         self.body.clear();
         self.stage = Stage::Idle;

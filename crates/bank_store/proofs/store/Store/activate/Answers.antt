@@ -1,6 +1,5 @@
 use Rattle.std.proofs.Common.{◌≡◌, ◌⊎◌, ℕ, ◌+◌, [], ◌∷◌, true, refl, sym, ◌∙◌, ap, subst}
 use Rattle.disk_model.specs.Image.{Image, overlay}
-use Rattle.disk_model.proofs.Moments.{sync_goes_on}
 use Rattle.disk_layout.specs.Stands.{Stands, StandsBy}
 use Rattle.bank_store.specs.Bounds.{other_slot}
 use Rattle.bank_store.specs.Store.{IsIdle, RulesAs, Switches, other_bank}
@@ -8,21 +7,23 @@ use Rattle.bank_store.specs.Given.{installed}
 use Rattle.bank_store.specs.declared.store.Store.{Store}
 use Rattle.bank_store.proofs.Activated.{while_opening, opened_by, switched_stands, switched_works}
 use Rattle.bank_store.proofs.Gates.{same_image}
+use Rattle.bank_store.proofs.Moments.{adds_sync}
+use Rattle.bank_store.proofs.Rests.{rest_gate}
 use Rattle.bank_store.proofs.store.Store.activate.Goals as goal
 
 pub returns-in_err-write-clause-safe : goal.returns-in_err-write-clause-safe
 returns-in_err-write-clause-safe g c works image s loads told was ready =
-    while_opening c.args.self.now (g.K.Disk.state c.args.disk.now) _ c.other-slot.result image s loads _ c.other-slot.ensures works told was ready (g.met.K.Disk.only_now c.args.disk.now) c.write.ensures.elapses
+    while_opening c.args.self.now (g.K.Disk.state c.args.disk.now) _ c.other-slot.result image s loads _ c.other-slot.ensures works told was ready c.write.ensures.elapses
 
 pub returns-in_err-sync-clause-safe : goal.returns-in_err-sync-clause-safe
 returns-in_err-sync-clause-safe g c works image s loads told was ready =
-    sync_goes_on (g.K.Disk.state c.args.disk.now).clock (λ left. Stands left s ⊎ Stands left (installed s loads)) _ _ _
-    (while_opening c.args.self.now (g.K.Disk.state c.args.disk.now) _ c.other-slot.result image s loads _ c.other-slot.ensures works told was ready (g.met.K.Disk.only_now c.args.disk.now) c.write.ensures.elapses) c.sync.ensures.elapses
+    adds_sync (g.K.Disk.state c.args.disk.now) _ _ (λ left. Stands left s ⊎ Stands left (installed s loads)) _
+    (while_opening c.args.self.now (g.K.Disk.state c.args.disk.now) _ c.other-slot.result image s loads _ c.other-slot.ensures works told was ready c.write.ensures.elapses) c.sync.ensures.elapses
 
 pub returns-clause-safe : goal.returns-clause-safe
 returns-clause-safe g c works image s loads told was ready =
-    sync_goes_on (g.K.Disk.state c.args.disk.now).clock (λ left. Stands left s ⊎ Stands left (installed s loads)) _ _ _
-    (while_opening c.args.self.now (g.K.Disk.state c.args.disk.now) _ c.other-slot.result image s loads _ c.other-slot.ensures works told was ready (g.met.K.Disk.only_now c.args.disk.now) c.write.ensures.elapses) c.sync.ensures.elapses
+    adds_sync (g.K.Disk.state c.args.disk.now) _ _ (λ left. Stands left s ⊎ Stands left (installed s loads)) _
+    (while_opening c.args.self.now (g.K.Disk.state c.args.disk.now) _ c.other-slot.result image s loads _ c.other-slot.ensures works told was ready c.write.ensures.elapses) c.sync.ensures.elapses
 
 pub returns-clause-rules : goal.returns-clause-rules
 returns-clause-rules g c works image s loads told was ready left may =
@@ -59,3 +60,7 @@ returns-clause-stands g c image now s loads told later was ready =
     switched_stands store _ image now s loads c.other-slot.result
     (switched store c.forget.new.self _ c.other-slot.result c.forget.ensures.rules c.other-slot.ensures refl refl refl refl refl c.forget.ensures.idle)
     c.other-slot.ensures (same_image now _ (sym later ∙ c.in_ok-sync.ensures.kept ∙ c.in_ok-write.ensures.bytes image told)) was ready
+
+pub returns-clause-rest : goal.returns-clause-rest
+returns-clause-rest g c image now told later place out =
+    rest_gate c.args.self.now image now c.other-slot.result _ place c.other-slot.ensures (same_image now _ (sym later ∙ c.in_ok-sync.ensures.kept ∙ c.in_ok-write.ensures.bytes image told)) out

@@ -1,23 +1,24 @@
 use Rattle.std.proofs.Common.{refl, sym, ◌∙◌}
-use Rattle.disk_model.proofs.Moments.{sync_goes_on}
 use Rattle.disk_layout.specs.Stands.{Stands}
 use Rattle.bank_store.proofs.Begun.{begun_stands, begun_works}
 use Rattle.bank_store.proofs.Giving.{given_nothing}
+use Rattle.bank_store.proofs.Moments.{adds_sync}
 use Rattle.bank_store.proofs.Working.{near_start, rules_still}
+use Rattle.bank_store.proofs.Rests.{rest_unread}
 use Rattle.bank_store.proofs.store.Store.begin.Goals as goal
 
 pub returns-then-self-clause-safe : goal.returns-then-self-clause-safe
 returns-then-self-clause-safe g c works image s told was =
     let disk = g.K.Disk.state c.args.disk.now in
-    rules_still c.args.self.now disk.clock disk image s was (near_start c.args.self.now disk image works told (g.met.K.Disk.only_now c.args.disk.now))
+    rules_still c.args.self.now disk disk image s was (near_start c.args.self.now disk image works told)
 
 pub returns-in_err-sync-clause-safe : goal.returns-in_err-sync-clause-safe
 returns-in_err-sync-clause-safe g c works image s told was =
-    sync_goes_on (g.K.Disk.state c.args.disk.now).clock (λ left. Stands left s) _ _ _ (c.shut_other.ensures.safe works image s told was) c.sync.ensures.elapses
+    adds_sync (g.K.Disk.state c.args.disk.now) _ _ (λ left. Stands left s) _ (c.shut_other.ensures.safe works image s told was) c.sync.ensures.elapses
 
 pub returns-clause-safe : goal.returns-clause-safe
 returns-clause-safe g c works image s told was =
-    sync_goes_on (g.K.Disk.state c.args.disk.now).clock (λ left. Stands left s) _ _ _ (c.shut_other.ensures.safe works image s told was) c.sync.ensures.elapses
+    adds_sync (g.K.Disk.state c.args.disk.now) _ _ (λ left. Stands left s) _ (c.shut_other.ensures.safe works image s told was) c.sync.ensures.elapses
 
 pub returns-clause-works : goal.returns-clause-works
 returns-clause-works g c works answered =
@@ -32,3 +33,9 @@ returns-clause-stands g c answered image now s told later was =
 
 pub returns-clause-given : goal.returns-clause-given
 returns-clause-given g c image told = given_nothing _ image refl (c.args.self.now.keeps.idle c.requires.prepared.idle)
+
+pub returns-then-self-clause-rest : goal.returns-then-self-clause-rest
+returns-then-self-clause-rest g c answered = rest_unread c.args.self.now (g.K.Disk.state c.args.disk.now) (g.K.Disk.state c.args.disk.now) refl
+
+pub returns-clause-rest : goal.returns-clause-rest
+returns-clause-rest g c answered image now told later place out = c.in_ok-shut_other.ensures.rest image now told (sym c.in_ok-sync.ensures.kept ∙ later) place out
