@@ -8,3 +8,4 @@ pub mod Refusals
 pub mod Rulings
 pub mod SlotReads
 pub mod Standings
+pub mod Stores

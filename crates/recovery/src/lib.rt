@@ -9,9 +9,8 @@ mod recovering;
 mod slot;
 mod surveying;
 
-pub use disk_layout::{
-    Identity, Manifest, ManifestFile, ManifestLoad, RecoverFault, Ruling, Standing,
-};
+pub use bank_store::Store;
+pub use disk_layout::{Identity, Manifest, ManifestFile, ManifestLoad, RecoverFault, Standing};
 pub use recovering::recover;
 pub use surveying::{Surveyed, survey};
 

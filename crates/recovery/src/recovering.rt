@@ -24,13 +24,13 @@ pub fn recover<K: Disk>(alloc: Global, disk: &mut K) -> Result<Standing, Recover
     ensures looks { Looks (K.state disk.old) (K.state disk.new) result }
 {
     let surveyed = survey(alloc, disk)?;
-    let ruling = surveyed.ruling;
-    let start = bank_start(surveyed.identity.bank, ruling.bank);
+    let (bank, sequence) = (surveyed.store.bank(), surveyed.store.sequence());
+    let start = bank_start(surveyed.identity.bank, bank);
     let loads = loads_on(alloc, disk, start, surveyed.manifest.loads.as_slice())?;
     Ok(Standing {
         identity: surveyed.identity,
-        bank: ruling.bank,
-        sequence: ruling.sequence,
+        bank,
+        sequence,
         config: Config { loads },
     })
 }

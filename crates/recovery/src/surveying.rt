@@ -2,62 +2,93 @@
 ghost use Rattle.std.specs.Prelude.{◌≡◌, ◌+◌, ◌≤◌, ◌<◌, ◌↔◌, IsTrue, IfSome, IfNone, Some, false, map, OnOk, IfOk, IfErr};
 ghost use Rattle.std.specs.List.{sum_by};
 ghost use Rattle.disk_model.specs.Image.{Image, range};
+ghost use Rattle.disk_model.specs.State.{IsSettled};
 ghost use Rattle.field_grammar.specs.Grammar.{Spelled};
 ghost use Rattle.disk_layout.specs.Places.{IsBankSize, bank_at};
 ghost use Rattle.disk_layout.specs.Identity.{HasIdentity};
 ghost use Rattle.disk_layout.specs.Slots.{IsSlot};
 ghost use Rattle.disk_layout.specs.Manifest.{ManifestFits, manifest, manifest_view, entry_view, total_length, size_of};
-ghost use Rattle.disk_layout.specs.Stands.{Refuses};
+ghost use Rattle.disk_layout.specs.Stands.{StandingView, outline_of, Refuses};
 ghost use Rattle.disk_layout.specs.Looks.{IsOfDisk, Looks};
+ghost use Rattle.bank_store.specs.Store.{size_of as bank_size_of, slot_of as ruling_slot_of, bank_of, sequence_of, is_other_open, IsIdle};
+ghost use Rattle.bank_store.specs.Safe.{StandsFor, Works};
 ghost use Rattle.recovery.specs.Parts.{IsSlotAt, IsRulerOn, RefusesSlots, IsSoundAt, RefusesSlot, RefusesBytes, RefusesManifest};
-ghost use Rattle.recovery.specs.Surveys.{IsSurveyed, IsInRange};
+ghost use Rattle.recovery.specs.Surveys.{IsSurveyed, IsInRange, outline_of_survey};
 
 use crate::identity::identity_of;
 use crate::looking::{bytes_on, read_from};
 use crate::manifest::manifest_in;
 use crate::slot::{Slot, rules_over, slot_of};
+use bank_store::{Store, a_settled_disk_works};
 use disk_layout::places::{
     BANK_IN_SLOT, BANKS, LENGTH_IN_SLOT, LONGEST_IDENTITY, LONGEST_MANIFEST, OPEN, PLACE_IN_SLOT,
     SLOT_A, SLOT_B, SLOT_LENGTH,
 };
 use disk_layout::{
     Identity, Manifest, ManifestFault, ManifestFile, ManifestLoad, RecoverFault, Ruling,
+    an_outline_is_filled,
 };
 use disk_model::{Disk, SIZE};
 use std::alloc::Global;
 
-/// What rules on a disk, without the contents of its files.
+/// What rules on a disk, without the contents of its files, and a store that installs beside it.
 #[derive(Drop)]
 pub struct Surveyed {
     pub identity: Identity,
-    pub ruling: Ruling,
     pub manifest: Manifest,
+    pub store: Store,
 }
 
 /// Reads what rules on a disk: its identity, the open slot with the greatest sequence, and the manifest that
 /// the slot names. Nothing is written. The first condition that fails is the refusal; after it the disk
 /// runs on.
+///
+/// The store that it gives installs on this disk, beside what rules there. What its calls promise of a power
+/// loss they promise where the disk was settled, as it is behind a sync or a restart.
 pub fn survey<K: Disk>(alloc: Global, disk: &mut K) -> Result<Surveyed, RecoverFault>
     requires { (K.state disk.old).stopped ≡ false }
     ensures found { IfOk result (λ surveyed. (image : Image) → (K.state disk.old).reads ≡ Some image → IsSurveyed image surveyed) }
     ensures refused { IfErr result (λ fault. (image : Image) → (K.state disk.old).reads ≡ Some image → Refuses image fault) }
     ensures in_range { IfOk result (λ surveyed. IsInRange surveyed) }
+    ensures idle { IfOk result (λ surveyed. IsIdle surveyed.store) }
+    ensures stands { IfOk result (λ surveyed. (image : Image) → (K.state disk.old).reads ≡ Some image
+        → (s : StandingView) × StandsFor surveyed.store image s × (outline_of s ≡ outline_of_survey surveyed)) }
+    ensures works { IfOk result (λ surveyed. IsSettled (K.state disk.old) → Works surveyed.store (K.state disk.new)) }
     ensures looks { Looks (K.state disk.old) (K.state disk.new) result }
 {
     let identity = identity_on(disk)?;
     let ruler = ruler_on(disk)?;
     check_slot(identity.bank, ruler.at, &ruler.slot)?;
     let manifest = manifest_of_slot(alloc, disk, identity.bank, &ruler.slot)?;
+    let store = store_of(alloc, identity.bank, &ruler);
+    an_outline_is_filled();
+    a_settled_disk_works::<K>();
     Ok(Surveyed {
         identity,
-        ruling: Ruling {
-            slot: ruler.at,
-            bank: ruler.slot.bank,
-            sequence: ruler.slot.sequence,
-            other_is_open: ruler.other_is_open,
-        },
         manifest,
+        store,
     })
+}
+
+// The store for a disk on which this rules, with banks of so many bytes.
+fn store_of(alloc: Global, bank_size: u32, ruler: &Ruler) -> Store
+    requires size { IsBankSize bank_size }
+    requires slot { IsSlot ruler.now.at }
+    requires bank { ruler.now.slot.bank < 2 }
+    ensures idle { IsIdle result }
+    ensures size { bank_size_of result ≡ bank_size }
+    ensures slot { ruling_slot_of result ≡ ruler.now.at }
+    ensures bank { bank_of result ≡ ruler.now.slot.bank }
+    ensures sequence { sequence_of result ≡ ruler.now.slot.sequence }
+    ensures other { is_other_open result ≡ ruler.now.other_is_open }
+{
+    let ruling = Ruling {
+        slot: ruler.at,
+        bank: ruler.slot.bank,
+        sequence: ruler.slot.sequence,
+        other_is_open: ruler.other_is_open,
+    };
+    Store::new(alloc, bank_size, ruling)
 }
 
 fn identity_on<K: Disk>(disk: &mut K) -> Result<Identity, RecoverFault>

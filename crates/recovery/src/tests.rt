@@ -1,5 +1,14 @@
-use crate::{RecoverFault, Ruling, recover, survey};
-use disk_model::{FileDisk, MemDisk};
+ghost use Rattle.std.specs.Prelude.{◌≡◌, ◌+◌, ◌≤◌, false, length, IfOk, OnOk};
+ghost use Rattle.load_base.specs.Host.{longest_file};
+ghost use Rattle.disk_model.specs.MemDisk.{state_of};
+ghost use Rattle.bank_store.specs.Store.{IsIdle, IsFilling, bytes_appended, file_ended};
+ghost use Rattle.bank_store.specs.declared.stage.Filling.{Filling};
+
+use crate::{Identity, RecoverFault, Standing, Store, recover, survey};
+use bank_store::{StoreFault, format};
+use disk_model::{Call, Disk, FileDisk, MemDisk, Note, SIZE};
+use load_base::{Ident, Load, Name, PartText, StoredFile};
+use std::alloc::Global;
 use std::fs;
 use std::test::Fail;
 
@@ -32,29 +41,47 @@ fn put(disk: &mut [u8], at: usize, bytes: &[u8]) {
     }
 }
 
+// Where the first and the last write of these calls begin.
+fn first_and_last(notes: &[Note]) -> (u32, u32) {
+    let mut places = (0, 0);
+    for note in notes {
+        if let Call::Write { at, .. } = note.call {
+            if places.0 == 0 {
+                places.0 = at;
+            }
+            places.1 = at;
+        }
+    }
+    places
+}
+
+// An installation shuts the other slot first where it is open, and else begins with the other bank; its last
+// write opens the other slot.
 #[test]
 fn a_survey_tells_what_rules(rt: HostRuntime) -> Result<(), Fail> {
     let alloc = rt.alloc();
-    for (gate_a, gate_b, slot, bank, sequence, other_is_open, loads) in [
-        (0xA5, 0xA5, 4608, 1, 8, true, 0),
-        (0x5A, 0xA5, 4608, 1, 8, false, 0),
-        (0xA5, 0x00, 4096, 0, 7, false, 1),
+    for (gate_a, gate_b, sequence_b, bank, sequence, loads, places) in [
+        (0xA5, 0xA5, 8, 1, 8, 0, (4096, 4096)),
+        (0x5A, 0xA5, 8, 1, 8, 0, (8192, 4096)),
+        (0xA5, 0xA5, 7, 0, 7, 1, (4608, 4608)),
+        (0xA5, 0x00, 8, 0, 7, 1, (12_288, 4608)),
     ] {
         let mut bytes = two_slots();
         put(&mut bytes, 4096, &[gate_a]);
         put(&mut bytes, 4608, &[gate_b]);
+        put(&mut bytes, 4627, &[sequence_b]);
         let mut disk = MemDisk::new(alloc, &bytes)?;
         let surveyed = survey(alloc, &mut disk)?;
-        let wanted = Ruling {
-            slot,
-            bank,
-            sequence,
-            other_is_open,
-        };
-        assert_eq!(rt; surveyed.ruling, wanted);
         assert_eq!(rt; surveyed.identity.hw.as_slice(), b"HW1".as_slice());
         assert_eq!(rt; surveyed.manifest.loads.len(), loads);
         assert_eq!(rt; disk.notes().len(), 0);
+        let mut store = surveyed.store;
+        assert_eq!(rt; (store.bank(), store.sequence()), (bank, sequence));
+        store.prepare()?;
+        store.begin(&mut disk)?;
+        store.seal(&mut disk)?;
+        store.activate(&mut disk)?;
+        assert_eq!(rt; first_and_last(disk.notes()), places);
     }
     Ok(())
 }
@@ -94,5 +121,289 @@ fn a_missing_file_is_not_formatted(rt: HostRuntime) -> Result<(), Fail> {
         return Err(Fail::new("a folder was recovered"));
     };
     assert_eq!(rt; fault, RecoverFault::DiskFailed);
+    Ok(())
+}
+
+// The bytes of a disk with banks of 4096 bytes.
+const WHOLE: usize = 16_384;
+
+// What a file is to have: its name and its bytes.
+type Wanted<'a> = (&'a [u8], &'a [u8]);
+
+fn has_files(files: &[StoredFile], wanted: &[Wanted]) -> bool {
+    if files.len() != wanted.len() {
+        return false;
+    }
+    for (file, (name, bytes)) in files.iter().zip(wanted) {
+        if file.name.as_slice() != *name || file.bytes.as_slice() != *bytes {
+            return false;
+        }
+    }
+    true
+}
+
+// It has this part number and these files, of which the first is its header.
+fn is_load(load: &Load, part: &[u8], files: &[Wanted]) -> bool {
+    let Some((header, _)) = files.first() else {
+        return false;
+    };
+    load.part.as_slice() == part
+        && load.header_name.as_slice() == *header
+        && has_files(load.files.as_slice(), files)
+}
+
+// It is that of the target of these tests, with this bank and this sequence number.
+fn is_ruling(standing: &Standing, bank: u8, sequence: u32) -> bool {
+    standing.identity.hw.as_slice() == b"HW1".as_slice()
+        && standing.identity.pos.as_slice() == b"L".as_slice()
+        && standing.identity.serial.as_slice() == b"SN1".as_slice()
+        && standing.identity.bank == 4096
+        && standing.bank == bank
+        && standing.sequence == sequence
+}
+
+// The configuration that is there first.
+fn is_old(standing: &Standing) -> bool {
+    let loads = standing.config.loads.as_slice();
+    is_ruling(standing, 1, 2)
+        && loads.len() == 1
+        && is_load(&loads[0], b"MMM12-0001-ABCD", &[(b"OLD.LUH", b"old")])
+}
+
+// The configuration that is installed then.
+fn is_new(standing: &Standing) -> bool {
+    let loads = standing.config.loads.as_slice();
+    let first: [Wanted; 2] = [(b"A.LUH", b"header"), (b"A.BIN", b"")];
+    let second: [Wanted; 3] = [(b"B.LUH", b"two"), (b"B.BIN", b"data"), (b"B.TXT", b"")];
+    is_ruling(standing, 0, 3)
+        && loads.len() == 2
+        && is_load(&loads[0], b"ABC41-0000-0001", &first)
+        && is_load(&loads[1], b"ABC42-0000-0002", &second)
+}
+
+// A target without loads, and then the old configuration on its disk: what the disk holds.
+fn old_disk(alloc: Global) -> Result<[u8; WHOLE], Fail> {
+    let mut disk = MemDisk::new(alloc, &[])?;
+    let target = Identity {
+        hw: Ident::read(b"HW1")?,
+        pos: Ident::read(b"L")?,
+        serial: Ident::read(b"SN1")?,
+        bank: 4096,
+    };
+    format(&mut disk, &target)?;
+    let mut store = survey(alloc, &mut disk)?.store;
+    store.prepare()?;
+    store.begin(&mut disk)?;
+    store.start_load(PartText::read(b"MMM12-0001-ABCD")?, 1)?;
+    store.append(&mut disk, b"old")?;
+    store.end_file(Name::read(b"OLD.LUH")?)?;
+    store.seal(&mut disk)?;
+    store.activate(&mut disk)?;
+    let mut bytes = [0; WHOLE];
+    put(&mut bytes, 0, disk.as_slice());
+    Ok(bytes)
+}
+
+// A file of these two pieces.
+fn put_file(
+    store: &mut Store,
+    disk: &mut MemDisk,
+    name: Name,
+    first: &[u8],
+    second: &[u8],
+) -> Result<(), StoreFault>
+    requires filling { (far : Filling) × IsFilling store.old far × (1 ≤ far.missing) × (far.start ≡ far.end) }
+    requires short { length first.now + length second.now ≤ longest_file }
+    requires running { (state_of disk.old).stopped ≡ false }
+    ensures goes_on { OnOk result ((far : Filling) → IsFilling store.old far
+        → IsFilling store.new (file_ended (bytes_appended (length second.now) (bytes_appended (length first.now) far)))) }
+    ensures running { OnOk result ((state_of disk.new).stopped ≡ false) }
+{
+    store.append(disk, first)?;
+    store.append(disk, second)?;
+    store.end_file(name)?;
+    Ok(())
+}
+
+// Installs the new configuration, whose texts are these, in its order.
+fn install_new(
+    store: &mut Store,
+    disk: &mut MemDisk,
+    parts: [PartText; 2],
+    names: [Name; 5],
+) -> Result<(), StoreFault>
+    requires idle { IsIdle store.old }
+    requires running { (state_of disk.old).stopped ≡ false }
+{
+    store.prepare()?;
+    store.begin(disk)?;
+    store.start_load(parts[0], 2)?;
+    put_file(store, disk, names[0], b"hea", b"der")?;
+    put_file(store, disk, names[1], b"", b"")?;
+    store.start_load(parts[1], 3)?;
+    put_file(store, disk, names[2], b"two", b"")?;
+    put_file(store, disk, names[3], b"", b"data")?;
+    put_file(store, disk, names[4], b"", b"")?;
+    store.seal(disk)?;
+    store.activate(disk)
+}
+
+fn new_parts() -> Result<[PartText; 2], Fail> {
+    Ok([
+        PartText::read(b"ABC41-0000-0001")?,
+        PartText::read(b"ABC42-0000-0002")?,
+    ])
+}
+
+fn new_names() -> Result<[Name; 5], Fail> {
+    Ok([
+        Name::read(b"A.LUH")?,
+        Name::read(b"A.BIN")?,
+        Name::read(b"B.LUH")?,
+        Name::read(b"B.BIN")?,
+        Name::read(b"B.TXT")?,
+    ])
+}
+
+// Shutting the other slot makes two calls; the contents, the manifest, the slot and their sync eight; opening
+// the other slot two, a write and a sync.
+#[test]
+fn an_installation_that_fails_leaves_the_old_configuration(rt: HostRuntime) -> Result<(), Fail> {
+    let alloc = rt.alloc();
+    let old = old_disk(alloc)?;
+    let (parts, names) = (new_parts()?, new_names()?);
+    for call in 1..=12u32 {
+        let mut disk = MemDisk::new(alloc, &old)?;
+        let mut store = survey(alloc, &mut disk)?.store;
+        disk.fail_at(4 + call)?;
+        let installed = install_new(&mut store, &mut disk, parts, names);
+        assert_eq!(rt; installed, Err(StoreFault::DiskFailed), "at call {call}");
+        disk.restart()?;
+        let standing = recover(alloc, &mut disk)?;
+        let may_be_new = call > 10 && is_new(&standing);
+        assert!(rt; is_old(&standing) || may_be_new, "at call {call}");
+    }
+    Ok(())
+}
+
+// How many of these calls come until the last sync has ended.
+fn until_sync(notes: &[Note]) -> usize {
+    let mut end = 0;
+    for (i, note) in notes.iter().enumerate() {
+        if matches!(note.call, Call::Sync) {
+            end = i + 1;
+        }
+    }
+    end
+}
+
+// Makes the write that was noted.
+fn make(disk: &mut [u8], note: &Note) {
+    if let Call::Write { at, bytes } = &note.call {
+        put(disk, *at as usize, bytes.as_slice());
+    }
+}
+
+// Puts other bytes than those of the write that was noted.
+fn spoil(disk: &mut [u8], note: &Note) {
+    let Call::Write { at, bytes } = &note.call else {
+        return;
+    };
+    for i in 0..bytes.len() {
+        if let Some(cell) = disk.get_mut((*at as usize).wrapping_add(i)) {
+            *cell = 0x5A;
+        }
+    }
+}
+
+// What a disk of these bytes holds after these calls.
+fn after(before: &[u8; WHOLE], notes: &[Note]) -> [u8; WHOLE] {
+    let mut image = *before;
+    for note in notes {
+        make(&mut image, note);
+    }
+    image
+}
+
+// What it holds where of each of these writes, by the digits of `pick` to the base 3, nothing came, its bytes,
+// or others.
+fn left_by(before: &[u8; WHOLE], writes: &[Note], pick: u32) -> [u8; WHOLE] {
+    let mut image = *before;
+    let mut digits = pick;
+    for note in writes {
+        match digits % 3 {
+            0 => {}
+            1 => make(&mut image, note),
+            _ => spoil(&mut image, note),
+        }
+        digits /= 3;
+    }
+    image
+}
+
+// How many ways there are to let nothing, its bytes or others come of each of these writes.
+fn ways(writes: &[Note]) -> u32 {
+    let mut ways = 1u32;
+    for _ in writes {
+        ways = ways.saturating_mul(3);
+    }
+    ways
+}
+
+// Of a disk of these bytes after these calls: how many images a power loss may leave, where each write since
+// the last sync has left nothing, its bytes or others, and how many of these are recovered as the new
+// configuration. Each other one has to be recovered as the old.
+fn images_after(alloc: Global, before: &[u8; WHOLE], notes: &[Note]) -> Result<(u32, u32), Fail> {
+    let end = until_sync(notes);
+    let settled = after(before, notes.get(..end).unwrap_or(notes));
+    let writes = notes.get(end..).unwrap_or(&[]);
+    let images = ways(writes);
+    let mut new = 0u32;
+    for pick in 0..images {
+        let image = left_by(&settled, writes, pick);
+        let mut disk = MemDisk::new(alloc, &image)?;
+        let standing = recover(alloc, &mut disk)?;
+        if is_new(&standing) {
+            new = new.saturating_add(1);
+        } else if !is_old(&standing) {
+            return Err(Fail::new("neither the old nor the new configuration"));
+        }
+    }
+    Ok((images, new))
+}
+
+// At each moment of an installation, told by the calls that have ended or begun. A moment inside a write has
+// the images from before it and those after it, and one inside a sync those from before it.
+#[test]
+fn each_image_of_an_installation_is_old_or_new(rt: HostRuntime) -> Result<(), Fail> {
+    let alloc = rt.alloc();
+    let old = old_disk(alloc)?;
+    let mut disk = MemDisk::new(alloc, &old)?;
+    let mut store = survey(alloc, &mut disk)?.store;
+    install_new(&mut store, &mut disk, new_parts()?, new_names()?)?;
+    let wanted = [
+        (1, 0),
+        (3, 0),
+        (1, 0),
+        (3, 0),
+        (9, 0),
+        (27, 0),
+        (81, 0),
+        (243, 0),
+        (729, 0),
+        (2187, 0),
+        (1, 0),
+        (3, 1),
+        (1, 1),
+    ];
+    assert_eq!(rt; disk.notes().len(), wanted.len() - 1);
+    let mut images = 0u32;
+    for (calls, wanted) in wanted.into_iter().enumerate() {
+        let made = disk.notes().get(..calls).unwrap_or(&[]);
+        let found = images_after(alloc, &old, made)?;
+        assert_eq!(rt; found, wanted, "after {calls} calls");
+        images = images.saturating_add(found.0);
+    }
+    assert_eq!(rt; images, 3289);
     Ok(())
 }

@@ -9,6 +9,7 @@ pub returns-clause-found : goal.returns-clause-found
 returns-clause-found g c image told =
     let s = c.in_ok-surveyed.surveyed in
     let entries = ap (map entry_view) c.as_slice.ensures in
-    stands_for image s (map load_view c.in_ok-loads.loads.items) (c.in_ok-surveyed.ensures.found image told) (c.in_ok-loads.ensures.entries ∙ entries) c.in_ok-loads.ensures.headers
+    stands_for image s c.bank-bank.result c.sequence-sequence.result (map load_view c.in_ok-loads.loads.items) c.bank-bank.ensures c.sequence-sequence.ensures
+    (c.in_ok-surveyed.ensures.found image told) (c.in_ok-loads.ensures.entries ∙ entries) c.in_ok-loads.ensures.headers
     (c.in_ok-loads.ensures.bytes image (c.in_ok-surveyed.ensures.looks.ok.reads ∙ told)
     ∙ ap₂ (λ (p : ℕ) (l : List LoadEntry). range image p (total_length l)) c.bank_start-start.ensures.value entries)

@@ -2,6 +2,8 @@ use Rattle.std.proofs.Common.{◌∙◌}
 use Rattle.std.proofs.lemmas.Result.{err_from_is_err_and}
 use Rattle.disk_layout.specs.Manifest.{manifest_view}
 use Rattle.recovery.proofs.Refusals.{slots_refuse, slot_refuses, can_be, manifest_refuses, has_outline}
+use Rattle.recovery.proofs.Looks.{not_yet, look_more}
+use Rattle.recovery.proofs.Stores.{store_found, store_stands}
 use Rattle.recovery.proofs.surveying.survey.Goals as goal
 
 pub returns-in_err-ruler-clause-refused : goal.returns-in_err-ruler-clause-refused
@@ -31,10 +33,23 @@ returns-in_err-manifest-clause-refused g c =
 pub returns-clause-found : goal.returns-clause-found
 returns-clause-found g c image told =
     let told_ruler = c.in_ok-identity.ensures.looks.ok.reads ∙ told in
+    let ruler = c.in_ok-ruler.ruler in
     let found = c.in_ok-ruler.ensures.found image told_ruler in
-    record {
-      outline = has_outline image c.in_ok-identity.identity c.in_ok-ruler.ruler.at c.in_ok-ruler.ruler.slot (manifest_view c.in_ok-manifest.manifest)
-          (record { identity = c.in_ok-identity.ensures.found image told; rules = found.rules }) c.in_ok-check_slot.ensures.ok found.says
-          (c.in_ok-manifest.ensures.found image (c.in_ok-ruler.ensures.looks.ok.reads ∙ told_ruler)) c.in_ok-manifest.ensures.lengths;
-      other = found.other;
-    }
+    let store = c.store_of-store.ensures in
+    let outline = has_outline image c.in_ok-identity.identity ruler.at ruler.slot (manifest_view c.in_ok-manifest.manifest)
+    (record { identity = c.in_ok-identity.ensures.found image told; rules = found.rules }) c.in_ok-check_slot.ensures.ok found.says
+    (c.in_ok-manifest.ensures.found image (c.in_ok-ruler.ensures.looks.ok.reads ∙ told_ruler)) c.in_ok-manifest.ensures.lengths in
+    store_found image c.in_ok-identity.identity c.in_ok-manifest.manifest c.store_of-store.result ruler store.slot store.bank store.sequence store.other outline found.other
+
+pub returns-clause-stands : goal.returns-clause-stands
+returns-clause-stands g c image told =
+    let found = returns-clause-found g c image told in
+    let (s, by, is) = c.an_outline_is_filled.ensures image _ _ found.outline in
+    (s, store_stands image _ found c.store_of-store.ensures.size s by is, is)
+
+pub returns-clause-works : goal.returns-clause-works
+returns-clause-works g c settled =
+    let looked = look_more _ _ _ _ (look_more _ _ _ _ (look_more _ _ _ _ (not_yet _ c.requires) c.in_ok-identity.ensures.looks) c.in_ok-ruler.ensures.looks) c.in_ok-manifest.ensures.looks in
+    let before = c.a_settled_disk_works.ensures.settled c.store_of-store.result c.args.disk.now c.store_of-store.ensures.idle settled
+    (λ image told. let (s, stands, is) = returns-clause-stands g c image told in (s, stands)) in
+    c.a_settled_disk_works.ensures.read c.store_of-store.result _ _ looked.only_reads looked.runs.reads before
