@@ -1,5 +1,5 @@
 -- What a run of the program prints, its status, and the cause of each (docs/PROMISES.md).
-use Rattle.std.specs.Prelude.{◌≡◌, ℕ, ◌<◌, List, length, true, false, Option, Some, None, take, codes}
+use Rattle.std.specs.Prelude.{◌≡◌, ℕ, ◌<◌, ◌≤◌, List, length, true, false, Option, Some, None, take, codes}
 use Rattle.load_base.specs.Counts.{Rose}
 use Rattle.load_base.specs.Host.{Files, longest_file}
 use Rattle.load_base.specs.Sink.{GoesOn}
@@ -63,7 +63,9 @@ HasTooMany (Some files) name = (bytes : List ℕ) × (files name ≡ Some bytes)
 
 -- the status, the text, and what it says of the host's files and of its faults before and after
 pub data Shows (kind : FileKind) (files : Option Files) (before after : ℕ) (name : List ℕ) (status : ℕ) (text : List ℕ) : Type 0 where
-  read : (bytes : List ℕ) → Has files name (Some bytes) → ShowsBytes kind name bytes status text → Shows kind files before after name status text
+  -- it has these bytes, at most 16,777,215
+  read : (bytes : List ℕ) → Has files name (Some bytes) → length bytes ≤ longest_file → ShowsBytes kind name bytes status text
+      → Shows kind files before after name status text
   -- 3: there is no such file
   absent : Has files name None → status ≡ 3 → text ≡ refused_input name (codes "absent") → Shows kind files before after name status text
   -- 3: it has more than 16,777,215 bytes

@@ -6,7 +6,7 @@ use Rattle.loader_cli.proofs.show.show.Goals as goal
 pub returns-in_ok-show_bytes-in-Ok-clause-shows : goal.returns-in_ok-show_bytes-in-Ok-clause-shows
 returns-in_ok-show_bytes-in-Ok-clause-shows g c =
     let name = c.as_bytes.ensures.value in
-    read c.in-Ok.bytes.items (rw name at (has_bytes _ _ c.in-Ok.bytes c.in-Ok.ensures.file))
+    read c.in-Ok.bytes.items (rw name at (has_bytes _ _ c.in-Ok.bytes c.in-Ok.ensures.file)) c.in-Ok.ensures.short
     (rw c.as_slice.ensures at (rw c.as_bytes-in-Ok.ensures.value at c.in_ok-show_bytes-in-Ok.ensures))
 
 pub returns-in_ok-refused-in-Err-TooLong-clause-shows : goal.returns-in_ok-refused-in-Err-TooLong-clause-shows
