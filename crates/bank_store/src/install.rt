@@ -26,11 +26,13 @@ impl Store {
     ghost use Rattle.bank_store.specs.Acts.{Acts, AddsOnly, GoesOn, IsAnswered};
     ghost use Rattle.bank_store.specs.Whole.{AreInstallable, IsInstallable, file_entry_size, load_entry_size, manifest_size, files_of, entries_size, PassesWithin, Passes, Fits, whole, all_given, with_whole, behind, with_files, all_filled, load_filled, files_filled, Goes, OpensGate};
 
-    /// Installs these loads with all their files, by all the calls of an installation. A refused one is given
-    /// up.
+    /// Installs these loads with all their files, by all the calls of an installation: at most 32 loads, each
+    /// with 1 to 256 files of at most 16,777,215 bytes, the first of them its header. One that is refused is
+    /// given up.
     ///
-    /// SequenceSpent as [`Store::begin`] has it; BankFull where a file, or the manifest behind them, is the
-    /// first that passes the bank.
+    /// SequenceSpent where the ruling sequence number is 4,294,967,295; BankFull where a file is the first with
+    /// which the contents pass the bank, or the manifest behind them passes it; DiskFailed and Memory where the
+    /// disk refuses a call, and Memory also from [`Store::prepare`], before any.
     pub fn install<K: Disk>(&mut self, disk: &mut K, loads: &[Load]) -> Result<(), StoreFault>
         requires idle { IsIdle self.old }
         requires installable { AreInstallable (map load_view loads.now) }
