@@ -19,3 +19,4 @@ pub mod Sealing
 pub mod Sizes
 pub mod Wholes
 pub mod Working
+pub mod Written

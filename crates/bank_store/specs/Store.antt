@@ -1,5 +1,5 @@
 -- What a store keeps of the disk that it installs on (docs/DISK.md).
-use Rattle.std.specs.Prelude.{◌≡◌, ℕ, ◌+◌, ◌-◌, ◌≤◌, Bool, true, List, [], ◌∷◌, ◌++◌, length}
+use Rattle.std.specs.Prelude.{◌≡◌, ℕ, ◌+◌, ◌-◌, ◌≤◌, Bool, true, if◌then◌else◌, List, [], ◌∷◌, ◌++◌, length}
 use Rattle.field_grammar.specs.Fields.{number_bytes}
 use Rattle.disk_model.specs.Image.{Image, overlay}
 use Rattle.disk_layout.specs.Places.{bank_at, longest_manifest}
@@ -97,6 +97,14 @@ abbrev pub slot_body : Store → (place length : ℕ) → List ℕ
 slot_body store place size =
     number_bytes 4 (store.sequence + 1) ++ (other_bank store.bank ∷ []) ++ number_bytes 4 place ++ number_bytes 4 size
 
+-- the image with 0 in the other slot's gate, where that is open
+abbrev pub with_gate_shut : Store → Image → Image
+with_gate_shut store image = if store.other_is_open then overlay image (other_slot store.slot) (0 ∷ []) else image
+
+-- the image with a piece of the contents behind those that came
+abbrev pub with_piece : Store → Filling → List ℕ → Image → Image
+with_piece store far bytes image = overlay image (work_at store + far.end) bytes
+
 -- the image with the manifest behind the contents
 abbrev pub with_manifest : Store → Filling → Image → Image
 with_manifest store far image = overlay (overlay image (work_at store + far.end) (number_bytes 2 far.loads)) (work_at store + far.end + 2) store.body.items
@@ -104,3 +112,7 @@ with_manifest store far image = overlay (overlay image (work_at store + far.end)
 -- the image with the other slot's body
 abbrev pub with_slot : Store → (place length : ℕ) → Image → Image
 with_slot store place size image = overlay image (other_slot store.slot + 16) (slot_body store place size)
+
+-- the image with the other slot's gate open
+abbrev pub with_gate_open : Store → Image → Image
+with_gate_open store image = overlay image (other_slot store.slot) (0xA5 ∷ [])

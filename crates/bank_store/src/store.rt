@@ -40,7 +40,7 @@ pub struct Store {
 }
 
 impl Store {
-    ghost use Rattle.bank_store.specs.Store.{size_of, slot_of, bank_of, sequence_of, is_other_open, stage_of, work_at, RulesAs, Switches, IsIdle, IsFilling, IsSealed, IsPrepared, room_of, load_announced, bytes_appended, file_ended, manifest_length, slot_body, with_manifest, with_slot};
+    ghost use Rattle.bank_store.specs.Store.{size_of, slot_of, bank_of, sequence_of, is_other_open, stage_of, work_at, RulesAs, Switches, IsIdle, IsFilling, IsSealed, IsPrepared, room_of, load_announced, bytes_appended, file_ended, manifest_length, slot_body, with_gate_shut, with_piece, with_manifest, with_slot, with_gate_open};
     ghost use Rattle.bank_store.specs.Given.{Given, GivenLoad, HasGiven, nothing_given, with_load, with_bytes, with_file, installed};
     ghost use Rattle.bank_store.specs.Safe.{StandsFor, Works, KeepsRuling, IsReady, IsShutFor, KeepsNear, Continues, StillStands, LeavesRest};
     ghost use Rattle.bank_store.specs.Acts.{Acts, AddsOnly, GoesOn, IsAnswered};
@@ -99,6 +99,7 @@ impl Store {
         ensures running { IsAnswered result → (K.state disk.new).stopped ≡ false }
         ensures safe { KeepsRuling self.old (K.state disk.old) (K.state disk.new) }
         ensures works { Works self.old (K.state disk.old) → IsAnswered result → Works self.new (K.state disk.new) }
+        ensures written { OnOk result ((image : Image) → (K.state disk.old).reads ≡ Some image → (K.state disk.new).reads ≡ Some (with_gate_shut self.old image)) }
         ensures rest { IsAnswered result → LeavesRest self.old (K.state disk.old) (K.state disk.new) }
         ensures stands { IsAnswered result → StillStands self.old self.new (K.state disk.old) (K.state disk.new) }
         ensures given { OnOk result ((image : Image) → (K.state disk.new).reads ≡ Some image → HasGiven self.new image nothing_given) }
@@ -126,6 +127,7 @@ impl Store {
         ensures goes_on { GoesOn (K.state disk.old) (K.state disk.new) }
         ensures cause { HasCause (K.state disk.old) (K.state disk.new) result }
         ensures safe { KeepsRuling self.now (K.state disk.old) (K.state disk.new) }
+        ensures written { OnOk result ((image : Image) → (K.state disk.old).reads ≡ Some image → (K.state disk.new).reads ≡ Some (with_gate_shut self.now image)) }
         ensures rest { OnOk result (LeavesRest self.now (K.state disk.old) (K.state disk.new)) }
         ensures shut { OnOk result ((image now : Image) (s : StandingView) → (K.state disk.old).reads ≡ Some image → (K.state disk.new).reads ≡ Some now
             → StandsFor self.now image s → IsShutFor self.now now s) }
@@ -180,6 +182,8 @@ impl Store {
         ensures running { IsAnswered result → (K.state disk.new).stopped ≡ false }
         ensures safe { KeepsRuling self.old (K.state disk.old) (K.state disk.new) }
         ensures works { Works self.old (K.state disk.old) → IsAnswered result → Works self.new (K.state disk.new) }
+        ensures written { OnOk result ((image : Image) (far : Filling) → (K.state disk.old).reads ≡ Some image → IsFilling self.old far
+            → (K.state disk.new).reads ≡ Some (with_piece self.old far bytes.now image)) }
         ensures rest { IsAnswered result → LeavesRest self.old (K.state disk.old) (K.state disk.new) }
         ensures stands { IsAnswered result → StillStands self.old self.new (K.state disk.old) (K.state disk.new) }
         ensures given { OnOk result ((image now : Image) (g : Given) → (K.state disk.old).reads ≡ Some image → (K.state disk.new).reads ≡ Some now
@@ -249,6 +253,8 @@ impl Store {
         ensures running { IsAnswered result → (K.state disk.new).stopped ≡ false }
         ensures safe { KeepsRuling self.old (K.state disk.old) (K.state disk.new) }
         ensures works { Works self.old (K.state disk.old) → IsAnswered result → Works self.new (K.state disk.new) }
+        ensures written { OnOk result ((image : Image) (far : Filling) → (K.state disk.old).reads ≡ Some image → IsFilling self.old far
+            → (K.state disk.new).reads ≡ Some (with_slot self.old far.end (manifest_length self.old) (with_manifest self.old far image))) }
         ensures rest { IsAnswered result → LeavesRest self.old (K.state disk.old) (K.state disk.new) }
         ensures stands { IsAnswered result → StillStands self.old self.new (K.state disk.old) (K.state disk.new) }
         ensures settled { OnOk result (IsSettled (K.state disk.new)) }
@@ -337,6 +343,7 @@ impl Store {
             → StandsFor self.old image s → IsReady self.old image s loads
             → (left : Image) → (K.state disk.new).now left → Stands left (installed s loads)) }
         ensures works { OnOk result (Works self.old (K.state disk.old) → Works self.new (K.state disk.new)) }
+        ensures written { OnOk result ((image : Image) → (K.state disk.old).reads ≡ Some image → (K.state disk.new).reads ≡ Some (with_gate_open self.old image)) }
         ensures rest { OnOk result (LeavesRest self.old (K.state disk.old) (K.state disk.new)) }
         ensures stands { OnOk result ((image now : Image) (s : StandingView) (loads : List GivenLoad) → (K.state disk.old).reads ≡ Some image → (K.state disk.new).reads ≡ Some now
             → StandsFor self.old image s → IsReady self.old image s loads → StandsFor self.new now (installed s loads)) }

@@ -1,4 +1,4 @@
-use Rattle.std.proofs.Common.{◌≡◌, ◌⊎◌, ℕ, ◌+◌, [], ◌∷◌, true, refl, sym, ◌∙◌, ap, subst}
+use Rattle.std.proofs.Common.{◌≡◌, ◌⊎◌, Some, ℕ, ◌+◌, [], ◌∷◌, true, refl, sym, ◌∙◌, ap, subst}
 use Rattle.disk_model.specs.Image.{Image, overlay}
 use Rattle.disk_layout.specs.Stands.{Stands, StandsBy}
 use Rattle.bank_store.specs.Bounds.{other_slot}
@@ -64,3 +64,7 @@ returns-clause-stands g c image now s loads told later was ready =
 pub returns-clause-rest : goal.returns-clause-rest
 returns-clause-rest g c image now told later place out =
     rest_gate c.args.self.now image now c.other-slot.result _ place c.other-slot.ensures (same_image now _ (sym later ∙ c.in_ok-sync.ensures.kept ∙ c.in_ok-write.ensures.bytes image told)) out
+
+pub returns-clause-written : goal.returns-clause-written
+returns-clause-written g c image told =
+    c.in_ok-sync.ensures.kept ∙ c.in_ok-write.ensures.bytes image told ∙ ap (λ (at : ℕ). Some (overlay image at (0xA5 ∷ []))) c.other-slot.ensures

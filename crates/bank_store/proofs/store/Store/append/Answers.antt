@@ -1,4 +1,5 @@
 use Rattle.std.proofs.Common.{◌≡◌, ◌+◌, ℕ, length, refl, sym, ◌∙◌, ap, subst, arith}
+use Rattle.std.proofs.lemmas.Bool.{eqb-true}
 use Rattle.disk_model.specs.Image.{Image, overlay}
 use Rattle.bank_store.specs.Safe.{SameButForWork}
 use Rattle.bank_store.specs.Store.{work_at, RulesAs}
@@ -9,6 +10,7 @@ use Rattle.bank_store.proofs.Giving.{given_bytes}
 use Rattle.bank_store.proofs.Near.{IsWork}
 use Rattle.bank_store.proofs.Working.{bank_is_work, near_start, near_write, rules_still, works_on, still_ruled, near_overlay}
 use Rattle.bank_store.proofs.Rests.{rest_unread, rest_near}
+use Rattle.bank_store.proofs.Written.{piece_written, no_piece}
 use Rattle.bank_store.proofs.store.Store.append.Goals as goal
 
 pub returns-then-need-from-clause-safe : goal.returns-then-need-from-clause-safe
@@ -83,3 +85,10 @@ returns-clause-rest g c answered image now told later place out =
     bank_is_work store _ _ (omega (arith, c.work.ensures.place)) (omega (arith, c.work.ensures.place, c.if-need-from.false, c.from.ensures, c.from-2.ensures)) in
     rest_near store image now place
     (subst (λ (i : Image). SameButForWork store image i) (sym (same_image now _ (sym later ∙ c.in_ok-write.ensures.bytes image told))) (near_overlay store image _ c.args.bytes.now work)) out
+
+pub returns-then-is_empty-clause-written : goal.returns-then-is_empty-clause-written
+returns-then-is_empty-clause-written g c image far told filling = told ∙ no_piece c.args.self.now far image c.args.bytes.now (eqb-true (length c.args.bytes.now) 0 (sym c.is_empty.ensures ∙ c.if-is_empty.true))
+
+pub returns-clause-written : goal.returns-clause-written
+returns-clause-written g c image far told filling =
+    c.in_ok-write.ensures.bytes image told ∙ piece_written c.args.self.now c.in-Filling.far far image c.args.bytes.now c.work.result c.work.ensures.place c.in-Filling.is filling

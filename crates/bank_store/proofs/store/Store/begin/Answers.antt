@@ -39,3 +39,6 @@ returns-then-self-clause-rest g c answered = rest_unread c.args.self.now (g.K.Di
 
 pub returns-clause-rest : goal.returns-clause-rest
 returns-clause-rest g c answered image now told later place out = c.in_ok-shut_other.ensures.rest image now told (sym c.in_ok-sync.ensures.kept ∙ later) place out
+
+pub returns-clause-written : goal.returns-clause-written
+returns-clause-written g c image told = c.in_ok-sync.ensures.kept ∙ c.in_ok-shut_other.ensures.written image told

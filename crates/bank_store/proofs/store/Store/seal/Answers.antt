@@ -8,6 +8,7 @@ use Rattle.bank_store.proofs.Moments.{adds_sync}
 use Rattle.bank_store.proofs.Ready.{sealed_image, near_sealed, stands_sealed, is_ready, sealed_work}
 use Rattle.bank_store.proofs.Working.{near_start, near_then, rules_still, works_on}
 use Rattle.bank_store.proofs.Rests.{rest_unread, rest_near}
+use Rattle.bank_store.proofs.Written.{seal_written}
 use Rattle.bank_store.proofs.store.Store.seal.Goals as goal
 
 pub returns-then-need-from-clause-safe : goal.returns-then-need-from-clause-safe
@@ -96,3 +97,8 @@ returns-clause-rest g c answered image now told later place out =
     same_image now _ (sym later ∙ c.in_ok-sync.ensures.kept ∙ c.in_ok-write_slot.ensures.written _ (c.in_ok-write_manifest.ensures.written image told))
     ∙ ap (λ (n : ℕ). with_slot store far.end (n + 2) (with_manifest store far image)) c.len-length.ensures in
     rest_near store image now place (subst (λ (i : Image). SameButForWork store image i) (sym is) (near_sealed store far image (begun_shut store far c.in-Filling.is) fits)) out
+
+pub returns-clause-written : goal.returns-clause-written
+returns-clause-written g c image far told filling =
+    c.in_ok-sync.ensures.kept ∙ c.in_ok-write_slot.ensures.written _ (c.in_ok-write_manifest.ensures.written image told)
+    ∙ seal_written c.args.self.now c.in-Filling.far far image _ (ap (λ (n : ℕ). n + 2) c.len-length.ensures) c.in-Filling.is filling

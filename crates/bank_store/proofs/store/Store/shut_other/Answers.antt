@@ -6,6 +6,7 @@ use Rattle.bank_store.specs.Safe.{IsShutFor}
 use Rattle.disk_model.specs.Image.{Image}
 use Rattle.bank_store.proofs.Working.{near_start, rules_still}
 use Rattle.bank_store.proofs.Rests.{rest_unread, rest_gate}
+use Rattle.bank_store.proofs.Written.{shut_written, shut_kept}
 use Rattle.bank_store.proofs.store.Store.shut_other.Goals as goal
 
 pub returns-then-not-self-clause-safe : goal.returns-then-not-self-clause-safe
@@ -32,3 +33,10 @@ returns-clause-rest g c =
     on_ok_by c.write.result
     (λ bytes image now told later place out. rest_gate c.args.self.now image now c.other.result _ place c.other.ensures (same_image now _ (sym later ∙ bytes image told)) out)
     c.write.ensures.bytes
+
+pub returns-then-not-self-clause-written : goal.returns-then-not-self-clause-written
+returns-then-not-self-clause-written g c image told = told ∙ shut_kept c.args.self.now image c.if-not-self.true
+
+pub returns-clause-written : goal.returns-clause-written
+returns-clause-written g c =
+    on_ok_by c.write.result (λ bytes image told. bytes image told ∙ shut_written c.args.self.now image c.other.result c.if-not-self.false c.other.ensures) c.write.ensures.bytes
