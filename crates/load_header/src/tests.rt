@@ -1,6 +1,6 @@
-use crate::{HeaderFault, LoadCrc, LoadHeader, fault_text, header_laws};
+use crate::{FileEntry, HeaderFault, LoadCrc, LoadHeader, fault_text, header_laws};
 use crc_fields::{Crc32, crc16};
-use load_base::{Bytes, NoMemory};
+use load_base::{Bytes, List, Name, NoMemory, Text};
 use std::alloc::Global;
 
 /// The header of a load with one file, `APP.BIN`, whose bytes are `123456789`, but its two check sums.
@@ -78,58 +78,6 @@ fn mend(bytes: &mut [u8]) {
     }
 }
 
-#[test]
-fn the_known_header_is_read(rt: HostRuntime) -> Result<(), HeaderFault> {
-    let bytes = app_header();
-    assert_eq!(rt; &bytes[116..], b"\x70\x42\xAD\xC0\x8C\x7F".as_slice());
-    let header = LoadHeader::decode(rt.alloc(), &bytes)?;
-    assert_eq!(rt;
-        (header.flags, header.type_id, header.load_crc),
-        (0, 7, 0xADC0_8C7F)
-    );
-    assert_eq!(rt; header.part.as_slice(), b"ABC41-0000-0001".as_slice());
-    assert_eq!(rt; header.type_name.as_slice(), b"APP".as_slice());
-    assert_eq!(rt; (header.hardware.len(), header.positions.len()), (1, 0));
-    assert_eq!(rt;
-        (header.data_files.len(), header.support_files.len()),
-        (1, 0)
-    );
-    for hardware in header.hardware.as_slice() {
-        assert_eq!(rt; hardware.as_slice(), b"HW1".as_slice());
-    }
-    for file in header.data_files.as_slice() {
-        assert_eq!(rt; file.name.as_slice(), b"APP.BIN".as_slice());
-        assert_eq!(rt; file.part.as_slice(), b"APP1".as_slice());
-        assert_eq!(rt; (file.length, file.crc16), (9, 0x29B1));
-    }
-    assert_eq!(rt; header.user.len(), 0);
-    header_laws();
-    Ok(())
-}
-
-#[test]
-fn positions_and_user_data_are_read(rt: HostRuntime) -> Result<(), HeaderFault> {
-    let header = LoadHeader::decode(rt.alloc(), &NAV)?;
-    assert_eq!(rt; (header.hardware.len(), header.positions.len()), (1, 1));
-    for at in header.positions.as_slice() {
-        assert_eq!(rt; at.hardware.as_slice(), b"FMC-2".as_slice());
-        assert_eq!(rt; at.positions.len(), 1);
-        for position in at.positions.as_slice() {
-            assert_eq!(rt; position.as_slice(), b"L".as_slice());
-        }
-    }
-    assert_eq!(rt;
-        (header.data_files.len(), header.support_files.len()),
-        (2, 1)
-    );
-    for file in header.support_files.as_slice() {
-        assert_eq!(rt; file.name.as_slice(), b"NAV.TXT".as_slice());
-        assert_eq!(rt; (file.length, file.crc16), (1, 0x48FA));
-    }
-    assert_eq!(rt; header.user.as_slice(), b"NOTE".as_slice());
-    Ok(())
-}
-
 /// Each place and byte that is put there, whether the header's check sum is made right again, and what the
 /// header is refused with.
 #[test]
@@ -192,48 +140,108 @@ fn later_files_are_counted_on(rt: HostRuntime) -> Result<(), NoMemory> {
 fn lengths_are_tested_first_and_the_rest_before_the_check_sum(
     rt: HostRuntime,
 ) -> Result<(), NoMemory> {
-    let bytes = app_header();
-    assert_eq!(rt;
-        outcome(rt.alloc(), front(&bytes, 3))?.as_slice(),
-        b"H1 0".as_slice()
-    );
-    assert_eq!(rt;
-        outcome(rt.alloc(), front(&bytes, 121))?.as_slice(),
-        b"H2 61 121".as_slice()
-    );
+    let app = app_header();
     let mut longer = [0; 124];
-    longer[..122].copy_from_slice(&bytes);
+    longer[..122].copy_from_slice(&app);
     longer[3] = 62;
-    assert_eq!(rt;
-        outcome(rt.alloc(), &longer)?.as_slice(),
-        b"H15 122".as_slice()
-    );
-    assert_eq!(rt;
-        outcome(rt.alloc(), &[0; 65_536])?.as_slice(),
-        b"H2 0 65536".as_slice()
-    );
-    assert_eq!(rt;
-        outcome(rt.alloc(), &[0; 65_537])?.as_slice(),
-        b"H11".as_slice()
-    );
+    for (bytes, text) in [
+        (front(&app, 3), &b"H1 0"[..]),
+        (front(&app, 121), b"H2 61 121"),
+        (&longer, b"H15 122"),
+        (&[0; 65_536], b"H2 0 65536"),
+        (&[0; 65_537], b"H11"),
+    ] {
+        assert_eq!(rt; outcome(rt.alloc(), bytes)?.as_slice(), text);
+    }
     Ok(())
 }
 
 #[test]
 fn what_was_read_is_written_again(rt: HostRuntime) -> Result<(), HeaderFault> {
     let app = app_header();
-    let header = LoadHeader::decode(rt.alloc(), &app)?;
-    assert!(rt; header.fits());
-    assert_eq!(rt; header.encode(rt.alloc())?.as_slice(), app.as_slice());
-    let header = LoadHeader::decode(rt.alloc(), &NAV)?;
-    assert!(rt; header.fits());
-    assert_eq!(rt; header.encode(rt.alloc())?.as_slice(), NAV.as_slice());
+    for bytes in [app.as_slice(), &NAV] {
+        let header = LoadHeader::decode(rt.alloc(), bytes)?;
+        assert_eq!(rt; there_and_back(rt.alloc(), &header)?.as_slice(), bytes);
+    }
+    header_laws();
     Ok(())
 }
 
+/// So many files with the name `F.BIN` and an empty part, each of so many bytes.
+fn files(alloc: Global, count: usize, length: u32) -> Result<List<FileEntry>, HeaderFault> {
+    let mut files = List::new(alloc);
+    for _ in 0..count {
+        let name = match Name::read(b"F.BIN") {
+            Ok(name) => name,
+            Err(fault) => return Err(HeaderFault::Name { place: 0, fault }),
+        };
+        let part = match Text::read(alloc, b"") {
+            Ok(part) => part,
+            Err(fault) => return Err(HeaderFault::Text { place: 0, fault }),
+        };
+        files.push(FileEntry {
+            name,
+            part,
+            length,
+            crc16: 0x29B1,
+        })?;
+    }
+    Ok(files)
+}
+
+/// The bytes of a header that fits, which are read as one with as many files; none where it doesn't fit.
+fn there_and_back(alloc: Global, header: &LoadHeader) -> Result<Bytes, HeaderFault> {
+    if !header.fits() {
+        return Ok(Bytes::new(alloc));
+    }
+    let bytes = header.encode(alloc)?;
+    let again = LoadHeader::decode(alloc, bytes.as_slice())?;
+    if again.data_files.len() != header.data_files.len() {
+        return Err(HeaderFault::TooMany(again.data_files.len() as u64));
+    }
+    Ok(bytes)
+}
+
+/// How many data and support files, of how many bytes each, and how many bytes of user data a header has, and
+/// how many bytes it takes, or 0 where it doesn't fit: 110, those of the user data, and 26 for each file.
+#[test]
+fn a_header_has_at_most_255_files_and_65536_bytes(rt: HostRuntime) -> Result<(), HeaderFault> {
+    for (data_files, support_files, length, user, bytes) in [
+        (200, 55, 16_777_215, 58_796, 65_536),
+        (200, 55, 16_777_215, 58_798, 0),
+        (0, 0, 0, 65_426, 65_536),
+        (0, 0, 0, 65_428, 0),
+        (0, 0, 0, 1, 0),
+        (255, 0, 0, 0, 6_740),
+        (0, 255, 0, 0, 6_740),
+        (255, 1, 0, 0, 0),
+        (0, 256, 0, 0, 0),
+        (1, 0, 16_777_216, 0, 0),
+        (0, 1, 16_777_216, 0, 0),
+    ] {
+        let mut header = LoadHeader::decode(rt.alloc(), &NAV)?;
+        header.data_files = files(rt.alloc(), data_files, length)?;
+        header.support_files = files(rt.alloc(), support_files, length)?;
+        header.user = Bytes::new(rt.alloc());
+        for _ in 0..user {
+            header.user.push(0x55)?;
+        }
+        let written = there_and_back(rt.alloc(), &header)?;
+        assert_eq!(rt;
+            written.len(),
+            bytes,
+            "{data_files} and {support_files} files, {user} bytes"
+        );
+    }
+    Ok(())
+}
+
+/// The last six bytes of the header of `APP.BIN` are known from outside.
 #[test]
 fn a_load_is_summed_in_pieces(rt: HostRuntime) {
-    let mut sum = LoadCrc::new(&app_header());
+    let app = app_header();
+    assert_eq!(rt; &app[116..], b"\x70\x42\xAD\xC0\x8C\x7F".as_slice());
+    let mut sum = LoadCrc::new(&app);
     sum.file(b"1234");
     sum.file(b"");
     sum.file(b"56789");

@@ -1,4 +1,4 @@
-ghost use Rattle.std.specs.Prelude.{◌≡◌, false, IfOk};
+ghost use Rattle.std.specs.Prelude.{◌≡◌, ◌≤◌, length, false, IfOk};
 ghost use Rattle.disk_model.specs.MemDisk.{state_of};
 
 use super::*;
@@ -11,6 +11,9 @@ use recovery::{Identity, Standing};
 use std::alloc::Global;
 use std::fs;
 use std::test::Fail;
+
+// The words of a listing.
+const LIST: &[&str] = &["list"];
 
 // The bytes of a disk up to the end of its first manifest.
 const DISK: usize = 8194;
@@ -30,12 +33,15 @@ fn formatted() -> [u8; DISK] {
 // The same disk with these bytes from a place on.
 fn changed(at: usize, bytes: &[u8]) -> [u8; DISK] {
     let mut disk = formatted();
-    for (i, byte) in bytes.iter().enumerate() {
-        if let Some(cell) = disk.get_mut(at.wrapping_add(i)) {
-            *cell = *byte;
-        }
-    }
+    put(&mut disk, at, bytes);
     disk
+}
+
+// Puts bytes in a place, where they end within the disk.
+fn put(disk: &mut [u8], at: usize, bytes: &[u8]) {
+    if at <= disk.len() && bytes.len() <= disk.len() - at {
+        disk[at..at + bytes.len()].copy_from_slice(bytes);
+    }
 }
 
 fn words_of(alloc: Global, words: &[&str]) -> Result<Vec<String>, Fail> {
@@ -46,18 +52,35 @@ fn words_of(alloc: Global, words: &[&str]) -> Result<Vec<String>, Fail> {
     Ok(all)
 }
 
-// The status of a run on this disk, and the sink that it put its text in.
-fn run_on(alloc: Global, words: &[String], disk: [u8; DISK]) -> Result<(u8, MemSink), Fail> {
-    let mut disk = MemDisk::new(alloc, &disk)?;
+// The status of a run on these words, and the sink that it put its text in.
+fn run_over(
+    alloc: Global,
+    words: &[&str],
+    host: &mut MemHost,
+    disk: &mut MemDisk,
+) -> Result<(u8, MemSink), Fail>
+    requires { (state_of disk.old).stopped ≡ false }
+{
+    let words = words_of(alloc, words)?;
     let mut out = MemSink::new(alloc);
-    let ended = run(alloc, words, &mut MemHost::new(alloc), &mut out, &mut disk);
+    let ended = run(alloc, &words, host, &mut out, disk);
     Ok((ended.status, out))
+}
+
+// The same over a host without files.
+fn run_alone(alloc: Global, words: &[&str], disk: &mut MemDisk) -> Result<(u8, MemSink), Fail>
+    requires { (state_of disk.old).stopped ≡ false }
+{
+    run_over(alloc, words, &mut MemHost::new(alloc), disk)
+}
+
+// The same over a disk with these bytes.
+fn run_on(alloc: Global, words: &[&str], disk: [u8; DISK]) -> Result<(u8, MemSink), Fail> {
+    run_alone(alloc, words, &mut MemDisk::new(alloc, &disk)?)
 }
 
 #[test]
 fn lists_what_rules_or_says_why_not(rt: HostRuntime) -> Result<(), Fail> {
-    let alloc = rt.alloc();
-    let words = words_of(alloc, &["list"])?;
     let mut two_slots = changed(4112, &[0, 0, 0, 7]);
     two_slots[4608] = 0xA5;
     two_slots[4624..4637].copy_from_slice(&[0, 0, 0, 8, 1, 0, 0, 0, 0, 0, 0, 0, 2]);
@@ -129,9 +152,9 @@ fn lists_what_rules_or_says_why_not(rt: HostRuntime) -> Result<(), Fail> {
         ),
     ];
     for (name, bytes, status, text) in rows {
-        let (found, out) = run_on(alloc, &words, bytes)?;
-        assert_eq!(rt; found, status, "{name}");
+        let (found, out) = run_on(rt.alloc(), LIST, bytes)?;
         assert_eq!(rt; out.as_slice(), text.as_bytes(), "{name}");
+        assert_eq!(rt; found, status, "{name}");
     }
     Ok(())
 }
@@ -152,18 +175,8 @@ fn loaded(alloc: Global, at: usize, bytes: &[u8]) -> Result<MemDisk, Fail>
     Ok(MemDisk::new(alloc, &disk)?)
 }
 
-fn put(disk: &mut [u8], at: usize, bytes: &[u8]) {
-    for (i, byte) in bytes.iter().enumerate() {
-        if let Some(cell) = disk.get_mut(at.wrapping_add(i)) {
-            *cell = *byte;
-        }
-    }
-}
-
 #[test]
 fn lists_a_load_or_says_where_it_is_wrong(rt: HostRuntime) -> Result<(), Fail> {
-    let alloc = rt.alloc();
-    let words = words_of(alloc, &["list"])?;
     let listing = "target HW1 L SN1
 bank 0 sequence 1
 loads 1
@@ -253,12 +266,10 @@ file APP.BIN 9 29B1
         ),
     ];
     for (name, at, bytes, status, text) in rows {
-        let mut disk = loaded(alloc, at, bytes)?;
-        let mut out = MemSink::new(alloc);
-        let ended = run(alloc, &words, &mut MemHost::new(alloc), &mut out, &mut disk);
+        let mut disk = loaded(rt.alloc(), at, bytes)?;
+        let (found, out) = run_alone(rt.alloc(), LIST, &mut disk)?;
         assert_eq!(rt; out.as_slice(), text.as_bytes(), "{name}");
-        assert_eq!(rt; ended.status, status, "{name}");
-        assert_eq!(rt; disk.notes().len(), 0, "{name}");
+        assert_eq!(rt; (found, disk.notes().len()), (status, 0), "{name}");
     }
     Ok(())
 }
@@ -266,40 +277,30 @@ file APP.BIN 9 29B1
 // The disk is read six times: for the identity, each slot, the manifest, and each of the two files.
 #[test]
 fn each_read_of_a_load_fails_in_turn(rt: HostRuntime) -> Result<(), Fail> {
-    let alloc = rt.alloc();
-    let words = words_of(alloc, &["list"])?;
     for call in 1..=7u32 {
-        let mut disk = loaded(alloc, 0, &[])?;
+        let mut disk = loaded(rt.alloc(), 0, &[])?;
         disk.fail_at(call)?;
-        let mut out = MemSink::new(alloc);
-        let ended = run(alloc, &words, &mut MemHost::new(alloc), &mut out, &mut disk);
-        assert_eq!(rt; ended.status, if call < 7 { 5 } else { 0 }, "call {call}");
+        let (status, out) = run_alone(rt.alloc(), LIST, &mut disk)?;
         assert_eq!(rt;
-            out.as_slice() == b"disk fault\n".as_slice(),
-            call < 7,
+            (status, out.as_slice() == b"disk fault\n".as_slice()),
+            (if call < 7 { 5 } else { 0 }, call < 7),
             "call {call}"
         );
     }
     Ok(())
 }
 
-#[test]
-fn lists_a_load_of_256_files(rt: HostRuntime) -> Result<(), Fail> {
-    let alloc = rt.alloc();
-    let words = words_of(alloc, &["list"])?;
+// A disk with a load of 256 files of one byte.
+fn with_256_files(alloc: Global) -> Result<Bytes, Fail>
+    ensures { IfOk result (λ bytes. length bytes.items ≤ 10771) }
+{
     let mut contents = Bytes::new(alloc);
     let mut names = Bytes::new(alloc);
-    let mut lines = Bytes::new(alloc);
-    lines.extend(b"target HW1 L SN1\nbank 0 sequence 1\nloads 1\nload ABC41-0000-0001 AAA 256\n")?;
     for i in 0..=255u8 {
         contents.extend(b"1")?;
-        let letters = [b'A' + i / 64, b'A' + i / 8 % 8, b'A' + i % 8];
         names.extend(&[3])?;
-        names.extend(&letters)?;
+        names.extend(&letters(i))?;
         names.extend(&[0, 0, 0, 1])?;
-        lines.extend(b"file ")?;
-        lines.extend(&letters)?;
-        lines.extend(b" 1 C782\n")?;
     }
     contents.extend(b"\x00\x01ABC41-0000-0001\x01\x00")?;
     contents.extend(names.as_slice())?;
@@ -307,18 +308,41 @@ fn lists_a_load_of_256_files(rt: HostRuntime) -> Result<(), Fail> {
     put(&mut bytes, 0, &formatted());
     put(&mut bytes, 4117, &[0, 0, 1, 0, 0, 0, 8, 19]);
     put(&mut bytes, 8192, contents.as_slice());
-    let mut disk = MemDisk::new(alloc, &bytes)?;
-    let mut out = MemSink::new(alloc);
-    let ended = run(alloc, &words, &mut MemHost::new(alloc), &mut out, &mut disk);
-    assert_eq!(rt; out.as_slice(), lines.as_slice());
-    assert_eq!(rt; ended.status, 0);
-    Ok(())
+    let mut disk = Bytes::new(alloc);
+    disk.extend(&bytes)?;
+    Ok(disk)
+}
+
+// A name of its own for each number.
+fn letters(i: u8) -> [u8; 3] {
+    [b'A' + i / 64, b'A' + i / 8 % 8, b'A' + i % 8]
+}
+
+// How that disk is listed.
+fn listing_of_256_files(alloc: Global) -> Result<Bytes, Fail> {
+    let mut lines = Bytes::new(alloc);
+    lines.extend(b"target HW1 L SN1\nbank 0 sequence 1\nloads 1\nload ABC41-0000-0001 AAA 256\n")?;
+    for i in 0..=255u8 {
+        lines.extend(b"file ")?;
+        lines.extend(&letters(i))?;
+        lines.extend(b" 1 C782\n")?;
+    }
+    Ok(lines)
 }
 
 #[test]
+fn lists_a_load_of_256_files(rt: HostRuntime) -> Result<(), Fail> {
+    let bytes = with_256_files(rt.alloc())?;
+    let lines = listing_of_256_files(rt.alloc())?;
+    let mut disk = MemDisk::new(rt.alloc(), bytes.as_slice())?;
+    let (status, out) = run_alone(rt.alloc(), LIST, &mut disk)?;
+    assert_eq!(rt; (status, out.as_slice()), (0, lines.as_slice()));
+    Ok(())
+}
+
+// Over a disk with an open slot: the disk is called nine times, and after a power loss it is listed.
+#[test]
 fn formats_a_disk(rt: HostRuntime) -> Result<(), Fail> {
-    let alloc = rt.alloc();
-    let list = words_of(alloc, &["list"])?;
     for (words, formatted, listed) in [
         (
             &["format", "HW1", "L", "SN1", "4096"],
@@ -331,18 +355,14 @@ fn formats_a_disk(rt: HostRuntime) -> Result<(), Fail> {
             "target FMC-1 R SN77\nbank 0 sequence 1\nloads 0\n",
         ),
     ] {
-        let mut disk = loaded(alloc, 4608, &[0xA5])?;
-        let mut out = MemSink::new(alloc);
-        let words = words_of(alloc, words)?;
-        let ended = run(alloc, &words, &mut MemHost::new(alloc), &mut out, &mut disk);
+        let mut disk = loaded(rt.alloc(), 4608, &[0xA5])?;
+        let (status, out) = run_alone(rt.alloc(), words, &mut disk)?;
         assert_eq!(rt; out.as_slice(), formatted.as_bytes());
-        assert_eq!(rt; ended.status, 0);
-        assert_eq!(rt; disk.notes().len(), 9);
+        assert_eq!(rt; (status, disk.notes().len()), (0, 9));
         disk.restart()?;
-        let mut out = MemSink::new(alloc);
-        let ended = run(alloc, &list, &mut MemHost::new(alloc), &mut out, &mut disk);
+        let (status, out) = run_alone(rt.alloc(), LIST, &mut disk)?;
         assert_eq!(rt; out.as_slice(), listed.as_bytes());
-        assert_eq!(rt; ended.status, 0);
+        assert_eq!(rt; status, 0);
     }
     Ok(())
 }
@@ -351,27 +371,23 @@ fn formats_a_disk(rt: HostRuntime) -> Result<(), Fail> {
 // a sync after each of the three steps.
 #[test]
 fn each_call_of_format_fails_in_turn(rt: HostRuntime) -> Result<(), Fail> {
-    let alloc = rt.alloc();
-    let words = words_of(alloc, &["format", "HW1", "L", "SN1", "4096"])?;
     for call in 1..=10u32 {
-        let mut disk = loaded(alloc, 0, &[])?;
+        let mut disk = loaded(rt.alloc(), 0, &[])?;
         disk.fail_at(call)?;
-        let mut out = MemSink::new(alloc);
-        let ended = run(alloc, &words, &mut MemHost::new(alloc), &mut out, &mut disk);
-        let (status, text) = if call < 10 {
-            (5, "disk fault\n")
+        let words = &["format", "HW1", "L", "SN1", "4096"];
+        let (status, out) = run_alone(rt.alloc(), words, &mut disk)?;
+        let said = if call < 10 {
+            (5, b"disk fault\n".as_slice())
         } else {
-            (0, "formatted HW1 L SN1 4096\n")
+            (0, b"formatted HW1 L SN1 4096\n".as_slice())
         };
-        assert_eq!(rt; ended.status, status, "call {call}");
-        assert_eq!(rt; out.as_slice(), text.as_bytes(), "call {call}");
+        assert_eq!(rt; (status, out.as_slice()), said, "call {call}");
     }
     Ok(())
 }
 
 #[test]
 fn refuses_all_other_words(rt: HostRuntime) -> Result<(), Fail> {
-    let alloc = rt.alloc();
     for words in [
         &[][..],
         &["frob"],
@@ -403,10 +419,11 @@ fn refuses_all_other_words(rt: HostRuntime) -> Result<(), Fail> {
         &["format", "HW1", "L", "SERIAL-NUMBER-OF-21-B", "4096"],
         &["Format", "HW1", "L", "SN1", "4096"],
     ] {
-        let words = words_of(alloc, words)?;
-        let (status, out) = run_on(alloc, &words, formatted())?;
-        assert_eq!(rt; status, 2);
-        assert_eq!(rt; out.as_slice(), b"refused words\n".as_slice());
+        let (status, out) = run_on(rt.alloc(), words, formatted())?;
+        assert_eq!(rt;
+            (status, out.as_slice()),
+            (2, b"refused words\n".as_slice())
+        );
     }
     Ok(())
 }
@@ -414,8 +431,6 @@ fn refuses_all_other_words(rt: HostRuntime) -> Result<(), Fail> {
 // The disk is read four times: for the identity, each slot, and the manifest.
 #[test]
 fn each_disk_read_fails_in_turn(rt: HostRuntime) -> Result<(), Fail> {
-    let alloc = rt.alloc();
-    let words = words_of(alloc, &["list"])?;
     for (call, status, text) in [
         (1, 5, "disk fault\n"),
         (2, 5, "disk fault\n"),
@@ -423,27 +438,25 @@ fn each_disk_read_fails_in_turn(rt: HostRuntime) -> Result<(), Fail> {
         (4, 5, "disk fault\n"),
         (5, 0, "target HW1 L SN1\nbank 0 sequence 1\nloads 0\n"),
     ] {
-        let mut disk = MemDisk::new(alloc, &formatted())?;
+        let mut disk = MemDisk::new(rt.alloc(), &formatted())?;
         disk.fail_at(call)?;
-        let mut out = MemSink::new(alloc);
-        let ended = run(alloc, &words, &mut MemHost::new(alloc), &mut out, &mut disk);
-        assert_eq!(rt; ended.status, status, "call {call}");
+        let (found, out) = run_alone(rt.alloc(), LIST, &mut disk)?;
         assert_eq!(rt; out.as_slice(), text.as_bytes(), "call {call}");
+        assert_eq!(rt; found, status, "call {call}");
     }
     Ok(())
 }
 
 #[test]
 fn a_sink_that_fails(rt: HostRuntime) -> Result<(), Fail> {
-    let alloc = rt.alloc();
     for words in [&["list"][..], &["frob"]] {
-        let words = words_of(alloc, words)?;
-        let mut disk = MemDisk::new(alloc, &formatted())?;
-        let mut out = MemSink::new(alloc);
+        let words = words_of(rt.alloc(), words)?;
+        let mut disk = MemDisk::new(rt.alloc(), &formatted())?;
+        let mut host = MemHost::new(rt.alloc());
+        let mut out = MemSink::new(rt.alloc());
         out.fail_at(1)?;
-        let ended = run(alloc, &words, &mut MemHost::new(alloc), &mut out, &mut disk);
-        assert_eq!(rt; ended.status, 7);
-        assert_eq!(rt; out.as_slice(), b"".as_slice());
+        let ended = run(rt.alloc(), &words, &mut host, &mut out, &mut disk);
+        assert_eq!(rt; (ended.status, out.as_slice()), (7, b"".as_slice()));
     }
     Ok(())
 }
@@ -567,7 +580,6 @@ fn host_with(alloc: Global, name: &[u8], bytes: &[u8]) -> Result<MemHost, Fail> 
 
 #[test]
 fn shows_a_header_or_says_why_not(rt: HostRuntime) -> Result<(), Fail> {
-    let alloc = rt.alloc();
     let mut another_sum = NAV;
     another_sum[203] ^= 1;
     let rows = [
@@ -577,60 +589,68 @@ fn shows_a_header_or_says_why_not(rt: HostRuntime) -> Result<(), Fail> {
         ("OTHER.LUH", &NAV, 3, b"refused NAV.LUH absent\n"),
         ("nav.luh", &NAV, 3, b"refused NAV.LUH absent\n"),
     ];
-    let words = words_of(alloc, &["show", "NAV.LUH"])?;
     for (name, bytes, status, text) in rows {
-        let mut host = host_with(alloc, name.as_bytes(), bytes)?;
-        let mut out = MemSink::new(alloc);
-        let mut disk = MemDisk::new(alloc, &formatted())?;
-        let ended = run(alloc, &words, &mut host, &mut out, &mut disk);
-        assert_eq!(rt; ended.status, status, "{name}");
-        assert_eq!(rt; out.as_slice(), text, "{name}");
-        assert_eq!(rt; disk.as_slice(), formatted().as_slice(), "{name}");
+        let mut host = host_with(rt.alloc(), name.as_bytes(), bytes)?;
+        let mut disk = MemDisk::new(rt.alloc(), &formatted())?;
+        let (found, out) = show_nav(rt.alloc(), &mut host, &mut disk)?;
+        assert_eq!(rt;
+            (found, out.as_slice(), disk.notes().len()),
+            (status, text, 0),
+            "{name}"
+        );
     }
     Ok(())
+}
+
+// A run on `show NAV.LUH`.
+fn show_nav(alloc: Global, host: &mut MemHost, disk: &mut MemDisk) -> Result<(u8, MemSink), Fail>
+    requires { (state_of disk.old).stopped ≡ false }
+{
+    run_over(alloc, &["show", "NAV.LUH"], host, disk)
 }
 
 // The host is called once, and only by `show`.
 #[test]
 fn each_host_call_fails_in_turn(rt: HostRuntime) -> Result<(), Fail> {
-    let alloc = rt.alloc();
     for (words, call, status) in [
         (&["show", "NAV.LUH"][..], 2, 4),
         (&["show", "NAV.LUH"], 3, 0),
-        (&["list"], 2, 0),
+        (LIST, 2, 0),
         (&["frob"], 2, 2),
     ] {
-        let words = words_of(alloc, words)?;
-        let mut host = host_with(alloc, b"NAV.LUH", &NAV)?;
+        let mut host = host_with(rt.alloc(), b"NAV.LUH", &NAV)?;
         host.fail_at(call)?;
-        let mut out = MemSink::new(alloc);
-        let mut disk = MemDisk::new(alloc, &formatted())?;
-        let ended = run(alloc, &words, &mut host, &mut out, &mut disk);
-        assert_eq!(rt; ended.status, status, "call {call}");
+        let mut disk = MemDisk::new(rt.alloc(), &formatted())?;
+        let (found, out) = run_over(rt.alloc(), words, &mut host, &mut disk)?;
         assert_eq!(rt;
-            out.as_slice() == b"host fault\n".as_slice(),
-            status == 4,
+            (found, out.as_slice() == b"host fault\n".as_slice()),
+            (status, status == 4),
             "call {call}"
         );
     }
     Ok(())
 }
 
-#[test]
-fn too_many_bytes_are_refused(rt: HostRuntime) -> Result<(), Fail> {
-    let alloc = rt.alloc();
-    let words = words_of(alloc, &["show", "NAV.LUH"])?;
+// So many zeros.
+fn zeros(alloc: Global, count: usize) -> Result<Bytes, Fail> {
     let mut bytes = Bytes::new(alloc);
     let piece = [0; 65_536];
-    for _ in 0..256 {
+    for _ in 0..count / piece.len() {
         bytes.extend(&piece)?;
     }
-    let mut host = host_with(alloc, b"NAV.LUH", bytes.as_slice())?;
-    let mut out = MemSink::new(alloc);
-    let mut disk = MemDisk::new(alloc, &formatted())?;
-    let ended = run(alloc, &words, &mut host, &mut out, &mut disk);
-    assert_eq!(rt; ended.status, 3);
-    assert_eq!(rt; out.as_slice(), b"refused NAV.LUH toolong\n".as_slice());
+    Ok(bytes)
+}
+
+#[test]
+fn too_many_bytes_are_refused(rt: HostRuntime) -> Result<(), Fail> {
+    let bytes = zeros(rt.alloc(), 16_777_216)?;
+    let mut host = host_with(rt.alloc(), b"NAV.LUH", bytes.as_slice())?;
+    let mut disk = MemDisk::new(rt.alloc(), &formatted())?;
+    let (status, out) = show_nav(rt.alloc(), &mut host, &mut disk)?;
+    assert_eq!(rt;
+        (status, out.as_slice()),
+        (3, b"refused NAV.LUH toolong\n".as_slice())
+    );
     Ok(())
 }
 

@@ -1,7 +1,7 @@
 //! What is written, and the limits of the format, with as much memory as it takes.
-use crate::vectors::{EIGHT_FILES, FILES, LOADS, THREE_LOADS};
+use crate::vectors::{DEEP_FILE, EIGHT_FILES, FILES, LOADS, THREE_LOADS};
 use crate::{FilesList, ListFault, ListedFile, LoadEntry, LoadsList, WordFault, fault_text};
-use load_base::{Bytes, List, Name, Text};
+use load_base::{Bytes, List, Name, NoMemory, Text};
 use part_number::PartNumber;
 use std::alloc::Global;
 
@@ -37,7 +37,7 @@ fn part(bytes: &[u8]) -> Result<PartNumber, ListFault> {
 }
 
 /// So many bytes of user data.
-fn user_data(alloc: Global, size: usize) -> Result<Bytes, ListFault> {
+fn user_data(alloc: Global, size: usize) -> Result<Bytes, NoMemory> {
     let mut user = Bytes::new(alloc);
     for _ in 0..size {
         user.push(0x55)?;
@@ -53,25 +53,147 @@ fn numbered(number: usize) -> [u8; 5] {
     [b'F', thousands, hundreds, tens, b'0' + (number % 10) as u8]
 }
 
-/// A list of so many files, each with a name of its own, the last of which comes first in their order.
-fn many_files(alloc: Global, count: usize, path: &[u8]) -> Result<FilesList, ListFault> {
-    let mut files = List::new(alloc);
-    for number in 0..count {
-        files.push(ListedFile {
-            name: name(&numbered(9_999 - number % 10_000))?,
-            path: text(alloc, path)?,
-            member: 1,
-            crc16: 0x29B1,
-        })?;
-    }
+// ---- lists of files
+
+fn file(
+    alloc: Global,
+    title: &[u8],
+    path: &[u8],
+    member: u16,
+    crc16: u16,
+) -> Result<ListedFile, ListFault> {
+    Ok(ListedFile {
+        name: name(title)?,
+        path: text(alloc, path)?,
+        member,
+        crc16,
+    })
+}
+
+/// A list of these files and of so many bytes of user data, of the one member of its set.
+fn files_list(alloc: Global, files: List<ListedFile>, user: usize) -> Result<FilesList, ListFault> {
     Ok(FilesList {
         set: part(b"XYZ5A-0000-0001")?,
         member: 1,
         members: 1,
         files,
-        user: Bytes::new(alloc),
+        user: user_data(alloc, user)?,
     })
 }
+
+/// So many files, each with a name of its own, the last of which comes first in their order.
+fn many_files(alloc: Global, count: usize, path: &[u8]) -> Result<List<ListedFile>, ListFault> {
+    let mut files = List::new(alloc);
+    for number in 0..count {
+        let title = numbered(9_999 - number % 10_000);
+        files.push(file(alloc, &title, path, 1, 0x29B1)?)?;
+    }
+    Ok(files)
+}
+
+/// Files with these names.
+fn files_named(alloc: Global, titles: &[&[u8]]) -> Result<List<ListedFile>, ListFault> {
+    let mut files = List::new(alloc);
+    for title in titles {
+        files.push(file(alloc, title, b"\\", 1, 0)?)?;
+    }
+    Ok(files)
+}
+
+/// The bytes of a list that fits, which are read as a list of as many files; none where it doesn't fit.
+fn files_there_and_back(alloc: Global, list: &FilesList) -> Result<Bytes, ListFault> {
+    if !list.fits() {
+        return Ok(Bytes::new(alloc));
+    }
+    let bytes = list.encode(alloc)?;
+    let again = FilesList::decode(alloc, bytes.as_slice())?;
+    if again.files.len() != list.files.len() {
+        return Err(ListFault::Rest(again.files.len() as u64));
+    }
+    Ok(bytes)
+}
+
+#[test]
+fn the_files_of_a_set_are_written(rt: HostRuntime) -> Result<(), ListFault> {
+    let mut files = List::new(rt.alloc());
+    for (title, crc16) in [(b"APP.LUH", 0x248A), (b"APP.BIN", 0x29B1)] {
+        files.push(file(rt.alloc(), title, b"\\", 1, crc16)?)?;
+    }
+    let list = files_list(rt.alloc(), files, 0)?;
+    let bytes = files_there_and_back(rt.alloc(), &list)?;
+    assert_eq!(rt; bytes.as_slice(), FILES.as_slice());
+    Ok(())
+}
+
+#[test]
+fn files_that_were_read_are_written_again(rt: HostRuntime) -> Result<(), ListFault> {
+    for bytes in [FILES.as_slice(), &EIGHT_FILES, &DEEP_FILE] {
+        let list = FilesList::decode(rt.alloc(), bytes)?;
+        let again = files_there_and_back(rt.alloc(), &list)?;
+        assert_eq!(rt; again.as_slice(), bytes);
+    }
+    Ok(())
+}
+
+/// How many files with which path and how many bytes of user data a list has, and how many bytes it takes, or 0
+/// where it doesn't fit: 46, those of the user data, and 16 for each file and those of its path, an even number.
+#[test]
+fn a_list_of_files_keeps_its_limits(rt: HostRuntime) -> Result<(), ListFault> {
+    let mut path = [b'A'; 65];
+    path[0] = b'\\';
+    let mut longest = path;
+    longest[63] = b'\\';
+    for (count, path, user, bytes) in [
+        (1024, &b"\\"[..], 0, 46 + 1024 * 18),
+        (1025, b"\\", 0, 0),
+        (0, b"\\", 0, 46),
+        (2, &longest[..64], 0, 46 + 2 * 80),
+        (2, &longest, 0, 0),
+        (2, &path[..64], 0, 0),
+        (2, b"", 0, 0),
+        (1, b"\\", 131_070, 46 + 18 + 131_070),
+        (1, b"\\", 131_072, 0),
+        (1, b"\\", 131_069, 0),
+    ] {
+        let files = many_files(rt.alloc(), count, path)?;
+        let list = files_list(rt.alloc(), files, user)?;
+        let written = files_there_and_back(rt.alloc(), &list)?;
+        assert_eq!(rt; written.len(), bytes, "{count} files, {user} bytes");
+    }
+    Ok(())
+}
+
+/// The member that has the list, how many there are, and the member that has its file.
+#[test]
+fn members_count_from_1(rt: HostRuntime) -> Result<(), ListFault> {
+    for (member, members, of_file, fits) in [
+        (1, 1, 1, true),
+        (0, 1, 1, false),
+        (2, 1, 1, false),
+        (255, 255, 255, true),
+        (1, 0, 1, false),
+        (0, 0, 0, false),
+        (1, 2, 0, false),
+        (1, 2, 2, true),
+        (1, 2, 3, false),
+        (1, 2, 257, false),
+        (255, 255, 256, false),
+    ] {
+        let mut files = List::new(rt.alloc());
+        files.push(file(rt.alloc(), b"A", b"\\", of_file, 0)?)?;
+        let mut list = files_list(rt.alloc(), files, 0)?;
+        list.member = member;
+        list.members = members;
+        assert_eq!(rt;
+            list.fits(),
+            fits,
+            "{member} of {members}, a file of {of_file}"
+        );
+    }
+    Ok(())
+}
+
+// ---- lists of loads
 
 /// A load for so many kinds of hardware, each of so many bytes.
 fn load_for(
@@ -93,33 +215,39 @@ fn load_for(
     })
 }
 
-fn loads_list(loads: List<LoadEntry>, user: Bytes) -> Result<LoadsList, ListFault> {
+/// A list of these loads and of so many bytes of user data, of the one member of its set.
+fn loads_list(alloc: Global, loads: List<LoadEntry>, user: usize) -> Result<LoadsList, ListFault> {
     Ok(LoadsList {
         set: part(b"XYZ5A-0000-0001")?,
         member: 1,
         members: 1,
         loads,
-        user,
+        user: user_data(alloc, user)?,
     })
 }
 
-/// The bytes of a list of files that fits, which are read as a list of as many files.
-fn files_there_and_back(alloc: Global, list: &FilesList) -> Result<Bytes, ListFault> {
-    if !list.fits() {
-        return Err(ListFault::TooLong);
+/// So many loads with a name of their own, each for so many kinds of hardware of 255 bytes.
+fn many_loads(alloc: Global, count: usize, kinds: usize) -> Result<List<LoadEntry>, ListFault> {
+    let mut loads = List::new(alloc);
+    for number in 0..count {
+        loads.push(load_for(alloc, &numbered(number), kinds, 255)?)?;
     }
-    let bytes = list.encode(alloc)?;
-    let again = FilesList::decode(alloc, bytes.as_slice())?;
-    if again.files.len() != list.files.len() {
-        return Err(ListFault::Rest(again.files.len() as u64));
-    }
-    Ok(bytes)
+    Ok(loads)
 }
 
-/// The same of a list of loads.
+/// Loads with these names.
+fn loads_named(alloc: Global, titles: &[&[u8]]) -> Result<List<LoadEntry>, ListFault> {
+    let mut loads = List::new(alloc);
+    for title in titles {
+        loads.push(load_for(alloc, title, 0, 0)?)?;
+    }
+    Ok(loads)
+}
+
+/// The bytes of a list that fits, which are read as a list of as many loads; none where it doesn't fit.
 fn loads_there_and_back(alloc: Global, list: &LoadsList) -> Result<Bytes, ListFault> {
     if !list.fits() {
-        return Err(ListFault::TooLong);
+        return Ok(Bytes::new(alloc));
     }
     let bytes = list.encode(alloc)?;
     let again = LoadsList::decode(alloc, bytes.as_slice())?;
@@ -130,156 +258,42 @@ fn loads_there_and_back(alloc: Global, list: &LoadsList) -> Result<Bytes, ListFa
 }
 
 #[test]
-fn the_files_of_a_set_are_written(rt: HostRuntime) -> Result<(), ListFault> {
-    let mut files = List::new(rt.alloc());
-    for (title, crc16) in [(b"APP.LUH", 0x248A), (b"APP.BIN", 0x29B1)] {
-        files.push(ListedFile {
-            name: name(title)?,
-            path: text(rt.alloc(), b"\\")?,
-            member: 1,
-            crc16,
-        })?;
-    }
-    let list = FilesList {
-        set: part(b"XYZ5A-0000-0001")?,
-        member: 1,
-        members: 1,
-        files,
-        user: Bytes::new(rt.alloc()),
-    };
-    let bytes = files_there_and_back(rt.alloc(), &list)?;
-    assert_eq!(rt; bytes.as_slice(), FILES.as_slice());
-    Ok(())
-}
-
-#[test]
 fn the_loads_of_a_set_are_written(rt: HostRuntime) -> Result<(), ListFault> {
-    let mut hardware = List::new(rt.alloc());
-    hardware.push(text(rt.alloc(), b"HW1")?)?;
     let mut loads = List::new(rt.alloc());
-    loads.push(LoadEntry {
-        part: part(b"ABC41-0000-0001")?,
-        header_name: name(b"APP.LUH")?,
-        member: 1,
-        hardware,
-    })?;
-    let list = loads_list(loads, Bytes::new(rt.alloc()))?;
+    let mut load = load_for(rt.alloc(), b"APP.LUH", 0, 0)?;
+    load.hardware.push(text(rt.alloc(), b"HW1")?)?;
+    loads.push(load)?;
+    let list = loads_list(rt.alloc(), loads, 0)?;
     let bytes = loads_there_and_back(rt.alloc(), &list)?;
     assert_eq!(rt; bytes.as_slice(), LOADS.as_slice());
     Ok(())
 }
 
 #[test]
-fn what_was_read_is_written_again(rt: HostRuntime) -> Result<(), ListFault> {
-    let files = FilesList::decode(rt.alloc(), &EIGHT_FILES)?;
-    assert_eq!(rt;
-        files_there_and_back(rt.alloc(), &files)?.as_slice(),
-        EIGHT_FILES.as_slice()
-    );
-    let loads = LoadsList::decode(rt.alloc(), &THREE_LOADS)?;
-    assert_eq!(rt;
-        loads_there_and_back(rt.alloc(), &loads)?.as_slice(),
-        THREE_LOADS.as_slice()
-    );
-    Ok(())
-}
-
-#[test]
-fn a_list_has_at_most_1024_entries(rt: HostRuntime) -> Result<(), ListFault> {
-    let list = many_files(rt.alloc(), 1024, b"\\")?;
-    let bytes = files_there_and_back(rt.alloc(), &list)?;
-    assert_eq!(rt; bytes.len(), 46 + 1024 * 18);
-    assert!(rt; !many_files(rt.alloc(), 1025, b"\\")?.fits());
-    assert!(rt; many_files(rt.alloc(), 0, b"\\")?.fits());
-    let mut loads = List::new(rt.alloc());
-    for number in 0..1024 {
-        loads.push(load_for(rt.alloc(), &numbered(number), 1, 3)?)?;
+fn loads_that_were_read_are_written_again(rt: HostRuntime) -> Result<(), ListFault> {
+    for bytes in [LOADS.as_slice(), &THREE_LOADS] {
+        let list = LoadsList::decode(rt.alloc(), bytes)?;
+        let again = loads_there_and_back(rt.alloc(), &list)?;
+        assert_eq!(rt; again.as_slice(), bytes);
     }
-    let list = loads_list(loads, Bytes::new(rt.alloc()))?;
-    loads_there_and_back(rt.alloc(), &list)?;
     Ok(())
 }
 
+/// How many loads, each for how many kinds of hardware of 255 bytes, and how many bytes of user data a list has,
+/// and how many bytes it takes, or 0 where it doesn't fit: 46, those of the user data, and for each load 32 and 258
+/// for each kind.
 #[test]
-fn a_path_has_at_most_64_bytes(rt: HostRuntime) -> Result<(), ListFault> {
-    let mut path = [b'A'; 65];
-    path[0] = b'\\';
-    path[63] = b'\\';
-    path[64] = b'\\';
-    let list = many_files(rt.alloc(), 2, &path[..64])?;
-    let bytes = files_there_and_back(rt.alloc(), &list)?;
-    assert_eq!(rt; bytes.len(), 46 + 2 * 80);
-    path[63] = b'A';
-    assert!(rt; !many_files(rt.alloc(), 2, &path)?.fits());
-    assert!(rt; !many_files(rt.alloc(), 2, &path[..63])?.fits());
-    assert!(rt; !many_files(rt.alloc(), 2, b"")?.fits());
-    Ok(())
-}
-
-#[test]
-fn user_data_is_even_and_has_at_most_131070_bytes(rt: HostRuntime) -> Result<(), ListFault> {
-    let mut list = many_files(rt.alloc(), 1, b"\\")?;
-    list.user = user_data(rt.alloc(), 131_070)?;
-    files_there_and_back(rt.alloc(), &list)?;
-    list.user = user_data(rt.alloc(), 131_072)?;
-    assert!(rt; !list.fits());
-    list.user = user_data(rt.alloc(), 131_069)?;
-    assert!(rt; !list.fits());
-    Ok(())
-}
-
-#[test]
-fn members_count_from_1(rt: HostRuntime) -> Result<(), ListFault> {
-    for (member, members, fits) in [
-        (1, 1, true),
-        (0, 1, false),
-        (2, 1, false),
-        (255, 255, true),
-        (1, 0, false),
-        (0, 0, false),
+fn a_list_of_loads_keeps_its_limits(rt: HostRuntime) -> Result<(), ListFault> {
+    for (count, kinds, user, bytes) in [
+        (1024, 1, 0, 46 + 1024 * 290),
+        (1025, 1, 0, 0),
+        (8, 500, 16_274, 1_048_576),
+        (8, 500, 16_276, 0),
     ] {
-        let mut list = many_files(rt.alloc(), 0, b"\\")?;
-        list.member = member;
-        list.members = members;
-        assert_eq!(rt; list.fits(), fits, "{member} of {members}");
-    }
-    let mut list = many_files(rt.alloc(), 1, b"\\")?;
-    list.members = 2;
-    for (member, fits) in [(0, false), (1, true), (2, true), (3, false), (257, false)] {
-        list.files = List::new(rt.alloc());
-        list.files.push(ListedFile {
-            name: name(b"A")?,
-            path: text(rt.alloc(), b"\\")?,
-            member,
-            crc16: 0,
-        })?;
-        assert_eq!(rt; list.fits(), fits, "a file of {member}");
-    }
-    Ok(())
-}
-
-#[test]
-fn names_stand_once(rt: HostRuntime) -> Result<(), ListFault> {
-    for (titles, fits) in [
-        ([&b"B"[..], b"A", b"C"], true),
-        ([b"B", b"A", b"B"], false),
-        ([b"B", b"A", b"A"], false),
-        ([b"B", b"B.", b"BB"], true),
-        ([b"A", b"B", b"A"], false),
-    ] {
-        let mut list = many_files(rt.alloc(), 0, b"\\")?;
-        let mut loads = List::new(rt.alloc());
-        for title in titles {
-            list.files.push(ListedFile {
-                name: name(title)?,
-                path: text(rt.alloc(), b"\\")?,
-                member: 1,
-                crc16: 0,
-            })?;
-            loads.push(load_for(rt.alloc(), title, 0, 0)?)?;
-        }
-        assert_eq!(rt; list.fits(), fits);
-        assert_eq!(rt; loads_list(loads, Bytes::new(rt.alloc()))?.fits(), fits);
+        let loads = many_loads(rt.alloc(), count, kinds)?;
+        let list = loads_list(rt.alloc(), loads, user)?;
+        let written = loads_there_and_back(rt.alloc(), &list)?;
+        assert_eq!(rt; written.len(), bytes, "{count} loads, {user} bytes");
     }
     Ok(())
 }
@@ -297,7 +311,7 @@ fn loads_of(
     if !last {
         loads.push(load_for(alloc, b"Z", 0, 0)?)?;
     }
-    loads_list(loads, Bytes::new(alloc))
+    loads_list(alloc, loads, 0)
 }
 
 /// An entry takes 24 bytes beside its name and hardware, each a length in 2 bytes and its even bytes: 520 kinds
@@ -317,47 +331,46 @@ fn a_load_has_at_most_1024_kinds_of_hardware_and_131070_bytes(
         (b"L", 1024, 255, false, false),
     ] {
         let list = loads_of(rt.alloc(), title, kinds, size, last)?;
-        assert_eq!(rt; list.fits(), fits, "{kinds} kinds of {size} bytes");
-        if fits {
-            loads_there_and_back(rt.alloc(), &list)?;
-        }
+        let written = loads_there_and_back(rt.alloc(), &list)?;
+        assert_eq!(rt; !written.is_empty(), fits, "{kinds} kinds of {size} bytes");
     }
     Ok(())
 }
 
-/// Eight loads with 500 kinds of hardware of 255 bytes take 8 entries of 129,028 bytes.
+// ---- both
+
 #[test]
-fn a_list_has_at_most_1048576_bytes(rt: HostRuntime) -> Result<(), ListFault> {
-    let mut loads = List::new(rt.alloc());
-    for title in [b"A", b"B", b"C", b"D", b"E", b"F", b"G", b"H"] {
-        loads.push(load_for(rt.alloc(), title, 500, 255)?)?;
+fn names_stand_once(rt: HostRuntime) -> Result<(), ListFault> {
+    for (titles, fits) in [
+        ([&b"B"[..], b"A", b"C"], true),
+        ([b"B", b"A", b"B"], false),
+        ([b"B", b"A", b"A"], false),
+        ([b"B", b"B.", b"BB"], true),
+        ([b"A", b"B", b"A"], false),
+    ] {
+        let files = files_list(rt.alloc(), files_named(rt.alloc(), &titles)?, 0)?;
+        let loads = loads_list(rt.alloc(), loads_named(rt.alloc(), &titles)?, 0)?;
+        assert_eq!(rt; (files.fits(), loads.fits()), (fits, fits));
     }
-    let most = 1_048_576 - 46 - 8 * 129_028;
-    let mut list = loads_list(loads, user_data(rt.alloc(), most)?)?;
-    let bytes = loads_there_and_back(rt.alloc(), &list)?;
-    assert_eq!(rt; bytes.len(), 1_048_576);
-    list.user = user_data(rt.alloc(), most + 2)?;
-    assert!(rt; !list.fits());
-    let mut zeros = user_data(rt.alloc(), 0)?;
-    for _ in 0..1_048_576 {
+    Ok(())
+}
+
+/// What so many zeros are refused with as a list of files.
+fn zeros_refused(alloc: Global, size: usize) -> Result<Bytes, NoMemory> {
+    let mut zeros = Bytes::new(alloc);
+    for _ in 0..size {
         zeros.push(0)?;
     }
-    assert_eq!(rt;
-        refusal(rt.alloc(), zeros.as_slice())?.as_slice(),
-        b"L2 0 1048576".as_slice()
-    );
-    zeros.push(0)?;
-    assert_eq!(rt;
-        refusal(rt.alloc(), zeros.as_slice())?.as_slice(),
-        b"L11".as_slice()
-    );
-    Ok(())
+    match FilesList::decode(alloc, zeros.as_slice()) {
+        Ok(_) => Ok(Bytes::new(alloc)),
+        Err(fault) => fault_text(alloc, &fault),
+    }
 }
 
-/// What these bytes are refused with as a list of files.
-fn refusal(alloc: Global, bytes: &[u8]) -> Result<Bytes, ListFault> {
-    match FilesList::decode(alloc, bytes) {
-        Ok(_) => Ok(Bytes::new(alloc)),
-        Err(fault) => Ok(fault_text(alloc, &fault)?),
+#[test]
+fn more_bytes_than_a_list_may_have_are_refused_first(rt: HostRuntime) -> Result<(), NoMemory> {
+    for (size, text) in [(1_048_576, &b"L2 0 1048576"[..]), (1_048_577, b"L11")] {
+        assert_eq!(rt; zeros_refused(rt.alloc(), size)?.as_slice(), text);
     }
+    Ok(())
 }

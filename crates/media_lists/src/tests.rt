@@ -1,20 +1,11 @@
 //! What bytes are refused with, each byte changed and each list from outside of this project.
-use crate::vectors::{EIGHT_FILES, FILES, LOADS, THREE_LOADS};
+use crate::vectors::{DEEP_FILE, EIGHT_FILES, FILES, LOADS, THREE_LOADS};
 use crate::{
     FilesList, ListFault, LoadsList, fault_text, files_list_laws, loads_list_laws, path_laws,
 };
 use crc_fields::crc16;
 use load_base::{Bytes, NoMemory};
 use std::alloc::Global;
-
-/// A list of one file in a folder, with user data.
-static DEEP_FILE: [u8; 72] = [
-    0x00, 0x00, 0x00, 0x24, 0xA0, 0x04, 0x00, 0x00, 0x00, 0x00, 0x00, 0x0A, 0x00, 0x00, 0x00, 0x14,
-    0x00, 0x00, 0x00, 0x20, 0x00, 0x0F, 0x41, 0x42, 0x43, 0x34, 0x31, 0x2D, 0x30, 0x30, 0x30, 0x30,
-    0x2D, 0x30, 0x30, 0x30, 0x31, 0x00, 0x02, 0x02, 0x00, 0x01, 0x00, 0x00, 0x00, 0x05, 0x41, 0x2E,
-    0x42, 0x49, 0x4E, 0x00, 0x00, 0x06, 0x5C, 0x41, 0x5C, 0x42, 0x43, 0x5C, 0x00, 0x02, 0x12, 0x34,
-    0x00, 0x02, 0x4E, 0x4F, 0x54, 0x45, 0x77, 0x26,
-];
 
 /// What these bytes are refused with as a list of files, or nothing.
 fn files_outcome(alloc: Global, bytes: &[u8]) -> Result<Bytes, NoMemory> {
@@ -55,46 +46,6 @@ fn mend(bytes: &mut [u8]) {
         let sum = crc16(&bytes[..end]).to_be_bytes();
         bytes[end..].copy_from_slice(&sum);
     }
-}
-
-#[test]
-fn the_known_files_are_read(rt: HostRuntime) -> Result<(), ListFault> {
-    let list = FilesList::decode(rt.alloc(), &FILES)?;
-    assert_eq!(rt; list.set.as_slice(), b"XYZ5A-0000-0001".as_slice());
-    assert_eq!(rt;
-        (list.member, list.members, list.files.len(), list.user.len()),
-        (1, 1, 2, 0)
-    );
-    for file in list.files.as_slice() {
-        assert_eq!(rt; file.path.as_slice(), b"\\".as_slice());
-        assert_eq!(rt; file.member, 1);
-    }
-    let deep = FilesList::decode(rt.alloc(), &DEEP_FILE)?;
-    assert_eq!(rt; (deep.member, deep.members, deep.files.len()), (2, 2, 1));
-    for file in deep.files.as_slice() {
-        assert_eq!(rt; file.name.as_slice(), b"A.BIN".as_slice());
-        assert_eq!(rt; file.path.as_slice(), b"\\A\\BC\\".as_slice());
-        assert_eq!(rt; (file.member, file.crc16), (2, 0x1234));
-    }
-    assert_eq!(rt; deep.user.as_slice(), b"NOTE".as_slice());
-    Ok(())
-}
-
-#[test]
-fn the_known_loads_are_read(rt: HostRuntime) -> Result<(), ListFault> {
-    let list = LoadsList::decode(rt.alloc(), &LOADS)?;
-    assert_eq!(rt; (list.member, list.members, list.loads.len()), (1, 1, 1));
-    for load in list.loads.as_slice() {
-        assert_eq!(rt; load.part.as_slice(), b"ABC41-0000-0001".as_slice());
-        assert_eq!(rt; load.header_name.as_slice(), b"APP.LUH".as_slice());
-        assert_eq!(rt; (load.member, load.hardware.len()), (1, 1));
-        for hardware in load.hardware.as_slice() {
-            assert_eq!(rt; hardware.as_slice(), b"HW1".as_slice());
-        }
-    }
-    let three = LoadsList::decode(rt.alloc(), &THREE_LOADS)?;
-    assert_eq!(rt; (three.member, three.members, three.loads.len()), (2, 2, 3));
-    Ok(())
 }
 
 #[test]
@@ -243,23 +194,18 @@ fn each_changed_byte_of_the_loads_has_its_refusal(rt: HostRuntime) -> Result<(),
     Ok(())
 }
 
+/// A name twice with a right distance, and with a wrong one.
 #[test]
 fn a_name_may_not_stand_twice(rt: HostRuntime) -> Result<(), NoMemory> {
     let mut files = FILES;
     files[66..73].copy_from_slice(b"APP.LUH");
-    mend(&mut files);
-    assert_eq!(rt;
-        files_outcome(rt.alloc(), &files)?.as_slice(),
-        b"L10 2".as_slice()
-    );
-    files[63] = 9;
-    assert_eq!(rt;
-        files_outcome(rt.alloc(), &files)?.as_slice(),
-        b"L8 2".as_slice()
-    );
+    let mut farther = files;
+    farther[63] = 9;
+    for (bytes, text) in [(&files, &b"L10 2"[..]), (&farther, b"L8 2")] {
+        assert_eq!(rt; files_outcome(rt.alloc(), bytes)?.as_slice(), text);
+    }
     let mut loads = THREE_LOADS;
     loads[148..151].copy_from_slice(b"NAV");
-    mend(&mut loads);
     assert_eq!(rt;
         loads_outcome(rt.alloc(), &loads)?.as_slice(),
         b"L10 3".as_slice()
@@ -291,31 +237,20 @@ fn each_path_has_its_refusal(rt: HostRuntime) -> Result<(), NoMemory> {
 fn lengths_are_tested_first_and_the_rest_before_the_check_sum(
     rt: HostRuntime,
 ) -> Result<(), NoMemory> {
-    assert_eq!(rt;
-        loads_outcome(rt.alloc(), &FILES)?.as_slice(),
-        b"L3 40964".as_slice()
-    );
-    assert_eq!(rt;
-        loads_outcome(rt.alloc(), front(&LOADS, 3))?.as_slice(),
-        b"L1 0".as_slice()
-    );
-    assert_eq!(rt;
-        loads_outcome(rt.alloc(), front(&LOADS, 85))?.as_slice(),
-        b"L2 43 85".as_slice()
-    );
     let mut longer = [0; 88];
     longer[..86].copy_from_slice(&LOADS);
     longer[3] = 44;
-    assert_eq!(rt;
-        loads_outcome(rt.alloc(), &longer)?.as_slice(),
-        b"L12 86".as_slice()
-    );
     let mut many = LOADS;
     many[74] = 4;
     many[75] = 1;
-    assert_eq!(rt;
-        loads_outcome(rt.alloc(), &many)?.as_slice(),
-        b"L11".as_slice()
-    );
+    for (bytes, text) in [
+        (FILES.as_slice(), &b"L3 40964"[..]),
+        (front(&LOADS, 3), b"L1 0"),
+        (front(&LOADS, 85), b"L2 43 85"),
+        (&longer, b"L12 86"),
+        (&many, b"L11"),
+    ] {
+        assert_eq!(rt; loads_outcome(rt.alloc(), bytes)?.as_slice(), text);
+    }
     Ok(())
 }

@@ -7,10 +7,10 @@ ghost use Rattle.bank_store.specs.Store.{IsIdle, IsFilling, bytes_appended, file
 ghost use Rattle.bank_store.specs.Whole.{IsInstallable};
 ghost use Rattle.bank_store.specs.declared.stage.Filling.{Filling};
 
-use crate::{Identity, RecoverFault, Standing, Store, recover, survey};
-use bank_store::{StoreFault, format};
+use crate::{RecoverFault, Standing, Store, recover, survey};
+use bank_store::StoreFault;
 use disk_model::{Call, Disk, FileDisk, MemDisk, Note};
-use load_base::{Bytes, Ident, List, Load, Name, PartText, StoredFile};
+use load_base::{Bytes, List, Load, Name, PartText, StoredFile};
 use std::alloc::Global;
 use std::fs;
 use std::test::Fail;
@@ -36,11 +36,10 @@ fn two_slots() -> [u8; 12_290] {
     disk
 }
 
+// Puts bytes in a place, where they end within the disk.
 fn put(disk: &mut [u8], at: usize, bytes: &[u8]) {
-    for (i, byte) in bytes.iter().enumerate() {
-        if let Some(cell) = disk.get_mut(at.wrapping_add(i)) {
-            *cell = *byte;
-        }
+    if at <= disk.len() && bytes.len() <= disk.len() - at {
+        disk[at..at + bytes.len()].copy_from_slice(bytes);
     }
 }
 
@@ -91,21 +90,16 @@ fn a_survey_tells_what_rules(rt: HostRuntime) -> Result<(), Fail> {
 
 #[test]
 fn the_contents_come_with_a_recovery(rt: HostRuntime) -> Result<(), Fail> {
-    let alloc = rt.alloc();
     let mut bytes = two_slots();
     put(&mut bytes, 4608, &[0]);
-    let mut disk = MemDisk::new(alloc, &bytes)?;
-    let standing = recover(alloc, &mut disk)?;
-    assert_eq!(rt; standing.sequence, 7);
-    for load in standing.config.loads.as_slice() {
-        assert_eq!(rt; load.part.as_slice(), b"ABC41-0000-0001".as_slice());
-        assert_eq!(rt; load.header_name.as_slice(), b"A.B".as_slice());
-        assert_eq!(rt; load.files.len(), 1);
-        for file in load.files.as_slice() {
-            assert_eq!(rt; file.bytes.as_slice(), b"abc".as_slice());
-        }
-    }
-    assert_eq!(rt; standing.config.loads.len(), 1);
+    let mut disk = MemDisk::new(rt.alloc(), &bytes)?;
+    let standing = recover(rt.alloc(), &mut disk)?;
+    let loads = standing.config.loads.as_slice();
+    assert!(rt;
+        standing.sequence == 7
+            && loads.len() == 1
+            && is_load(&loads[0], b"ABC41-0000-0001", &[(b"A.B", b"abc")])
+    );
     Ok(())
 }
 
@@ -184,27 +178,24 @@ fn is_new(standing: &Standing) -> bool {
         && is_load(&loads[1], b"ABC42-0000-0002", &second)
 }
 
-// A target without loads, and then the old configuration on its disk: what the disk holds.
-fn old_disk(alloc: Global) -> Result<[u8; WHOLE], Fail> {
-    let mut disk = MemDisk::new(alloc, &[])?;
-    let target = Identity {
-        hw: Ident::read(b"HW1")?,
-        pos: Ident::read(b"L")?,
-        serial: Ident::read(b"SN1")?,
-        bank: 4096,
-    };
-    format(&mut disk, &target)?;
-    let mut store = survey(alloc, &mut disk)?.store;
-    store.prepare()?;
-    store.begin(&mut disk)?;
-    store.start_load(PartText::read(b"MMM12-0001-ABCD")?, 1)?;
-    store.append(&mut disk, b"old")?;
-    store.end_file(Name::read(b"OLD.LUH")?)?;
-    store.seal(&mut disk)?;
-    store.activate(&mut disk)?;
-    let mut bytes = [0; WHOLE];
-    put(&mut bytes, 0, disk.as_slice());
-    Ok(bytes)
+// The disk of the target with the old configuration, installed beside none.
+fn old_disk() -> [u8; WHOLE] {
+    let mut disk = [0; WHOLE];
+    put(
+        &mut disk,
+        0,
+        b"A615\x00\x01\x00\x00\x10\x00\x03HW1\x01L\x03SN1\xB4\x3C",
+    );
+    put(&mut disk, 4096, &[0xA5]);
+    put(&mut disk, 4112, &[0, 0, 0, 1, 0, 0, 0, 0, 0, 0, 0, 0, 2]);
+    put(&mut disk, 4608, &[0xA5]);
+    put(&mut disk, 4624, &[0, 0, 0, 2, 1, 0, 0, 0, 3, 0, 0, 0, 31]);
+    put(
+        &mut disk,
+        12_288,
+        b"old\x00\x01MMM12-0001-ABCD\x00\x01\x07OLD.LUH\x00\x00\x00\x03",
+    );
+    disk
 }
 
 // A file of these two pieces.
@@ -280,7 +271,7 @@ fn restarts_as_promised(alloc: Global, disk: &mut MemDisk, may_be_new: bool) -> 
 #[test]
 fn an_installation_that_fails_leaves_the_old_configuration(rt: HostRuntime) -> Result<(), Fail> {
     let alloc = rt.alloc();
-    let old = old_disk(alloc)?;
+    let old = old_disk();
     let (parts, names) = (new_parts()?, new_names()?);
     for call in 1..=12u32 {
         let mut disk = MemDisk::new(alloc, &old)?;
@@ -345,7 +336,7 @@ fn second_new_load(alloc: Global) -> Result<Load, Fail>
 #[test]
 fn one_call_that_fails_leaves_the_old_configuration(rt: HostRuntime) -> Result<(), Fail> {
     let alloc = rt.alloc();
-    let old = old_disk(alloc)?;
+    let old = old_disk();
     let loads = [first_new_load(alloc)?, second_new_load(alloc)?];
     for call in 1..=11u32 {
         let mut disk = MemDisk::new(alloc, &old)?;
@@ -356,23 +347,29 @@ fn one_call_that_fails_leaves_the_old_configuration(rt: HostRuntime) -> Result<(
         let kept = restarts_as_promised(alloc, &mut disk, call > 9)?;
         assert!(rt; kept, "at call {call}");
     }
-    let mut disk = MemDisk::new(alloc, &old)?;
+    Ok(())
+}
+
+#[test]
+fn one_call_installs_the_new_configuration(rt: HostRuntime) -> Result<(), Fail> {
+    let alloc = rt.alloc();
+    let loads = [first_new_load(alloc)?, second_new_load(alloc)?];
+    let mut disk = MemDisk::new(alloc, &old_disk())?;
     let mut store = survey(alloc, &mut disk)?.store;
     store.install(&mut disk, &loads)?;
-    assert_eq!(rt; disk.notes().len(), 11);
-    assert!(rt; is_new(&recover(alloc, &mut disk)?));
+    assert!(rt; disk.notes().len() == 11 && is_new(&recover(alloc, &mut disk)?));
     Ok(())
 }
 
 // How many of these calls come until the last sync has ended.
 fn until_sync(notes: &[Note]) -> usize {
-    let mut end = 0;
-    for (i, note) in notes.iter().enumerate() {
-        if matches!(note.call, Call::Sync) {
-            end = i + 1;
-        }
+    match notes
+        .iter()
+        .rposition(|note| matches!(note.call, Call::Sync))
+    {
+        Some(last) => last + 1,
+        None => 0,
     }
-    end
 }
 
 // Makes the write that was noted.
@@ -387,10 +384,9 @@ fn spoil(disk: &mut [u8], note: &Note) {
     let Call::Write { at, bytes } = &note.call else {
         return;
     };
-    for i in 0..bytes.len() {
-        if let Some(cell) = disk.get_mut((*at as usize).wrapping_add(i)) {
-            *cell = 0x5A;
-        }
+    let at = *at as usize;
+    if at <= disk.len() && bytes.len() <= disk.len() - at {
+        disk[at..at + bytes.len()].fill(0x5A);
     }
 }
 
@@ -455,7 +451,7 @@ fn images_after(alloc: Global, before: &[u8; WHOLE], notes: &[Note]) -> Result<(
 #[test]
 fn each_image_of_an_installation_is_old_or_new(rt: HostRuntime) -> Result<(), Fail> {
     let alloc = rt.alloc();
-    let old = old_disk(alloc)?;
+    let old = old_disk();
     let mut disk = MemDisk::new(alloc, &old)?;
     let mut store = survey(alloc, &mut disk)?.store;
     install_new(&mut store, &mut disk, new_parts()?, new_names()?)?;
