@@ -189,14 +189,17 @@ fn files(alloc: Global, count: usize, length: u32) -> Result<List<FileEntry>, He
     Ok(files)
 }
 
-/// The bytes of a header that fits, which are read as one with as many files; none where it doesn't fit.
+/// The bytes of a header that fits, which are read as one with as many files of each kind; none where it doesn't
+/// fit.
 fn there_and_back(alloc: Global, header: &LoadHeader) -> Result<Bytes, HeaderFault> {
     if !header.fits() {
         return Ok(Bytes::new(alloc));
     }
     let bytes = header.encode(alloc)?;
     let again = LoadHeader::decode(alloc, bytes.as_slice())?;
-    if again.data_files.len() != header.data_files.len() {
+    if again.data_files.len() != header.data_files.len()
+        || again.support_files.len() != header.support_files.len()
+    {
         return Err(HeaderFault::TooMany(again.data_files.len() as u64));
     }
     Ok(bytes)

@@ -1,5 +1,5 @@
-//! The examples of RFC 2347 to 2349, packets that an exchange of this project sends, and bytes with one
-//! thing wrong.
+//! Requests as in the examples of RFC 2348 and RFC 2349, packets that an exchange of this project sends, and bytes
+//! with one thing wrong.
 
 use crate::{Options, Packet, PacketFault, packet_laws};
 use load_base::{Name, NameFault, NoMemory};
