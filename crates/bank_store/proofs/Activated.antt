@@ -5,7 +5,7 @@ use Rattle.std.proofs.lemmas.Bool.{cases_eq}
 use Rattle.disk_model.specs.Image.{Image, overlay, SameOutside}
 use Rattle.disk_model.specs.State.{DiskState, IsSettled, Elapses, Torn}
 use Rattle.disk_model.specs.declared.disk.DiskFault.{DiskFault}
-use Rattle.disk_model.proofs.Overlays.{overlay_is, overlay_outside}
+use Rattle.disk_model.specs.OverlayLaws.{overlay_is, overlay_outside}
 use Rattle.disk_layout.specs.Slots.{IsOpen, IsSlot}
 use Rattle.disk_layout.specs.Stands.{StandingView, StandsBy, Stands}
 use Rattle.bank_store.specs.Acts.{AddsOnly}

@@ -2,13 +2,13 @@
 use Rattle.std.proofs.Common.{◌≡◌, ℕ, ◌+◌, ◌<◌, ◌≤◌, ◌⊎◌, List, [], ◌∷◌, Option, Some, inl, inr, refl, sym, ap, ap₂, subst, ◌∙◌, arith}
 use Rattle.std.proofs.lemmas.Bool.{cases_eq, cases_lt}
 use Rattle.std.proofs.lemmas.List.{nil_from_length}
-use Rattle.disk_model.proofs.Ranges.{length_range}
+use Rattle.disk_model.specs.RangeLaws.{length_range}
 use Rattle.std.proofs.lemmas.List.Elements.{All-nil}
 use Rattle.load_base.specs.Config.{LoadView}
 use Rattle.byteorder.specs.Endian.{big_number}
 use Rattle.disk_model.specs.Image.{Image, range, overlay, SameOutside}
 use Rattle.disk_model.specs.State.{Torn}
-use Rattle.disk_model.proofs.Overlays.{overlay_inside, overlay_outside}
+use Rattle.disk_model.specs.OverlayLaws.{overlay_inside, overlay_outside}
 use Rattle.field_grammar.specs.Grammar.{Spelled, SpelledAtFront}
 use Rattle.field_grammar.specs.Fields.{number_bytes}
 use Rattle.disk_layout.specs.Places.{IsBankSize, slot_a, slot_b, bank_at, longest_identity, number_at}

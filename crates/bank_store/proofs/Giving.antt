@@ -11,8 +11,8 @@ use Rattle.load_base.specs.Name.{IsName}
 use Rattle.load_base.specs.PartText.{IsPartText}
 use Rattle.field_grammar.specs.Fields.{number_bytes, number_fields, short_fields}
 use Rattle.disk_model.specs.Image.{Image, range, overlay}
-use Rattle.disk_model.proofs.Ranges.{length_range}
-use Rattle.disk_model.proofs.Overlays.{range_beside_overlay, range_of_overlay}
+use Rattle.disk_model.specs.RangeLaws.{length_range}
+use Rattle.disk_model.specs.OverlayLaws.{range_beside_overlay, range_of_overlay}
 use Rattle.disk_layout.specs.Places.{most_loads, most_files}
 use Rattle.disk_layout.specs.Manifest.{file_entry_fields}
 use Rattle.disk_layout.specs.Contents.{file_entry_of, bytes_of}

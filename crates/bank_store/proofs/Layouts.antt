@@ -2,8 +2,8 @@
 use Rattle.std.proofs.Common.{◌≡◌, ℕ, ◌+◌, ◌<◌, ◌≤◌, ◌⊎◌, List, [], ◌∷◌, length, take, drop, get_or, refl, sym, ap, subst, inl, inr, ◌∙◌, arith}
 use Rattle.byteorder.specs.Endian.{big_number}
 use Rattle.disk_model.specs.Image.{Image, range, overlay}
-use Rattle.disk_model.proofs.Overlays.{overlay_outside}
-use Rattle.disk_model.proofs.Ranges.{take_range, drop_range, byte_of_range}
+use Rattle.disk_model.specs.OverlayLaws.{overlay_outside}
+use Rattle.disk_model.specs.RangeLaws.{take_range, drop_range, byte_of_range}
 use Rattle.disk_layout.specs.Places.{slot_a, slot_b, longest_identity, number_at}
 use Rattle.disk_layout.specs.Identity.{HasIdentity, identity_text}
 use Rattle.disk_layout.specs.declared.identity.Identity.{Identity}

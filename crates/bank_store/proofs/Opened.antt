@@ -6,10 +6,10 @@ use Rattle.std.proofs.lemmas.List.{append-nil, nil_from_length, take_at, drop_at
 use Rattle.byteorder.specs.Endian.{big_number}
 use Rattle.field_grammar.specs.Grammar.{SpelledAtFront}
 use Rattle.field_grammar.specs.Fields.{number_bytes, number_in}
-use Rattle.field_grammar.proofs.Numbers.{length_number_bytes, wide4}
+use Rattle.field_grammar.specs.NumberLaws.{length_number_bytes, wide4}
 use Rattle.disk_model.specs.Image.{Image, range, overlay}
-use Rattle.disk_model.proofs.Ranges.{same_range, byte_of_range}
-use Rattle.disk_model.proofs.Overlays.{overlay_inside, overlay_outside, overlay_joined, range_of_overlay, range_beside_overlay}
+use Rattle.disk_model.specs.RangeLaws.{same_range, byte_of_range}
+use Rattle.disk_model.specs.OverlayLaws.{overlay_inside, overlay_outside, overlay_joined, range_of_overlay, range_beside_overlay}
 use Rattle.disk_layout.specs.Places.{slot_b, bank_at, number_at, longest_manifest}
 use Rattle.disk_layout.specs.Slots.{IsOpen, IsSlot, Rules, sequence_of, bank_of, manifest_place_of, manifest_length_of}
 use Rattle.disk_layout.specs.Identity.{identity}

@@ -2,7 +2,7 @@
 use Rattle.std.proofs.Common.{◌≡◌, Some, sym, ◌∙◌, ap, subst}
 use Rattle.disk_model.specs.Image.{Image}
 use Rattle.disk_model.specs.State.{DiskState, IsSettled, OnlyReads}
-use Rattle.disk_model.proofs.Moments.{settled_stays}
+use Rattle.disk_model.specs.MomentLaws.{settled_stays}
 use Rattle.disk_layout.specs.Stands.{StandingView}
 use Rattle.bank_store.specs.Store.{IsIdle}
 use Rattle.bank_store.specs.Safe.{StandsFor, HoldsAt, Works}

@@ -1,7 +1,7 @@
 -- What sealing leaves.
 use Rattle.std.proofs.Common.{◌≡◌, ℕ, ◌+◌, ◌≤◌, [], ◌∷◌, length, false, sym, subst, arith}
 use Rattle.field_grammar.specs.Fields.{number_bytes}
-use Rattle.field_grammar.proofs.Numbers.{length_number_bytes}
+use Rattle.field_grammar.specs.NumberLaws.{length_number_bytes}
 use Rattle.disk_model.specs.Image.{Image, overlay}
 use Rattle.disk_layout.specs.Stands.{StandingView, StandsBy}
 use Rattle.bank_store.specs.Bounds.{other_slot}

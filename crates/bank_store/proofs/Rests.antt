@@ -3,7 +3,7 @@ use Rattle.std.proofs.Common.{◌≡◌, ◌⊎◌, inl, inr, ℕ, ◌+◌, ◌<
 use Rattle.std.proofs.lemmas.Bool.{cases_lt}
 use Rattle.disk_model.specs.Image.{Image, overlay}
 use Rattle.disk_model.specs.State.{DiskState}
-use Rattle.disk_model.proofs.Overlays.{overlay_outside}
+use Rattle.disk_model.specs.OverlayLaws.{overlay_outside}
 use Rattle.bank_store.specs.Bounds.{other_slot}
 use Rattle.bank_store.specs.Safe.{MayChange, SameButForWork, IsBeside, LeavesRest}
 use Rattle.bank_store.specs.Store.{RulesAs}

@@ -4,10 +4,10 @@ use Rattle.std.proofs.lemmas.Bool.{lt-ltb, le-ltb, le-leb, lt-leb, eq-eqb, ne_eq
 use Rattle.std.proofs.lemmas.List.{get_or_past}
 use Rattle.load_base.specs.Config.{LoadView}
 use Rattle.disk_model.specs.Image.{Image, range, IsOfBytes}
-use Rattle.disk_model.proofs.Ranges.{length_range, byte_of_range}
+use Rattle.disk_model.specs.RangeLaws.{length_range, byte_of_range}
 use Rattle.field_grammar.specs.Grammar.{IsBytes, Spelled}
 use Rattle.field_grammar.specs.Answers.{answer}
-use Rattle.field_grammar.proofs.Exact.{answer-spelled, answer-fault, one_or_other, whole_one_or_other, spelled_at_front}
+use Rattle.field_grammar.specs.ExactLaws.{answer-spelled, answer-fault, one_or_other, whole_one_or_other, spelled_at_front}
 use Rattle.disk_layout.specs.Places.{slot_a, slot_b, bank_at, longest_manifest, longest_identity}
 use Rattle.disk_layout.specs.Identity.{identity, HasIdentity, HasNoIdentity}
 use Rattle.disk_layout.specs.Manifest.{LoadEntry, manifest, total_length}

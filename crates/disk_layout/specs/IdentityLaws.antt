@@ -14,8 +14,8 @@ use Rattle.disk_model.specs.Image.{Image, range}
 use Rattle.field_grammar.specs.Grammar.{Grammar, Follows, give, seq}
 use Rattle.field_grammar.specs.Fields.{number, short, number_bytes, number_fields, short_text, short_fields}
 use Rattle.field_grammar.specs.Spelling.{IsSpelledBy}
-use Rattle.field_grammar.proofs.Numbers.{wide1, wide2, wide4, spelled-number, length_number_bytes}
-use Rattle.field_grammar.proofs.Texts.{IsShortText, spelled-short, concat_short_fields, concat_number_fields}
+use Rattle.field_grammar.specs.NumberLaws.{wide1, wide2, wide4, spelled-number, length_number_bytes}
+use Rattle.field_grammar.specs.TextLaws.{IsShortText, spelled-short, concat_short_fields, concat_number_fields}
 use Rattle.disk_layout.specs.Places.{IsBankSize, is_bank_size, longest_identity}
 use Rattle.disk_layout.specs.Fields.{sound}
 use Rattle.disk_layout.specs.FieldLaws.{spelled-as, spelled-sound, nothing_wrong, no_fault}

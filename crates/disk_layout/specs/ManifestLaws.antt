@@ -9,7 +9,7 @@ use Rattle.field_grammar.specs.Fields.{number, raw, short}
 use Rattle.field_grammar.specs.Grammar.{Grammar, give, seq, pair, mapped, times, Stops, Spelled, Fault, IsBytes, IsDecided, EndsTheBytes, ended}
 use Rattle.field_grammar.specs.Answers.{answer}
 use Rattle.field_grammar.specs.declared.fault.FieldFault.{FieldFault}
-use Rattle.field_grammar.proofs.Exact.{ends_at_end, ends_last, ends_before, answer_is_spelled, answer_is_fault, spelled_whole, decided}
+use Rattle.field_grammar.specs.ExactLaws.{ends_at_end, ends_last, ends_before, answer_is_spelled, answer_is_fault, spelled_whole, decided}
 use Rattle.disk_layout.specs.Places.{most_loads, most_files}
 use Rattle.disk_layout.specs.Fields.{sound}
 use Rattle.disk_layout.specs.Manifest.{LoadEntry, manifest, counted_loads, counted_files, to_load, to_file, load_count, load_entry, file_entry, file_count, file_name, file_length, part}

@@ -13,11 +13,11 @@ use Rattle.load_base.specs.VerdictLaws.{name_faults, part_text_faults}
 use Rattle.field_grammar.specs.Grammar.{IsBytes, Spelled, pair}
 use Rattle.field_grammar.specs.Fields.{number, raw, short, number_fields, short_fields}
 use Rattle.field_grammar.specs.Spelling.{IsSpelledBy, SpellsWhole}
-use Rattle.field_grammar.proofs.Combined.{spelled-pair, spelled-mapped, spelled-counted}
-use Rattle.field_grammar.proofs.Decoders.{spelling_is, spelled_by}
-use Rattle.field_grammar.proofs.Numbers.{wide2, wide4, spelled-number, spelled-raw}
-use Rattle.field_grammar.proofs.Placed.{placed-ended}
-use Rattle.field_grammar.proofs.Texts.{IsShortText, spelled-short}
+use Rattle.field_grammar.specs.CombinedLaws.{spelled-pair, spelled-mapped, spelled-counted}
+use Rattle.field_grammar.specs.DecoderLaws.{spelling_is, spelled_by}
+use Rattle.field_grammar.specs.NumberLaws.{wide2, wide4, spelled-number, spelled-raw}
+use Rattle.field_grammar.specs.PlacedLaws.{placed-ended}
+use Rattle.field_grammar.specs.TextLaws.{IsShortText, spelled-short}
 use Rattle.disk_layout.specs.Places.{most_loads, most_files}
 use Rattle.disk_layout.specs.Fields.{sound}
 use Rattle.disk_layout.specs.FieldLaws.{spelled-as, spelled-sound, nothing_wrong, no_fault}

@@ -2,7 +2,7 @@
 use Rattle.std.proofs.Common.{◌≡◌, ℕ, ◌+◌, List, ◌++◌, sym, ap₂, ◌∙◌, arith}
 use Rattle.std.proofs.lemmas.List.{take-append-drop}
 use Rattle.disk_model.specs.Image.{Image, range}
-use Rattle.disk_model.proofs.Ranges.{take_range, drop_range}
+use Rattle.disk_model.specs.RangeLaws.{take_range, drop_range}
 
 -- two ranges, of which the second begins where the first ends, are one
 pub ranges_joined : (image : Image) (at n next m : ℕ) → next ≡ at + n → range image at n ++ range image next m ≡ range image at (n + m)

@@ -15,8 +15,8 @@ use Rattle.disk_model.specs.declared.disk.DiskFault.{DiskFault}
 use Rattle.disk_model.specs.declared.note.Call.{Call}
 use Rattle.disk_model.specs.declared.note.Call.TheVariants.{Write, Sync, Restart}
 use Rattle.disk_model.specs.declared.note.Note.{Note}
-use Rattle.disk_model.proofs.Overlays.{place_cases, overlay_outside, laid_inside, laid_outside}
-use Rattle.disk_model.proofs.Moments.{elapses_more, torn_nowhere}
+use Rattle.disk_model.specs.OverlayLaws.{place_cases, overlay_outside, laid_inside, laid_outside}
+use Rattle.disk_model.specs.MomentLaws.{elapses_more, torn_nowhere}
 
 -- a place that the call doesn't write
 abbrev Untouched : Call → ℕ → Type 0

@@ -7,3 +7,6 @@ pub mod Replay
 pub mod ReplayLaws
 pub mod State
 pub mod Tearing
+pub mod MomentLaws
+pub mod OverlayLaws
+pub mod RangeLaws

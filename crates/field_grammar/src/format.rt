@@ -80,7 +80,7 @@ mod tests {
     }
 
     #[test]
-    #[tactic(auto, using(crate::proofs::Exact::ends_at_end))]
+    #[tactic(auto, using(crate::specs::ExactLaws::ends_at_end))]
     fn laws_hold_of_a_format(_rt: HostRuntime) {
         reading_is_exact::<Number>();
         front_is_decided::<Number>();

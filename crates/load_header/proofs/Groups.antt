@@ -10,8 +10,8 @@ use Rattle.part_number.specs.PartNumber.{IsPartNumberText}
 use Rattle.field_grammar.specs.Grammar.{IsBytes}
 use Rattle.field_grammar.specs.Spelling.{size_of, IsPlacedBy}
 use Rattle.field_grammar.specs.Fields.{number_fields, padded_fields}
-use Rattle.field_grammar.proofs.Placed.{placed-ended}
-use Rattle.field_grammar.proofs.Sections.{place_behind, placed-section}
+use Rattle.field_grammar.specs.PlacedLaws.{placed-ended}
+use Rattle.field_grammar.specs.SectionLaws.{place_behind, placed-section}
 use Rattle.load_header.specs.Header.{HardwareView, identity, targets, all_files, user_data, no_check_value, check_sums, tail}
 use Rattle.load_header.specs.HeaderFields.{texts_fields, positions_fields, files_fields, user_fields, AreTexts, IsHardwareAt, IsFile}
 use Rattle.load_header.specs.declared.fault.HeaderFault.TheVariants as faults

@@ -5,9 +5,9 @@ use Rattle.std.proofs.lemmas.List.{append-nil}
 use Rattle.field_grammar.specs.Grammar.{Follows, expected}
 use Rattle.field_grammar.specs.Spelling.{size_of, IsSpelledBy}
 use Rattle.field_grammar.specs.Fields.{number_fields}
-use Rattle.field_grammar.proofs.Combined.{spelled-expected}
-use Rattle.field_grammar.proofs.Placed.{placed-sized}
-use Rattle.field_grammar.proofs.Numbers.{length_number_bytes}
+use Rattle.field_grammar.specs.CombinedLaws.{spelled-expected}
+use Rattle.field_grammar.specs.PlacedLaws.{placed-sized}
+use Rattle.field_grammar.specs.NumberLaws.{length_number_bytes}
 use Rattle.load_header.specs.Header.{u16, u32, four, pointers, head}
 use Rattle.load_header.specs.HeaderFields.{pointers_fields, head_fields}
 use Rattle.load_header.specs.declared.fault.HeaderFault.TheVariants as faults

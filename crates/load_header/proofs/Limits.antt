@@ -14,7 +14,7 @@ use Rattle.load_header.specs.declared.header.HardwareAt.{HardwareAt}
 use Rattle.load_header.specs.declared.header.LoadHeader.{LoadHeader}
 use Rattle.load_header.specs.declared.measuring.Sizes.{Sizes}
 use Rattle.load_header.proofs.Pieces.{size_body}
-use Rattle.field_grammar.proofs.Sections.{size_more, size_number, size_padded}
+use Rattle.field_grammar.specs.SectionLaws.{size_more, size_number, size_padded}
 use Rattle.load_header.proofs.Sizes.{size_user}
 
 both : (a b : Bool) → (a && b) ≡ true → (a ≡ true) × (b ≡ true)

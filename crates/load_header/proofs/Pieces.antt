@@ -7,12 +7,12 @@ use Rattle.load_base.specs.Text.{IsText}
 use Rattle.field_grammar.specs.Grammar.{IsBytes, renamed, listed}
 use Rattle.field_grammar.specs.Spelling.{size_of, IsSpelledBy, IsPlacedBy, listed_fields, AllPlaced}
 use Rattle.field_grammar.specs.Fields.{number, raw, number_fields, padded_fields}
-use Rattle.field_grammar.proofs.Combined.{spelled-as, spelled-renamed, spelled-counted, spelled-measured}
-use Rattle.field_grammar.proofs.Listed.{placed-listed}
-use Rattle.field_grammar.proofs.Placed.{placed}
-use Rattle.field_grammar.proofs.Numbers.{wide2, wide4, wide8, spelled-number, spelled-raw, length_number_bytes}
-use Rattle.field_grammar.proofs.Texts.{length_pad_bytes}
-use Rattle.field_grammar.proofs.Sections.{placed-section}
+use Rattle.field_grammar.specs.CombinedLaws.{spelled-as, spelled-renamed, spelled-counted, spelled-measured}
+use Rattle.field_grammar.specs.ListedLaws.{placed-listed}
+use Rattle.field_grammar.specs.PlacedLaws.{placed}
+use Rattle.field_grammar.specs.NumberLaws.{wide2, wide4, wide8, spelled-number, spelled-raw, length_number_bytes}
+use Rattle.field_grammar.specs.TextLaws.{length_pad_bytes}
+use Rattle.field_grammar.specs.SectionLaws.{placed-section}
 use Rattle.load_header.specs.Header.{named, u16, u32, text, texts, hardware_at, positions, file_size, file_body, distance_of, file_entry, entry_behind, files, HardwareView}
 use Rattle.load_header.specs.HeaderFields.{texts_fields, hardware_at_fields, positions_fields, file_body_fields, entry_fields, entry_fields_behind, files_fields, AreTexts, IsHardwareAt, IsFile}
 use Rattle.load_header.specs.declared.fault.HeaderFault.TheVariants as faults

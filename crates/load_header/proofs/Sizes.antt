@@ -5,9 +5,9 @@ use Rattle.std.proofs.lemmas.List.{append-nil}
 use Rattle.std.proofs.lemmas.List.Concat.{flat_map-cons}
 use Rattle.field_grammar.specs.Spelling.{size_of, listed_fields}
 use Rattle.field_grammar.specs.Fields.{number_fields, padded_fields}
-use Rattle.field_grammar.proofs.Numbers.{length_number_bytes}
-use Rattle.field_grammar.proofs.Texts.{length_pad_bytes}
-use Rattle.field_grammar.proofs.Sections.{size_more, size_number, size_padded}
+use Rattle.field_grammar.specs.NumberLaws.{length_number_bytes}
+use Rattle.field_grammar.specs.TextLaws.{length_pad_bytes}
+use Rattle.field_grammar.specs.SectionLaws.{size_more, size_number, size_padded}
 use Rattle.load_header.specs.Header.{HeaderView, HardwareView}
 use Rattle.load_header.specs.HeaderFields.{texts_fields, hardware_at_fields, positions_fields, file_body_fields, entry_fields, entry_fields_behind, files_fields, type_fields, user_fields, check_place}
 use Rattle.load_header.specs.declared.header.FileEntry.{FileEntry}

@@ -8,7 +8,7 @@ use Rattle.crc_fields.specs.CheckSums.{crc16_of}
 use Rattle.field_grammar.specs.Grammar.{Follows}
 use Rattle.field_grammar.specs.Spelling.{size_of, IsPlacedBy, SpellsWhole}
 use Rattle.field_grammar.specs.Fields.{number_fields, padded_fields}
-use Rattle.field_grammar.proofs.Sections.{size_more, size_number, place_behind}
+use Rattle.field_grammar.specs.SectionLaws.{size_more, size_number, place_behind}
 use Rattle.load_header.specs.Header.{HeaderView, limit, head, header}
 use Rattle.load_header.specs.HeaderFields.{texts_fields, positions_fields, files_fields, type_fields, user_fields, type_place, hardware_place, positions_place, data_place, support_place, user_place, check_place, header_size, pointers_of, head_fields, identity_fields, targets_fields, all_files_fields, sections_fields, covered_fields, header_fields, IsHeader}
 use Rattle.load_header.specs.declared.reading.Pointers.{Pointers}

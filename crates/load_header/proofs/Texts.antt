@@ -9,7 +9,7 @@ use Rattle.part_number.specs.Verdicts.{part_fault_of}
 use Rattle.part_number.specs.VerdictLaws.{part_faults, part_size}
 use Rattle.field_grammar.specs.Spelling.{IsSpelledBy}
 use Rattle.field_grammar.specs.Fields.{padded_fields}
-use Rattle.field_grammar.proofs.Judged.{spelled-right_padded}
+use Rattle.field_grammar.specs.JudgedLaws.{spelled-right_padded}
 use Rattle.load_header.specs.Header.{named, text, name, part}
 use Rattle.load_header.specs.declared.fault.HeaderFault.TheVariants as faults
 

@@ -1,6 +1,6 @@
 -- Nothing stands behind a header.
 use Rattle.field_grammar.specs.Grammar.{EndsTheBytes}
-use Rattle.field_grammar.proofs.Exact.{ends_at_end, ends_last, ends_before}
+use Rattle.field_grammar.specs.ExactLaws.{ends_at_end, ends_last, ends_before}
 use Rattle.load_header.specs.Header.{header, tail, check_sums}
 use Rattle.load_header.specs.declared.fault.HeaderFault.TheVariants as faults
 use Rattle.load_header.specs.declared.reading.Pointers.{Pointers}

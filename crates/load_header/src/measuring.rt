@@ -145,7 +145,7 @@ fn padded_size(length: usize) -> u64
     2 + length + length % 2
 }
 
-#[tactic(auto, using(field_grammar::proofs::Sections::size_padded))]
+#[tactic(auto, using(field_grammar::specs::SectionLaws::size_padded))]
 fn text_size(text: &Text) -> u64
     ensures size { result ≡ size_of (padded_fields text.now) }
     ensures small { result ≤ 258 }

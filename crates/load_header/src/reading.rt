@@ -186,7 +186,7 @@ fn read_texts(alloc: Global, reader: &mut Reader) -> Result<List<Text>, HeaderFa
     Ok(texts)
 }
 
-#[tactic(auto, using(field_grammar::proofs::Loops::goes_on, field_grammar::proofs::Loops::ends, field_grammar::proofs::Loops::is_done, field_grammar::proofs::Loops::begins))]
+#[tactic(auto, using(field_grammar::specs::LoopLaws::goes_on, field_grammar::specs::LoopLaws::ends, field_grammar::specs::LoopLaws::is_done, field_grammar::specs::LoopLaws::begins))]
 fn read_so_many_texts(
     alloc: Global,
     reader: &mut Reader,
@@ -243,7 +243,7 @@ fn read_positions(alloc: Global, reader: &mut Reader) -> Result<List<HardwareAt>
     Ok(positions)
 }
 
-#[tactic(auto, using(field_grammar::proofs::Loops::goes_on_seen, field_grammar::proofs::Loops::ends, field_grammar::proofs::Loops::is_done, field_grammar::proofs::Loops::begins))]
+#[tactic(auto, using(field_grammar::specs::LoopLaws::goes_on_seen, field_grammar::specs::LoopLaws::ends, field_grammar::specs::LoopLaws::is_done, field_grammar::specs::LoopLaws::begins))]
 fn read_so_many_positions(
     alloc: Global,
     reader: &mut Reader,
@@ -306,7 +306,7 @@ fn read_files(
     Ok(files)
 }
 
-#[tactic(auto, using(field_grammar::proofs::Loops::list_goes_on, field_grammar::proofs::Loops::list_ends, field_grammar::proofs::Loops::list_is_done))]
+#[tactic(auto, using(field_grammar::specs::LoopLaws::list_goes_on, field_grammar::specs::LoopLaws::list_ends, field_grammar::specs::LoopLaws::list_is_done))]
 fn read_entries(
     alloc: Global,
     reader: &mut Reader,
@@ -325,7 +325,7 @@ fn read_entries(
     Ok(files)
 }
 
-#[tactic(auto, using(field_grammar::proofs::Moves::place_goes_on), unfolding(crate::specs::Header::file_entry))]
+#[tactic(auto, using(field_grammar::specs::MoveLaws::place_goes_on), unfolding(crate::specs::Header::file_entry))]
 fn read_entry(
     alloc: Global,
     reader: &mut Reader,

@@ -7,11 +7,11 @@ use Rattle.field_grammar.specs.Grammar.{Grammar, IsBytes, Spelled, renamed, size
 use Rattle.field_grammar.specs.Fields.{number, number_bytes, number_fields}
 use Rattle.field_grammar.specs.Answers.{answer, Gives}
 use Rattle.field_grammar.specs.Spelling.{IsSpelledBy, IsPlacedBy, SpellsWhole}
-use Rattle.field_grammar.proofs.Numbers.{wide4, spelled-number, length_number_bytes}
-use Rattle.field_grammar.proofs.Combined.{spelled-renamed, spelled-expected}
-use Rattle.field_grammar.proofs.Placed.{placed, placed-as, placed-sized, placed-before, placed-ended}
-use Rattle.field_grammar.proofs.Exact.{whole_one_value, not_both, answer-spelled, spelled_at_front}
-use Rattle.field_grammar.proofs.Decoders.{found_spelling, only_spelling, spelled_by}
+use Rattle.field_grammar.specs.NumberLaws.{wide4, spelled-number, length_number_bytes}
+use Rattle.field_grammar.specs.CombinedLaws.{spelled-renamed, spelled-expected}
+use Rattle.field_grammar.specs.PlacedLaws.{placed, placed-as, placed-sized, placed-before, placed-ended}
+use Rattle.field_grammar.specs.ExactLaws.{whole_one_value, not_both, answer-spelled, spelled_at_front}
+use Rattle.field_grammar.specs.DecoderLaws.{found_spelling, only_spelling, spelled_by}
 use Rattle.load_protocol_files.specs.Faults.{named}
 use Rattle.load_protocol_files.specs.declared.fault.FileFault.{FileFault}
 use Rattle.load_protocol_files.specs.declared.fault.FileFault.TheVariants as faults

@@ -3,7 +3,7 @@ use Rattle.std.proofs.Common.{ℕ, ◌<◌, ◌^◌, List, ◌++◌, refl}
 use Rattle.field_grammar.specs.Grammar.{pair}
 use Rattle.field_grammar.specs.Fields.{short_fields}
 use Rattle.field_grammar.specs.Spelling.{IsSpelledBy}
-use Rattle.field_grammar.proofs.Combined.{spelled-as, spelled-pair, spelled-mapped}
+use Rattle.field_grammar.specs.CombinedLaws.{spelled-as, spelled-pair, spelled-mapped}
 use Rattle.load_base.specs.Text.{IsText}
 use Rattle.load_protocol_files.specs.declared.lui.Lui.{Lui}
 use Rattle.load_protocol_files.specs.Pieces.{u16, text, u16_fields}

@@ -3,14 +3,14 @@ use Rattle.std.proofs.Common.{◌+◌, ◌*◌, ◌≤◌, arith, ◌≡◌, ℕ
 use Rattle.std.specs.List.{All, concat, flat_map}
 use Rattle.std.proofs.lemmas.List.{length-append}
 use Rattle.std.proofs.lemmas.List.Folds.{concat-append}
-use Rattle.field_grammar.proofs.Numbers.{length_number_bytes}
-use Rattle.field_grammar.proofs.Written.{at_most_each}
-use Rattle.field_grammar.proofs.Sections.{size_short}
+use Rattle.field_grammar.specs.NumberLaws.{length_number_bytes}
+use Rattle.field_grammar.specs.WrittenLaws.{at_most_each}
+use Rattle.field_grammar.specs.SectionLaws.{size_short}
 use Rattle.part_number.specs.VerdictLaws.{part_size}
 use Rattle.field_grammar.specs.Grammar.{pair}
 use Rattle.field_grammar.specs.Fields.{short_fields}
 use Rattle.field_grammar.specs.Spelling.{IsSpelledBy}
-use Rattle.field_grammar.proofs.Combined.{spelled-as, spelled-pair, spelled-mapped}
+use Rattle.field_grammar.specs.CombinedLaws.{spelled-as, spelled-pair, spelled-mapped}
 use Rattle.load_base.specs.Name.{IsName}
 use Rattle.part_number.specs.PartNumber.{IsPartNumberText}
 use Rattle.load_protocol_files.specs.declared.lur.Wanted.{Wanted}

@@ -5,8 +5,8 @@ use Rattle.std.proofs.lemmas.List.{length-append}
 use Rattle.field_grammar.specs.Grammar.{pair}
 use Rattle.field_grammar.specs.Fields.{short_fields}
 use Rattle.field_grammar.specs.Spelling.{IsSpelledBy}
-use Rattle.field_grammar.proofs.Combined.{spelled-as, spelled-pair, spelled-mapped}
-use Rattle.field_grammar.proofs.Numbers.{length_number_bytes}
+use Rattle.field_grammar.specs.CombinedLaws.{spelled-as, spelled-pair, spelled-mapped}
+use Rattle.field_grammar.specs.NumberLaws.{length_number_bytes}
 use Rattle.load_base.specs.Name.{IsName}
 use Rattle.load_base.specs.Text.{IsText}
 use Rattle.part_number.specs.PartNumber.{IsPartNumberText}
@@ -14,7 +14,7 @@ use Rattle.load_protocol_files.specs.declared.lus.LoadStatus.{LoadStatus}
 use Rattle.load_protocol_files.specs.Pieces.{u16, text, name, part, ratio, counted, u16_fields, ratio_digits, ratio_fields, counted_fields}
 use Rattle.load_protocol_files.specs.Lus.{LoadParts, load_parts, to_load_status, load_status, load_status_fields, LoadStatusFits, LusView, LusParts, lus_parts, progress, to_lus, lus_body, lus_fields, counts_fields, progress_fields, LusFits}
 use Rattle.load_protocol_files.proofs.PieceSpellings.{spelled-u16, spelled-text, spelled-name, spelled-part, spelled-ratio, spelled-counted_list}
-use Rattle.field_grammar.proofs.Written.{at_most_each}
+use Rattle.field_grammar.specs.WrittenLaws.{at_most_each}
 use Rattle.part_number.specs.VerdictLaws.{part_size}
 
 from_load_status : LoadStatus → LoadParts

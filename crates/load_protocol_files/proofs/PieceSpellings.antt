@@ -6,9 +6,9 @@ use Rattle.std.proofs.lemmas.Bool.Decides.{nat_tests}
 use Rattle.field_grammar.specs.Grammar.{Grammar, IsBytes}
 use Rattle.field_grammar.specs.Fields.{number, number_fields, short_fields}
 use Rattle.field_grammar.specs.Spelling.{IsSpelledBy}
-use Rattle.field_grammar.proofs.Numbers.{wide2, spelled-number, spelled-raw}
-use Rattle.field_grammar.proofs.Judged.{spelled-right_short}
-use Rattle.field_grammar.proofs.Combined.{spelled-renamed, spelled-counted_all}
+use Rattle.field_grammar.specs.NumberLaws.{wide2, spelled-number, spelled-raw}
+use Rattle.field_grammar.specs.JudgedLaws.{spelled-right_short}
+use Rattle.field_grammar.specs.CombinedLaws.{spelled-renamed, spelled-counted_all}
 use Rattle.load_base.specs.Text.{IsText}
 use Rattle.load_base.specs.Name.{IsName, IsNameFault}
 use Rattle.load_base.specs.Verdicts.{name_fault_of, text_fault_of}

@@ -2,7 +2,7 @@
 use Rattle.std.proofs.Common.{◌≡◌, ℕ, ◌+◌, ◌<◌, ◌^◌, List, length, arith}
 use Rattle.std.specs.List.{concat}
 use Rattle.std.proofs.lemmas.List.{length-append}
-use Rattle.field_grammar.proofs.Numbers.{length_number_bytes}
+use Rattle.field_grammar.specs.NumberLaws.{length_number_bytes}
 use Rattle.load_protocol_files.specs.declared.lci.Lci.{Lci}
 use Rattle.load_protocol_files.specs.declared.lcs.Lcs.{Lcs}
 use Rattle.load_protocol_files.specs.declared.lui.Lui.{Lui}

@@ -86,7 +86,7 @@ fn lcl_body_of(alloc: Global, reader: &mut Reader) -> Result<Lcl, FileFault>
     Ok(Lcl { hardware })
 }
 
-#[tactic(auto, using(field_grammar::proofs::Loops::goes_on_seen, field_grammar::proofs::Loops::ends, field_grammar::proofs::Loops::is_done, field_grammar::proofs::Loops::begins))]
+#[tactic(auto, using(field_grammar::specs::LoopLaws::goes_on_seen, field_grammar::specs::LoopLaws::ends, field_grammar::specs::LoopLaws::is_done, field_grammar::specs::LoopLaws::begins))]
 fn hardware_list_of(
     alloc: Global,
     count: u16,
@@ -116,7 +116,7 @@ fn hardware_of(alloc: Global, reader: &mut Reader) -> Result<Hardware, FileFault
     })
 }
 
-#[tactic(auto, using(field_grammar::proofs::Loops::goes_on, field_grammar::proofs::Loops::ends, field_grammar::proofs::Loops::is_done, field_grammar::proofs::Loops::begins))]
+#[tactic(auto, using(field_grammar::specs::LoopLaws::goes_on, field_grammar::specs::LoopLaws::ends, field_grammar::specs::LoopLaws::is_done, field_grammar::specs::LoopLaws::begins))]
 fn parts_of(alloc: Global, count: u16, reader: &mut Reader) -> Result<List<Part>, FileFault>
     ensures { Decodes Memory (λ parts. parts.items) (times count installed) reader.old result reader.new }
 {

@@ -73,7 +73,7 @@ fn lur_body_of(alloc: Global, reader: &mut Reader) -> Result<Lur, FileFault>
     Ok(Lur { loads })
 }
 
-#[tactic(auto, using(field_grammar::proofs::Loops::goes_on, field_grammar::proofs::Loops::ends, field_grammar::proofs::Loops::is_done, field_grammar::proofs::Loops::begins))]
+#[tactic(auto, using(field_grammar::specs::LoopLaws::goes_on, field_grammar::specs::LoopLaws::ends, field_grammar::specs::LoopLaws::is_done, field_grammar::specs::LoopLaws::begins))]
 fn loads_of(alloc: Global, count: u16, reader: &mut Reader) -> Result<List<Wanted>, FileFault>
     ensures { Decodes Memory (λ loads. loads.items) (times count wanted) reader.old result reader.new }
 {

@@ -116,7 +116,7 @@ fn counted_loads_of(alloc: Global, reader: &mut Reader) -> Result<List<LoadStatu
     Ok(loads)
 }
 
-#[tactic(auto, using(field_grammar::proofs::Loops::goes_on, field_grammar::proofs::Loops::ends, field_grammar::proofs::Loops::is_done, field_grammar::proofs::Loops::begins))]
+#[tactic(auto, using(field_grammar::specs::LoopLaws::goes_on, field_grammar::specs::LoopLaws::ends, field_grammar::specs::LoopLaws::is_done, field_grammar::specs::LoopLaws::begins))]
 fn loads_of(alloc: Global, count: u16, reader: &mut Reader) -> Result<List<LoadStatus>, FileFault>
     ensures { Decodes Memory (λ loads. loads.items) (times count load_status) reader.old result reader.new }
 {

@@ -7,10 +7,10 @@ use Rattle.std.proofs.lemmas.List.{append-nil}
 use Rattle.field_grammar.specs.Grammar.{Grammar, listed}
 use Rattle.field_grammar.specs.Spelling.{IsSpelledBy, IsPlacedBy, listed_fields, AllPlaced}
 use Rattle.field_grammar.specs.Fields.{number_fields}
-use Rattle.field_grammar.proofs.Combined.{spelled-measured}
-use Rattle.field_grammar.proofs.Listed.{placed-listed}
-use Rattle.field_grammar.proofs.Placed.{placed}
-use Rattle.field_grammar.proofs.Sections.{size_number, placed-section}
+use Rattle.field_grammar.specs.CombinedLaws.{spelled-measured}
+use Rattle.field_grammar.specs.ListedLaws.{placed-listed}
+use Rattle.field_grammar.specs.PlacedLaws.{placed}
+use Rattle.field_grammar.specs.SectionLaws.{size_number, placed-section}
 use Rattle.media_lists.specs.Lists.{u16}
 use Rattle.media_lists.specs.Entries.{distance_of, entry, is_listed, new_entry, entry_behind, entries}
 use Rattle.media_lists.specs.ListFields.{entry_size, entry_fields, entry_fields_behind, entries_fields, HaveDistances, AreNew, AreEntries}

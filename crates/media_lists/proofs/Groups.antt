@@ -6,10 +6,10 @@ use Rattle.part_number.specs.PartNumber.{IsPartNumberText}
 use Rattle.field_grammar.specs.Grammar.{Follows, expected}
 use Rattle.field_grammar.specs.Spelling.{IsSpelledBy, IsPlacedBy, size_of}
 use Rattle.field_grammar.specs.Fields.{number_fields, padded_fields}
-use Rattle.field_grammar.proofs.Combined.{spelled-expected}
-use Rattle.field_grammar.proofs.Placed.{placed-sized}
-use Rattle.field_grammar.proofs.Sections.{size_number, placed-section}
-use Rattle.field_grammar.proofs.Numbers.{length_number_bytes}
+use Rattle.field_grammar.specs.CombinedLaws.{spelled-expected}
+use Rattle.field_grammar.specs.PlacedLaws.{placed-sized}
+use Rattle.field_grammar.specs.SectionLaws.{size_number, placed-section}
+use Rattle.field_grammar.specs.NumberLaws.{length_number_bytes}
 use Rattle.media_lists.specs.Lists.{u16, u32, head, identity, tail}
 use Rattle.media_lists.specs.ListFields.{head_fields, identity_fields, user_fields}
 use Rattle.media_lists.specs.declared.fault.ListFault.{ListFault}

@@ -7,10 +7,10 @@ use Rattle.crc_fields.specs.WidthLaws.{crc16_fits}
 use Rattle.field_grammar.specs.Grammar.{IsBytes, renamed}
 use Rattle.field_grammar.specs.Spelling.{IsSpelledBy, IsPlacedBy}
 use Rattle.field_grammar.specs.Fields.{raw, number_fields}
-use Rattle.field_grammar.proofs.Combined.{spelled-renamed}
-use Rattle.field_grammar.proofs.Numbers.{spelled-raw}
-use Rattle.field_grammar.proofs.Placed.{placed-ended}
-use Rattle.field_grammar.proofs.Sections.{placed-section}
+use Rattle.field_grammar.specs.CombinedLaws.{spelled-renamed}
+use Rattle.field_grammar.specs.NumberLaws.{spelled-raw}
+use Rattle.field_grammar.specs.PlacedLaws.{placed-ended}
+use Rattle.field_grammar.specs.SectionLaws.{placed-section}
 use Rattle.media_lists.specs.Lists.{named, pointers, membership, user_data, check_sum, limit}
 use Rattle.media_lists.specs.ListFields.{IsMember, user_fields}
 use Rattle.media_lists.specs.declared.fault.ListFault.TheVariants as faults

@@ -6,7 +6,7 @@ use Rattle.std.proofs.lemmas.List.Folds.{concat-append}
 use Rattle.crc_fields.specs.CheckSums.{crc16_of}
 use Rattle.field_grammar.specs.Grammar.{Grammar, Follows}
 use Rattle.field_grammar.specs.Spelling.{IsSpelledBy, SpellsWhole, size_of}
-use Rattle.field_grammar.proofs.Sections.{size_more, size_number}
+use Rattle.field_grammar.specs.SectionLaws.{size_more, size_number}
 use Rattle.field_grammar.specs.Fields.{number_fields}
 use Rattle.media_lists.specs.Lists.{head, ListView, media_list}
 use Rattle.media_lists.specs.Entries.{entries}

@@ -6,8 +6,8 @@ use Rattle.std.proofs.lemmas.List.{append-nil}
 use Rattle.load_base.specs.Text.{IsText}
 use Rattle.field_grammar.specs.Spelling.{IsSpelledBy}
 use Rattle.field_grammar.specs.Fields.{number, number_fields, padded_fields}
-use Rattle.field_grammar.proofs.Combined.{spelled-renamed, spelled-counted}
-use Rattle.field_grammar.proofs.Numbers.{wide1, wide2, wide4, spelled-number}
+use Rattle.field_grammar.specs.CombinedLaws.{spelled-renamed, spelled-counted}
+use Rattle.field_grammar.specs.NumberLaws.{wide1, wide2, wide4, spelled-number}
 use Rattle.media_lists.specs.Lists.{named, u8, u16, u32, text, counted, member_of}
 use Rattle.media_lists.specs.ListFields.{IsMember}
 use Rattle.media_lists.specs.Files.{file_body, file_body_fields, IsFile}

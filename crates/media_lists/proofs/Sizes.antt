@@ -4,10 +4,10 @@ use Rattle.std.specs.List.{flat_map}
 use Rattle.std.proofs.lemmas.List.{append-nil, take_more, take_all}
 use Rattle.std.proofs.lemmas.List.Concat.{flat_map-cons, flat_map-append}
 use Rattle.field_grammar.specs.Spelling.{size_of, listed_fields}
-use Rattle.field_grammar.proofs.Sections.{size_more, size_number, size_padded}
+use Rattle.field_grammar.specs.SectionLaws.{size_more, size_number, size_padded}
 use Rattle.field_grammar.specs.Fields.{number_fields, padded_fields}
-use Rattle.field_grammar.proofs.Numbers.{length_number_bytes}
-use Rattle.field_grammar.proofs.Texts.{length_pad_bytes}
+use Rattle.field_grammar.specs.NumberLaws.{length_number_bytes}
+use Rattle.field_grammar.specs.TextLaws.{length_pad_bytes}
 use Rattle.media_lists.specs.Lists.{ListView}
 use Rattle.media_lists.specs.Entries.{distance_of}
 use Rattle.media_lists.specs.ListFields.{entry_size, entry_fields_behind, entries_fields, head_fields, identity_fields, user_fields, list_size}

@@ -14,7 +14,7 @@ use Rattle.part_number.specs.Verdicts.{part_fault_of}
 use Rattle.part_number.specs.VerdictLaws.{part_faults, part_size}
 use Rattle.field_grammar.specs.Spelling.{IsSpelledBy}
 use Rattle.field_grammar.specs.Fields.{padded_fields}
-use Rattle.field_grammar.proofs.Judged.{spelled-right_padded}
+use Rattle.field_grammar.specs.JudgedLaws.{spelled-right_padded}
 use Rattle.media_lists.specs.Lists.{named, text, name, part, path}
 use Rattle.media_lists.specs.Paths.{closed, path_fault_of, IsPath}
 use Rattle.media_lists.specs.declared.fault.ListFault.TheVariants as faults

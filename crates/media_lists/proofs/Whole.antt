@@ -2,7 +2,7 @@
 use Rattle.std.proofs.Common.{ℕ, arith}
 use Rattle.field_grammar.specs.Grammar.{Grammar, EndsTheBytes}
 use Rattle.field_grammar.specs.Spelling.{SpellsWhole}
-use Rattle.field_grammar.proofs.Exact.{ends_at_end, ends_last, ends_before}
+use Rattle.field_grammar.specs.ExactLaws.{ends_at_end, ends_last, ends_before}
 use Rattle.std.specs.Prelude.{List}
 use Rattle.media_lists.specs.Lists.{tail, check_sum, media_list}
 use Rattle.media_lists.specs.ListFields.{list_fields}

@@ -22,7 +22,7 @@ fn padded_size(length: usize) -> u64
     2 + length + length % 2
 }
 
-#[tactic(auto, using(field_grammar::proofs::Sections::size_padded))]
+#[tactic(auto, using(field_grammar::specs::SectionLaws::size_padded))]
 fn text_size(text: &Text) -> u64
     ensures size { result ≡ size_of (padded_fields text.now) }
     ensures small { result ≤ 258 }
@@ -31,7 +31,7 @@ fn text_size(text: &Text) -> u64
     padded_size(text.as_slice().len())
 }
 
-#[tactic(auto, using(field_grammar::proofs::Sections::size_padded))]
+#[tactic(auto, using(field_grammar::specs::SectionLaws::size_padded))]
 fn name_size(name: &Name) -> u64
     ensures size { result ≡ size_of (padded_fields name.now) }
     ensures small { result ≤ 66 }
@@ -40,7 +40,7 @@ fn name_size(name: &Name) -> u64
     padded_size(name.as_slice().len())
 }
 
-#[tactic(auto, using(field_grammar::proofs::Sections::size_padded, part_number::specs::VerdictLaws::part_size))]
+#[tactic(auto, using(field_grammar::specs::SectionLaws::size_padded, part_number::specs::VerdictLaws::part_size))]
 fn part_size(part: &PartNumber) -> u64
     ensures size { result ≡ size_of (padded_fields part.now) }
     ensures small { result ≡ 18 }

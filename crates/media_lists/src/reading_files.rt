@@ -53,7 +53,7 @@ fn read_files(
     Ok(files)
 }
 
-#[tactic(auto, using(field_grammar::proofs::Loops::list_goes_on, field_grammar::proofs::Loops::list_ends, field_grammar::proofs::Loops::list_is_done))]
+#[tactic(auto, using(field_grammar::specs::LoopLaws::list_goes_on, field_grammar::specs::LoopLaws::list_ends, field_grammar::specs::LoopLaws::list_is_done))]
 fn read_so_many_files(
     alloc: Global,
     reader: &mut Reader,
@@ -95,7 +95,7 @@ fn read_new_file(
     }
 }
 
-#[tactic(auto, using(field_grammar::proofs::Moves::place_goes_on), unfolding(crate::specs::Entries::entry))]
+#[tactic(auto, using(field_grammar::specs::MoveLaws::place_goes_on), unfolding(crate::specs::Entries::entry))]
 fn read_file_entry(
     alloc: Global,
     reader: &mut Reader,

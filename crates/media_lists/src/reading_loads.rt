@@ -54,7 +54,7 @@ fn read_loads(
     Ok(loads)
 }
 
-#[tactic(auto, using(field_grammar::proofs::Loops::list_goes_on_seen, field_grammar::proofs::Loops::list_ends, field_grammar::proofs::Loops::list_is_done))]
+#[tactic(auto, using(field_grammar::specs::LoopLaws::list_goes_on_seen, field_grammar::specs::LoopLaws::list_ends, field_grammar::specs::LoopLaws::list_is_done))]
 fn read_so_many_loads(
     alloc: Global,
     reader: &mut Reader,
@@ -96,7 +96,7 @@ fn read_new_load(
     }
 }
 
-#[tactic(auto, using(field_grammar::proofs::Moves::place_goes_on), unfolding(crate::specs::Entries::entry))]
+#[tactic(auto, using(field_grammar::specs::MoveLaws::place_goes_on), unfolding(crate::specs::Entries::entry))]
 fn read_load_entry(
     alloc: Global,
     reader: &mut Reader,
@@ -143,7 +143,7 @@ fn read_texts(alloc: Global, reader: &mut Reader) -> Result<List<Text>, ListFaul
     Ok(texts)
 }
 
-#[tactic(auto, using(field_grammar::proofs::Loops::goes_on, field_grammar::proofs::Loops::ends, field_grammar::proofs::Loops::is_done, field_grammar::proofs::Loops::begins))]
+#[tactic(auto, using(field_grammar::specs::LoopLaws::goes_on, field_grammar::specs::LoopLaws::ends, field_grammar::specs::LoopLaws::is_done, field_grammar::specs::LoopLaws::begins))]
 fn read_so_many_texts(
     alloc: Global,
     reader: &mut Reader,

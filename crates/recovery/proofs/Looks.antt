@@ -3,7 +3,7 @@ use Rattle.std.proofs.Common.{◌≡◌, ℕ, ◌≤◌, false, Result, Ok, Err,
 use Rattle.std.specs.Prelude.{IfErr, IsErrOf}
 use Rattle.load_base.specs.Counts.{Rose}
 use Rattle.disk_model.specs.State.{DiskState, OnlyReads}
-use Rattle.disk_model.proofs.Moments.{reads_joined}
+use Rattle.disk_model.specs.MomentLaws.{reads_joined}
 use Rattle.disk_layout.specs.Looks.{RunsOn, RunsOnAfter, IsOfDisk, Looks}
 use Rattle.disk_layout.specs.declared.fault.RecoverFault.{RecoverFault}
 use Rattle.disk_layout.specs.declared.fault.RecoverFault.TheVariants.{DiskFailed}

@@ -32,7 +32,7 @@ fn read_manifest(alloc: Global, bytes: &[u8]) -> Result<Manifest, ManifestFault>
     Ok(Manifest { loads })
 }
 
-#[tactic(auto, using(field_grammar::proofs::Loops::goes_on_seen, field_grammar::proofs::Loops::ends, field_grammar::proofs::Loops::is_done, field_grammar::proofs::Loops::begins))]
+#[tactic(auto, using(field_grammar::specs::LoopLaws::goes_on_seen, field_grammar::specs::LoopLaws::ends, field_grammar::specs::LoopLaws::is_done, field_grammar::specs::LoopLaws::begins))]
 fn read_loads(
     alloc: Global,
     count: u16,
@@ -57,7 +57,7 @@ fn read_load(alloc: Global, reader: &mut Reader) -> Result<ManifestLoad, Manifes
     Ok(ManifestLoad { part, files })
 }
 
-#[tactic(auto, using(field_grammar::proofs::Loops::goes_on, field_grammar::proofs::Loops::ends, field_grammar::proofs::Loops::is_done, field_grammar::proofs::Loops::begins))]
+#[tactic(auto, using(field_grammar::specs::LoopLaws::goes_on, field_grammar::specs::LoopLaws::ends, field_grammar::specs::LoopLaws::is_done, field_grammar::specs::LoopLaws::begins))]
 fn read_files(
     alloc: Global,
     count: u16,

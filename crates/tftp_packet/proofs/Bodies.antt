@@ -6,10 +6,10 @@ use Rattle.std.proofs.lemmas.List.{append-nil}
 use Rattle.field_grammar.specs.Grammar.{Follows, check, left, renamed, ended, IsBytes, HasNoZero, EndsTheBytes, ◌>>=◌}
 use Rattle.field_grammar.specs.Fields.{number, number_bytes}
 use Rattle.field_grammar.specs.Spelling.{IsSpelledBy}
-use Rattle.field_grammar.proofs.Numbers.{wide2}
-use Rattle.field_grammar.proofs.Numbers.{spelled-number}
-use Rattle.field_grammar.proofs.Placed.{placed, spelled, placed-front, placed-left, placed-renamed, placed-ended}
-use Rattle.field_grammar.proofs.Exact.{ends_at_end, ends_last, ends_before}
+use Rattle.field_grammar.specs.NumberLaws.{wide2}
+use Rattle.field_grammar.specs.NumberLaws.{spelled-number}
+use Rattle.field_grammar.specs.PlacedLaws.{placed, spelled, placed-front, placed-left, placed-renamed, placed-ended}
+use Rattle.field_grammar.specs.ExactLaws.{ends_at_end, ends_last, ends_before}
 use Rattle.load_base.specs.Bytes.{AllGood}
 use Rattle.load_base.specs.Name.{IsName, is_name_byte}
 use Rattle.load_base.specs.Verdicts.{name_fault_of}

@@ -10,7 +10,7 @@ use Rattle.std.proofs.lemmas.Fmt.{decimal_is_IsNumeral}
 use Rattle.std.proofs.lemmas.List.Sums.{sum_by-append}
 use Rattle.field_grammar.specs.Answers.{answer}
 use Rattle.load_base.specs.Name.{IsName}
-use Rattle.field_grammar.proofs.Exact.{answer-spelled, spelled_at_front}
+use Rattle.field_grammar.specs.ExactLaws.{answer-spelled, spelled_at_front}
 use Rattle.tftp_packet.specs.declared.fault.PacketFault.{PacketFault}
 use Rattle.tftp_packet.specs.declared.options.Known.{Known}
 use Rattle.tftp_packet.specs.declared.options.Known.TheVariants.{BlockSize, Timeout, TransferSize}

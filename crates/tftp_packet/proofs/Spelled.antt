@@ -7,7 +7,7 @@ use Rattle.std.proofs.lemmas.List.{append-nil}
 use Rattle.field_grammar.specs.Answers.{answer}
 use Rattle.field_grammar.specs.Grammar.{Grammar, Follows, choose, judge, mapped, IsBytes, Spelled, Fault, EndsTheBytes}
 use Rattle.field_grammar.specs.Fields.{number_bytes}
-use Rattle.field_grammar.proofs.Exact.{ends_last, ends_before, answer-spelled, answer-fault, answer_is_spelled, answer_is_fault, spelled_at_front, spelled_whole}
+use Rattle.field_grammar.specs.ExactLaws.{ends_last, ends_before, answer-spelled, answer-fault, answer_is_spelled, answer_is_fault, spelled_at_front, spelled_whole}
 use Rattle.tftp_packet.specs.declared.fault.PacketFault.{PacketFault}
 use Rattle.tftp_packet.specs.declared.fault.PacketFault.TheVariants as faults
 use Rattle.tftp_packet.specs.declared.options.Options.{Options}

@@ -7,7 +7,7 @@ use Rattle.std.proofs.lemmas.Iterator.Adapters.{position_from-zero}
 use Rattle.std.proofs.lemmas.List.{length-take-le, take_all}
 use Rattle.field_grammar.specs.Cursor.{Cursor, cursor_at}
 use Rattle.field_grammar.specs.Grammar.{before_zero, zero_ended_at, read}
-use Rattle.field_grammar.proofs.Steps.{advanced-cursor_at}
+use Rattle.field_grammar.specs.StepLaws.{advanced-cursor_at}
 use Rattle.tftp_packet.specs.Packets.{payload_bytes}
 
 further : (i : ℕ) (o : Option ℕ) → option_map (λ k. i + 1 + k) o ≡ option_map (λ k. i + k) (option_map suc o)

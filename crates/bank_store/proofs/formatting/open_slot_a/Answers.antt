@@ -1,6 +1,6 @@
 use Rattle.std.proofs.Common.{◌∷◌, [], ◌∙◌, sym, ap, arith}
 use Rattle.disk_model.specs.Image.{Image}
-use Rattle.disk_model.proofs.Overlays.{overlay_inside, overlay_outside}
+use Rattle.disk_model.specs.OverlayLaws.{overlay_inside, overlay_outside}
 use Rattle.disk_layout.specs.Places.{slot_a}
 use Rattle.bank_store.proofs.Gates.{same_image}
 use Rattle.bank_store.proofs.Images.{told_before}

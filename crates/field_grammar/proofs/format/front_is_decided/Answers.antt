@@ -1,4 +1,4 @@
-use Rattle.field_grammar.proofs.Exact.{decided_at_front}
+use Rattle.field_grammar.specs.ExactLaws.{decided_at_front}
 use Rattle.field_grammar.proofs.format.front_is_decided.Goals as goal
 
 pub returns : goal.returns

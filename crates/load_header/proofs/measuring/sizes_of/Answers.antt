@@ -1,7 +1,7 @@
 use Rattle.std.proofs.Common.{arith}
 use Rattle.load_header.specs.Header.{header_view}
 use Rattle.load_header.proofs.Limits.{few_hardware, few_kept, few_of_each, few_data_files, few_support_files, size_type}
-use Rattle.field_grammar.proofs.Sections.{size_padded}
+use Rattle.field_grammar.specs.SectionLaws.{size_padded}
 use Rattle.load_header.proofs.Sizes.{size_user}
 use Rattle.part_number.specs.VerdictLaws.{part_size}
 use Rattle.load_header.proofs.measuring.sizes_of.Goals as goal

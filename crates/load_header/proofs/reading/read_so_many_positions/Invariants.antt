@@ -1,7 +1,7 @@
 use Rattle.std.proofs.Common.{◌≡◌, ◌-◌}
 use Rattle.std.specs.Prelude.{map}
 use Rattle.field_grammar.specs.Grammar.{times, read}
-use Rattle.field_grammar.proofs.Loops.{with_front}
+use Rattle.field_grammar.specs.LoopLaws.{with_front}
 use Rattle.load_header.specs.Header.{hardware_at, hardware_view}
 use Rattle.load_header.proofs.reading.read_so_many_positions.Given as goal
 

@@ -1,6 +1,6 @@
 use Rattle.std.proofs.Common.{◌≡◌, ◌-◌}
 use Rattle.field_grammar.specs.Grammar.{times, read}
-use Rattle.field_grammar.proofs.Loops.{with_front}
+use Rattle.field_grammar.specs.LoopLaws.{with_front}
 use Rattle.load_header.specs.Header.{text}
 use Rattle.load_header.proofs.reading.read_so_many_texts.Given as goal
 

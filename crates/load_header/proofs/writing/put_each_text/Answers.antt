@@ -1,6 +1,6 @@
 use Rattle.load_base.specs.Text.{IsText}
 use Rattle.field_grammar.specs.Fields.{padded_fields}
-use Rattle.field_grammar.proofs.Written.{written_more, all_more}
+use Rattle.field_grammar.specs.WrittenLaws.{written_more, all_more}
 use Rattle.load_header.proofs.writing.put_each_text.Goals as goal
 
 pub loop-text-preserved : goal.loop-text-preserved

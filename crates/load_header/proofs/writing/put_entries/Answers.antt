@@ -1,7 +1,7 @@
 use Rattle.std.proofs.Common.{sym}
 use Rattle.std.proofs.lemmas.List.{append-nil}
 use Rattle.field_grammar.specs.Spelling.{listed_fields}
-use Rattle.field_grammar.proofs.Written.{entries_more, all_more}
+use Rattle.field_grammar.specs.WrittenLaws.{entries_more, all_more}
 use Rattle.load_header.specs.HeaderFields.{entry_fields, IsFile}
 use Rattle.load_header.proofs.writing.put_entries.Goals as goal
 

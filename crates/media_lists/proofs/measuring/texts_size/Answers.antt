@@ -1,6 +1,6 @@
 use Rattle.std.proofs.Common.{arith, ◌∙◌}
 use Rattle.load_base.specs.Text.{IsText}
-use Rattle.field_grammar.proofs.Written.{all_more, all_taken}
+use Rattle.field_grammar.specs.WrittenLaws.{all_more, all_taken}
 use Rattle.media_lists.proofs.Sizes.{texts_more, texts_taken}
 use Rattle.media_lists.proofs.measuring.texts_size.Goals as goal
 

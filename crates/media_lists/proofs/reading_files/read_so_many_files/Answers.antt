@@ -1,5 +1,5 @@
 use Rattle.std.proofs.Common.{arith, length-append}
-use Rattle.field_grammar.proofs.Loops.{list_goes_on}
+use Rattle.field_grammar.specs.LoopLaws.{list_goes_on}
 use Rattle.media_lists.specs.Entries.{entry_behind}
 use Rattle.media_lists.specs.Files.{file_body, file_name}
 use Rattle.media_lists.proofs.NameOrder.{order_pushed}

@@ -1,7 +1,7 @@
 use Rattle.std.proofs.Common.{List, [], ◌∷◌, ap, ◌∙◌, arith, length-append}
 use Rattle.std.specs.Prelude.{map}
 use Rattle.std.proofs.lemmas.List.{map-append}
-use Rattle.field_grammar.proofs.Loops.{list_goes_on_seen}
+use Rattle.field_grammar.specs.LoopLaws.{list_goes_on_seen}
 use Rattle.media_lists.specs.Entries.{entry_behind}
 use Rattle.media_lists.specs.Loads.{load_body, load_name, load_view}
 use Rattle.media_lists.proofs.NameOrder.{order_pushed}

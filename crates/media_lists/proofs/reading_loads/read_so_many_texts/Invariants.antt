@@ -1,6 +1,6 @@
 use Rattle.std.proofs.Common.{◌≡◌, ◌-◌}
 use Rattle.field_grammar.specs.Grammar.{times, read}
-use Rattle.field_grammar.proofs.Loops.{with_front}
+use Rattle.field_grammar.specs.LoopLaws.{with_front}
 use Rattle.media_lists.specs.Lists.{text}
 use Rattle.media_lists.proofs.reading_loads.read_so_many_texts.Given as goal
 

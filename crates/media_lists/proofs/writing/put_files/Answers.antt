@@ -1,6 +1,6 @@
 use Rattle.std.proofs.Common.{◌++◌, length, ◌∙◌}
 use Rattle.field_grammar.specs.Fields.{number_bytes}
-use Rattle.field_grammar.proofs.Written.{entries_more}
+use Rattle.field_grammar.specs.WrittenLaws.{entries_more}
 use Rattle.media_lists.specs.ListFields.{entry_fields}
 use Rattle.media_lists.specs.Files.{file_body_fields}
 use Rattle.media_lists.proofs.Writes.{begins, all_written}

@@ -1,7 +1,7 @@
 use Rattle.std.proofs.Common.{List, ℕ, ◌++◌, length, ap, sym, ◌∙◌}
 use Rattle.std.specs.List.{concat}
 use Rattle.field_grammar.specs.Fields.{number_bytes}
-use Rattle.field_grammar.proofs.Written.{entries_more}
+use Rattle.field_grammar.specs.WrittenLaws.{entries_more}
 use Rattle.media_lists.specs.ListFields.{entry_fields}
 use Rattle.media_lists.specs.Loads.{load_view, load_body_fields}
 use Rattle.media_lists.proofs.Seen.{kept_fields, entries_seen, distances_seen, short_at}

@@ -1,5 +1,5 @@
 use Rattle.std.proofs.Common.{◌≡◌, ℕ, ◌+◌, length, ap, ◌∙◌, length-append}
-use Rattle.disk_model.proofs.Ranges.{length_range}
+use Rattle.disk_model.specs.RangeLaws.{length_range}
 use Rattle.recovery.proofs.Pieces.{piece_more}
 use Rattle.recovery.proofs.looking.add_piece.Goals as goal
 

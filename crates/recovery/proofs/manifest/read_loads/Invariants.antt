@@ -1,7 +1,7 @@
 use Rattle.std.proofs.Common.{◌≡◌, ◌-◌}
 use Rattle.std.specs.Prelude.{map}
 use Rattle.field_grammar.specs.Grammar.{times, read}
-use Rattle.field_grammar.proofs.Loops.{with_front}
+use Rattle.field_grammar.specs.LoopLaws.{with_front}
 use Rattle.disk_layout.specs.Manifest.{load_entry, entry_view}
 use Rattle.recovery.proofs.manifest.read_loads.Given as goal
 

@@ -1,4 +1,4 @@
-use Rattle.field_grammar.proofs.Exact.{decided, whole_one_value}
+use Rattle.field_grammar.specs.ExactLaws.{decided, whole_one_value}
 use Rattle.tftp_packet.specs.Packets.{packet, packet_bytes}
 use Rattle.tftp_packet.proofs.Canonical.{spelled_in_range, written_spells, read_again}
 use Rattle.tftp_packet.proofs.Spelled.{packet_is, packet_from, ends-packet}

@@ -1,5 +1,5 @@
 use Rattle.std.proofs.Common.{◌≡◌, ◌+◌, length, ap, ◌∙◌, arith}
-use Rattle.field_grammar.proofs.Numbers.{length_number_bytes}
+use Rattle.field_grammar.specs.NumberLaws.{length_number_bytes}
 use Rattle.bank_store.specs.Safe.{SameButForWork}
 use Rattle.bank_store.proofs.Moments.{adds_none}
 use Rattle.bank_store.proofs.Near.{IsWork}

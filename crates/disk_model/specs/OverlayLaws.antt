@@ -5,7 +5,7 @@ use Rattle.std.proofs.lemmas.Bool.{cases_lt}
 use Rattle.std.proofs.lemmas.Bool.Decides.{nat_tests}
 use Rattle.std.proofs.lemmas.List.{get_or_append_left, get_or-append_right}
 use Rattle.disk_model.specs.Image.{Image, range, overlay, SameOutside}
-use Rattle.disk_model.proofs.Ranges.{same_range, range_from_places, length_range, byte_of_range}
+use Rattle.disk_model.specs.RangeLaws.{same_range, range_from_places, length_range, byte_of_range}
 
 pub overlay_inside : (image : Image) (at : ℕ) (bytes : List ℕ) (k : ℕ) → k < length bytes → overlay image at bytes (at + k) ≡ get_or bytes k 0
 unfolding overlay

@@ -8,8 +8,8 @@ use Rattle.std.proofs.lemmas.List.Concat.{flat_map-append, flat_map-cons}
 use Rattle.std.proofs.lemmas.List.Elements.{All-head, All-tail}
 use Rattle.std.proofs.lemmas.List.Folds.{concat-append}
 use Rattle.field_grammar.specs.Spelling.{listed_fields, with_last}
-use Rattle.field_grammar.proofs.Listed.{listed_fields_more}
-use Rattle.field_grammar.proofs.Loops.{concat_more}
+use Rattle.field_grammar.specs.ListedLaws.{listed_fields_more}
+use Rattle.field_grammar.specs.LoopLaws.{concat_more}
 
 -- ---- what is written
 

@@ -6,7 +6,7 @@ use Rattle.std.specs.List.{concat}
 use Rattle.field_grammar.specs.Grammar.{Grammar, IsBytes, Spelled, SpelledAtFront, Fault, EndsTheBytes}
 use Rattle.field_grammar.specs.Answers.{answer, Gives}
 use Rattle.field_grammar.specs.Spelling.{SpellsWhole, IsPlacedBy}
-use Rattle.field_grammar.proofs.Exact.{answer-spelled, answer-fault, answer_is_spelled, answer_is_fault, spelled_at_front, spelled_whole}
+use Rattle.field_grammar.specs.ExactLaws.{answer-spelled, answer-fault, answer_is_spelled, answer_is_fault, spelled_at_front, spelled_whole}
 
 -- two answers to one question
 gives_also : {F T X : Type 0} (memory : F) (view : T → X) (r : Result T F) (a b : Result X F) → Gives memory view r a → a ≡ b → Gives memory view r b

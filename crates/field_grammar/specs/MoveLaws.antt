@@ -3,7 +3,7 @@ use Rattle.std.proofs.Common.{◌≡◌, ℕ, suc, ◌≤◌, true, false, ltb, 
 use Rattle.std.proofs.lemmas.List.{append-nil, take-append-drop, length-append}
 use Rattle.field_grammar.specs.Cursor.{Cursor, advanced}
 use Rattle.field_grammar.specs.Grammar.{Grammar, give, judge, check, choose, field, zero_ended, front, left, seq, renamed, read, zero_ended_at, before_zero, MovesOn}
-use Rattle.field_grammar.proofs.Steps.{said, same_value, then_ok, guard_ok, renamed_ok}
+use Rattle.field_grammar.specs.StepLaws.{said, same_value, then_ok, guard_ok, renamed_ok}
 
 stays_there : (c : Cursor) → MovesOn c c
 stays_there c = record { passed = []; parts = refl; behind = sym (append-nil c.before) }

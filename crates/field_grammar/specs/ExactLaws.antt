@@ -7,8 +7,8 @@ use Rattle.field_grammar.specs.Cursor.{Cursor, start}
 use Rattle.field_grammar.specs.Grammar.{Grammar, seq, renamed, ended, Took, read, IsBytes, Spelled, SpelledAtFront, Fault, EndsTheBytes, IsDecided, IsDecidedAtFront}
 use Rattle.field_grammar.specs.Answers.{answer}
 use Rattle.field_grammar.specs.Spelling.{IsPlacedBy}
-use Rattle.field_grammar.proofs.Steps.{then_ok, then_err}
-use Rattle.field_grammar.proofs.Laws.{what_follows_is_read, what_stops_is_refused, what_is_read_follows, what_is_refused_stops}
+use Rattle.field_grammar.specs.StepLaws.{then_ok, then_err}
+use Rattle.field_grammar.specs.GrammarLaws.{what_follows_is_read, what_stops_is_refused, what_is_read_follows, what_is_refused_stops}
 
 abbrev refusal : {A F : Type 0} → F → Result A F
 refusal f = Err f

@@ -5,8 +5,8 @@ use Rattle.load_base.specs.VerdictLaws.{accepted}
 use Rattle.field_grammar.specs.Fields.{judged_short, judged_padded, short_fields, padded_fields}
 use Rattle.field_grammar.specs.Spelling.{IsSpelledBy}
 use Rattle.field_grammar.specs.declared.fault.FieldFault.{FieldFault}
-use Rattle.field_grammar.proofs.Combined.{spelled-as}
-use Rattle.field_grammar.proofs.Texts.{Judges, spelled-judged_short, spelled-judged_padded}
+use Rattle.field_grammar.specs.CombinedLaws.{spelled-as}
+use Rattle.field_grammar.specs.TextLaws.{Judges, spelled-judged_short, spelled-judged_padded}
 
 -- a function that tells the faults of a text judges the bytes of such a text, by the name that a format has for its faults
 pub judges_by : {E F : Type 0} (wrong : ℕ → E → F) (fault_of : List ℕ → Option E) (IsRight : List ℕ → Type 0) (IsFault : List ℕ → E → Type 0) → TellsFaults fault_of IsRight IsFault

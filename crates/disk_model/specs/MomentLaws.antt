@@ -6,7 +6,7 @@ use Rattle.disk_model.specs.Image.{Image, SameOutside, range, overlay}
 use Rattle.disk_model.specs.State.{DiskState, IsSettled, Closed, OnlyReads, Torn, Elapses}
 use Rattle.disk_model.specs.Moments.{LeavesOnly}
 use Rattle.disk_model.specs.declared.disk.DiskFault.{DiskFault}
-use Rattle.disk_model.proofs.Overlays.{place_cases, laid_inside, laid_outside}
+use Rattle.disk_model.specs.OverlayLaws.{place_cases, laid_inside, laid_outside}
 
 -- at the start of a call; `only` is the law `only_now`
 pub started : (disk : DiskState) (P : Image → Type 0) → ((t u : ℕ) (image : Image) → disk.clock ≤ t → disk.between t u image → disk.now image)

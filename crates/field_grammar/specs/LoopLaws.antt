@@ -8,7 +8,7 @@ use Rattle.std.proofs.lemmas.List.Concat.{flat_map-append, flat_map-cons}
 use Rattle.std.proofs.lemmas.List.Folds.{concat-append}
 use Rattle.field_grammar.specs.Cursor.{Cursor}
 use Rattle.field_grammar.specs.Spelling.{listed_fields}
-use Rattle.field_grammar.proofs.Listed.{listed_fields_more}
+use Rattle.field_grammar.specs.ListedLaws.{listed_fields_more}
 use Rattle.field_grammar.specs.Grammar.{Grammar, read, times, listed, steps, ◌then◌}
 
 -- ---- so many values of one kind

@@ -7,7 +7,7 @@ use Rattle.std.proofs.lemmas.List.{append-nil, take-append-drop, length-append, 
 use Rattle.std.proofs.lemmas.List.Folds.{concat-append}
 use Rattle.field_grammar.specs.Cursor.{Cursor, advanced, at, behind}
 use Rattle.field_grammar.specs.Grammar.{Grammar, give, judge, check, choose, field, zero_ended, front, left, seq, renamed, read, Follows, Stops, Took, Stopped, IsBytes, zero_ended_at, before_zero}
-use Rattle.field_grammar.proofs.Steps.{IsBytes-take, IsBytes-behind, said, same_value, then_ok, then_err, guard_ok, guard_err, renamed_ok, renamed_err, field_at-append, zero_ended_at-append, split_at_zero}
+use Rattle.field_grammar.specs.StepLaws.{IsBytes-take, IsBytes-behind, said, same_value, then_ok, then_err, guard_ok, guard_err, renamed_ok, renamed_err, field_at-append, zero_ended_at-append, split_at_zero}
 
 -- ---- from fields to what is read
 

@@ -6,8 +6,8 @@ use Rattle.std.proofs.lemmas.List.{append-nil}
 use Rattle.std.proofs.lemmas.List.Folds.{concat-append}
 use Rattle.field_grammar.specs.Spelling.{IsPlacedBy, size_of}
 use Rattle.field_grammar.specs.Fields.{section, number_fields, short_fields, padded_fields}
-use Rattle.field_grammar.proofs.Numbers.{length_number_bytes}
-use Rattle.field_grammar.proofs.Texts.{length_pad_bytes}
+use Rattle.field_grammar.specs.NumberLaws.{length_number_bytes}
+use Rattle.field_grammar.specs.TextLaws.{length_pad_bytes}
 
 -- ---- how many bytes fields take
 

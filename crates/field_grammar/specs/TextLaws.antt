@@ -8,8 +8,8 @@ use Rattle.field_grammar.specs.Grammar.{Grammar, renamed, judged, IsBytes}
 use Rattle.field_grammar.specs.Spelling.{IsSpelledBy}
 use Rattle.field_grammar.specs.Fields.{number_bytes, raw, pad, padded_parts, short_parts, padded, short, as_one, number_fields, short_fields, padded_fields, pad_bytes, short_text, padded_text, judged_short, judged_padded}
 use Rattle.field_grammar.specs.declared.fault.FieldFault.{FieldFault}
-use Rattle.field_grammar.proofs.Combined.{spelled-renamed, spelled-judged}
-use Rattle.field_grammar.proofs.Numbers.{wide1, wide2, spelled-number, spelled-raw, length_number_bytes}
+use Rattle.field_grammar.specs.CombinedLaws.{spelled-renamed, spelled-judged}
+use Rattle.field_grammar.specs.NumberLaws.{wide1, wide2, spelled-number, spelled-raw, length_number_bytes}
 
 -- ---- the pad
 

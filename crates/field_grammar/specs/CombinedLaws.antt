@@ -7,7 +7,7 @@ use Rattle.std.proofs.lemmas.List.Concat.{flat_map-cons}
 use Rattle.std.proofs.lemmas.List.Elements.{All-from_recursion, recursion_from_All}
 use Rattle.field_grammar.specs.Grammar.{Grammar, seq, renamed, read, Follows, pair, mapped, tested, expected, judged, measured, times}
 use Rattle.field_grammar.specs.Spelling.{IsSpelledBy, IsReadBack}
-use Rattle.field_grammar.proofs.Laws.{what_follows_is_read}
+use Rattle.field_grammar.specs.GrammarLaws.{what_follows_is_read}
 
 -- a value that fits is read back from its spelling
 pub read_back : {F A : Type 0} (g : Grammar F A) (s : A → List (List ℕ)) (P : A → Type 0) (bytes : List ℕ) (value : A)
