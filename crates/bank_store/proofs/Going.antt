@@ -14,13 +14,22 @@ use Rattle.bank_store.specs.declared.store.Store.{Store}
 use Rattle.bank_store.proofs.Gates.{same_image}
 use Rattle.bank_store.proofs.Images.{told_before}
 use Rattle.bank_store.proofs.Moments.{adds_none, adds_joined}
+use Rattle.disk_model.specs.MomentLaws.{power_kept}
 use Rattle.bank_store.proofs.Near.{near_stands}
 use Rattle.bank_store.proofs.Rests.{rest_unread, rest_then}
 
 -- ---- nothing is called
 
 pub stays : (disk : DiskState) → GoesOn disk disk
-stays disk = record { tells = refl; faults = omega arith; refusals = omega arith; later = omega arith; keeps = λ t u image might. might }
+stays disk = record {
+  tells = refl;
+  faults = omega arith;
+  refusals = omega arith;
+  later = omega arith;
+  keeps = λ t u image might. might;
+  earlier = λ t u image early might. might;
+  power = record { steady = refl; armings = refl; armed = refl };
+}
 
 pub acts_not : {T : Type 0} (disk : DiskState) (x : T) → disk.stopped ≡ false → Acts disk disk (Ok x)
 acts_not disk x running = record {
@@ -92,6 +101,8 @@ goes_on_twice a b c first second = record {
   refusals = omega (arith, first.refusals, second.refusals);
   later = omega (arith, first.later, second.later);
   keeps = λ t u image might. second.keeps t u image (first.keeps t u image might);
+  earlier = λ t u image early might. first.earlier t u image early (second.earlier t u image (omega (arith, early, first.later)) might);
+  power = power_kept a b c first.power second.power;
 }
 
 pub acts_then : {T : Type 0} (a b c : DiskState) (result : Result T StoreFault) → GoesOn a b → Acts b c result → Acts a c result

@@ -1,8 +1,8 @@
 -- What a call of the store does to the disk, whatever it answers (docs/DISK.md).
-use Rattle.std.specs.Prelude.{◌≡◌, ◌⊎◌, ℕ, ◌≤◌, true, false, Result, Ok, Err, is_some, OnOk, IsErrOf}
+use Rattle.std.specs.Prelude.{◌≡◌, ◌⊎◌, ℕ, ◌<◌, ◌≤◌, true, false, Result, Ok, Err, is_some, OnOk, IsErrOf}
 use Rattle.load_base.specs.Counts.{Rose}
 use Rattle.disk_model.specs.Image.{Image}
-use Rattle.disk_model.specs.State.{DiskState}
+use Rattle.disk_model.specs.State.{DiskState, KeepsPower}
 use Rattle.disk_layout.specs.Looks.{HasDiskCause}
 use Rattle.bank_store.specs.declared.fault.StoreFault.{StoreFault}
 use Rattle.bank_store.specs.declared.fault.StoreFault.TheVariants.{DiskFailed, Memory}
@@ -15,6 +15,8 @@ pub record GoesOn (old new : DiskState) : Type 0 where
   pub refusals : old.refusals ≤ new.refusals
   pub later : old.clock ≤ new.clock
   pub keeps : (t u : ℕ) (image : Image) → old.between t u image → new.between t u image
+  pub earlier : (t u : ℕ) (image : Image) → u < old.clock → new.between t u image → old.between t u image
+  pub power : KeepsPower old new
 
 -- the disk failed, or refused for want of memory
 abbrev pub IsOfDisk : StoreFault → Type 0

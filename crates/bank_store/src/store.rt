@@ -105,6 +105,7 @@ impl Store {
         ensures given { OnOk result ((image : Image) → (K.state disk.new).reads ≡ Some image → HasGiven self.new image nothing_given) }
         ensures manifest { OnOk result (manifest_length self.new ≡ 2) }
         ensures settled { OnOk result (IsSettled (K.state disk.new)) }
+        ensures clock { OnOk result ((K.state disk.old).clock < (K.state disk.new).clock) }
     {
         if self.sequence == u32::MAX {
             return Err(StoreFault::SequenceSpent);
@@ -258,6 +259,7 @@ impl Store {
         ensures rest { IsAnswered result → LeavesRest self.old (K.state disk.old) (K.state disk.new) }
         ensures stands { IsAnswered result → StillStands self.old self.new (K.state disk.old) (K.state disk.new) }
         ensures settled { OnOk result (IsSettled (K.state disk.new)) }
+        ensures clock { OnOk result ((K.state disk.old).clock < (K.state disk.new).clock) }
         ensures ready { OnOk result ((image now : Image) (s : StandingView) (g : Given) → (K.state disk.old).reads ≡ Some image → (K.state disk.new).reads ≡ Some now
             → StandsFor self.old image s → HasGiven self.old image g → IsReady self.new now s g.loads) }
     {
@@ -339,6 +341,7 @@ impl Store {
             → StandsFor self.old image s → IsReady self.old image s loads
             → AddsOnly (K.state disk.old) (K.state disk.new) (λ left. Stands left s ⊎ Stands left (installed s loads)) }
         ensures settled { OnOk result (IsSettled (K.state disk.new)) }
+        ensures clock { OnOk result ((K.state disk.old).clock < (K.state disk.new).clock) }
         ensures rules { OnOk result (Works self.old (K.state disk.old) → (image : Image) (s : StandingView) (loads : List GivenLoad) → (K.state disk.old).reads ≡ Some image
             → StandsFor self.old image s → IsReady self.old image s loads
             → (left : Image) → (K.state disk.new).now left → Stands left (installed s loads)) }

@@ -96,9 +96,9 @@ until_last : (next : List Note) (last : Note) (images : Image → Type 0) (image
 until_last [] last images image none is = is
 until_last (next ∷ later) last images image none is = absurd (omega (arith, none))
 
-on_ok : {T : Type 0} (result : Result T DiskFault) (before now : ℕ) → Rose before now → OnOk result (Rose before now)
-on_ok (Ok x) before now rose = rose
-on_ok (Err e) before now rose = tt
+on_ok : {T : Type 0} (result : Result T DiskFault) (before now : ℕ) → before < now → OnOk result (before < now)
+on_ok (Ok x) before now later = later
+on_ok (Err e) before now later = tt
 
 module _ (first : List ℕ) (notes : List Note) (call : Call) (done : Bool) where
   abbrev noted : List Note
@@ -145,6 +145,7 @@ module _ (first : List ℕ) (notes : List Note) (call : Call) (done : Bool) wher
       → Elapses (recorded first notes held f r s) (recorded first noted held' f' r' s') (Torn (place_of call) (size_of call) (MayLeave first notes)) result
   noted_elapses held held' f f' r r' s s' result faults refusals = record {
     tells = refl;
+    power = record { steady = refl; armings = refl; armed = refl };
     faults = faults;
     refusals = refusals;
     later = omega (arith, one_more first notes call done);
@@ -240,7 +241,7 @@ module _ (first : List ℕ) (old new : List Note) (at : ℕ) (bytes : List ℕ) 
   }
 
   pub write_keeps : (held held' : List ℕ) (f f' r r' : ℕ) (s s' : Bool) → KeepsClosed (recorded first old held f r s) (recorded first new held' f' r' s')
-  write_keeps held held' f f' r r' s s' from n closed = record {
+  write_keeps held held' f f' r r' s s' is from n closed = record {
     each = λ before after may same. record {
       agrees = λ place out. elim (place_cases from n place) [
         | inl apart ↦ same place apart ∙ may.agrees place out

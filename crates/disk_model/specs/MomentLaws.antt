@@ -1,9 +1,8 @@
 -- What a power loss may leave, call after call.
 use Rattle.std.proofs.Common.{◌≡◌, inl, inr, ℕ, ◌+◌, ◌<◌, ◌≤◌, sym, ◌∙◌, subst, arith, Result, Ok, Err, OnOk}
 use Rattle.std.specs.Prelude.{◌⊎◌}
-use Rattle.load_base.specs.Counts.{Rose}
 use Rattle.disk_model.specs.Image.{Image, SameOutside, range, overlay}
-use Rattle.disk_model.specs.State.{DiskState, IsSettled, Closed, OnlyReads, Torn, Elapses}
+use Rattle.disk_model.specs.State.{DiskState, IsSettled, Closed, KeepsPower, OnlyReads, Torn, Elapses}
 use Rattle.disk_model.specs.Moments.{LeavesOnly}
 use Rattle.disk_model.specs.declared.disk.DiskFault.{DiskFault}
 use Rattle.disk_model.specs.OverlayLaws.{place_cases, laid_inside, laid_outside}
@@ -43,25 +42,31 @@ read_goes_on since P old new was reads = record {
 pub leaves_more : (since : ℕ) (P Q : Image → Type 0) (disk : DiskState) → ((image : Image) → P image → Q image) → LeavesOnly since P disk → LeavesOnly since Q disk
 leaves_more since P Q disk more was = record { each = λ u image may. more image (was.each u image may); here = λ image may. more image (was.here image may) }
 
+-- two calls change nothing of the power where neither does
+pub power_kept : (a b c : DiskState) → KeepsPower a b → KeepsPower b c → KeepsPower a c
+power_kept a b c first second = record {
+  steady = second.steady ∙ first.steady;
+  armings = second.armings ∙ first.armings;
+  armed = second.armed ∙ first.armed;
+}
+
 -- two runs of reads are one
 pub reads_joined : (a b c : DiskState) → OnlyReads a b → OnlyReads b c → OnlyReads a c
 reads_joined a b c first second = record {
   tells = second.tells ∙ first.tells;
+  power = power_kept a b c first.power second.power;
   faults = omega (arith, first.faults, second.faults);
   refusals = omega (arith, first.refusals, second.refusals);
   clock = second.clock ∙ first.clock;
   now = λ image may. first.now image (second.now image may);
   between = λ t u image may. first.between t u image (second.between t u image may);
   keeps = λ t u image may. second.keeps t u image (first.keeps t u image may);
-  closed = λ at n closed. second.closed at n (first.closed at n closed);
+  closed = λ is at n closed. second.closed (first.power.steady ∙ is) at n (first.closed is at n closed);
 }
 
-rose_later : (a b c : ℕ) → a ≤ b → Rose b c → Rose a c
-rose_later a b c earlier rose = omega (arith, earlier, rose)
-
-on_ok_later : {T : Type 0} (a b c : ℕ) (result : Result T DiskFault) → a ≤ b → OnOk result (Rose b c) → OnOk result (Rose a c)
-on_ok_later a b c (Ok x) earlier rose = rose_later a b c earlier rose
-on_ok_later a b c (Err e) earlier rose = tt
+on_ok_later : {T : Type 0} (a b c : ℕ) (result : Result T DiskFault) → a ≤ b → OnOk result (b < c) → OnOk result (a < c)
+on_ok_later a b c (Ok x) earlier later = omega (arith, earlier, later)
+on_ok_later a b c (Err e) earlier later = tt
 
 -- Two calls are one, where what a power loss inside the second may leave is what it may leave inside both. The first
 -- has gone on by itself.
@@ -69,6 +74,7 @@ pub elapses_joined : {S T : Type 0} (a b c : DiskState) (first second both : Ima
     → Elapses a b first one → Elapses b c second other → ((image : Image) → first image → both image) → ((image : Image) → second image → both image) → Elapses a c both other
 elapses_joined a b c first second both one other earlier later in_first in_second = record {
   tells = later.tells ∙ earlier.tells;
+  power = power_kept a b c earlier.power later.power;
   faults = omega (arith, earlier.faults, later.faults);
   refusals = omega (arith, earlier.refusals, later.refusals);
   later = omega (arith, earlier.later, later.later);
@@ -87,6 +93,7 @@ pub elapses_more : {T : Type 0} (old new : DiskState) (inside more : Image → T
     → Elapses old new inside result → ((image : Image) → inside image → more image) → Elapses old new more result
 elapses_more old new inside more result elapses within = record {
   tells = elapses.tells;
+  power = elapses.power;
   faults = elapses.faults;
   refusals = elapses.refusals;
   later = elapses.later;

@@ -1,5 +1,5 @@
 -- A disk by what it held at first and the record of its calls since (docs/DISK.md).
-use Rattle.std.specs.Prelude.{◌≡◌, ◌⊎◌, ℕ, ◌+◌, ◌<◌, ◌≤◌, Bool, List, [], ◌∷◌, ◌++◌, length, take, drop, fold, Some}
+use Rattle.std.specs.Prelude.{◌≡◌, ◌⊎◌, ℕ, ◌+◌, ◌<◌, ◌≤◌, Bool, true, List, [], ◌∷◌, ◌++◌, length, take, drop, fold, Some}
 use Rattle.disk_model.specs.Image.{Image, image_of}
 use Rattle.disk_model.specs.State.{DiskState, Torn}
 use Rattle.disk_model.specs.Note.{place_of, size_of, image_after, ranges_after}
@@ -49,6 +49,9 @@ recorded first notes held faults refusals stopped = record {
   faults = faults;
   refusals = refusals;
   stopped = stopped;
+  steady = true;
+  armings = 0;
+  armed = (0, 0);
 }
 
 -- a record has one note more, of these bytes

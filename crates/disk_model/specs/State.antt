@@ -1,5 +1,5 @@
 -- What contracts see of a disk (docs/DISK.md).
-use Rattle.std.specs.Prelude.{◌≡◌, ◌⊎◌, ℕ, ◌<◌, ◌≤◌, Bool, Option, Some, None, Result, is_err, is_some, IsErrOf, OnOk}
+use Rattle.std.specs.Prelude.{◌≡◌, ◌⊎◌, ℕ, ◌<◌, ◌≤◌, Bool, true, Option, Some, None, Result, is_err, is_some, IsErrOf, OnOk}
 use Rattle.load_base.specs.Counts.{Rose}
 use Rattle.disk_model.specs.Image.{Image, SameOutside}
 use Rattle.disk_model.specs.declared.disk.DiskFault.{DiskFault}
@@ -13,13 +13,18 @@ pub record DiskState : Type 1 where
   -- those that a power loss at a moment from one value of the clock to another might have left, where a moment
   -- inside a call has the clock from before the call
   pub between : ℕ → ℕ → Image → Type 0
-  -- a number that goes on at each write, sync and restart, and at no read
+  -- a number that advances at each write, sync and restart, and at no read
   pub clock : ℕ
   -- how often it has failed, and how often it refused for want of memory
   pub faults : ℕ
   pub refusals : ℕ
   -- it takes no call until the next restart
   pub stopped : Bool
+  -- a range that may hold anything after a power loss stays so until a sync that the caller asks for
+  pub steady : Bool
+  -- how often a power loss was armed, and the two numbers of the last arming
+  pub armings : ℕ
+  pub armed : ℕ × ℕ
 
 -- a power loss now leaves what a read gives
 pub record IsSettled (disk : DiskState) : Type 0 where
@@ -29,14 +34,21 @@ pub record IsSettled (disk : DiskState) : Type 0 where
 pub record Closed (disk : DiskState) (at n : ℕ) : Type 0 where
   pub each : (old new : Image) → disk.now old → SameOutside at n old new → disk.now new
 
--- places that may hold anything still may
+-- ranges of a steady disk that may hold anything still may
 abbrev pub KeepsClosed : DiskState → DiskState → Type 0
-KeepsClosed old new = (at n : ℕ) → Closed old at n → Closed new at n
+KeepsClosed old new = old.steady ≡ true → (at n : ℕ) → Closed old at n → Closed new at n
 
--- Nothing was written: the clock stands, no image came that wasn't there, and none that might have been left is
+-- what no call of a disk changes but an arming
+pub record KeepsPower (old new : DiskState) : Type 0 where
+  pub steady : new.steady ≡ old.steady
+  pub armings : new.armings ≡ old.armings
+  pub armed : new.armed ≡ old.armed
+
+-- Nothing was written: the clock doesn't advance, no image came that wasn't there, and none that might have been left is
 -- lost. No count falls, and the disk goes on telling its content, or not.
 pub record OnlyReads (old new : DiskState) : Type 0 where
   pub tells : is_some new.reads ≡ is_some old.reads
+  pub power : KeepsPower old new
   pub faults : old.faults ≤ new.faults
   pub refusals : old.refusals ≤ new.refusals
   pub clock : new.clock ≡ old.clock
@@ -56,10 +68,11 @@ pub record Torn (at n : ℕ) (images : Image → Type 0) (image : Image) : Type 
 -- falls, and the disk goes on telling its content, or not.
 pub record Elapses {T : Type 0} (old new : DiskState) (inside : Image → Type 0) (result : Result T DiskFault) : Type 0 where
   pub tells : is_some new.reads ≡ is_some old.reads
+  pub power : KeepsPower old new
   pub faults : old.faults ≤ new.faults
   pub refusals : old.refusals ≤ new.refusals
   pub later : old.clock ≤ new.clock
-  pub goes_on : OnOk result (Rose old.clock new.clock)
+  pub goes_on : OnOk result (old.clock < new.clock)
   pub now : (image : Image) → new.now image → inside image
   pub keeps : (t u : ℕ) (image : Image) → old.between t u image → new.between t u image
   pub adds : (t u : ℕ) (image : Image) → new.between t u image → old.between t u image ⊎ inside image
@@ -81,6 +94,9 @@ untold clock faults stopped = record {
   faults = faults;
   refusals = 0;
   stopped = stopped;
+  steady = true;
+  armings = 0;
+  armed = (0, 0);
 }
 
 pub untold_reads : (image : Image) → ◌≡◌ {A = Option Image} None (Some image) → ⊥

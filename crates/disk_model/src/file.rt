@@ -1,5 +1,5 @@
 //! A disk in a file. Nothing is told of what the file holds.
-ghost use Rattle.std.specs.Prelude.{◌≡◌, ◌≤◌, false, is_err, IsErrOf, OnErr};
+ghost use Rattle.std.specs.Prelude.{◌≡◌, ◌<◌, ◌≤◌, false, is_err, IsErrOf, OnOk, OnErr};
 ghost use Rattle.std.proofs.Common.{inl};
 ghost use Rattle.load_base.specs.Counts.{Rose};
 ghost use Rattle.disk_model.specs.State.{untold_reads};
@@ -7,7 +7,7 @@ ghost use Rattle.disk_model.specs.State.{untold_reads};
 use crate::disk::refuse;
 use crate::{Disk, DiskFault};
 use std::fs::{OpenFile, OpenOptions};
-use std::io::{self, Read, Seek, SeekFrom, Write};
+use std::io::{self, ErrorKind, Read, Seek, SeekFrom, Write};
 use std::rt::Files;
 
 /// A disk in a file. The file is opened at the first call, and made where it is missing; bytes past its
@@ -64,27 +64,37 @@ impl<R: Files> Disk for FileDisk<'_, R> {
     }
 
     fn write(&mut self, at: u32, bytes: &[u8]) -> Result<(), DiskFault> {
-        self.clock = self.clock.saturating_add(1);
-        let outcome = write_at(self.rt, self.name, &mut self.file, at, bytes);
+        let outcome = write_at(self.rt, self.name, &mut self.file, &mut self.clock, at, bytes);
         answer(outcome, &mut self.faults, &mut self.stopped)
     }
 
     fn sync(&mut self) -> Result<(), DiskFault> {
-        self.clock = self.clock.saturating_add(1);
-        let outcome = sync(self.rt, self.name, &mut self.file);
+        let outcome = sync(self.rt, self.name, &mut self.file, &mut self.clock);
         answer(outcome, &mut self.faults, &mut self.stopped)
     }
 
     fn restart(&mut self) -> Result<(), DiskFault> {
-        self.clock = self.clock.saturating_add(1);
-        let outcome = sync(self.rt, self.name, &mut self.file);
+        let outcome = sync(self.rt, self.name, &mut self.file, &mut self.clock);
         self.file = None;
         answer(outcome, &mut self.faults, &mut self.stopped)
     }
 }
 
+// Advances the clock. At the greatest `u64` it can't, and the call fails.
+fn advance(clock: &mut u64) -> io::Result<()>
+    ensures later { clock.old ≤ clock.new }
+    ensures advances { OnOk result (clock.old < clock.new) }
+{
+    let Some(next) = clock.checked_add(1) else {
+        return Err(io::Error::from(ErrorKind::Other));
+    };
+    *clock = next;
+    Ok(())
+}
+
 // An error of the system is a fault of the disk, and stops it.
 fn answer(outcome: io::Result<()>, faults: &mut u64, stopped: &mut bool) -> Result<(), DiskFault>
+    ensures answered { is_err result ≡ is_err outcome }
     ensures stops { stopped.new ≡ is_err result }
     ensures later { faults.old ≤ faults.new }
     ensures failed { OnErr result (Rose faults.old faults.new) }
@@ -103,13 +113,16 @@ fn answer(outcome: io::Result<()>, faults: &mut u64, stopped: &mut bool) -> Resu
 }
 
 // The file, opened where it isn't open. It is closed at an error, and otherwise put back.
+//
+// Where standard output is closed the system gives its descriptor to the next file that is opened, and output would
+// go into the disk. A clone's descriptor is 3 at least.
 fn take_file<R: Files>(rt: &R, name: &str, file: &mut Option<R::File>) -> io::Result<R::File> {
     match file.take() {
         Some(open) => Ok(open),
         None => {
             let mut how = OpenOptions::new();
             how.read(true).write(true).create(true);
-            rt.open_file(&how, name)
+            rt.open_file(&how, name)?.try_clone()
         }
     }
 }
@@ -132,9 +145,14 @@ fn write_at<R: Files>(
     rt: &R,
     name: &str,
     file: &mut Option<R::File>,
+    clock: &mut u64,
     at: u32,
     bytes: &[u8],
-) -> io::Result<()> {
+) -> io::Result<()>
+    ensures later { clock.old ≤ clock.new }
+    ensures advances { OnOk result (clock.old < clock.new) }
+{
+    advance(clock)?;
     let mut open = take_file(rt, name, file)?;
     open.seek(SeekFrom::Start(u64::from(at)))?;
     open.write_all(bytes)?;
@@ -142,7 +160,16 @@ fn write_at<R: Files>(
     Ok(())
 }
 
-fn sync<R: Files>(rt: &R, name: &str, file: &mut Option<R::File>) -> io::Result<()> {
+fn sync<R: Files>(
+    rt: &R,
+    name: &str,
+    file: &mut Option<R::File>,
+    clock: &mut u64,
+) -> io::Result<()>
+    ensures later { clock.old ≤ clock.new }
+    ensures advances { OnOk result (clock.old < clock.new) }
+{
+    advance(clock)?;
     let open = take_file(rt, name, file)?;
     open.sync_all()?;
     *file = Some(open);

@@ -18,13 +18,14 @@ pub not_yet : (disk : DiskState) → disk.stopped ≡ false → Looked disk disk
 not_yet disk running = record {
   only_reads = record {
     tells = refl;
+    power = record { steady = refl; armings = refl; armed = refl };
     faults = omega arith;
     refusals = omega arith;
     clock = refl;
     now = λ image may. may;
     between = λ t u image may. may;
     keeps = λ t u image may. may;
-    closed = λ at n closed. closed;
+    closed = λ is at n closed. closed;
   };
   runs = record { reads = refl; running = running };
 }
