@@ -5,7 +5,6 @@ use Rattle.std.specs.Bool.{OnTrue, OnFalse}
 use Rattle.std.proofs.lemmas.List.{take-append-le, drop-append-le, take_all}
 use Rattle.std.proofs.lemmas.List.Sums.{fold-append}
 use Rattle.std.proofs.lemmas.Bool.{cases_lt}
-use Rattle.load_base.specs.Counts.{Rose}
 use Rattle.disk_model.specs.Image.{Image, image_of, range, overlay}
 use Rattle.disk_model.specs.State.{IsSettled, Closed, KeepsClosed, Torn, Elapses}
 use Rattle.disk_model.specs.Note.{place_of, size_of, laid, opened, image_after, ranges_after}

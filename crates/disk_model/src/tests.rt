@@ -97,13 +97,11 @@ fn each_call_of_a_disk_in_memory_fails_in_turn(rt: HostRuntime) -> Result<(), Fa
 
 #[test]
 fn a_torn_range_is_zeros(rt: HostRuntime) -> Result<(), Fail> {
-    let disk = MemDisk::new(rt.alloc(), &[1, 2, 3, 4, 5])?;
-    let mut disk = Tearing::new(disk);
+    let mut disk = Tearing::new(MemDisk::new(rt.alloc(), &[1, 2, 3, 4, 5])?);
+    disk.write(3, &[9])?;
     disk.write(1, &[7, 8])?;
-    disk.tear()?;
-    let mut disk = disk.into_inner();
     disk.restart()?;
-    assert_eq!(rt; front(&mut disk)?, [1, 0, 0, 4, 5, 0, 0, 0]);
+    assert_eq!(rt; front(&mut disk)?, [1, 0, 0, 9, 5, 0, 0, 0]);
     Ok(())
 }
 
