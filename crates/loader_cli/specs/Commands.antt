@@ -1,4 +1,4 @@
--- The forms of words that the program knows (README.md).
+-- The commands (README.md).
 use Rattle.std.specs.Prelude.{◌≡◌, ℕ, ◌≤◌, List, [], ◌∷◌, length, codes, map, All, String, string_bytes}
 use Rattle.std.specs.declared.alloc.Global.{Global}
 use Rattle.std.specs.Fmt.{decimal}
@@ -9,24 +9,24 @@ use Rattle.shown_files.specs.declared.kind.FileKind.{FileKind}
 use Rattle.loader_cli.specs.declared.command.Command.{Command}
 use Rattle.loader_cli.specs.declared.command.Command.TheVariants as commands
 
--- the bytes of each word
+-- the bytes of each argument
 abbrev pub texts_of : List (String Global) → List (List ℕ)
 texts_of words = map string_bytes words
 
--- what the words can ask for
-pub data Form : Type 0 where
+-- what arguments can ask for
+pub data CommandView : Type 0 where
   -- `list`
-  list : Form
+  list : CommandView
   -- `format HW POS SERIAL BANK`, for this target
-  format : (id : Identity) → Form
+  format : (id : Identity) → CommandView
   -- `show FILE`, for a file of this kind
-  show : (kind : FileKind) (file : List ℕ) → Form
+  show : (kind : FileKind) (file : List ℕ) → CommandView
 
 -- 1 to 150 bytes 0x21 to 0x7E
 abbrev pub IsWord : List ℕ → Type 0
 IsWord word = (1 ≤ length word) × (length word ≤ 150) × All (λ b. (0x21 ≤ b) × (b ≤ 0x7E)) word
 
--- these words name this target, the bytes of a bank in decimal digits
+-- these arguments name this target, the bank size in decimal digits
 pub record NamesTarget (hw pos serial bank : List ℕ) (id : Identity) : Type 0 where
   pub hw_is : hw ≡ id.hw
   pub pos_is : pos ≡ id.pos
@@ -34,13 +34,38 @@ pub record NamesTarget (hw pos serial bank : List ℕ) (id : Identity) : Type 0 
   pub bank_is : bank ≡ decimal id.bank
   pub fits : IsIdentity id
 
--- the words ask for this
-abbrev pub IsForm : List (List ℕ) → Form → Type 0
-IsForm words list = words ≡ codes "list" ∷ []
-IsForm words (format id) = (words ≡ codes "format" ∷ id.hw ∷ id.pos ∷ id.serial ∷ decimal id.bank ∷ []) × IsIdentity id
-IsForm words (show kind file) = (words ≡ codes "show" ∷ file ∷ []) × IsWord file × IsNameOf kind file
+-- the arguments are this command
+abbrev pub IsCommand : List (List ℕ) → CommandView → Type 0
+IsCommand words list = words ≡ codes "list" ∷ []
+IsCommand words (format id) = (words ≡ codes "format" ∷ id.hw ∷ id.pos ∷ id.serial ∷ decimal id.bank ∷ []) × IsIdentity id
+IsCommand words (show kind file) = (words ≡ codes "show" ∷ file ∷ []) × IsWord file × IsNameOf kind file
 
-abbrev pub form_of : Command → Form
-form_of commands.List = list
-form_of (commands.Format identity) = format identity
-form_of (commands.Show kind file) = show kind file.now
+-- the arguments are no command of this sort
+abbrev pub IsNo : (CommandView → Type 0) → List (List ℕ) → Type 0
+IsNo Sort words = (command : CommandView) → IsCommand words command → ¬ Sort command
+
+abbrev pub IsAny : CommandView → Type 0
+IsAny command = Unit {0}
+
+-- it makes calls of the disk
+abbrev pub UsesDisk : CommandView → Type 0
+UsesDisk list = Unit {0}
+UsesDisk (format id) = Unit {0}
+UsesDisk (show kind file) = ⊥
+
+-- it writes to the disk
+abbrev pub WritesDisk : CommandView → Type 0
+WritesDisk list = ⊥
+WritesDisk (format id) = Unit {0}
+WritesDisk (show kind file) = ⊥
+
+-- it reads files of the host
+abbrev pub UsesHost : CommandView → Type 0
+UsesHost list = ⊥
+UsesHost (format id) = ⊥
+UsesHost (show kind file) = Unit {0}
+
+abbrev pub command_view : Command → CommandView
+command_view commands.List = list
+command_view (commands.Format identity) = format identity
+command_view (commands.Show kind file) = show kind file.now

@@ -13,9 +13,11 @@ use Rattle.disk_layout.specs.Places.{IsBankSize}
 use Rattle.disk_layout.specs.Looks.{IsOfDisk, RunsOn}
 use Rattle.disk_layout.specs.Stands.{StandingView, Stands, StandsNot}
 use Rattle.disk_layout.specs.declared.fault.RecoverFault.{RecoverFault}
-use Rattle.loader_cli.specs.Words.{Form, IsForm}
-use Rattle.loader_cli.specs.Words.Form.{list, format, show}
-use Rattle.loader_cli.specs.Texts.{listing, formatted_line, refused_words, refused_input, disk_fault, host_fault, no_configuration}
+use Rattle.listing.specs.Listing.{listing}
+use Rattle.loader_cli.specs.Commands.{CommandView, IsCommand, IsNo, IsAny}
+use Rattle.loader_cli.specs.Commands.CommandView.{list, format, show}
+use Rattle.loader_cli.specs.Texts.{formatted_line, refused_words, refused_input, disk_fault, host_fault, no_configuration}
+use Rattle.loader_cli.specs.declared.top_call.Ended.{Ended}
 
 -- ---- `list`
 
@@ -75,37 +77,38 @@ pub data Shows (kind : FileKind) (files : Option Files) (before after : ℕ) (na
 
 -- ---- a run
 
--- the status and the text of a run whose output goes through
-pub data Says (words : List (List ℕ)) (old new : DiskState) (files : Option Files) (before after : ℕ) (status : ℕ) (text : List ℕ) : Type 0 where
-  -- 2: the words have none of the forms
-  refused : ((form : Form) → ¬ IsForm words form) → status ≡ 2 → text ≡ refused_words → Says words old new files before after status text
-  lists : IsForm words list → Lists old new status text → Says words old new files before after status text
-  formats : (id : Identity) → IsForm words (format id) → Formats old new id status text → Says words old new files before after status text
-  shows : (kind : FileKind) (file : List ℕ) → IsForm words (show kind file) → Shows kind files before after file status text → Says words old new files before after status text
-
--- What a run is given and what it leaves: its words, the disk, the host's files and faults, and the sink's output
--- and faults.
-pub record Run : Type 1 where
+-- What a command works on: its arguments, the disk before and after, and the host's files and faults.
+pub record Work : Type 1 where
   pub words : List (List ℕ)
   pub disk : DiskState
   pub disk_after : DiskState
   pub files : Option Files
   pub host_faults : ℕ
   pub host_faults_after : ℕ
+
+-- What a run is given and what it leaves: the command's work, and the sink's output and faults before and after.
+pub record Run : Type 1 where
+  pub work : Work
   pub output : Option (List ℕ)
   pub output_after : Option (List ℕ)
   pub sink_faults : ℕ
   pub sink_faults_after : ℕ
 
-abbrev pub SaysIn : Run → (status : ℕ) → (text : List ℕ) → Type 0
-SaysIn run status text = Says run.words run.disk run.disk_after run.files run.host_faults run.host_faults_after status text
+-- the status and the text of a run whose output goes through
+pub data Says (work : Work) (status : ℕ) (text : List ℕ) : Type 0 where
+  -- 2: the arguments are no command
+  refused : IsNo IsAny work.words → status ≡ 2 → text ≡ refused_words → Says work status text
+  lists : IsCommand work.words list → Lists work.disk work.disk_after status text → Says work status text
+  formats : (id : Identity) → IsCommand work.words (format id) → Formats work.disk work.disk_after id status text → Says work status text
+  shows : (kind : FileKind) (file : List ℕ) → IsCommand work.words (show kind file)
+      → Shows kind work.files work.host_faults work.host_faults_after file status text → Says work status text
 
--- how a run ends with a status
-pub data Ends (run : Run) (status : ℕ) : Type 0 where
+-- how a run ends
+pub data Ends (run : Run) (ended : Ended) : Type 0 where
   -- exactly the text goes out
-  told : (text : List ℕ) → SaysIn run status text → GoesOn run.output run.output_after text → Ends run status
-  -- 7: the sink failed in this call, and a front of the text went out
-  sink_failed : (said : ℕ) (text : List ℕ) (n : ℕ) → SaysIn run said text → GoesOn run.output run.output_after (take n text)
-      → Rose run.sink_faults run.sink_faults_after → status ≡ 7 → Ends run status
-  -- 6: memory was wanting
-  no_memory : status ≡ 6 → Ends run status
+  told : (text : List ℕ) → Says run.work ended.status text → GoesOn run.output run.output_after text → Ends run ended
+  -- 7: the sink failed in this call, and a prefix of the text went out
+  sink_failed : (status : ℕ) (text : List ℕ) (n : ℕ) → Says run.work status text → GoesOn run.output run.output_after (take n text)
+      → Rose run.sink_faults run.sink_faults_after → ended.status ≡ 7 → Ends run ended
+  -- 6: out of memory
+  no_memory : ended.status ≡ 6 → Ends run ended

@@ -1,11 +1,11 @@
-//! The forms of words that the program knows.
+//! The commands.
 ghost use Rattle.std.specs.Prelude.{◌≡◌, ◌≢◌, ◌↔◌, ◌<◌, ◌^◌, ℕ, IsTrue, IfSome, IfNone};
 ghost use Rattle.std.specs.Fmt.{decimal};
 ghost use Rattle.disk_layout.specs.Places.{IsBankSize};
 ghost use Rattle.disk_layout.specs.declared.identity.Identity.{Identity};
 ghost use Rattle.shown_files.specs.Kinds.{IsNameOf};
-ghost use Rattle.loader_cli.specs.Words.Form.{show};
-ghost use Rattle.loader_cli.specs.Words.{Form, IsForm, IsWord, NamesTarget, form_of, texts_of};
+ghost use Rattle.loader_cli.specs.Commands.CommandView.{show};
+ghost use Rattle.loader_cli.specs.Commands.{IsAny, IsCommand, IsNo, IsWord, NamesTarget, command_view, texts_of};
 
 use disk_layout::Identity;
 use disk_layout::places::{LARGEST_BANK, SMALLEST_BANK};
@@ -13,22 +13,22 @@ use itoa::Buffer;
 use load_base::Ident;
 use shown_files::FileKind;
 
-/// What the words after the program's name ask for.
+/// What the program's arguments ask for.
 #[derive(Clone, Copy)]
 pub(crate) enum Command<'w> {
-    /// `list`: recover the disk and print what it stands for.
+    /// `list`: recover the disk and print the configuration that it holds.
     List,
-    /// `format HW POS SERIAL BANK`: make the disk that of this target.
+    /// `format HW POS SERIAL BANK`: initialise the disk for this target, with no loads.
     Format(Identity),
     /// `show FILE`: print the fields of a file of this kind, which the end of FILE tells.
     Show { kind: FileKind, file: &'w str },
 }
 
 impl<'w> Command<'w> {
-    /// The command of this form; `None` where the words have none of the forms.
+    /// The command; `None` where the arguments are none.
     pub(crate) fn read(words: &'w [String]) -> Option<Command<'w>>
-        ensures some { IfSome result (λ command. IsForm (texts_of words.now) (form_of command)) }
-        ensures none { IfNone result ((form : Form) → ¬ IsForm (texts_of words.now) form) }
+        ensures some { IfSome result (λ command. IsCommand (texts_of words.now) (command_view command)) }
+        ensures none { IfNone result (IsNo IsAny (texts_of words.now)) }
     {
         match words {
             [word] if is_text(word.as_str(), "list") => Some(Command::List),
@@ -46,7 +46,7 @@ impl<'w> Command<'w> {
 
 // The command `show` for a file of this name.
 fn show_of(file: &str) -> Option<Command<'_>>
-    ensures some { IfSome result (λ command. (kind : FileKind) × (form_of command ≡ show kind file.now) × IsWord file.now × IsNameOf kind file.now) }
+    ensures some { IfSome result (λ command. (kind : FileKind) × (command_view command ≡ show kind file.now) × IsWord file.now × IsNameOf kind file.now) }
     ensures none { IfNone result ((kind : FileKind) → ¬ (IsWord file.now × IsNameOf kind file.now)) }
 {
     if !is_word(file.as_bytes()) {
@@ -56,7 +56,7 @@ fn show_of(file: &str) -> Option<Command<'_>>
     Some(Command::Show { kind, file })
 }
 
-// The target that these words name.
+// The target that these arguments name.
 fn target(hw: &str, pos: &str, serial: &str, bank: &str) -> Option<Identity>
     ensures some { IfSome result (λ id. NamesTarget hw.now pos.now serial.now bank.now id) }
     ensures none { IfNone result ((id : Identity) → ¬ NamesTarget hw.now pos.now serial.now bank.now id) }

@@ -1,15 +1,18 @@
-//! The top call: what the program does on its words, what it prints, and with which status it ends.
+//! The top call: what the program does on its arguments, what it prints, and the status with which it ends.
+//!
+//! Start from [`run`]. The commands and statuses are those of README.md, the printed texts those of docs/FORMATS.md.
 #![tactic(auto)]
 
+mod answer;
 mod command;
-mod ended;
 mod show;
 mod text;
+mod top_call;
 
 pub use bank_store;
-pub use ended::{Ended, run};
+pub use listing::listing_text;
 pub use recovery;
-pub use text::listing_text;
+pub use top_call::{Ended, run};
 
 #[cfg(test)]
 mod tests;

@@ -1,0 +1,115 @@
+//! The listing of a target: its identity, its active bank, and its loads with their files, as lines of text.
+//!
+//! Start from [`listing_text`]. The lines are those of docs/FORMATS.md, "Printed text".
+#![tactic(auto)]
+
+ghost use Rattle.std.specs.Prelude.{◌≡◌, ◌++◌, map, OnOk, IfOk};
+ghost use Rattle.std.specs.List.{flat_map};
+ghost use Rattle.load_base.specs.Config.{file_view, load_view};
+ghost use Rattle.disk_layout.specs.Stands.{standing_view};
+ghost use Rattle.listing.specs.Listing.{file_line, load_line, load_lines, target_line, bank_line, loads_line, listing};
+
+use crc_fields::crc16;
+use disk_layout::{Identity, Standing};
+use load_base::{Bytes, Load, NoMemory, StoredFile};
+use shown_files::lines::{put_hex_16, put_number};
+use std::alloc::Global;
+
+/// The listing of a configuration, in lines that end with a line feed: the target, its active bank with the sequence
+/// number, how many loads there are, and each load with its files, of which each has its length in bytes and its
+/// CRC-16.
+pub fn listing_text(alloc: Global, standing: &Standing) -> Result<Bytes, NoMemory>
+    ensures { IfOk result (λ text. text.items ≡ listing (standing_view standing.now)) }
+{
+    let mut out = Bytes::new(alloc);
+    put_target(&mut out, &standing.identity)?;
+    put_bank(alloc, &mut out, standing.bank, standing.sequence)?;
+    put_count(alloc, &mut out, standing.config.loads.len())?;
+    put_loads(alloc, &mut out, standing.config.loads.as_slice())?;
+    Ok(out)
+}
+
+fn put_target(out: &mut Bytes, identity: &Identity) -> Result<(), NoMemory>
+    ensures { OnOk result (out.new.items ≡ out.old.items ++ target_line identity.now) }
+{
+    out.extend(b"target ")?;
+    out.extend(identity.hw.as_slice())?;
+    out.extend(b" ")?;
+    out.extend(identity.pos.as_slice())?;
+    out.extend(b" ")?;
+    out.extend(identity.serial.as_slice())?;
+    out.extend(b"\n")
+}
+
+fn put_bank(alloc: Global, out: &mut Bytes, bank: u8, sequence: u32) -> Result<(), NoMemory>
+    ensures { OnOk result (out.new.items ≡ out.old.items ++ bank_line bank sequence) }
+{
+    out.extend(b"bank ")?;
+    put_number(alloc, out, u64::from(bank))?;
+    out.extend(b" sequence ")?;
+    put_number(alloc, out, u64::from(sequence))?;
+    out.extend(b"\n")
+}
+
+fn put_count(alloc: Global, out: &mut Bytes, loads: usize) -> Result<(), NoMemory>
+    ensures { OnOk result (out.new.items ≡ out.old.items ++ loads_line loads) }
+{
+    out.extend(b"loads ")?;
+    put_number(alloc, out, loads as u64)?;
+    out.extend(b"\n")
+}
+
+fn put_loads(alloc: Global, out: &mut Bytes, loads: &[Load]) -> Result<(), NoMemory>
+    ensures { OnOk result (out.new.items ≡ out.old.items ++ flat_map load_lines (map load_view loads.now)) }
+{
+    for load in loads {
+        put_load(alloc, out, load)?;
+    }
+    Ok(())
+}
+
+#[tactic(auto, unfolding(crate::specs::Listing::load_lines))]
+fn put_load(alloc: Global, out: &mut Bytes, load: &Load) -> Result<(), NoMemory>
+    ensures { OnOk result (out.new.items ≡ out.old.items ++ load_lines (load_view load.now)) }
+{
+    put_load_line(alloc, out, load)?;
+    put_files(alloc, out, load.files.as_slice())
+}
+
+#[tactic(auto, unfolding(crate::specs::Listing::load_line))]
+fn put_load_line(alloc: Global, out: &mut Bytes, load: &Load) -> Result<(), NoMemory>
+    ensures { OnOk result (out.new.items ≡ out.old.items ++ load_line (load_view load.now)) }
+{
+    out.extend(b"load ")?;
+    out.extend(load.part.as_slice())?;
+    out.extend(b" ")?;
+    out.extend(load.header_name.as_slice())?;
+    out.extend(b" ")?;
+    put_number(alloc, out, load.files.len() as u64)?;
+    out.extend(b"\n")
+}
+
+fn put_files(alloc: Global, out: &mut Bytes, files: &[StoredFile]) -> Result<(), NoMemory>
+    ensures { OnOk result (out.new.items ≡ out.old.items ++ flat_map file_line (map file_view files.now)) }
+{
+    for file in files {
+        put_file(alloc, out, file)?;
+    }
+    Ok(())
+}
+
+#[tactic(auto, unfolding(crate::specs::Listing::file_line))]
+fn put_file(alloc: Global, out: &mut Bytes, file: &StoredFile) -> Result<(), NoMemory>
+    ensures { OnOk result (out.new.items ≡ out.old.items ++ file_line (file_view file.now)) }
+{
+    out.extend(b"file ")?;
+    out.extend(file.name.as_slice())?;
+    out.extend(b" ")?;
+    put_number(alloc, out, file.bytes.len() as u64)?;
+    out.extend(b" ")?;
+    put_hex_16(out, crc16(file.bytes.as_slice()))?;
+    out.extend(b"\n")
+}
+
+#[cfg(test)]
+mod tests;

@@ -1,0 +1,52 @@
+//! What a run answers, with its status and its text.
+ghost use Rattle.std.specs.Prelude.{◌≡◌, IfOk};
+ghost use Rattle.loader_cli.specs.Answers.{status_of, text_of};
+
+use crate::text::{copy_of, no_configuration_text, refused_text};
+use load_base::{Bytes, NoMemory};
+use recovery::RecoverFault;
+use std::alloc::Global;
+
+/// What a run answers where its output goes through.
+#[derive(Drop)]
+pub(crate) enum Answer<'w> {
+    /// What was asked for, as it is printed.
+    Done(Bytes),
+    /// The arguments are no command.
+    RefusedWords,
+    /// The file of this name is refused for this fault.
+    RefusedInput { name: &'w [u8], fault: Bytes },
+    HostFault,
+    DiskFault,
+    /// The disk holds no configuration.
+    NoConfiguration(RecoverFault),
+}
+
+impl Answer<'_> {
+    pub(crate) fn status(&self) -> u8
+        ensures { result ≡ status_of self.now }
+    {
+        match self {
+            Answer::Done(_) => 0,
+            Answer::RefusedWords => 2,
+            Answer::RefusedInput { .. } => 3,
+            Answer::HostFault => 4,
+            Answer::DiskFault => 5,
+            Answer::NoConfiguration(_) => 8,
+        }
+    }
+
+    /// The text that is printed.
+    pub(crate) fn into_text(self, alloc: Global) -> Result<Bytes, NoMemory>
+        ensures { IfOk result (λ text. text.items ≡ text_of self.entry) }
+    {
+        match self {
+            Answer::Done(text) => Ok(text),
+            Answer::RefusedWords => copy_of(alloc, b"refused words\n"),
+            Answer::RefusedInput { name, fault } => refused_text(alloc, name, fault.as_slice()),
+            Answer::HostFault => copy_of(alloc, b"host fault\n"),
+            Answer::DiskFault => copy_of(alloc, b"disk fault\n"),
+            Answer::NoConfiguration(fault) => no_configuration_text(alloc, fault),
+        }
+    }
+}
