@@ -64,7 +64,14 @@ impl<R: Files> Disk for FileDisk<'_, R> {
     }
 
     fn write(&mut self, at: u32, bytes: &[u8]) -> Result<(), DiskFault> {
-        let outcome = write_at(self.rt, self.name, &mut self.file, &mut self.clock, at, bytes);
+        let outcome = write_at(
+            self.rt,
+            self.name,
+            &mut self.file,
+            &mut self.clock,
+            at,
+            bytes,
+        );
         answer(outcome, &mut self.faults, &mut self.stopped)
     }
 
@@ -160,12 +167,7 @@ fn write_at<R: Files>(
     Ok(())
 }
 
-fn sync<R: Files>(
-    rt: &R,
-    name: &str,
-    file: &mut Option<R::File>,
-    clock: &mut u64,
-) -> io::Result<()>
+fn sync<R: Files>(rt: &R, name: &str, file: &mut Option<R::File>, clock: &mut u64) -> io::Result<()>
     ensures later { clock.old ≤ clock.new }
     ensures advances { OnOk result (clock.old < clock.new) }
 {
