@@ -7,3 +7,4 @@ pub mod Sizes
 pub mod Spelled
 pub mod Limits
 pub mod Writes
+pub mod Changed

@@ -1,14 +1,15 @@
 -- The limits of a header.
-use Rattle.std.proofs.Common.{◌≡◌, ℕ, zero, suc, ◌+◌, ◌%◌, ◌<◌, ◌≤◌, List, [], ◌∷◌, ◌++◌, length, take, get_or, Bool, true, false, refl, sym, ap, ◌∙◌, arith, ◌&&◌, ◌==◌, leb, ltb}
+use Rattle.std.proofs.Common.{◌≡◌, ℕ, zero, suc, ◌+◌, ◌%◌, ◌<◌, ◌≤◌, ◌^◌, List, [], ◌∷◌, ◌++◌, length, take, get_or, Bool, true, false, refl, sym, ap, ◌∙◌, arith, ◌&&◌, ◌==◌, leb, ltb}
 use Rattle.std.specs.Prelude.{map}
-use Rattle.std.specs.List.{flat_map, list_all}
-use Rattle.std.proofs.lemmas.Bool.{leb-true, ltb-true, lt-leb, eqb-true}
+use Rattle.std.specs.List.{flat_map, list_all, AllByRecursion}
+use Rattle.std.proofs.lemmas.Bool.{leb-true, ltb-true, lt-leb, lt-ltb, le-leb, eqb-true, eq-eqb, and_from}
 use Rattle.std.proofs.lemmas.List.{append-nil, take_more, take_all, length-map}
 use Rattle.std.proofs.lemmas.List.Concat.{flat_map-append, flat_map-cons}
 use Rattle.field_grammar.specs.Spelling.{size_of, listed_fields}
 use Rattle.field_grammar.specs.Fields.{number_fields, padded_fields}
 use Rattle.load_header.specs.Header.{HeaderView, hardware_view, header_view, distance_of}
-use Rattle.load_header.specs.HeaderFields.{texts_fields, hardware_at_fields, positions_fields, file_body_fields, entry_fields, entry_fields_behind, files_fields, type_fields, check_place, header_size, few_positions, has_size, few_members, few_files, short_enough, fits, kind_fields, pointers_by, pointers_of, AreSizes}
+use Rattle.load_header.specs.HeaderFields.{texts_fields, hardware_at_fields, positions_fields, file_body_fields, entry_fields, entry_fields_behind, files_fields, type_fields, check_place, header_size, pointers_of, IsHardwareAt, IsFile, IsHeader}
+use Rattle.load_header.specs.Encoding.{few_positions, has_size, few_members, few_files, short_enough, kind_fields, pointers_by, AreSizes, IsKind, HasParts}
 use Rattle.load_header.specs.declared.header.FileEntry.{FileEntry}
 use Rattle.load_header.specs.declared.header.HardwareAt.{HardwareAt}
 use Rattle.load_header.specs.declared.header.LoadHeader.{LoadHeader}
@@ -81,6 +82,10 @@ kinds_viewed [] = refl
 kinds_viewed (h ∷ list) =
     flat_map-cons kind_fields h list ∙ (ap (λ (l : List (List ℕ)). kind_fields h ++ l) (kinds_viewed list) ∙ sym (flat_map-cons hardware_at_fields (hardware_view h) (map hardware_view list)))
 
+pub kinds_all : (list : List HardwareAt) → AllByRecursion IsKind list → AllByRecursion IsHardwareAt (map hardware_view list)
+kinds_all [] all = tt
+kinds_all (h ∷ list) all = (all.0, kinds_all list all.1)
+
 -- an entry whose distance is 0: it has the length of any other
 abbrev pub plain_entry : FileEntry → List (List ℕ)
 plain_entry f = number_fields 2 0 ++ file_body_fields f
@@ -120,7 +125,7 @@ few_at (h ∷ list) (suc i) d lt all = few_at list i d (omega (arith, lt)) (both
 pub size_entry : (f : FileEntry) → 2 + size_of (file_body_fields f) ≡ 2 + (2 + length f.name + length f.name % 2) + (2 + length f.part + length f.part % 2) + 14
 size_entry f = omega (arith, size_body f)
 
-size_plain : (f : FileEntry) → size_of (plain_entry f) ≡ 2 + size_of (file_body_fields f)
+pub size_plain : (f : FileEntry) → size_of (plain_entry f) ≡ 2 + size_of (file_body_fields f)
 size_plain f = size_more (number_fields 2 0) (file_body_fields f) ∙ ap (λ (n : ℕ). n + size_of (file_body_fields f)) (size_number 2 0)
 
 size_listed : (n : ℕ) (so_far xs : List FileEntry) → size_of (listed_fields (entry_fields_behind n) so_far xs) ≡ size_of (flat_map plain_entry xs)
@@ -145,28 +150,56 @@ all_entries files i le =
     let entries : List (List ℕ) = listed_fields (entry_fields_behind (length files)) [] files in
     rw whole (omega (arith, size_more (number_fields 2 (length files)) entries, size_number 2 (length files), size_listed (length files) [] files))
 
--- ---- what it means to fit
+-- ---- what a header that has a spelling passes
 
-pub fits_members : (h : HeaderView) → fits h ≡ true → few_members h ≡ true
-unfolding fits
-fits_members h is = (both (few_members h) (few_files h && short_enough h) is).0
+all_pass : {A : Type 0} (test : A → Bool) (P : A → Type 0) → ((x : A) → P x → test x ≡ true) → (xs : List A) → AllByRecursion P xs → list_all test xs ≡ true
+all_pass test P tells [] all = refl
+all_pass test P tells (x ∷ xs) all = and_from (test x) (list_all test xs) (tells x all.0) (all_pass test P tells xs all.1)
 
-pub fits_files : (h : HeaderView) → fits h ≡ true → few_files h ≡ true
-unfolding fits
-fits_files h is = (both (few_files h) (short_enough h) (both (few_members h) (few_files h && short_enough h) is).1).0
+pub header_members : (h : HeaderView) → IsHeader h → few_members h ≡ true
+unfolding few_members
+header_members h is =
+    let each : list_all few_positions h.positions ≡ true = all_pass few_positions IsHardwareAt (λ kind are. lt-ltb (length kind.positions) 65536 (omega (arith, are.1.0))) h.positions is.positions in
+    and_from (ltb (length h.hardware) 65536) (ltb (length h.positions) 65536 && list_all few_positions h.positions) (lt-ltb (length h.hardware) 65536 (omega (arith, is.hardware.0)))
+    (and_from (ltb (length h.positions) 65536) (list_all few_positions h.positions) (lt-ltb (length h.positions) 65536 (omega (arith, is.positions_count))) each)
 
-pub fits_short : (h : HeaderView) → fits h ≡ true → (length h.user % 2 ≡ 0) × (header_size h ≤ 65536)
-unfolding fits short_enough
-fits_short h is =
-    let short = (both (few_files h) (short_enough h) (both (few_members h) (few_files h && short_enough h) is).1).1 in
-    let two = both (length h.user % 2 == 0) (leb (header_size h) 65536) short in
-    (eqb-true (length h.user % 2) 0 two.0, leb-true (header_size h) 65536 two.1)
+pub header_files : (h : HeaderView) → IsHeader h → few_files h ≡ true
+unfolding few_files
+header_files h is =
+    let sized : (file : FileEntry) → IsFile file → has_size file ≡ true = λ file fits. le-leb file.length 16777215 fits.size in
+    and_from (leb (length h.data_files + length h.support_files) 255) (list_all has_size h.data_files && list_all has_size h.support_files) (le-leb (length h.data_files + length h.support_files) 255 is.files)
+    (and_from (list_all has_size h.data_files) (list_all has_size h.support_files) (all_pass has_size IsFile sized h.data_files is.data_files) (all_pass has_size IsFile sized h.support_files is.support_files))
 
-pub fits_user : (h : HeaderView) → fits h ≡ true → length h.user ≤ 65536
+pub header_short : (h : HeaderView) → IsHeader h → short_enough h ≡ true
+unfolding short_enough
+header_short h is = and_from (length h.user % 2 == 0) (leb (header_size h) 65536) (eq-eqb (length h.user % 2) 0 is.user_even) (le-leb (header_size h) 65536 is.size)
+
+pub header_user : (h : HeaderView) → IsHeader h → length h.user ≤ 65536
 unfolding header_size
-fits_user h is =
-    let size : check_place h + 8 ≤ 65536 = (fits_short h is).1 in
+header_user h is =
+    let size : check_place h + 8 ≤ 65536 = is.size in
     omega (arith, size, size_user h.user)
+
+-- a header that passes the tests, whose parts are such
+pub is_header : (h : HeaderView) → few_members h ≡ true → few_files h ≡ true → short_enough h ≡ true → HasParts h → h.flags < 2 ^ 16 → h.load_crc < 2 ^ 32 → IsHeader h
+unfolding short_enough
+is_header h members files short has flags load =
+    let two = both (length h.user % 2 == 0) (leb (header_size h) 65536) short in record {
+      flags = flags;
+      part = has.part;
+      type_name = has.type_name;
+      type_id = has.type_id;
+      hardware = has.hardware;
+      positions_count = omega (arith, few_kinds h members);
+      positions = has.positions;
+      data_files = has.data_files;
+      support_files = has.support_files;
+      files = few_together h files;
+      user = has.user;
+      user_even = eqb-true (length h.user % 2) 0 two.0;
+      load_crc = load;
+      size = leb-true (header_size h) 65536 two.1;
+    }
 
 pub sized_files : (h : HeaderView) → few_files h ≡ true → (list_all has_size h.data_files ≡ true) × (list_all has_size h.support_files ≡ true)
 unfolding few_files

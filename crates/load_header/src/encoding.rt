@@ -1,12 +1,10 @@
 //! The encoder of a load header.
-ghost use Rattle.std.specs.Prelude.{◌≡◌, ◌+◌, ◌++◌, ◌/◌, ◌<◌, ◌≤◌, ◌^◌, length, true, IfOk, OnOk};
+ghost use Rattle.std.specs.Prelude.{◌≡◌, ◌+◌, ◌++◌, ◌/◌, ◌<◌, ◌≤◌, length, IfOk, OnOk};
 ghost use Rattle.std.specs.List.{concat};
-ghost use Rattle.load_base.specs.Text.{IsText};
-ghost use Rattle.part_number.specs.PartNumber.{IsPartNumberText};
-ghost use Rattle.field_grammar.specs.Grammar.{IsBytes};
 ghost use Rattle.field_grammar.specs.Fields.{number_bytes};
 ghost use Rattle.load_header.specs.Header.{header_view};
-ghost use Rattle.load_header.specs.HeaderFields.{user_fields, pointers_fields, head_fields, identity_fields, sections_fields, covered_fields, pointers_by, whole_size, fits, HasParts, HeaderSpells};
+ghost use Rattle.load_header.specs.HeaderFields.{user_fields, pointers_fields, head_fields, identity_fields, sections_fields, covered_fields, IsHeader, HeaderSpells};
+ghost use Rattle.load_header.specs.Encoding.{pointers_by, whole_size};
 
 use crate::header::LoadHeader;
 use crate::measuring::{Sizes, header_size, sizes_of};
@@ -19,7 +17,7 @@ use std::alloc::Global;
 
 /// The bytes of a header that meets the limits.
 pub(crate) fn header_bytes(alloc: Global, header: &LoadHeader) -> Result<Bytes, NoMemory>
-    requires { fits (header_view header.now) ≡ true }
+    requires { IsHeader (header_view header.now) }
     ensures { IfOk result (λ bytes. HeaderSpells (header_view header.now) bytes.items) }
 {
     let mut covered = covered_bytes(alloc, header)?;
@@ -30,8 +28,7 @@ pub(crate) fn header_bytes(alloc: Global, header: &LoadHeader) -> Result<Bytes, 
 
 // Both check sums.
 fn sums_bytes(alloc: Global, header_crc: u16, load_crc: u32) -> Result<Bytes, NoMemory>
-    ensures sums { IfOk result (λ bytes. bytes.items ≡ number_bytes 2 header_crc ++ number_bytes 4 load_crc) }
-    ensures load_crc { load_crc < 2 ^ 32 }
+    ensures { IfOk result (λ bytes. bytes.items ≡ number_bytes 2 header_crc ++ number_bytes 4 load_crc) }
 {
     let mut out = Writer::new(alloc);
     out.put_u16(header_crc)?;
@@ -41,10 +38,8 @@ fn sums_bytes(alloc: Global, header_crc: u16, load_crc: u32) -> Result<Bytes, No
 
 // All that the check sum of the header covers.
 fn covered_bytes(alloc: Global, header: &LoadHeader) -> Result<Bytes, NoMemory>
-    requires { fits (header_view header.now) ≡ true }
-    ensures covered { IfOk result (λ bytes. bytes.items ≡ concat (covered_fields (header_view header.now))) }
-    ensures parts { IfOk result (λ bytes. HasParts (header_view header.now)) }
-    ensures flags { IfOk result (λ bytes. header.now.flags < 2 ^ 16) }
+    requires { IsHeader (header_view header.now) }
+    ensures { IfOk result (λ bytes. bytes.items ≡ concat (covered_fields (header_view header.now))) }
 {
     let sizes = sizes_of(header);
     let mut out = Writer::new(alloc);
@@ -59,7 +54,7 @@ fn covered_bytes(alloc: Global, header: &LoadHeader) -> Result<Bytes, NoMemory>
 }
 
 // The words at which the sections begin.
-#[tactic(auto, unfolding(crate::specs::HeaderFields::pointers_by))]
+#[tactic(auto, unfolding(crate::specs::Encoding::pointers_by))]
 fn pointers_of(sizes: Sizes) -> Pointers
     requires { whole_size sizes ≤ 65536 }
     ensures { result ≡ pointers_by sizes }
@@ -85,8 +80,7 @@ fn pointers_of(sizes: Sizes) -> Pointers
 
 #[tactic(auto, unfolding(crate::specs::HeaderFields::head_fields))]
 fn put_head(out: &mut Writer, size: u32, flags: u16, pointers: Pointers) -> Result<(), NoMemory>
-    ensures fields { OnOk result (out.new ≡ out.old ++ concat (head_fields size flags pointers)) }
-    ensures flags { flags < 2 ^ 16 }
+    ensures { OnOk result (out.new ≡ out.old ++ concat (head_fields size flags pointers)) }
 {
     out.put_u32(size / 2)?;
     out.put_u16(0x8004)?;
@@ -127,9 +121,8 @@ fn put_four(out: &mut Writer, a: u32, b: u32, c: u32, d: u32) -> Result<(), NoMe
 }
 
 fn put_sections(out: &mut Writer, header: &LoadHeader) -> Result<(), NoMemory>
-    requires { fits (header_view header.now) ≡ true }
-    ensures fields { OnOk result (out.new ≡ out.old ++ concat (sections_fields (header_view header.now))) }
-    ensures parts { OnOk result (HasParts (header_view header.now)) }
+    requires { IsHeader (header_view header.now) }
+    ensures { OnOk result (out.new ≡ out.old ++ concat (sections_fields (header_view header.now))) }
 {
     put_identity(out, header)?;
     put_texts(out, header.hardware.as_slice())?;
@@ -143,10 +136,7 @@ fn put_sections(out: &mut Writer, header: &LoadHeader) -> Result<(), NoMemory>
 
 #[tactic(auto, using(part_number::specs::VerdictLaws::part_size), unfolding(crate::specs::HeaderFields::identity_fields, crate::specs::HeaderFields::type_fields))]
 fn put_identity(out: &mut Writer, header: &LoadHeader) -> Result<(), NoMemory>
-    ensures fields { OnOk result (out.new ≡ out.old ++ concat (identity_fields (header_view header.now))) }
-    ensures part { IsPartNumberText header.now.part }
-    ensures type_name { OnOk result (IsText header.now.type_name) }
-    ensures type_id { OnOk result (header.now.type_id < 2 ^ 16) }
+    ensures { OnOk result (out.new ≡ out.old ++ concat (identity_fields (header_view header.now))) }
 {
     out.put_padded(header.part.as_slice())?;
     put_text(out, &header.type_name)?;
@@ -157,8 +147,7 @@ fn put_identity(out: &mut Writer, header: &LoadHeader) -> Result<(), NoMemory>
 #[tactic(auto, unfolding(crate::specs::HeaderFields::user_fields))]
 fn put_user(out: &mut Writer, user: &[u8]) -> Result<(), NoMemory>
     requires { length user.now ≤ 65536 }
-    ensures fields { OnOk result (out.new ≡ out.old ++ concat (user_fields user.now)) }
-    ensures bytes { IsBytes user.now }
+    ensures { OnOk result (out.new ≡ out.old ++ concat (user_fields user.now)) }
 {
     out.put_u16((user.len() / 2) as u16)?;
     out.put_raw(user)?;

@@ -1,10 +1,13 @@
 //! How many bytes a header takes, and whether it meets the limits.
-ghost use Rattle.std.specs.Prelude.{◌≡◌, ◌+◌, ◌*◌, ◌%◌, ◌<◌, ◌≤◌, length, map, true, nat_le};
-ghost use Rattle.std.specs.List.{list_all};
+ghost use Rattle.std.specs.Prelude.{◌≡◌, ◌↔◌, ◌+◌, ◌*◌, ◌%◌, ◌<◌, ◌≤◌, length, map, true, nat_le, IsTrue};
+ghost use Rattle.std.specs.List.{list_all, AllByRecursion};
+ghost use Rattle.load_base.specs.Text.{IsText};
+ghost use Rattle.field_grammar.specs.Grammar.{IsBytes};
 ghost use Rattle.field_grammar.specs.Fields.{padded_fields};
 ghost use Rattle.load_header.specs.Header.{hardware_view, header_view};
 ghost use Rattle.field_grammar.specs.Spelling.{size_of};
-ghost use Rattle.load_header.specs.HeaderFields.{file_body_fields, hardware_at_fields, texts_fields, positions_fields, files_fields, type_fields, user_fields, few_positions, has_size as has_file_size, few_members as few_members_of, few_files as few_files_of, short_enough, header_size as size_of_header, fits as fits_limits, AreSizes, AreSmall};
+ghost use Rattle.load_header.specs.HeaderFields.{file_body_fields, hardware_at_fields, texts_fields, positions_fields, files_fields, user_fields, header_size as size_of_header, IsHardwareAt, IsFile, IsHeader};
+ghost use Rattle.load_header.specs.Encoding.{few_positions, has_size as has_file_size, few_members as few_members_of, few_files as few_files_of, short_enough, AreSizes, AreSmall, IsKind, HasParts};
 
 use crate::header::{FileEntry, HardwareAt, LoadHeader};
 use crate::reading::{LONGEST_FILE, LONGEST_HEADER, MOST_FILES};
@@ -26,14 +29,23 @@ pub(crate) struct Sizes {
 }
 
 /// The header meets the limits.
-#[tactic(auto, unfolding(crate::specs::HeaderFields::fits))]
+#[tactic(auto, using(crate::proofs::Limits::header_members, crate::proofs::Limits::header_files))]
 pub(crate) fn fits(header: &LoadHeader) -> bool
-    ensures { result ≡ fits_limits (header_view header.now) }
+    ensures { IsTrue result ↔ IsHeader (header_view header.now) }
 {
-    few_members(header) && few_files(header) && is_short(header)
+    // The flags and the load CRC are such by their types.
+    let _flags = header.flags;
+    let _load_crc = header.load_crc;
+    if !few_members(header) {
+        return false;
+    }
+    if !few_files(header) {
+        return false;
+    }
+    is_short(header)
 }
 
-#[tactic(auto, unfolding(crate::specs::HeaderFields::few_members))]
+#[tactic(auto, unfolding(crate::specs::Encoding::few_members))]
 fn few_members(header: &LoadHeader) -> bool
     ensures { result ≡ few_members_of (header_view header.now) }
 {
@@ -58,7 +70,7 @@ fn few_positions_each(list: &[HardwareAt]) -> bool
     list.iter().all(|at| at.positions.len() < COUNTS)
 }
 
-#[tactic(auto, unfolding(crate::specs::HeaderFields::few_files))]
+#[tactic(auto, unfolding(crate::specs::Encoding::few_files))]
 fn few_files(header: &LoadHeader) -> bool
     ensures { result ≡ few_files_of (header_view header.now) }
 {
@@ -79,11 +91,12 @@ fn have_sizes(files: &[FileEntry]) -> bool
         .all(|file| u64::from(file.length) <= LONGEST_FILE)
 }
 
-#[tactic(auto, using(crate::proofs::Limits::long_user), unfolding(crate::specs::HeaderFields::short_enough))]
+#[tactic(auto, using(crate::proofs::Limits::long_user), unfolding(crate::specs::Encoding::short_enough))]
 fn is_short(header: &LoadHeader) -> bool
     requires members { few_members_of (header_view header.now) ≡ true }
     requires files { few_files_of (header_view header.now) ≡ true }
-    ensures { result ≡ short_enough (header_view header.now) }
+    ensures short { result ≡ short_enough (header_view header.now) }
+    ensures parts { IsTrue result → HasParts (header_view header.now) }
 {
     if header.user.len() % 2 != 0 {
         return false;
@@ -98,7 +111,8 @@ fn size_in_all(header: &LoadHeader) -> u64
     requires members { few_members_of (header_view header.now) ≡ true }
     requires files { few_files_of (header_view header.now) ≡ true }
     requires user { length header.now.user.items ≤ 65536 }
-    ensures { result ≡ size_of_header (header_view header.now) }
+    ensures size { result ≡ size_of_header (header_view header.now) }
+    ensures parts { HasParts (header_view header.now) }
 {
     header_size(sizes_of(header))
 }
@@ -125,7 +139,10 @@ pub(crate) fn sizes_of(header: &LoadHeader) -> Sizes
     requires user { length header.now.user.items ≤ 65536 }
     ensures sizes { AreSizes (header_view header.now) result }
     ensures small { AreSmall result }
+    ensures parts { HasParts (header_view header.now) }
 {
+    // The number of the type is such by its type.
+    let _type_id = header.type_id;
     Sizes {
         part: padded_size(header.part.as_slice().len()),
         type_name: padded_size(header.type_name.as_slice().len()) + 2,
@@ -133,8 +150,18 @@ pub(crate) fn sizes_of(header: &LoadHeader) -> Sizes
         positions: positions_size(header.positions.as_slice()),
         data_files: files_size(header.data_files.as_slice()),
         support_files: files_size(header.support_files.as_slice()),
-        user: header.user.len() as u64 + 2,
+        user: user_size(header.user.as_slice()),
     }
+}
+
+#[tactic(auto, using(crate::proofs::Sizes::size_user))]
+fn user_size(user: &[u8]) -> u64
+    requires { length user.now ≤ 65536 }
+    ensures size { result ≡ size_of (user_fields user.now) }
+    ensures small { result ≤ 65538 }
+    ensures bytes { IsBytes user.now }
+{
+    user.len() as u64 + 2
 }
 
 fn padded_size(length: usize) -> u64
@@ -149,6 +176,7 @@ fn padded_size(length: usize) -> u64
 fn text_size(text: &Text) -> u64
     ensures size { result ≡ size_of (padded_fields text.now) }
     ensures small { result ≤ 258 }
+    ensures text { IsText text.now }
 {
     padded_size(text.as_slice().len())
 }
@@ -158,6 +186,7 @@ fn texts_size(texts: &[Text]) -> u64
     requires { length texts.now < 65536 }
     ensures size { result ≡ size_of (texts_fields texts.now) }
     ensures small { result ≤ 2 + 258 * length texts.now }
+    ensures texts { AllByRecursion IsText texts.now }
 {
     let mut size = 2;
     for text in texts {
@@ -171,6 +200,7 @@ fn kind_size(at: &HardwareAt) -> u64
     requires { few_positions (hardware_view at.now) ≡ true }
     ensures size { result ≡ size_of (hardware_at_fields (hardware_view at.now)) }
     ensures small { result ≤ 17000000 }
+    ensures kind { IsKind at.now }
 {
     text_size(&at.hardware) + texts_size(at.positions.as_slice())
 }
@@ -181,6 +211,7 @@ fn positions_size(list: &[HardwareAt]) -> u64
     requires each { list_all few_positions (map hardware_view list.now) ≡ true }
     ensures size { result ≡ size_of (positions_fields (map hardware_view list.now)) }
     ensures small { result ≤ 2 + 17000000 * length list.now }
+    ensures kinds { AllByRecursion IsHardwareAt (map hardware_view list.now) }
 {
     let mut size = 2;
     for at in list {
@@ -191,9 +222,11 @@ fn positions_size(list: &[HardwareAt]) -> u64
 
 #[tactic(auto, using(crate::proofs::Limits::all_entries))]
 fn files_size(files: &[FileEntry]) -> u64
-    requires { length files.now ≤ 255 }
+    requires count { length files.now ≤ 255 }
+    requires sizes { list_all has_file_size files.now ≡ true }
     ensures size { result ≡ size_of (files_fields files.now) }
     ensures small { result ≤ 2 + 600 * length files.now }
+    ensures files { AllByRecursion IsFile files.now }
 {
     let mut size = 2;
     for file in files {
@@ -205,8 +238,12 @@ fn files_size(files: &[FileEntry]) -> u64
 /// The bytes of an entry, with its distance.
 #[tactic(auto, using(crate::proofs::Limits::size_entry))]
 pub(crate) fn entry_size(file: &FileEntry) -> u64
+    requires { has_file_size file.now ≡ true }
     ensures size { result ≡ 2 + size_of (file_body_fields file.now) }
     ensures small { result ≤ 600 }
+    ensures file { IsFile file.now }
 {
+    // The check sum is such by its type.
+    let _crc16 = file.crc16;
     2 + padded_size(file.name.as_slice().len()) + padded_size(file.part.as_slice().len()) + 14
 }

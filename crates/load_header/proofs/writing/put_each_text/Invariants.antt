@@ -1,11 +1,7 @@
 use Rattle.std.proofs.Common.{◌≡◌, ◌++◌, take}
-use Rattle.std.specs.List.{concat, flat_map, AllByRecursion}
-use Rattle.load_base.specs.Text.{IsText}
+use Rattle.std.specs.List.{concat, flat_map}
 use Rattle.field_grammar.specs.Fields.{padded_fields}
 use Rattle.load_header.proofs.writing.put_each_text.Given as goal
 
 abbrev pub invariant-loop-text : goal.invariant-loop-text
-invariant-loop-text l = record {
-  written : l.out ≡ l.fn.out ++ concat (flat_map padded_fields (take l.text-index l.texts));
-  all : AllByRecursion IsText (take l.text-index l.texts);
-}
+invariant-loop-text l = l.out ≡ l.fn.out ++ concat (flat_map padded_fields (take l.text-index l.texts))
