@@ -1,10 +1,9 @@
 -- What stays of a header where its numbers change.
 use Rattle.std.proofs.Common.{◌≡◌, ℕ, ◌+◌, ◌-◌, ◌%◌, ◌<◌, ◌^◌, List, [], ◌∷◌, ◌++◌, length, take, refl, sym, ap, subst, ◌∙◌, arith, append_assoc, length-append}
 use Rattle.std.specs.Prelude.{map}
-use Rattle.std.specs.List.{concat, flat_map, AllByRecursion}
-use Rattle.std.proofs.Math.Seq.{take-append_seam, take-length}
+use Rattle.std.specs.List.{concat, AllByRecursion}
+use Rattle.std.proofs.Math.Seq.{take-append_seam}
 use Rattle.std.proofs.lemmas.List.{append-nil, length-map}
-use Rattle.std.proofs.lemmas.List.Concat.{flat_map-cons}
 use Rattle.std.proofs.lemmas.List.Folds.{concat-append}
 use Rattle.crc_fields.specs.CheckSums.{crc16_of}
 use Rattle.load_base.specs.Name.{IsName}
@@ -15,12 +14,15 @@ use Rattle.field_grammar.specs.Spelling.{size_of}
 use Rattle.field_grammar.specs.Fields.{number_bytes, number_fields, padded_fields}
 use Rattle.field_grammar.specs.NumberLaws.{length_number_bytes}
 use Rattle.field_grammar.specs.SectionLaws.{size_more, size_number}
+use Rattle.header_sections.specs.SectionFields.{texts_fields, user_fields}
+use Rattle.header_sections.specs.SizeLaws.{size_entries, total_of}
 use Rattle.load_header.specs.Header.{HeaderView, HardwareView}
-use Rattle.load_header.specs.HeaderFields.{texts_fields, positions_fields, files_fields, type_fields, user_fields, pointers_of, head_fields, identity_fields, targets_fields, all_files_fields, sections_fields, covered_fields, header_fields, header_size, AreTexts, IsHardwareAt, IsFile, IsHeader, HeaderSpells}
+use Rattle.load_header.specs.HeaderFields.{positions_fields, file_body_fields, files_fields, type_fields, pointers_of, head_fields, identity_fields, targets_fields, all_files_fields, sections_fields, covered_fields, header_fields, header_size, AreTexts, IsHardwareAt, IsFile, IsHeader, HeaderSpells}
 use Rattle.load_header.specs.HeaderChanges.{file_texts, HaveSameTexts, HasFileNumbers, HasNumbers, with_load_crc}
 use Rattle.load_header.specs.declared.header.FileEntry.{FileEntry}
 use Rattle.load_header.proofs.Heads.{size_head}
-use Rattle.load_header.proofs.Limits.{plain_entry, size_entry, size_plain, all_entries, size_type}
+use Rattle.load_header.proofs.Limits.{size_type}
+use Rattle.load_header.proofs.Sizes.{size_body}
 
 -- ---- how many bytes its spelling has
 
@@ -99,7 +101,7 @@ same_before_load_crc h crc bytes others one other =
 
 -- ---- other numbers
 
-same_entries : (xs ys : List FileEntry) → map file_texts xs ≡ map file_texts ys → size_of (flat_map plain_entry xs) ≡ size_of (flat_map plain_entry ys)
+same_entries : (xs ys : List FileEntry) → map file_texts xs ≡ map file_texts ys → total_of file_body_fields xs ≡ total_of file_body_fields ys
 same_entries [] [] same = refl
 same_entries [] (y ∷ ys) same = absurd cc
 same_entries (x ∷ xs) [] same = absurd cc
@@ -108,26 +110,10 @@ same_entries (x ∷ xs) (y ∷ ys) same =
     let others : map file_texts xs ≡ map file_texts ys = cc in
     let names : length x.name ≡ length y.name = ap (λ (t : List ℕ × List ℕ). length t.0) first in
     let parts : length x.part ≡ length y.part = ap (λ (t : List ℕ × List ℕ). length t.1) first in
-    omega (
-      arith,
-      ap (λ (l : List (List ℕ)). size_of l) (flat_map-cons plain_entry x xs),
-      ap (λ (l : List (List ℕ)). size_of l) (flat_map-cons plain_entry y ys),
-      size_more (plain_entry x) (flat_map plain_entry xs),
-      size_more (plain_entry y) (flat_map plain_entry ys),
-      size_plain x,
-      size_plain y,
-      size_entry x,
-      size_entry y,
-      names,
-      parts,
-      same_entries xs ys others,
-    )
-
-all_plain : (files : List FileEntry) → size_of (files_fields files) ≡ 2 + size_of (flat_map plain_entry files)
-all_plain files = sym (all_entries files (length files) (omega arith)) ∙ ap (λ (l : List FileEntry). 2 + size_of (flat_map plain_entry l)) (take-length files)
+    omega (arith, size_body x, size_body y, names, parts, same_entries xs ys others)
 
 same_files : (xs ys : List FileEntry) → map file_texts xs ≡ map file_texts ys → size_of (files_fields xs) ≡ size_of (files_fields ys)
-same_files xs ys same = omega (arith, all_plain xs, all_plain ys, same_entries xs ys same)
+same_files xs ys same = omega (arith, size_entries file_body_fields xs, size_entries file_body_fields ys, same_entries xs ys same)
 
 pub same_size : (one other : HeaderView) → HaveSameTexts one other → header_size one ≡ header_size other
 unfolding header_size

@@ -1,5 +1,4 @@
 pub mod Whole
-pub mod Texts
 pub mod Pieces
 pub mod Groups
 pub mod Heads

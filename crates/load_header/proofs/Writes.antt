@@ -7,7 +7,8 @@ use Rattle.std.proofs.lemmas.List.Folds.{concat-append}
 use Rattle.crc_fields.specs.CheckSums.{crc16_of}
 use Rattle.field_grammar.specs.Fields.{number_bytes, number_fields}
 use Rattle.load_header.specs.Header.{HeaderView, hardware_view}
-use Rattle.load_header.specs.HeaderFields.{hardware_at_fields, texts_fields, positions_fields, files_fields, user_fields, identity_fields, targets_fields, all_files_fields, sections_fields, head_fields, covered_fields, header_fields, header_size, pointers_of}
+use Rattle.load_header.specs.HeaderFields.{hardware_at_fields, positions_fields, files_fields, identity_fields, targets_fields, all_files_fields, sections_fields, head_fields, covered_fields, header_fields, header_size, pointers_of}
+use Rattle.header_sections.specs.SectionFields.{texts_fields, user_fields}
 use Rattle.load_header.specs.Encoding.{pointers_by, whole_size, AreSizes, kind_fields}
 use Rattle.load_header.specs.declared.header.HardwareAt.{HardwareAt}
 use Rattle.load_header.specs.declared.measuring.Sizes.{Sizes}
@@ -50,10 +51,10 @@ covered_written h s o1 o2 are one two =
     one ∙ (ap (λ (n : ℕ). concat (head_fields n h.flags (pointers_by s))) size ∙ ap (λ (p : Pointers). concat (head_fields (header_size h) h.flags p)) (pointers_are h s are)) in
     two ∙ (ap (λ (o : List ℕ). o ++ concat (sections_fields h)) head ∙ sym (concat-append (head_fields (header_size h) h.flags (pointers_of h)) (sections_fields h)))
 
-pub header_written : (h : HeaderView) (covered whole : List ℕ) → covered ≡ concat (covered_fields h) → whole ≡ covered ++ (number_bytes 2 (crc16_of covered) ++ number_bytes 4 h.load_crc) → whole ≡ concat (header_fields h)
+pub header_written : (h : HeaderView) (covered whole : List ℕ) → covered ≡ concat (covered_fields h) → whole ≡ (covered ++ number_bytes 2 (crc16_of covered)) ++ number_bytes 4 h.load_crc → whole ≡ concat (header_fields h)
 unfolding header_fields
 header_written h covered whole one two =
     let c : List (List ℕ) = covered_fields h in
     let end : List (List ℕ) = number_fields 2 (crc16_of (concat c)) ++ number_fields 4 h.load_crc in
     let ended : concat end ≡ number_bytes 2 (crc16_of (concat c)) ++ number_bytes 4 h.load_crc = simp append-nil refl in
-    two ∙ (ap (λ (l : List ℕ). l ++ (number_bytes 2 (crc16_of l) ++ number_bytes 4 h.load_crc)) one ∙ (ap (λ (l : List ℕ). concat c ++ l) (sym ended) ∙ sym (concat-append c end)))
+    two ∙ (append_assoc covered (number_bytes 2 (crc16_of covered)) (number_bytes 4 h.load_crc) ∙ ap (λ (l : List ℕ). l ++ (number_bytes 2 (crc16_of l) ++ number_bytes 4 h.load_crc)) one ∙ (ap (λ (l : List ℕ). concat c ++ l) (sym ended) ∙ sym (concat-append c end)))

@@ -1,14 +1,14 @@
 -- What the encoder of a load header computes, and how it tests the limits. Its contract names none of it.
-use Rattle.std.specs.Prelude.{◌≡◌, ℕ, ◌+◌, ◌/◌, ◌%◌, ◌<◌, ◌^◌, List, [], length, ◌==◌, nat_lt, nat_le, ◌&&◌, Bool}
+use Rattle.std.specs.Prelude.{◌≡◌, ℕ, ◌+◌, ◌/◌, ◌%◌, ◌<◌, ◌≤◌, ◌^◌, List, length, ◌==◌, nat_lt, nat_le, ◌&&◌, Bool}
 use Rattle.std.specs.List.{AllByRecursion, list_all}
 use Rattle.load_base.specs.Text.{IsText}
 use Rattle.part_number.specs.PartNumber.{IsPartNumberText}
 use Rattle.field_grammar.specs.Grammar.{IsBytes}
-use Rattle.field_grammar.specs.Spelling.{size_of, listed_fields}
+use Rattle.field_grammar.specs.Spelling.{size_of}
 use Rattle.field_grammar.specs.Fields.{padded_fields}
 use Rattle.load_header.specs.Header.{HeaderView, HardwareView, hardware_view}
-use Rattle.load_header.specs.HeaderFields.{hardware_at_fields, entry_fields_behind, texts_fields, positions_fields, files_fields, type_fields, user_fields, header_size, AreTexts, IsHardwareAt, IsFile}
-use Rattle.load_header.specs.declared.header.FileEntry.{FileEntry}
+use Rattle.header_sections.specs.SectionFields.{texts_fields, user_fields}
+use Rattle.load_header.specs.HeaderFields.{hardware_at_fields, positions_fields, files_fields, type_fields, header_size, AreTexts, IsHardwareAt, IsFile}
 use Rattle.load_header.specs.declared.header.HardwareAt.{HardwareAt}
 use Rattle.load_header.specs.declared.reading.Pointers.{Pointers}
 use Rattle.load_header.specs.declared.measuring.Sizes.{Sizes}
@@ -18,16 +18,15 @@ use Rattle.load_header.specs.declared.measuring.Sizes.{Sizes}
 abbrev pub few_positions : HardwareView → Bool
 few_positions h = nat_lt (length h.positions) 65536
 
-abbrev pub has_size : FileEntry → Bool
-has_size file = nat_le file.length 16777215
-
 -- at most 65,535 kinds of hardware, with and without positions, and as many positions of each
 unfoldable pub few_members : HeaderView → Bool
 few_members h = nat_lt (length h.hardware) 65536 && (nat_lt (length h.positions) 65536 && list_all few_positions h.positions)
 
--- at most 255 files, each of at most 16,777,215 bytes
-unfoldable pub few_files : HeaderView → Bool
-few_files h = nat_le (length h.data_files + length h.support_files) 255 && (list_all has_size h.data_files && list_all has_size h.support_files)
+-- at most 255 files, each as it has to be
+pub record HasFiles (h : HeaderView) : Type 0 where
+  pub few : length h.data_files + length h.support_files ≤ 255
+  pub data_files : AllByRecursion IsFile h.data_files
+  pub support_files : AllByRecursion IsFile h.support_files
 
 -- an even number of bytes of user data, and at most 65,536 bytes in all
 unfoldable pub short_enough : HeaderView → Bool
@@ -79,10 +78,7 @@ kind_fields h = hardware_at_fields (hardware_view h)
 abbrev pub IsKind : HardwareAt → Type 0
 IsKind h = IsHardwareAt (hardware_view h)
 
-abbrev pub entries_fields : List FileEntry → List (List ℕ)
-entries_fields files = listed_fields (entry_fields_behind (length files)) [] files
-
--- the texts, names, part numbers and bytes of a header are such
+-- the texts, part number, type number and user data of a header are such by their types
 pub record HasParts (h : HeaderView) : Type 0 where
   pub type_id : h.type_id < 2 ^ 16
   pub user : IsBytes h.user
@@ -90,5 +86,3 @@ pub record HasParts (h : HeaderView) : Type 0 where
   pub type_name : IsText h.type_name
   pub hardware : AreTexts h.hardware
   pub positions : AllByRecursion IsHardwareAt h.positions
-  pub data_files : AllByRecursion IsFile h.data_files
-  pub support_files : AllByRecursion IsFile h.support_files

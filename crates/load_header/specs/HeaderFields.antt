@@ -1,22 +1,19 @@
 -- How a load header is written, field by field (docs/FORMATS.md).
-use Rattle.std.specs.Prelude.{◌≡◌, ℕ, ◌+◌, ◌/◌, ◌%◌, ◌<◌, ◌≤◌, ◌^◌, List, [], ◌∷◌, ◌++◌, length, Bool}
+use Rattle.std.specs.Prelude.{◌≡◌, ℕ, ◌+◌, ◌/◌, ◌%◌, ◌<◌, ◌≤◌, ◌^◌, List, ◌++◌, length}
 use Rattle.std.specs.List.{concat, flat_map, AllByRecursion}
 use Rattle.crc_fields.specs.CheckSums.{crc16_of}
 use Rattle.load_base.specs.Name.{IsName}
 use Rattle.load_base.specs.Text.{IsText}
 use Rattle.part_number.specs.PartNumber.{IsPartNumberText}
 use Rattle.field_grammar.specs.Grammar.{IsBytes}
-use Rattle.field_grammar.specs.Spelling.{size_of, with_last, listed_fields}
+use Rattle.field_grammar.specs.Spelling.{size_of}
 use Rattle.field_grammar.specs.Fields.{number_fields, padded_fields}
-use Rattle.load_header.specs.Header.{HeaderView, HardwareView, distance_of}
+use Rattle.header_sections.specs.SectionFields.{texts_fields, user_fields, entries_fields}
+use Rattle.load_header.specs.Header.{HeaderView, HardwareView}
 use Rattle.load_header.specs.declared.header.FileEntry.{FileEntry}
 use Rattle.load_header.specs.declared.reading.Pointers.{Pointers}
 
 -- ---- the sections
-
--- a count, and so many texts
-unfoldable pub texts_fields : List (List ℕ) → List (List ℕ)
-texts_fields texts = number_fields 2 (length texts) ++ flat_map padded_fields texts
 
 -- a kind of hardware and its positions
 abbrev pub hardware_at_fields : HardwareView → List (List ℕ)
@@ -31,24 +28,12 @@ unfoldable pub file_body_fields : FileEntry → List (List ℕ)
 file_body_fields file =
     padded_fields file.name ++ (padded_fields file.part ++ (number_fields 4 ((file.length + 1) / 2) ++ (number_fields 8 file.length ++ number_fields 2 file.crc16)))
 
--- an entry: its distance is half its length, and 0 for the last of its list
-abbrev pub entry_fields : Bool → FileEntry → List (List ℕ)
-entry_fields last file = number_fields 2 (distance_of last (2 + size_of (file_body_fields file))) ++ file_body_fields file
-
--- the entry behind those so far, in a list of so many
-abbrev pub entry_fields_behind : ℕ → List FileEntry → FileEntry → List (List ℕ)
-entry_fields_behind count so_far file = with_last entry_fields count so_far file
-
 -- a count, and the entries
-unfoldable pub files_fields : List FileEntry → List (List ℕ)
-files_fields files = number_fields 2 (length files) ++ listed_fields (entry_fields_behind (length files)) [] files
+abbrev pub files_fields : List FileEntry → List (List ℕ)
+files_fields files = entries_fields file_body_fields files
 
 unfoldable pub type_fields : HeaderView → List (List ℕ)
 type_fields h = padded_fields h.type_name ++ number_fields 2 h.type_id
-
--- the length in words, and the bytes
-unfoldable pub user_fields : List ℕ → List (List ℕ)
-user_fields user = number_fields 2 (length user / 2) ++ user ∷ []
 
 -- ---- where the sections begin
 

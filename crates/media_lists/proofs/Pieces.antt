@@ -1,19 +1,26 @@
 -- How the pieces of a list are spelled that stand anywhere.
-use Rattle.std.proofs.Common.{◌≡◌, ℕ, ◌+◌, ◌<◌, ◌≤◌, ◌^◌, [], ◌++◌, length, Bool, true, false, refl, sym, subst, arith, leb, ◌&&◌}
+use Rattle.std.proofs.Common.{◌≡◌, ℕ, ◌+◌, ◌/◌, ◌<◌, ◌≤◌, ◌^◌, [], ◌++◌, length, Bool, true, false, refl, sym, subst, arith, leb, ◌&&◌}
 use Rattle.std.specs.List.{concat, AllByRecursion}
 use Rattle.std.proofs.lemmas.Bool.{leb-true, le-leb, and_from}
 use Rattle.std.proofs.lemmas.List.{append-nil}
+use Rattle.load_base.specs.Name.{IsName}
 use Rattle.load_base.specs.Text.{IsText}
-use Rattle.field_grammar.specs.Spelling.{IsSpelledBy}
+use Rattle.part_number.specs.PartNumber.{IsPartNumberText}
+use Rattle.field_grammar.specs.Spelling.{IsSpelledBy, IsPlacedBy}
 use Rattle.field_grammar.specs.Fields.{number, number_fields, padded_fields}
-use Rattle.field_grammar.specs.CombinedLaws.{spelled-renamed, spelled-counted}
+use Rattle.field_grammar.specs.CombinedLaws.{spelled-renamed}
 use Rattle.field_grammar.specs.NumberLaws.{wide1, wide2, wide4, spelled-number}
-use Rattle.media_lists.specs.Lists.{named, u8, u16, u32, text, counted, member_of}
+use Rattle.field_grammar.specs.PlacedLaws.{placed-renamed}
+use Rattle.header_sections.specs.Sections.{name, part, section_at}
+use Rattle.header_sections.specs.SectionFields.{texts_fields}
+use Rattle.header_sections.specs.SectionLaws as texts
+use Rattle.header_sections.specs.SectionLaws.{placed-section_at}
+use Rattle.media_lists.specs.Lists.{named, refused, shared, u8, u16, u32, counted, member_of}
 use Rattle.media_lists.specs.ListFields.{IsMember}
 use Rattle.media_lists.specs.Files.{file_body, file_body_fields, IsFile}
-use Rattle.media_lists.specs.Loads.{texts, load_body, texts_fields, load_body_fields, IsLoad, LoadView}
+use Rattle.media_lists.specs.Loads.{counted_texts, load_body, load_body_fields, IsLoad, LoadView}
 use Rattle.media_lists.specs.declared.lists.ListedFile.{ListedFile}
-use Rattle.media_lists.proofs.Texts.{spelled-text, spelled-name, spelled-part, spelled-path}
+use Rattle.media_lists.proofs.Texts.{spelled-path}
 
 -- ---- numbers
 
@@ -65,9 +72,19 @@ spelled-counted_few = record {
       (value, number_fields 2 value, [], refl, spelled-u16.from _ _ value (omega (arith, fits)), (tt, [], [], refl, (refl, le-leb value 1024 fits), (refl, refl)));
 }
 
-pub spelled-texts : IsSpelledBy texts texts_fields (λ t. (length t ≤ 1024) × AllByRecursion IsText t)
-unfolding texts texts_fields
-spelled-texts = spelled-counted counted text (number_fields 2) padded_fields (λ n. n ≤ 1024) IsText spelled-counted_few spelled-text
+spelled-name : IsSpelledBy (shared name) padded_fields IsName
+spelled-name = spelled-renamed refused name padded_fields IsName texts.spelled-name
+
+pub spelled-part : IsSpelledBy (shared part) padded_fields IsPartNumberText
+spelled-part = spelled-renamed refused part padded_fields IsPartNumberText texts.spelled-part
+
+spelled-texts : IsSpelledBy counted_texts texts_fields (λ t. (length t ≤ 1024) × AllByRecursion IsText t)
+unfolding counted_texts
+spelled-texts = texts.spelled-texts refused counted (λ n. n ≤ 1024) spelled-counted_few
+
+-- a section begins where its pointer says
+pub placed-section : (which said : ℕ) → IsPlacedBy (shared (section_at which said)) (λ before u. []) (λ before after u. said ≡ length before / 2)
+placed-section which said = placed-renamed refused (section_at which said) (λ before u. []) (λ before after u. said ≡ length before / 2) (placed-section_at which said)
 
 -- ---- files
 

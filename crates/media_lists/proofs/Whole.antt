@@ -2,14 +2,16 @@
 use Rattle.std.proofs.Common.{ℕ, arith}
 use Rattle.field_grammar.specs.Grammar.{Grammar, EndsTheBytes}
 use Rattle.field_grammar.specs.Spelling.{SpellsWhole}
-use Rattle.field_grammar.specs.ExactLaws.{ends_at_end, ends_last, ends_before}
+use Rattle.field_grammar.specs.ExactLaws.{ends_renamed, ends_last, ends_before}
+use Rattle.crc_fields.specs.CheckSums.{crc16_of}
+use Rattle.header_sections.specs.Sections.{end}
+use Rattle.header_sections.specs.SectionLaws.{ends-end}
 use Rattle.std.specs.Prelude.{List}
-use Rattle.media_lists.specs.Lists.{tail, check_sum, media_list}
+use Rattle.media_lists.specs.Lists.{refused, tail, check_sum, media_list}
 use Rattle.media_lists.specs.ListFields.{list_fields}
 use Rattle.media_lists.specs.Files.{file_body, file_name, file_body_fields, files_list, IsFile, IsFilesList}
 use Rattle.media_lists.specs.Loads.{load_body, load_name, load_body_fields, loads_list, IsLoad, IsLoadsList}
 use Rattle.media_lists.specs.declared.fault.ListFault.{ListFault}
-use Rattle.media_lists.specs.declared.fault.ListFault.TheVariants as faults
 use Rattle.media_lists.proofs.Pieces.{spelled-file_body, spelled-load_body}
 use Rattle.media_lists.proofs.Sizes.{even_file, even_load}
 use Rattle.media_lists.proofs.ListSpelled.{HasEntries, spells-list}
@@ -30,7 +32,7 @@ spells-loads_list = spells-list 0x9004 load_body load_name load_body_fields IsLo
 
 ends-check_sum : EndsTheBytes check_sum
 unfolding check_sum
-ends-check_sum = ends_last _ _ (λ before. ends_last _ _ (λ said. ends_before _ _ (ends_at_end faults.Rest)))
+ends-check_sum = ends_last _ _ (λ before. ends_last _ _ (λ said. ends_renamed refused (end said (crc16_of before)) (ends-end said (crc16_of before))))
 
 ends-tail : (said : ℕ) → EndsTheBytes (tail said)
 unfolding tail

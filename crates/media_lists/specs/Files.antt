@@ -3,7 +3,8 @@ use Rattle.std.specs.Prelude.{ℕ, ◌<◌, ◌^◌, List, ◌++◌}
 use Rattle.load_base.specs.Name.{IsName}
 use Rattle.field_grammar.specs.Grammar.{Grammar, give, ◌>>=◌}
 use Rattle.field_grammar.specs.Fields.{number_fields, padded_fields}
-use Rattle.media_lists.specs.Lists.{u16, name, path, member_of, ListView, media_list}
+use Rattle.header_sections.specs.Sections.{name}
+use Rattle.media_lists.specs.Lists.{shared, u16, path, member_of, ListView, media_list}
 use Rattle.media_lists.specs.Entries.{entries}
 use Rattle.media_lists.specs.ListFields.{IsMember, IsMediaList, ListSpells}
 use Rattle.media_lists.specs.Paths.{IsPath}
@@ -23,7 +24,7 @@ files_view l = record { set = l.set; member = l.member; members = l.members; ent
 -- what an entry says of its file, behind the distance
 unfoldable pub file_body : ℕ → Grammar ListFault ListedFile
 file_body members = do
-  title ← name
+  title ← shared name
   where_it_is ← path
   member ← member_of members
   sum ← u16

@@ -1,12 +1,14 @@
 -- The list of a media set's loads, `LOADS.LUM` (docs/FORMATS.md).
 use Rattle.std.specs.Prelude.{ℕ, ◌≤◌, List, ◌++◌, length, map}
-use Rattle.std.specs.List.{flat_map, AllByRecursion}
+use Rattle.std.specs.List.{AllByRecursion}
 use Rattle.load_base.specs.Name.{IsName}
 use Rattle.load_base.specs.Text.{IsText}
 use Rattle.part_number.specs.PartNumber.{IsPartNumberText}
-use Rattle.field_grammar.specs.Grammar.{Grammar, give, times, ◌>>=◌}
+use Rattle.field_grammar.specs.Grammar.{Grammar, give, ◌>>=◌}
 use Rattle.field_grammar.specs.Fields.{number_fields, padded_fields}
-use Rattle.media_lists.specs.Lists.{text, name, part, counted, member_of, ListView, media_list}
+use Rattle.header_sections.specs.Sections.{name, part, texts}
+use Rattle.header_sections.specs.SectionFields.{texts_fields}
+use Rattle.media_lists.specs.Lists.{shared, counted, member_of, ListView, media_list}
 use Rattle.media_lists.specs.Entries.{entries}
 use Rattle.media_lists.specs.ListFields.{IsMember, IsMediaList, ListSpells}
 use Rattle.media_lists.specs.declared.fault.ListFault.{ListFault}
@@ -31,19 +33,19 @@ loads_view l = record { set = l.set; member = l.member; members = l.members; ent
 
 -- ---- as it is read
 
--- a count, and so many texts
-unfoldable pub texts : Grammar ListFault (List (List ℕ))
-texts = do
+-- a count, and the texts
+unfoldable pub counted_texts : Grammar ListFault (List (List ℕ))
+counted_texts = do
   count ← counted
-  times count text
+  shared (texts count)
 
 -- what an entry says of its load, behind the distance
 unfoldable pub load_body : ℕ → Grammar ListFault LoadView
 load_body members = do
-  number ← part
-  title ← name
+  number ← shared part
+  title ← shared name
   member ← member_of members
-  hardware ← texts
+  hardware ← counted_texts
   give (record { part = number; header_name = title; member = member; hardware = hardware })
 
 abbrev pub load_name : LoadView → List ℕ
@@ -57,12 +59,12 @@ loads_list = media_list 0x9004 load_entries
 
 -- ---- as it is written
 
--- a count, and so many texts
-unfoldable pub texts_fields : List (List ℕ) → List (List ℕ)
-texts_fields texts = number_fields 2 (length texts) ++ flat_map padded_fields texts
-
 unfoldable pub load_body_fields : LoadView → List (List ℕ)
 load_body_fields load = padded_fields load.part ++ (padded_fields load.header_name ++ (number_fields 2 load.member ++ texts_fields load.hardware))
+
+-- the same of an entry as it is kept
+abbrev pub kept_fields : LoadEntry → List (List ℕ)
+kept_fields load = load_body_fields (load_view load)
 
 -- a load that a list of a set of so many members can name, for at most 1,024 kinds of hardware
 pub record IsLoad (members : ℕ) (load : LoadView) : Type 0 where

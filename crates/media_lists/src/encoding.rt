@@ -5,10 +5,11 @@ ghost use Rattle.media_lists.specs.Loads.{loads_view, IsLoadsList, LoadsSpells};
 ghost use Rattle.media_lists.specs.declared.reading.Pointers.{Pointers};
 
 use crate::lists::{FILES_VERSION, FilesList, LOADS_VERSION, LoadsList};
-use crate::measuring::{files_size, list_size, loads_size};
+use crate::measuring::list_size;
 use crate::reading::Pointers;
-use crate::writing::{put_files, put_head, put_identity, put_loads, put_user, with_check_sum};
+use crate::writing::{put_head, put_identity};
 use field_codec::Writer;
+use header_sections::{entries_size, put_entries, put_user, with_check_sum};
 use load_base::{Bytes, NoMemory};
 use std::alloc::Global;
 
@@ -29,12 +30,12 @@ pub(crate) fn files_bytes(alloc: Global, list: &FilesList) -> Result<Bytes, NoMe
     requires { IsFilesList (files_view list.now) }
     ensures { IfOk result (λ bytes. FilesSpells (files_view list.now) bytes.items) }
 {
-    let entries = files_size(list.files.as_slice());
+    let entries = entries_size(list.files.as_slice());
     let size = list_size(entries, list.user.len()) as u32;
     let mut out = Writer::new(alloc);
     put_head(&mut out, FILES_VERSION, size, pointers_of(entries))?;
     put_identity(&mut out, &list.set, list.member, list.members)?;
-    put_files(&mut out, list.files.as_slice())?;
+    put_entries(&mut out, list.files.as_slice())?;
     put_user(&mut out, list.user.as_slice())?;
     let whole = with_check_sum(alloc, out.finish())?;
     Ok(whole)
@@ -45,12 +46,12 @@ pub(crate) fn loads_bytes(alloc: Global, list: &LoadsList) -> Result<Bytes, NoMe
     requires { IsLoadsList (loads_view list.now) }
     ensures { IfOk result (λ bytes. LoadsSpells (loads_view list.now) bytes.items) }
 {
-    let entries = loads_size(list.loads.as_slice());
+    let entries = entries_size(list.loads.as_slice());
     let size = list_size(entries, list.user.len()) as u32;
     let mut out = Writer::new(alloc);
     put_head(&mut out, LOADS_VERSION, size, pointers_of(entries))?;
     put_identity(&mut out, &list.set, list.member, list.members)?;
-    put_loads(&mut out, list.loads.as_slice())?;
+    put_entries(&mut out, list.loads.as_slice())?;
     put_user(&mut out, list.user.as_slice())?;
     let whole = with_check_sum(alloc, out.finish())?;
     Ok(whole)

@@ -3,15 +3,17 @@ ghost use Rattle.std.specs.Prelude.{◌≡◌, ◌↔◌, ◌<◌, ◌≤◌, �
 ghost use Rattle.std.specs.List.{All, AllByRecursion};
 ghost use Rattle.field_grammar.specs.Grammar.{IsBytes};
 ghost use Rattle.media_lists.specs.Paths.{IsPath};
-ghost use Rattle.media_lists.specs.ListFields.{IsMember as is_such_member, entry_size, HaveDistances, AreNew, AreEntries};
+ghost use Rattle.media_lists.specs.ListFields.{IsMember as is_such_member, AreNew, AreEntries};
+ghost use Rattle.header_sections.specs.SectionFields.{entry_size, HaveDistances};
 ghost use Rattle.media_lists.specs.Files.{files_view, file_name, file_body_fields, IsFile as is_such_file, IsFilesList};
 ghost use Rattle.media_lists.specs.Loads.{load_view, loads_view, load_name, load_body_fields, IsLoad as is_such_load, IsLoadsList};
 
 use crate::lists::{FilesList, ListedFile, LoadEntry, LoadsList};
-use crate::measuring::{files_size, list_size, load_size, loads_size};
+use crate::measuring::{list_size, load_body_size};
 use crate::names::{Order, is_new, is_new_load};
 use crate::paths::path_fault;
 use crate::reading::{LONGEST_LIST, MOST_ENTRIES};
+use header_sections::entries_size;
 use load_base::Text;
 
 /// The most bytes of user data and of an entry that isn't the last: 65,535 words.
@@ -99,7 +101,7 @@ pub(crate) fn files_fit(list: &FilesList) -> bool
     if !files_meet_limits(files, list.members) {
         return false;
     }
-    list_size(files_size(files), list.user.len()) <= LONGEST_LIST as u64
+    list_size(entries_size(files), list.user.len()) <= LONGEST_LIST as u64
 }
 
 // ---- loads
@@ -111,7 +113,7 @@ fn is_load(load: &LoadEntry, members: u8, last: bool) -> bool
     if load.hardware.len() > MOST_ENTRIES {
         return false;
     }
-    let size = load_size(load);
+    let size = 2 + load_body_size(load);
     is_member(members, load.member) && (last || size <= MOST_BYTES as u64)
 }
 
@@ -164,5 +166,5 @@ pub(crate) fn loads_fit(list: &LoadsList) -> bool
     if !loads_meet_limits(loads, list.members) {
         return false;
     }
-    list_size(loads_size(loads), list.user.len()) <= LONGEST_LIST as u64
+    list_size(entries_size(loads), list.user.len()) <= LONGEST_LIST as u64
 }

@@ -1,6 +1,7 @@
 use Rattle.std.proofs.Common.{rules, arith}
-use Rattle.media_lists.specs.Loads.{load_view, load_body_fields, IsLoad}
-use Rattle.media_lists.proofs.Seen.{kept_fields, each_seen, each_unseen, distances_seen, distances_unseen, short_at}
+use Rattle.media_lists.specs.Loads.{load_view, load_body_fields, kept_fields, IsLoad}
+use Rattle.header_sections.specs.SizeLaws.{short_at}
+use Rattle.media_lists.proofs.Seen.{each_seen, each_unseen, distances_seen, distances_unseen}
 use Rattle.field_grammar.specs.WrittenLaws.{all_taken}
 use Rattle.media_lists.proofs.Fits.{true_or_false, each_at, distances_from}
 use Rattle.media_lists.proofs.fitting.are_loads.Goals as goal

@@ -1,9 +1,8 @@
 use Rattle.std.proofs.Common.{◌+◌, ◌<◌, ◌≤◌, ℕ, take, get_or, length}
 use Rattle.std.specs.List.{AllByRecursion}
-use Rattle.media_lists.specs.ListFields.{entry_size}
-use Rattle.media_lists.specs.Loads.{load_view, IsLoad}
+use Rattle.header_sections.specs.SectionFields.{entry_size}
+use Rattle.media_lists.specs.Loads.{load_view, kept_fields, IsLoad}
 use Rattle.media_lists.specs.declared.lists.LoadEntry.{LoadEntry}
-use Rattle.media_lists.proofs.Seen.{kept_fields}
 use Rattle.media_lists.proofs.fitting.are_loads.Given as goal
 
 abbrev pub invariant-loop-index : goal.invariant-loop-index
