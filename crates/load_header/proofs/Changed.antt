@@ -16,8 +16,8 @@ use Rattle.field_grammar.specs.NumberLaws.{length_number_bytes}
 use Rattle.field_grammar.specs.SectionLaws.{size_more, size_number}
 use Rattle.header_sections.specs.SectionFields.{texts_fields, user_fields}
 use Rattle.header_sections.specs.SizeLaws.{size_entries, total_of}
-use Rattle.load_header.specs.Header.{HeaderView, HardwareView}
-use Rattle.load_header.specs.HeaderFields.{positions_fields, file_body_fields, files_fields, type_fields, pointers_of, head_fields, identity_fields, targets_fields, all_files_fields, sections_fields, covered_fields, header_fields, header_size, AreTexts, IsHardwareAt, IsFile, IsHeader, HeaderSpells}
+use Rattle.load_header.specs.Header.{HeaderView, HardwareAtView}
+use Rattle.load_header.specs.HeaderFields.{positions_fields, file_body_fields, files_fields, type_fields, pointers_of, head_fields, identity_fields, targets_fields, all_files_fields, sections_fields, covered_fields, header_fields, header_size, AreTexts, IsHardwareAt, IsHeaderFile, IsHeader, HeaderSpells}
 use Rattle.load_header.specs.HeaderChanges.{file_texts, HaveSameTexts, HasFileNumbers, HasNumbers, with_load_crc}
 use Rattle.load_header.specs.declared.header.FileEntry.{FileEntry}
 use Rattle.load_header.proofs.Heads.{size_head}
@@ -125,20 +125,20 @@ same_size one other same =
       size_type other,
       ap (λ (t : List ℕ). length t) same.type_name,
       ap (λ (t : List (List ℕ)). size_of (texts_fields t)) same.hardware,
-      ap (λ (t : List HardwareView). size_of (positions_fields t)) same.positions,
+      ap (λ (t : List HardwareAtView). size_of (positions_fields t)) same.positions,
       same_files one.data_files other.data_files same.data_files,
       same_files one.support_files other.support_files same.support_files,
       ap (λ (u : List ℕ). size_of (user_fields u)) same.user,
     )
 
-files_again : (xs ys : List FileEntry) → map file_texts xs ≡ map file_texts ys → AllByRecursion IsFile xs → AllByRecursion HasFileNumbers ys → AllByRecursion IsFile ys
+files_again : (xs ys : List FileEntry) → map file_texts xs ≡ map file_texts ys → AllByRecursion IsHeaderFile xs → AllByRecursion HasFileNumbers ys → AllByRecursion IsHeaderFile ys
 files_again [] [] same all numbers = tt
 files_again [] (y ∷ ys) same all numbers = absurd cc
 files_again (x ∷ xs) [] same all numbers = tt
 files_again (x ∷ xs) (y ∷ ys) same all numbers =
     let first : file_texts x ≡ file_texts y = cc in
     let others : map file_texts xs ≡ map file_texts ys = cc in
-    let is : IsFile y = record {
+    let is : IsHeaderFile y = record {
       name = subst IsName (ap (λ (t : List ℕ × List ℕ). t.0) first) all.0.name;
       part = subst IsText (ap (λ (t : List ℕ × List ℕ). t.1) first) all.0.part;
       size = numbers.0.0;
@@ -156,8 +156,8 @@ still_header one other is same numbers = record {
   type_name = subst IsText same.type_name is.type_name;
   type_id = numbers.type_id;
   hardware = subst AreTexts same.hardware is.hardware;
-  positions_count = subst (λ (l : List HardwareView). length l < 2 ^ 16) same.positions is.positions_count;
-  positions = subst (λ (l : List HardwareView). AllByRecursion IsHardwareAt l) same.positions is.positions;
+  positions_count = subst (λ (l : List HardwareAtView). length l < 2 ^ 16) same.positions is.positions_count;
+  positions = subst (λ (l : List HardwareAtView). AllByRecursion IsHardwareAt l) same.positions is.positions;
   data_files = files_again one.data_files other.data_files same.data_files is.data_files numbers.data_files;
   support_files = files_again one.support_files other.support_files same.support_files is.support_files numbers.support_files;
   files = omega (arith, is.files, count_of one.data_files other.data_files same.data_files, count_of one.support_files other.support_files same.support_files);

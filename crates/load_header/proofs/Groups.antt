@@ -14,8 +14,8 @@ use Rattle.field_grammar.specs.SectionLaws.{place_behind}
 use Rattle.header_sections.specs.Sections.{user_data}
 use Rattle.header_sections.specs.SectionFields.{texts_fields, user_fields, IsUserData}
 use Rattle.header_sections.specs.SectionLaws.{placed-user_data, placed-end}
-use Rattle.load_header.specs.Header.{HardwareView, refused, shared, identity, targets, all_files, no_check_value, check_sums, tail}
-use Rattle.load_header.specs.HeaderFields.{positions_fields, files_fields, AreTexts, IsHardwareAt, IsFile}
+use Rattle.load_header.specs.Header.{HardwareAtView, refused, shared, identity, targets, all_files, no_check_value, check_sums, tail}
+use Rattle.load_header.specs.HeaderFields.{positions_fields, files_fields, AreTexts, IsHardwareAt, IsHeaderFile}
 use Rattle.load_header.specs.declared.header.FileEntry.{FileEntry}
 use Rattle.load_header.specs.declared.reading.Pointers.{Pointers}
 use Rattle.load_header.proofs.Pieces.{spelled-u16, spelled-u32, spelled-text, spelled-part, spelled-texts, spelled-positions, placed-section, placed-files}
@@ -89,7 +89,7 @@ placed-identity places = record {
 -- ---- what it is for
 
 abbrev pub Targets : Type 0
-Targets = List (List ℕ) × List HardwareView
+Targets = List (List ℕ) × List HardwareAtView
 
 abbrev pub targets_parts : Targets → List (List ℕ)
 targets_parts v = texts_fields v.0 ++ positions_fields v.1
@@ -152,9 +152,9 @@ all_files_parts v = files_fields v.0 ++ files_fields v.1
 
 pub record AreFiles (places : Pointers) (before : List ℕ) (v : AllFiles) : Type 0 where
   pub data_place : places.data_files ≡ length before / 2
-  pub data_files : AllByRecursion IsFile v.0
+  pub data_files : AllByRecursion IsHeaderFile v.0
   pub support_place : places.support_files ≡ (length before + size_of (files_fields v.0)) / 2
-  pub support_files : AllByRecursion IsFile v.1
+  pub support_files : AllByRecursion IsHeaderFile v.1
   pub few : length v.0 + length v.1 ≤ 255
 
 pub placed-all_files : (places : Pointers) → IsPlacedBy (all_files places) (λ before. all_files_parts) (λ before after v. AreFiles places before v)

@@ -8,8 +8,8 @@ use Rattle.std.proofs.lemmas.List.{take_all, length-map}
 use Rattle.std.proofs.lemmas.List.Concat.{flat_map-cons}
 use Rattle.field_grammar.specs.Spelling.{size_of}
 use Rattle.field_grammar.specs.Fields.{number_fields, padded_fields}
-use Rattle.load_header.specs.Header.{HeaderView, hardware_view, header_view}
-use Rattle.load_header.specs.HeaderFields.{hardware_at_fields, positions_fields, file_body_fields, type_fields, check_place, header_size, pointers_of, IsHardwareAt, IsFile, IsHeader}
+use Rattle.load_header.specs.Header.{HeaderView, hardware_at_view, header_view}
+use Rattle.load_header.specs.HeaderFields.{hardware_at_fields, positions_fields, file_body_fields, type_fields, check_place, header_size, pointers_of, IsHardwareAt, IsHeaderFile, IsHeader}
 use Rattle.load_header.specs.Encoding.{few_positions, few_members, short_enough, kind_fields, pointers_by, AreSizes, IsKind, HasFiles, HasParts}
 use Rattle.load_header.specs.declared.header.FileEntry.{FileEntry}
 use Rattle.load_header.specs.declared.header.HardwareAt.{HardwareAt}
@@ -26,7 +26,7 @@ both false b e = absurd cc
 
 -- ---- what the tests say
 
-pub all_viewed : (list : List HardwareAt) → list_all few_positions (map hardware_view list) ≡ list_all (λ h. few_positions (hardware_view h)) list
+pub all_viewed : (list : List HardwareAt) → list_all few_positions (map hardware_at_view list) ≡ list_all (λ h. few_positions (hardware_at_view h)) list
 all_viewed [] = refl
 all_viewed (h ∷ list) = rw (all_viewed list) refl
 
@@ -44,7 +44,7 @@ few_kinds h few = ltb-true (length h.positions) 65536 (later_members h few).0
 
 -- the same of a header as it is kept
 pub few_kept : (h : LoadHeader) → few_members (header_view h) ≡ true → length h.positions.items < 65536
-few_kept h few = omega (arith, few_kinds (header_view h) few, length-map h.positions.items hardware_view)
+few_kept h few = omega (arith, few_kinds (header_view h) few, length-map h.positions.items hardware_at_view)
 
 -- the sizes of the sections give that of the whole
 pub total_size : (h : HeaderView) (s : Sizes) (n : ℕ) → AreSizes h s
@@ -68,33 +68,33 @@ long_user h long =
 
 -- ---- one more member
 
-pub kinds_viewed : (list : List HardwareAt) → flat_map kind_fields list ≡ flat_map hardware_at_fields (map hardware_view list)
+pub kinds_viewed : (list : List HardwareAt) → flat_map kind_fields list ≡ flat_map hardware_at_fields (map hardware_at_view list)
 kinds_viewed [] = refl
 kinds_viewed (h ∷ list) =
-    flat_map-cons kind_fields h list ∙ (ap (λ (l : List (List ℕ)). kind_fields h ++ l) (kinds_viewed list) ∙ sym (flat_map-cons hardware_at_fields (hardware_view h) (map hardware_view list)))
+    flat_map-cons kind_fields h list ∙ (ap (λ (l : List (List ℕ)). kind_fields h ++ l) (kinds_viewed list) ∙ sym (flat_map-cons hardware_at_fields (hardware_at_view h) (map hardware_at_view list)))
 
-pub kinds_all : (list : List HardwareAt) → AllByRecursion IsKind list → AllByRecursion IsHardwareAt (map hardware_view list)
+pub kinds_all : (list : List HardwareAt) → AllByRecursion IsKind list → AllByRecursion IsHardwareAt (map hardware_at_view list)
 kinds_all [] all = tt
 kinds_all (h ∷ list) all = (all.0, kinds_all list all.1)
 
-pub size_kind : (h : HardwareAt) → size_of (hardware_at_fields (hardware_view h)) ≡ size_of (padded_fields h.hardware) + size_of (texts_fields h.positions.items)
+pub size_kind : (h : HardwareAt) → size_of (hardware_at_fields (hardware_at_view h)) ≡ size_of (padded_fields h.hardware) + size_of (texts_fields h.positions.items)
 size_kind h = size_more (padded_fields h.hardware) (texts_fields h.positions.items)
 
-pub positions_few : (h : HardwareAt) → few_positions (hardware_view h) ≡ true → length h.positions.items < 65536
+pub positions_few : (h : HardwareAt) → few_positions (hardware_at_view h) ≡ true → length h.positions.items < 65536
 positions_few h few = ltb-true (length h.positions.items) 65536 few
 
-pub all_kinds : (list : List HardwareAt) (i : ℕ) → length list ≤ i → 2 + size_of (flat_map kind_fields (take i list)) ≡ size_of (positions_fields (map hardware_view list))
+pub all_kinds : (list : List HardwareAt) (i : ℕ) → length list ≤ i → 2 + size_of (flat_map kind_fields (take i list)) ≡ size_of (positions_fields (map hardware_at_view list))
 unfolding positions_fields
 all_kinds list i le =
     let whole : take i list ≡ list = take_all i list le in
-    let kinds : List (List ℕ) = flat_map hardware_at_fields (map hardware_view list) in
+    let kinds : List (List ℕ) = flat_map hardware_at_fields (map hardware_at_view list) in
     let viewed : flat_map kind_fields list ≡ kinds = kinds_viewed list in
-    rw whole (ap (λ (l : List (List ℕ)). 2 + size_of l) viewed ∙ sym (size_more (number_fields 2 (length (map hardware_view list))) kinds ∙ ap (λ (n : ℕ). n + size_of kinds) (size_number 2 (length (map hardware_view list)))))
+    rw whole (ap (λ (l : List (List ℕ)). 2 + size_of l) viewed ∙ sym (size_more (number_fields 2 (length (map hardware_at_view list))) kinds ∙ ap (λ (n : ℕ). n + size_of kinds) (size_number 2 (length (map hardware_at_view list)))))
 
-pub few_at : (list : List HardwareAt) (i : ℕ) (d : HardwareAt) → i < length list → list_all few_positions (map hardware_view list) ≡ true → few_positions (hardware_view (get_or list i d)) ≡ true
+pub few_at : (list : List HardwareAt) (i : ℕ) (d : HardwareAt) → i < length list → list_all few_positions (map hardware_at_view list) ≡ true → few_positions (hardware_at_view (get_or list i d)) ≡ true
 few_at [] i d lt all = absurd (omega arith)
-few_at (h ∷ list) zero d lt all = (both (few_positions (hardware_view h)) (list_all few_positions (map hardware_view list)) all).0
-few_at (h ∷ list) (suc i) d lt all = few_at list i d (omega (arith, lt)) (both (few_positions (hardware_view h)) (list_all few_positions (map hardware_view list)) all).1
+few_at (h ∷ list) zero d lt all = (both (few_positions (hardware_at_view h)) (list_all few_positions (map hardware_at_view list)) all).0
+few_at (h ∷ list) (suc i) d lt all = few_at list i d (omega (arith, lt)) (both (few_positions (hardware_at_view h)) (list_all few_positions (map hardware_at_view list)) all).1
 
 -- ---- what a header that has a spelling passes
 
@@ -113,11 +113,11 @@ pub header_files : (h : HeaderView) → IsHeader h → HasFiles h
 header_files h is = record { few = is.files; data_files = is.data_files; support_files = is.support_files }
 
 -- files that can be written are short enough for their distances
-pub files_fit : (files : List FileEntry) → AllByRecursion IsFile files → All (λ file. file.length ≤ 16777215) files
+pub files_fit : (files : List FileEntry) → AllByRecursion IsHeaderFile files → All (λ file. file.length ≤ 16777215) files
 files_fit [] all = All-nil (λ file. file.length ≤ 16777215)
 files_fit (file ∷ files) all = All-cons (λ file. file.length ≤ 16777215) file files all.0.size (files_fit files all.1)
 
-pub files_short : (files : List FileEntry) → AllByRecursion IsFile files → HaveDistances file_body_fields files
+pub files_short : (files : List FileEntry) → AllByRecursion IsHeaderFile files → HaveDistances file_body_fields files
 files_short [] all = tt
 files_short (file ∷ []) all = tt
 files_short (file ∷ next ∷ files) all = (omega (arith, size_body file, all.0.name.size.1, all.0.part.size), files_short (next ∷ files) all.1)

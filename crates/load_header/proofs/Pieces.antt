@@ -18,8 +18,8 @@ use Rattle.header_sections.specs.Sections.{text, name, part, section_at, distanc
 use Rattle.header_sections.specs.SectionFields.{texts_fields, entry_size, entry_fields, entry_fields_after, entries_fields}
 use Rattle.header_sections.specs.SectionLaws as texts
 use Rattle.header_sections.specs.SectionLaws.{placed-section_at}
-use Rattle.load_header.specs.Header.{named, refused, shared, u16, u32, counted_texts, hardware_at, positions, file_size, file_body, file_entry, entry_behind, files, HardwareView}
-use Rattle.load_header.specs.HeaderFields.{hardware_at_fields, positions_fields, file_body_fields, files_fields, AreTexts, IsHardwareAt, IsFile}
+use Rattle.load_header.specs.Header.{named, refused, shared, u16, u32, counted_texts, hardware_at, positions, file_size, file_body, file_entry, entry_behind, files, HardwareAtView}
+use Rattle.load_header.specs.HeaderFields.{hardware_at_fields, positions_fields, file_body_fields, files_fields, AreTexts, IsHardwareAt, IsHeaderFile}
 use Rattle.load_header.specs.declared.fault.HeaderFault.TheVariants as faults
 use Rattle.load_header.specs.declared.header.FileEntry.{FileEntry}
 use Rattle.load_header.proofs.Sizes.{size_body}
@@ -62,7 +62,7 @@ spelled-hardware_at = record {
       let a = spelled-text.to before f1 (length (concat o1) + after) hardware h1 in
       let b = spelled-texts.to (before ++ concat f1) f2 (length (concat o2) + after) list h2 in
       let whole : fields ≡ padded_fields hardware ++ texts_fields list = rw (e1, e2, last.0, a.0, b.0, append-nil) refl in
-      subst (λ (v : HardwareView). (fields ≡ hardware_at_fields v) × IsHardwareAt v) last.1 (whole, (a.1, b.1));
+      subst (λ (v : HardwareAtView). (fields ≡ hardware_at_fields v) × IsHardwareAt v) last.1 (whole, (a.1, b.1));
   from = λ before after value fits. (
     value.hardware,
     padded_fields value.hardware,
@@ -122,7 +122,7 @@ spelled-file_size file = record {
   );
 }
 
-spelled-file_body : (file : ℕ) → IsSpelledBy (file_body file) file_body_fields IsFile
+spelled-file_body : (file : ℕ) → IsSpelledBy (file_body file) file_body_fields IsHeaderFile
 unfolding file_body file_body_fields
 spelled-file_body file = record {
   to = λ before fields after value follows.
@@ -133,8 +133,8 @@ spelled-file_body file = record {
       let d = spelled-u16.to (((before ++ concat f1) ++ concat f2) ++ concat f3) f4 (length (concat o4) + after) sum h4 in
       let is : FileEntry = record { name = title; part = number; length = size; crc16 = sum } in
       let whole : fields ≡ file_body_fields is = rw (e1, e2, e3, e4, last.0, a.0, b.0, c.0, d.0) refl in
-      let fits : IsFile is = record { name = a.1; part = b.1; size = c.1; sum = d.1 } in
-      subst (λ (v : FileEntry). (fields ≡ file_body_fields v) × IsFile v) last.1 (whole, fits);
+      let fits : IsHeaderFile is = record { name = a.1; part = b.1; size = c.1; sum = d.1 } in
+      subst (λ (v : FileEntry). (fields ≡ file_body_fields v) × IsHeaderFile v) last.1 (whole, fits);
   from = λ before after value fits. (
     value.name,
     padded_fields value.name,
@@ -164,33 +164,33 @@ distance_fits : (last : Bool) (n : ℕ) → n < 2 ^ 17 → distance_of last n < 
 distance_fits true n small = omega arith
 distance_fits false n small = omega (arith, small)
 
-body_small : (f : FileEntry) → IsFile f → 2 + size_of (file_body_fields f) < 2 ^ 17
+body_small : (f : FileEntry) → IsHeaderFile f → 2 + size_of (file_body_fields f) < 2 ^ 17
 body_small f is = omega (arith, size_body f, is.name.size.1, is.part.size)
 
-spelled-file_entry : (file : ℕ) (last : Bool) → IsSpelledBy (file_entry file last) (entry_fields file_body_fields last) IsFile
+spelled-file_entry : (file : ℕ) (last : Bool) → IsSpelledBy (file_entry file last) (entry_fields file_body_fields last) IsHeaderFile
 unfolding file_entry
 spelled-file_entry file last =
-    spelled-as (file_entry file last) (entry_fields file_body_fields last) (λ f. (distance_of last (entry_size file_body_fields f) < 2 ^ 16) × IsFile f) IsFile (λ f is. is.1)
+    spelled-as (file_entry file last) (entry_fields file_body_fields last) (λ f. (distance_of last (entry_size file_body_fields f) < 2 ^ 16) × IsHeaderFile f) IsHeaderFile (λ f is. is.1)
     (λ f is. (distance_fits last (entry_size file_body_fields f) (body_small f is), is))
-    (spelled-measured u16 (distance_of last) (faults.Distance file) (file_body file) 2 (number_fields 2) file_body_fields (λ n. n < 2 ^ 16) IsFile (size_number 2) spelled-u16 (spelled-file_body file))
+    (spelled-measured u16 (distance_of last) (faults.Distance file) (file_body file) 2 (number_fields 2) file_body_fields (λ n. n < 2 ^ 16) IsHeaderFile (size_number 2) spelled-u16 (spelled-file_body file))
 
-placed-entries : (others count : ℕ) → IsPlacedBy (listed count (entry_behind others count) []) (λ before. listed_fields (entry_fields_after file_body_fields count) []) (λ before after xs. (length xs ≡ count) × AllPlaced (entry_fields_after file_body_fields count) (λ so_far b a x. IsFile x) [] before after xs)
+placed-entries : (others count : ℕ) → IsPlacedBy (listed count (entry_behind others count) []) (λ before. listed_fields (entry_fields_after file_body_fields count) []) (λ before after xs. (length xs ≡ count) × AllPlaced (entry_fields_after file_body_fields count) (λ so_far b a x. IsHeaderFile x) [] before after xs)
 placed-entries others count =
-    placed-listed (entry_behind others count) (entry_fields_after file_body_fields count) (λ so_far b a x. IsFile x) count
-    (λ so_far. placed (file_entry (others + length so_far + 1) (length so_far + 1 == count)) (entry_fields_after file_body_fields count so_far) IsFile (spelled-file_entry (others + length so_far + 1) (length so_far + 1 == count)))
+    placed-listed (entry_behind others count) (entry_fields_after file_body_fields count) (λ so_far b a x. IsHeaderFile x) count
+    (λ so_far. placed (file_entry (others + length so_far + 1) (length so_far + 1 == count)) (entry_fields_after file_body_fields count so_far) IsHeaderFile (spelled-file_entry (others + length so_far + 1) (length so_far + 1 == count)))
 
-all_there : (s : List FileEntry → FileEntry → List (List ℕ)) (xs so_far : List FileEntry) (before : List ℕ) (after : ℕ) → AllPlaced s (λ l b a x. IsFile x) so_far before after xs → AllByRecursion IsFile xs
+all_there : (s : List FileEntry → FileEntry → List (List ℕ)) (xs so_far : List FileEntry) (before : List ℕ) (after : ℕ) → AllPlaced s (λ l b a x. IsHeaderFile x) so_far before after xs → AllByRecursion IsHeaderFile xs
 all_there s [] so_far before after all = tt
 all_there s (x ∷ xs) so_far before after all = (all.0, all_there s xs (so_far ++ x ∷ []) (before ++ concat (s so_far x)) after all.1)
 
-all_again : (s : List FileEntry → FileEntry → List (List ℕ)) (xs so_far : List FileEntry) (before : List ℕ) (after : ℕ) → AllByRecursion IsFile xs → AllPlaced s (λ l b a x. IsFile x) so_far before after xs
+all_again : (s : List FileEntry → FileEntry → List (List ℕ)) (xs so_far : List FileEntry) (before : List ℕ) (after : ℕ) → AllByRecursion IsHeaderFile xs → AllPlaced s (λ l b a x. IsHeaderFile x) so_far before after xs
 all_again s [] so_far before after all = tt
 all_again s (x ∷ xs) so_far before after all = (all.0, all_again s xs (so_far ++ x ∷ []) (before ++ concat (s so_far x)) after all.1)
 
 -- ---- sections
 
 -- a list of files where its pointer says, of which there are few
-pub placed-files : (which said others : ℕ) → IsPlacedBy (files which said others) (λ before. files_fields) (λ before after xs. (said ≡ length before / 2) × (others + length xs ≤ 255) × AllByRecursion IsFile xs)
+pub placed-files : (which said others : ℕ) → IsPlacedBy (files which said others) (λ before. files_fields) (λ before after xs. (said ≡ length before / 2) × (others + length xs ≤ 255) × AllByRecursion IsHeaderFile xs)
 unfolding files entries_fields
 placed-files which said others = record {
   to = λ before fields after value follows.

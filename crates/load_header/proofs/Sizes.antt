@@ -6,7 +6,7 @@ use Rattle.field_grammar.specs.Fields.{number_fields, padded_fields}
 use Rattle.field_grammar.specs.NumberLaws.{length_number_bytes}
 use Rattle.field_grammar.specs.TextLaws.{length_pad_bytes}
 use Rattle.field_grammar.specs.SectionLaws.{size_more, size_number, size_padded}
-use Rattle.load_header.specs.Header.{HeaderView, HardwareView}
+use Rattle.load_header.specs.Header.{HeaderView, HardwareAtView}
 use Rattle.header_sections.specs.SectionFields.{texts_fields, entry_size}
 use Rattle.header_sections.specs.SizeLaws.{even_all, even_padded, even_texts, size_user, size_entries, even_total}
 use Rattle.load_header.specs.HeaderFields.{hardware_at_fields, positions_fields, file_body_fields, files_fields, type_fields, check_place}
@@ -22,10 +22,10 @@ size_body_parts f = omega (arith, size_body f, size_padded f.name, size_padded f
 even_body : (f : FileEntry) → entry_size file_body_fields f % 2 ≡ 0
 even_body f = omega (arith, size_body f)
 
-even_hardware_at : (h : HardwareView) → size_of (hardware_at_fields h) % 2 ≡ 0
+even_hardware_at : (h : HardwareAtView) → size_of (hardware_at_fields h) % 2 ≡ 0
 even_hardware_at h = omega (arith, size_more (padded_fields h.hardware) (texts_fields h.positions), even_padded h.hardware, even_texts h.positions)
 
-even_positions : (list : List HardwareView) → size_of (positions_fields list) % 2 ≡ 0
+even_positions : (list : List HardwareAtView) → size_of (positions_fields list) % 2 ≡ 0
 unfolding positions_fields
 even_positions list =
     omega (arith, size_more (number_fields 2 (length list)) (flat_map hardware_at_fields list), size_number 2 (length list), even_all hardware_at_fields even_hardware_at list)

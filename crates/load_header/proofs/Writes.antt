@@ -6,7 +6,7 @@ use Rattle.std.proofs.lemmas.List.{append-nil, length-map}
 use Rattle.std.proofs.lemmas.List.Folds.{concat-append}
 use Rattle.crc_fields.specs.CheckSums.{crc16_of}
 use Rattle.field_grammar.specs.Fields.{number_bytes, number_fields}
-use Rattle.load_header.specs.Header.{HeaderView, hardware_view}
+use Rattle.load_header.specs.Header.{HeaderView, hardware_at_view}
 use Rattle.load_header.specs.HeaderFields.{hardware_at_fields, positions_fields, files_fields, identity_fields, targets_fields, all_files_fields, sections_fields, head_fields, covered_fields, header_fields, header_size, pointers_of}
 use Rattle.header_sections.specs.SectionFields.{texts_fields, user_fields}
 use Rattle.load_header.specs.Encoding.{pointers_by, whole_size, AreSizes, kind_fields}
@@ -15,15 +15,15 @@ use Rattle.load_header.specs.declared.measuring.Sizes.{Sizes}
 use Rattle.load_header.specs.declared.reading.Pointers.{Pointers}
 use Rattle.load_header.proofs.Limits.{kinds_viewed, total_size, pointers_are}
 
-pub kinds_written : (list : List HardwareAt) → concat (flat_map kind_fields list) ≡ concat (flat_map hardware_at_fields (map hardware_view list))
+pub kinds_written : (list : List HardwareAt) → concat (flat_map kind_fields list) ≡ concat (flat_map hardware_at_fields (map hardware_at_view list))
 kinds_written list = ap (λ (l : List (List ℕ)). concat l) (kinds_viewed list)
 
 pub positions_written : (list : List HardwareAt) (before middle now : List ℕ) → middle ≡ before ++ number_bytes 2 (length list) → now ≡ middle ++ concat (flat_map kind_fields list)
-    → now ≡ before ++ concat (positions_fields (map hardware_view list))
+    → now ≡ before ++ concat (positions_fields (map hardware_at_view list))
 unfolding positions_fields
 positions_written list before middle now first second =
-    let size : length list ≡ length (map hardware_view list) = sym (length-map list hardware_view) in
-    let counted : middle ≡ before ++ number_bytes 2 (length (map hardware_view list)) = first ∙ ap (λ (n : ℕ). before ++ number_bytes 2 n) size in
+    let size : length list ≡ length (map hardware_at_view list) = sym (length-map list hardware_at_view) in
+    let counted : middle ≡ before ++ number_bytes 2 (length (map hardware_at_view list)) = first ∙ ap (λ (n : ℕ). before ++ number_bytes 2 n) size in
     rw (second, counted, kinds_written list, append_assoc) refl
 
 pub sections_written : (h : HeaderView) (o0 o1 o2 o3 o4 o5 o6 o7 : List ℕ) → o1 ≡ o0 ++ concat (identity_fields h) → o2 ≡ o1 ++ concat (texts_fields h.hardware) → o3 ≡ o2 ++ concat (positions_fields h.positions)

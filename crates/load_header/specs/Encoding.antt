@@ -6,16 +6,16 @@ use Rattle.part_number.specs.PartNumber.{IsPartNumberText}
 use Rattle.field_grammar.specs.Grammar.{IsBytes}
 use Rattle.field_grammar.specs.Spelling.{size_of}
 use Rattle.field_grammar.specs.Fields.{padded_fields}
-use Rattle.load_header.specs.Header.{HeaderView, HardwareView, hardware_view}
+use Rattle.load_header.specs.Header.{HeaderView, HardwareAtView, hardware_at_view}
 use Rattle.header_sections.specs.SectionFields.{texts_fields, user_fields}
-use Rattle.load_header.specs.HeaderFields.{hardware_at_fields, positions_fields, files_fields, type_fields, header_size, AreTexts, IsHardwareAt, IsFile}
+use Rattle.load_header.specs.HeaderFields.{hardware_at_fields, positions_fields, files_fields, type_fields, header_size, AreTexts, IsHardwareAt, IsHeaderFile}
 use Rattle.load_header.specs.declared.header.HardwareAt.{HardwareAt}
 use Rattle.load_header.specs.declared.reading.Pointers.{Pointers}
 use Rattle.load_header.specs.declared.measuring.Sizes.{Sizes}
 
 -- ---- the limits, as the code tests them
 
-abbrev pub few_positions : HardwareView → Bool
+abbrev pub few_positions : HardwareAtView → Bool
 few_positions h = nat_lt (length h.positions) 65536
 
 -- at most 65,535 kinds of hardware, with and without positions, and as many positions of each
@@ -25,8 +25,8 @@ few_members h = nat_lt (length h.hardware) 65536 && (nat_lt (length h.positions)
 -- at most 255 files, each as it has to be
 pub record HasFiles (h : HeaderView) : Type 0 where
   pub few : length h.data_files + length h.support_files ≤ 255
-  pub data_files : AllByRecursion IsFile h.data_files
-  pub support_files : AllByRecursion IsFile h.support_files
+  pub data_files : AllByRecursion IsHeaderFile h.data_files
+  pub support_files : AllByRecursion IsHeaderFile h.support_files
 
 -- an even number of bytes of user data, and at most 65,536 bytes in all
 unfoldable pub short_enough : HeaderView → Bool
@@ -73,10 +73,10 @@ pointers_by s = record {
 
 -- a kind of hardware and its positions, as it is kept
 abbrev pub kind_fields : HardwareAt → List (List ℕ)
-kind_fields h = hardware_at_fields (hardware_view h)
+kind_fields h = hardware_at_fields (hardware_at_view h)
 
 abbrev pub IsKind : HardwareAt → Type 0
-IsKind h = IsHardwareAt (hardware_view h)
+IsKind h = IsHardwareAt (hardware_at_view h)
 
 -- the texts, part number, type number and user data of a header are such by their types
 pub record HasParts (h : HeaderView) : Type 0 where

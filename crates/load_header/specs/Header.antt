@@ -17,7 +17,7 @@ use Rattle.load_header.specs.declared.reading.Pointers.{Pointers}
 
 -- ---- what a header says, without the room of its lists
 
-pub record HardwareView : Type 0 where
+pub record HardwareAtView : Type 0 where
   pub hardware : List ℕ
   pub positions : List (List ℕ)
 
@@ -27,14 +27,14 @@ pub record HeaderView : Type 0 where
   pub type_name : List ℕ
   pub type_id : ℕ
   pub hardware : List (List ℕ)
-  pub positions : List HardwareView
+  pub positions : List HardwareAtView
   pub data_files : List FileEntry
   pub support_files : List FileEntry
   pub user : List ℕ
   pub load_crc : ℕ
 
-abbrev pub hardware_view : HardwareAt → HardwareView
-hardware_view h = record { hardware = h.hardware; positions = h.positions.items }
+abbrev pub hardware_at_view : HardwareAt → HardwareAtView
+hardware_at_view h = record { hardware = h.hardware; positions = h.positions.items }
 
 abbrev pub header_view : LoadHeader → HeaderView
 header_view h = record {
@@ -43,7 +43,7 @@ header_view h = record {
   type_name = h.type_name;
   type_id = h.type_id;
   hardware = h.hardware.items;
-  positions = map hardware_view h.positions.items;
+  positions = map hardware_at_view h.positions.items;
   data_files = h.data_files.items;
   support_files = h.support_files.items;
   user = h.user.items;
@@ -125,20 +125,20 @@ identity places = do
   give (number, type_name, id)
 
 -- a kind of hardware and its positions
-unfoldable pub hardware_at : Grammar HeaderFault HardwareView
+unfoldable pub hardware_at : Grammar HeaderFault HardwareAtView
 hardware_at = do
   hardware ← shared text
   positions ← counted_texts
   give (record { hardware = hardware; positions = positions })
 
 -- a count, and so many kinds of hardware with their positions
-unfoldable pub positions : Grammar HeaderFault (List HardwareView)
+unfoldable pub positions : Grammar HeaderFault (List HardwareAtView)
 positions = do
   count ← u16
   times count hardware_at
 
 -- the hardware that the load is for, and its positions
-unfoldable pub targets : Pointers → Grammar HeaderFault (List (List ℕ) × List HardwareView)
+unfoldable pub targets : Pointers → Grammar HeaderFault (List (List ℕ) × List HardwareAtView)
 targets places = do
   shared (section_at 3 places.hardware)
   hardware ← counted_texts

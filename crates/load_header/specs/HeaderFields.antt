@@ -9,18 +9,18 @@ use Rattle.field_grammar.specs.Grammar.{IsBytes}
 use Rattle.field_grammar.specs.Spelling.{size_of}
 use Rattle.field_grammar.specs.Fields.{number_fields, padded_fields}
 use Rattle.header_sections.specs.SectionFields.{texts_fields, user_fields, entries_fields}
-use Rattle.load_header.specs.Header.{HeaderView, HardwareView}
+use Rattle.load_header.specs.Header.{HeaderView, HardwareAtView}
 use Rattle.load_header.specs.declared.header.FileEntry.{FileEntry}
 use Rattle.load_header.specs.declared.reading.Pointers.{Pointers}
 
 -- ---- the sections
 
 -- a kind of hardware and its positions
-abbrev pub hardware_at_fields : HardwareView → List (List ℕ)
+abbrev pub hardware_at_fields : HardwareAtView → List (List ℕ)
 hardware_at_fields h = padded_fields h.hardware ++ texts_fields h.positions
 
 -- a count, and so many kinds of hardware with their positions
-unfoldable pub positions_fields : List HardwareView → List (List ℕ)
+unfoldable pub positions_fields : List HardwareAtView → List (List ℕ)
 positions_fields list = number_fields 2 (length list) ++ flat_map hardware_at_fields list
 
 -- what an entry says of its file, behind the distance: the length in words is that in bytes, halved and rounded up
@@ -116,11 +116,11 @@ header_fields h = covered_fields h ++ (number_fields 2 (crc16_of (concat (covere
 abbrev pub AreTexts : List (List ℕ) → Type 0
 AreTexts texts = (length texts < 2 ^ 16) × AllByRecursion IsText texts
 
-abbrev pub IsHardwareAt : HardwareView → Type 0
+abbrev pub IsHardwareAt : HardwareAtView → Type 0
 IsHardwareAt h = IsText h.hardware × AreTexts h.positions
 
 -- at most 16,777,215 bytes
-pub record IsFile (file : FileEntry) : Type 0 where
+pub record IsHeaderFile (file : FileEntry) : Type 0 where
   pub name : IsName file.name
   pub part : IsText file.part
   pub size : file.length ≤ 16777215
@@ -135,8 +135,8 @@ pub record IsHeader (h : HeaderView) : Type 0 where
   pub hardware : AreTexts h.hardware
   pub positions_count : length h.positions < 2 ^ 16
   pub positions : AllByRecursion IsHardwareAt h.positions
-  pub data_files : AllByRecursion IsFile h.data_files
-  pub support_files : AllByRecursion IsFile h.support_files
+  pub data_files : AllByRecursion IsHeaderFile h.data_files
+  pub support_files : AllByRecursion IsHeaderFile h.support_files
   pub files : length h.data_files + length h.support_files ≤ 255
   pub user : IsBytes h.user
   pub user_even : length h.user % 2 ≡ 0

@@ -1,9 +1,9 @@
 //! How many bytes a header takes, and whether it meets the limits.
 ghost use Rattle.std.specs.Prelude.{◌≡◌, ◌↔◌, ◌+◌, ◌*◌, ◌<◌, ◌≤◌, length, map, true, IsTrue};
 ghost use Rattle.std.specs.List.{list_all, AllByRecursion};
-ghost use Rattle.load_header.specs.Header.{hardware_view, header_view};
+ghost use Rattle.load_header.specs.Header.{hardware_at_view, header_view};
 ghost use Rattle.field_grammar.specs.Spelling.{size_of};
-ghost use Rattle.load_header.specs.HeaderFields.{hardware_at_fields, positions_fields, header_size as size_of_header, IsHardwareAt, IsFile, IsHeader};
+ghost use Rattle.load_header.specs.HeaderFields.{hardware_at_fields, positions_fields, header_size as size_of_header, IsHardwareAt, IsHeaderFile, IsHeader};
 ghost use Rattle.load_header.specs.Encoding.{few_positions, few_members as few_members_of, short_enough, AreSizes, AreSmall, HasFiles, HasParts, IsKind};
 
 use crate::header::{FileEntry, HardwareAt, LoadHeader};
@@ -56,13 +56,13 @@ fn few_members(header: &LoadHeader) -> bool
 }
 
 fn few_positions_everywhere(list: &[HardwareAt]) -> bool
-    ensures { result ≡ list_all few_positions (map hardware_view list.now) }
+    ensures { result ≡ list_all few_positions (map hardware_at_view list.now) }
 {
     few_positions_each(list)
 }
 
 fn few_positions_each(list: &[HardwareAt]) -> bool
-    ensures { result ≡ list_all (λ h. few_positions (hardware_view h)) list.now }
+    ensures { result ≡ list_all (λ h. few_positions (hardware_at_view h)) list.now }
 {
     list.iter().all(|at| at.positions.len() < COUNTS)
 }
@@ -85,7 +85,7 @@ fn few_files(header: &LoadHeader) -> bool
 }
 
 fn are_files(files: &[FileEntry]) -> bool
-    ensures { IsTrue result ↔ AllByRecursion IsFile files.now }
+    ensures { IsTrue result ↔ AllByRecursion IsHeaderFile files.now }
 {
     for file in files {
         if !is_file(file) {
@@ -96,7 +96,7 @@ fn are_files(files: &[FileEntry]) -> bool
 }
 
 fn is_file(file: &FileEntry) -> bool
-    ensures { IsTrue result ↔ IsFile file.now }
+    ensures { IsTrue result ↔ IsHeaderFile file.now }
 {
     // The name, the part and the CRC are such by their types.
     let _name = file.name.as_slice();
@@ -170,8 +170,8 @@ pub(crate) fn sizes_of(header: &LoadHeader) -> Sizes
 
 #[tactic(auto, using(crate::proofs::Limits::size_kind, crate::proofs::Limits::positions_few))]
 fn kind_size(at: &HardwareAt) -> u64
-    requires { few_positions (hardware_view at.now) ≡ true }
-    ensures size { result ≡ size_of (hardware_at_fields (hardware_view at.now)) }
+    requires { few_positions (hardware_at_view at.now) ≡ true }
+    ensures size { result ≡ size_of (hardware_at_fields (hardware_at_view at.now)) }
     ensures small { result ≤ 17000000 }
     ensures kind { IsKind at.now }
 {
@@ -181,10 +181,10 @@ fn kind_size(at: &HardwareAt) -> u64
 #[tactic(auto, using(crate::proofs::Limits::all_kinds))]
 fn positions_size(list: &[HardwareAt]) -> u64
     requires count { length list.now < 65536 }
-    requires each { list_all few_positions (map hardware_view list.now) ≡ true }
-    ensures size { result ≡ size_of (positions_fields (map hardware_view list.now)) }
+    requires each { list_all few_positions (map hardware_at_view list.now) ≡ true }
+    ensures size { result ≡ size_of (positions_fields (map hardware_at_view list.now)) }
     ensures small { result ≤ 2 + 17000000 * length list.now }
-    ensures kinds { AllByRecursion IsHardwareAt (map hardware_view list.now) }
+    ensures kinds { AllByRecursion IsHardwareAt (map hardware_at_view list.now) }
 {
     let mut size = 2;
     for at in list {

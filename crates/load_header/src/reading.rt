@@ -2,7 +2,7 @@
 ghost use Rattle.std.specs.Prelude.{◌≡◌, [], ◌*◌, ◌/◌, ◌+◌, ◌==◌, ◌≤◌, ◌<◌, length, map, IfOk};
 ghost use Rattle.field_grammar.specs.Grammar.{times, listed};
 ghost use Rattle.field_grammar.specs.Answers.{answer, Decodes, Gives};
-ghost use Rattle.load_header.specs.Header.{counted_texts, four, pointers, head, identity, hardware_at, positions, targets, file_size, file_body, file_entry, entry_behind, files, all_files, no_check_value, check_sums, tail, limit, header, hardware_view, header_view};
+ghost use Rattle.load_header.specs.Header.{counted_texts, four, pointers, head, identity, hardware_at, positions, targets, file_size, file_body, file_entry, entry_behind, files, all_files, no_check_value, check_sums, tail, limit, header, hardware_at_view, header_view};
 ghost use Rattle.load_header.specs.declared.fault.HeaderFault.TheVariants.{Memory};
 
 use crate::fault::HeaderFault;
@@ -155,7 +155,7 @@ fn read_targets(
     reader: &mut Reader,
     pointers: Pointers,
 ) -> Result<(List<Text>, List<HardwareAt>), HeaderFault>
-    ensures { Decodes Memory (λ x. (x.0.items, map hardware_view x.1.items)) (targets pointers) reader.old result reader.new }
+    ensures { Decodes Memory (λ x. (x.0.items, map hardware_at_view x.1.items)) (targets pointers) reader.old result reader.new }
 {
     test_section(reader, 3, pointers.hardware)?;
     let hardware = read_counted_texts(alloc, reader)?;
@@ -166,7 +166,7 @@ fn read_targets(
 
 #[tactic(auto, unfolding(crate::specs::Header::positions))]
 fn read_positions(alloc: Global, reader: &mut Reader) -> Result<List<HardwareAt>, HeaderFault>
-    ensures { Decodes Memory (λ l. map hardware_view l.items) positions reader.old result reader.new }
+    ensures { Decodes Memory (λ l. map hardware_at_view l.items) positions reader.old result reader.new }
 {
     let count = reader.take_u16()?;
     let positions = read_so_many_positions(alloc, reader, count)?;
@@ -179,7 +179,7 @@ fn read_so_many_positions(
     reader: &mut Reader,
     count: u16,
 ) -> Result<List<HardwareAt>, HeaderFault>
-    ensures { Decodes Memory (λ l. map hardware_view l.items) (times count hardware_at) reader.old result reader.new }
+    ensures { Decodes Memory (λ l. map hardware_at_view l.items) (times count hardware_at) reader.old result reader.new }
 {
     let mut positions = List::new(alloc);
     for _ in 0..count {
@@ -190,7 +190,7 @@ fn read_so_many_positions(
 
 #[tactic(auto, unfolding(crate::specs::Header::hardware_at))]
 fn read_hardware_at(alloc: Global, reader: &mut Reader) -> Result<HardwareAt, HeaderFault>
-    ensures { Decodes Memory hardware_view hardware_at reader.old result reader.new }
+    ensures { Decodes Memory hardware_at_view hardware_at reader.old result reader.new }
 {
     let hardware = read_text(alloc, reader)?;
     let positions = read_counted_texts(alloc, reader)?;

@@ -1,7 +1,7 @@
 //! The encoder of a load header, part by part of its fields.
 ghost use Rattle.std.specs.Prelude.{◌≡◌, ◌++◌, ◌<◌, length, map, true, OnOk};
 ghost use Rattle.std.specs.List.{concat, list_all, flat_map};
-ghost use Rattle.load_header.specs.Header.{hardware_view};
+ghost use Rattle.load_header.specs.Header.{hardware_at_view};
 ghost use Rattle.load_header.specs.HeaderFields.{positions_fields};
 ghost use Rattle.load_header.specs.Encoding.{kind_fields, few_positions};
 
@@ -13,7 +13,7 @@ use load_base::NoMemory;
 // ---- positions
 
 fn put_kind(out: &mut Writer, at: &HardwareAt) -> Result<(), NoMemory>
-    requires { few_positions (hardware_view at.now) ≡ true }
+    requires { few_positions (hardware_at_view at.now) ≡ true }
     ensures { OnOk result (out.new ≡ out.old ++ concat (kind_fields at.now)) }
 {
     put_text(out, &at.hardware)?;
@@ -22,7 +22,7 @@ fn put_kind(out: &mut Writer, at: &HardwareAt) -> Result<(), NoMemory>
 }
 
 fn put_each_kind(out: &mut Writer, list: &[HardwareAt]) -> Result<(), NoMemory>
-    requires { list_all few_positions (map hardware_view list.now) ≡ true }
+    requires { list_all few_positions (map hardware_at_view list.now) ≡ true }
     ensures { OnOk result (out.new ≡ out.old ++ concat (flat_map kind_fields list.now)) }
 {
     for at in list {
@@ -34,8 +34,8 @@ fn put_each_kind(out: &mut Writer, list: &[HardwareAt]) -> Result<(), NoMemory>
 #[tactic(auto, using(crate::proofs::Writes::kinds_written), unfolding(crate::specs::HeaderFields::positions_fields))]
 pub(crate) fn put_positions(out: &mut Writer, list: &[HardwareAt]) -> Result<(), NoMemory>
     requires count { length list.now < 65536 }
-    requires each { list_all few_positions (map hardware_view list.now) ≡ true }
-    ensures { OnOk result (out.new ≡ out.old ++ concat (positions_fields (map hardware_view list.now))) }
+    requires each { list_all few_positions (map hardware_at_view list.now) ≡ true }
+    ensures { OnOk result (out.new ≡ out.old ++ concat (positions_fields (map hardware_at_view list.now))) }
 {
     out.put_u16(list.len() as u16)?;
     put_each_kind(out, list)?;

@@ -13,13 +13,13 @@ use Rattle.media_lists.specs.Lists.{ListView}
 use Rattle.media_lists.specs.Entries.{is_listed}
 use Rattle.header_sections.specs.SectionFields.{entry_size, entries_fields, HaveDistances}
 use Rattle.media_lists.specs.ListFields.{IsMember, AreNew, AreEntries, IsMediaList}
-use Rattle.media_lists.specs.Files.{file_body_fields, IsFile}
-use Rattle.media_lists.specs.Loads.{load_view, IsLoad}
+use Rattle.media_lists.specs.Files.{file_body_fields, IsListedFile}
+use Rattle.media_lists.specs.Loads.{load_entry_view, IsListedLoad}
 use Rattle.media_lists.specs.declared.lists.ListedFile.{ListedFile}
 use Rattle.media_lists.specs.declared.lists.LoadEntry.{LoadEntry}
 use Rattle.media_lists.proofs.Sizes.{size_file, whole_size}
 
-pub few_hardware : (members : ℕ) (loads : List LoadEntry) → AllByRecursion (IsLoad members) (map load_view loads) → All (λ load. length load.hardware.items ≤ 1024) loads
+pub few_hardware : (members : ℕ) (loads : List LoadEntry) → AllByRecursion (IsListedLoad members) (map load_entry_view loads) → All (λ load. length load.hardware.items ≤ 1024) loads
 few_hardware members [] each = All-nil (λ load. length load.hardware.items ≤ 1024)
 few_hardware members (load ∷ loads) each = All-cons (λ load. length load.hardware.items ≤ 1024) load loads each.0.few (few_hardware members loads each.1)
 
@@ -54,7 +54,7 @@ new_more name_of es i d lt is new one =
 
 -- ---- files
 
-pub files_short : (members : ℕ) (files : List ListedFile) → AllByRecursion (IsFile members) files → HaveDistances file_body_fields files
+pub files_short : (members : ℕ) (files : List ListedFile) → AllByRecursion (IsListedFile members) files → HaveDistances file_body_fields files
 files_short members [] each = tt
 files_short members (file ∷ []) each = tt
 files_short members (file ∷ next ∷ files) each = (omega (arith, size_file file, each.0.name.size.1, each.0.path.size), files_short members (next ∷ files) each.1)

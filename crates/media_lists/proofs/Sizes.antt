@@ -10,7 +10,7 @@ use Rattle.header_sections.specs.SectionFields.{texts_fields, entry_size, entrie
 use Rattle.header_sections.specs.SizeLaws.{even_texts, size_user, size_entries, even_total}
 use Rattle.media_lists.specs.ListFields.{head_fields, identity_fields, list_size}
 use Rattle.media_lists.specs.Files.{file_body_fields}
-use Rattle.media_lists.specs.Loads.{load_body_fields, LoadView}
+use Rattle.media_lists.specs.Loads.{load_body_fields, LoadEntryView}
 use Rattle.media_lists.specs.declared.lists.ListedFile.{ListedFile}
 use Rattle.media_lists.specs.declared.reading.Pointers.{Pointers}
 
@@ -32,7 +32,7 @@ size_file f = simp (length-append, length_number_bytes, length_pad_bytes) (omega
 pub even_file : (f : ListedFile) → entry_size file_body_fields f % 2 ≡ 0
 even_file f = omega (arith, size_file f)
 
-pub size_load : (l : LoadView) → size_of (load_body_fields l) ≡ size_of (padded_fields l.part) + size_of (padded_fields l.header_name) + 2 + size_of (texts_fields l.hardware)
+pub size_load : (l : LoadEntryView) → size_of (load_body_fields l) ≡ size_of (padded_fields l.part) + size_of (padded_fields l.header_name) + 2 + size_of (texts_fields l.hardware)
 unfolding load_body_fields
 size_load l =
     omega (
@@ -43,7 +43,7 @@ size_load l =
       size_number 2 l.member,
     )
 
-pub even_load : (l : LoadView) → entry_size load_body_fields l % 2 ≡ 0
+pub even_load : (l : LoadEntryView) → entry_size load_body_fields l % 2 ≡ 0
 even_load l = omega (arith, size_load l, size_padded l.part, size_padded l.header_name, even_texts l.hardware)
 
 -- ---- lists

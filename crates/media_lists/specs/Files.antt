@@ -13,11 +13,11 @@ use Rattle.media_lists.specs.declared.lists.FilesList.{FilesList}
 use Rattle.media_lists.specs.declared.lists.ListedFile.{ListedFile}
 
 -- what a list of files says, without the room of its lists
-abbrev pub FilesView : Type 0
-FilesView = ListView ListedFile
+abbrev pub FilesListView : Type 0
+FilesListView = ListView ListedFile
 
-abbrev pub files_view : FilesList → FilesView
-files_view l = record { set = l.set; member = l.member; members = l.members; entries = l.files.items; user = l.user.items }
+abbrev pub files_list_view : FilesList → FilesListView
+files_list_view l = record { set = l.set; member = l.member; members = l.members; entries = l.files.items; user = l.user.items }
 
 -- ---- as it is read
 
@@ -36,7 +36,7 @@ file_name file = file.name
 abbrev pub file_entries : ℕ → ℕ → Grammar ListFault (List ListedFile)
 file_entries members said = entries (file_body members) file_name said
 
-abbrev pub files_list : Grammar ListFault FilesView
+abbrev pub files_list : Grammar ListFault FilesListView
 files_list = media_list 0xA004 file_entries
 
 -- ---- as it is written
@@ -45,15 +45,15 @@ unfoldable pub file_body_fields : ListedFile → List (List ℕ)
 file_body_fields file = padded_fields file.name ++ (padded_fields file.path ++ (number_fields 2 file.member ++ number_fields 2 file.crc16))
 
 -- a file that a list of a set of so many members can name
-pub record IsFile (members : ℕ) (file : ListedFile) : Type 0 where
+pub record IsListedFile (members : ℕ) (file : ListedFile) : Type 0 where
   pub name : IsName file.name
   pub path : IsPath file.path
   pub member : IsMember members file.member
   pub sum : file.crc16 < 2 ^ 16
 
-abbrev pub IsFilesList : FilesView → Type 0
-IsFilesList v = IsMediaList IsFile file_name file_body_fields v
+abbrev pub IsFilesList : FilesListView → Type 0
+IsFilesList v = IsMediaList IsListedFile file_name file_body_fields v
 
 -- The list has this one spelling, and can be written.
-abbrev pub FilesSpells : FilesView → List ℕ → Type 0
-FilesSpells v bytes = ListSpells IsFile file_name 0xA004 file_body_fields v bytes
+abbrev pub FilesSpells : FilesListView → List ℕ → Type 0
+FilesSpells v bytes = ListSpells IsListedFile file_name 0xA004 file_body_fields v bytes

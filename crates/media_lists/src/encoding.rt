@@ -1,7 +1,7 @@
 //! The encoders of the two media lists.
 ghost use Rattle.std.specs.Prelude.{◌≡◌, ◌+◌, ◌<◌, ◌≤◌, ◌/◌, ◌^◌, IfOk};
-ghost use Rattle.media_lists.specs.Files.{files_view, IsFilesList, FilesSpells};
-ghost use Rattle.media_lists.specs.Loads.{loads_view, IsLoadsList, LoadsSpells};
+ghost use Rattle.media_lists.specs.Files.{files_list_view, IsFilesList, FilesSpells};
+ghost use Rattle.media_lists.specs.Loads.{loads_list_view, IsLoadsList, LoadsSpells};
 ghost use Rattle.media_lists.specs.declared.reading.Pointers.{Pointers};
 
 use crate::lists::{FILES_VERSION, FilesList, LOADS_VERSION, LoadsList};
@@ -27,8 +27,8 @@ fn pointers_of(entries: u64) -> Pointers
 
 /// The bytes of a list of files that meets the limits.
 pub(crate) fn files_bytes(alloc: Global, list: &FilesList) -> Result<Bytes, NoMemory>
-    requires { IsFilesList (files_view list.now) }
-    ensures { IfOk result (λ bytes. FilesSpells (files_view list.now) bytes.items) }
+    requires { IsFilesList (files_list_view list.now) }
+    ensures { IfOk result (λ bytes. FilesSpells (files_list_view list.now) bytes.items) }
 {
     let entries = entries_size(list.files.as_slice());
     let size = list_size(entries, list.user.len()) as u32;
@@ -43,8 +43,8 @@ pub(crate) fn files_bytes(alloc: Global, list: &FilesList) -> Result<Bytes, NoMe
 
 /// The bytes of a list of loads that meets the limits.
 pub(crate) fn loads_bytes(alloc: Global, list: &LoadsList) -> Result<Bytes, NoMemory>
-    requires { IsLoadsList (loads_view list.now) }
-    ensures { IfOk result (λ bytes. LoadsSpells (loads_view list.now) bytes.items) }
+    requires { IsLoadsList (loads_list_view list.now) }
+    ensures { IfOk result (λ bytes. LoadsSpells (loads_list_view list.now) bytes.items) }
 {
     let entries = entries_size(list.loads.as_slice());
     let size = list_size(entries, list.user.len()) as u32;

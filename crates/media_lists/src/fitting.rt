@@ -5,8 +5,8 @@ ghost use Rattle.field_grammar.specs.Grammar.{IsBytes};
 ghost use Rattle.media_lists.specs.Paths.{IsPath};
 ghost use Rattle.media_lists.specs.ListFields.{IsMember as is_such_member, AreNew, AreEntries};
 ghost use Rattle.header_sections.specs.SectionFields.{entry_size, HaveDistances};
-ghost use Rattle.media_lists.specs.Files.{files_view, file_name, file_body_fields, IsFile as is_such_file, IsFilesList};
-ghost use Rattle.media_lists.specs.Loads.{load_view, loads_view, load_name, load_body_fields, IsLoad as is_such_load, IsLoadsList};
+ghost use Rattle.media_lists.specs.Files.{files_list_view, file_name, file_body_fields, IsListedFile as is_such_file, IsFilesList};
+ghost use Rattle.media_lists.specs.Loads.{load_entry_view, loads_list_view, load_name, load_body_fields, IsListedLoad as is_such_load, IsLoadsList};
 
 use crate::lists::{FilesList, ListedFile, LoadEntry, LoadsList};
 use crate::measuring::{list_size, load_body_size};
@@ -87,7 +87,7 @@ fn files_meet_limits(files: &[ListedFile], members: u8) -> bool
 
 /// The list of files meets the limits.
 pub(crate) fn files_fit(list: &FilesList) -> bool
-    ensures { IsTrue result ↔ IsFilesList (files_view list.now) }
+    ensures { IsTrue result ↔ IsFilesList (files_list_view list.now) }
 {
     // The part number is such by its type.
     let _set = list.set.as_slice();
@@ -108,7 +108,7 @@ pub(crate) fn files_fit(list: &FilesList) -> bool
 
 // The entry meets the limits, as the last or another of its list.
 fn is_load(load: &LoadEntry, members: u8, last: bool) -> bool
-    ensures { IsTrue result ↔ (is_such_load members (load_view load.now) × (last ≡ false → entry_size load_body_fields (load_view load.now) ≤ 131070)) }
+    ensures { IsTrue result ↔ (is_such_load members (load_entry_view load.now) × (last ≡ false → entry_size load_body_fields (load_entry_view load.now) ≤ 131070)) }
 {
     if load.hardware.len() > MOST_ENTRIES {
         return false;
@@ -118,7 +118,7 @@ fn is_load(load: &LoadEntry, members: u8, last: bool) -> bool
 }
 
 fn are_loads(loads: &[LoadEntry], members: u8) -> bool
-    ensures { IsTrue result ↔ (AllByRecursion (is_such_load members) (map load_view loads.now) × HaveDistances load_body_fields (map load_view loads.now)) }
+    ensures { IsTrue result ↔ (AllByRecursion (is_such_load members) (map load_entry_view loads.now) × HaveDistances load_body_fields (map load_entry_view loads.now)) }
 {
     for (index, load) in loads.iter().enumerate() {
         if !is_load(load, members, index + 1 == loads.len()) {
@@ -130,7 +130,7 @@ fn are_loads(loads: &[LoadEntry], members: u8) -> bool
 
 fn are_new_loads(loads: &[LoadEntry]) -> bool
     requires { length loads.now ≤ 1024 }
-    ensures { IsTrue result ↔ AreNew load_name [] (map load_view loads.now) }
+    ensures { IsTrue result ↔ AreNew load_name [] (map load_entry_view loads.now) }
 {
     let mut order = Order::new();
     for (index, load) in loads.iter().enumerate() {
@@ -142,7 +142,7 @@ fn are_new_loads(loads: &[LoadEntry]) -> bool
 }
 
 fn loads_meet_limits(loads: &[LoadEntry], members: u8) -> bool
-    ensures { IsTrue result ↔ AreEntries (is_such_load members) load_name load_body_fields (map load_view loads.now) }
+    ensures { IsTrue result ↔ AreEntries (is_such_load members) load_name load_body_fields (map load_entry_view loads.now) }
 {
     if loads.len() > MOST_ENTRIES {
         return false;
@@ -152,7 +152,7 @@ fn loads_meet_limits(loads: &[LoadEntry], members: u8) -> bool
 
 /// The list of loads meets the limits.
 pub(crate) fn loads_fit(list: &LoadsList) -> bool
-    ensures { IsTrue result ↔ IsLoadsList (loads_view list.now) }
+    ensures { IsTrue result ↔ IsLoadsList (loads_list_view list.now) }
 {
     // The part number is such by its type.
     let _set = list.set.as_slice();

@@ -4,7 +4,7 @@ ghost use Rattle.media_lists.specs.NameOrder.{IsOrder};
 ghost use Rattle.field_grammar.specs.Grammar.{listed};
 ghost use Rattle.field_grammar.specs.Answers.{answer, Decodes, Gives};
 ghost use Rattle.media_lists.specs.Entries.{numbered_entry, entry_behind};
-ghost use Rattle.media_lists.specs.Files.{file_body, file_name, file_entries, files_list, files_view};
+ghost use Rattle.media_lists.specs.Files.{file_body, file_name, file_entries, files_list, files_list_view};
 ghost use Rattle.media_lists.specs.declared.fault.ListFault.TheVariants.{Memory};
 
 use crate::fault::ListFault;
@@ -21,7 +21,7 @@ use std::alloc::Global;
 /// The list that the bytes spell, or their first fault.
 #[tactic(auto, unfolding(crate::specs::Lists::media_list))]
 pub(crate) fn files_of(alloc: Global, bytes: &[u8]) -> Result<FilesList, ListFault>
-    ensures { Gives Memory files_view result (answer files_list bytes.now) }
+    ensures { Gives Memory files_list_view result (answer files_list bytes.now) }
 {
     let mut reader = Reader::new(bytes);
     test_limit(&mut reader)?;

@@ -4,7 +4,7 @@ ghost use Rattle.media_lists.specs.NameOrder.{IsOrder};
 ghost use Rattle.field_grammar.specs.Grammar.{listed};
 ghost use Rattle.field_grammar.specs.Answers.{answer, Decodes, Gives};
 ghost use Rattle.media_lists.specs.Entries.{numbered_entry, entry_behind};
-ghost use Rattle.media_lists.specs.Loads.{counted_texts, load_body, load_name, load_entries, loads_list, load_view, loads_view};
+ghost use Rattle.media_lists.specs.Loads.{counted_texts, load_body, load_name, load_entries, loads_list, load_entry_view, loads_list_view};
 ghost use Rattle.media_lists.specs.declared.fault.ListFault.TheVariants.{Memory};
 
 use crate::fault::ListFault;
@@ -19,7 +19,7 @@ use std::alloc::Global;
 /// The list that the bytes spell, or their first fault.
 #[tactic(auto, unfolding(crate::specs::Lists::media_list))]
 pub(crate) fn loads_of(alloc: Global, bytes: &[u8]) -> Result<LoadsList, ListFault>
-    ensures { Gives Memory loads_view result (answer loads_list bytes.now) }
+    ensures { Gives Memory loads_list_view result (answer loads_list bytes.now) }
 {
     let mut reader = Reader::new(bytes);
     test_limit(&mut reader)?;
@@ -43,7 +43,7 @@ fn read_loads(
     members: u8,
     said: u32,
 ) -> Result<List<LoadEntry>, ListFault>
-    ensures { Decodes Memory (λ l. map load_view l.items) (load_entries members said) reader.old result reader.new }
+    ensures { Decodes Memory (λ l. map load_entry_view l.items) (load_entries members said) reader.old result reader.new }
 {
     test_section(reader, 2, said)?;
     let count = read_count(reader)?;
@@ -59,7 +59,7 @@ fn read_so_many_loads(
     count: usize,
 ) -> Result<List<LoadEntry>, ListFault>
     requires { count ≤ 1024 }
-    ensures { Decodes Memory (λ l. map load_view l.items) (listed count (entry_behind (load_body members) load_name count) []) reader.old result reader.new }
+    ensures { Decodes Memory (λ l. map load_entry_view l.items) (listed count (entry_behind (load_body members) load_name count) []) reader.old result reader.new }
 {
     let mut loads = List::new(alloc);
     let mut order = Order::new();
@@ -80,9 +80,9 @@ fn read_new_load(
     order: &mut Order,
 ) -> Result<LoadEntry, ListFault>
     requires few { length loads.now.items < 1024 }
-    requires order { IsOrder (map load_name (map load_view loads.now.items)) order.old.items }
-    ensures read { Decodes Memory load_view (entry_behind (load_body members) load_name count (map load_view loads.now.items)) reader.old result reader.new }
-    ensures order { IfOk result (λ load. IsOrder (map load_name (map load_view loads.now.items) ++ load.header_name ∷ []) order.new.items) }
+    requires order { IsOrder (map load_name (map load_entry_view loads.now.items)) order.old.items }
+    ensures read { Decodes Memory load_entry_view (entry_behind (load_body members) load_name count (map load_entry_view loads.now.items)) reader.old result reader.new }
+    ensures order { IfOk result (λ load. IsOrder (map load_name (map load_entry_view loads.now.items) ++ load.header_name ∷ []) order.new.items) }
 {
     let entry = loads.len() + 1;
     let load = read_load_entry(alloc, reader, members, entry as u64, entry == count)?;
@@ -101,7 +101,7 @@ fn read_load_entry(
     entry: u64,
     last: bool,
 ) -> Result<LoadEntry, ListFault>
-    ensures { Decodes Memory load_view (numbered_entry (load_body members) entry last) reader.old result reader.new }
+    ensures { Decodes Memory load_entry_view (numbered_entry (load_body members) entry last) reader.old result reader.new }
 {
     let start = reader.place();
     let said = reader.take_u16()?;
@@ -116,7 +116,7 @@ fn read_load_entry(
 
 #[tactic(auto, unfolding(crate::specs::Loads::load_body))]
 fn read_load_body(alloc: Global, reader: &mut Reader, members: u8) -> Result<LoadEntry, ListFault>
-    ensures { Decodes Memory load_view (load_body members) reader.old result reader.new }
+    ensures { Decodes Memory load_entry_view (load_body members) reader.old result reader.new }
 {
     let part = read_part(reader)?;
     let header_name = read_name(reader)?;

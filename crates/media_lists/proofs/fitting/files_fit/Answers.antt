@@ -1,5 +1,5 @@
 use Rattle.std.proofs.Common.{rules, arith}
-use Rattle.media_lists.specs.Files.{files_view, file_name, file_body_fields, IsFile}
+use Rattle.media_lists.specs.Files.{files_list_view, file_name, file_body_fields, IsListedFile}
 use Rattle.media_lists.proofs.Fits.{all_fit, list_tells}
 use Rattle.media_lists.proofs.fitting.files_fit.Goals as goal
 
@@ -11,7 +11,7 @@ returns c =
     let user = rw c.as_slice.ensures at c.is_user_data.ensures.fits in
     let bytes = rw c.as_slice.ensures at c.is_user_data.ensures.bytes in
     let total = rw c.len.ensures at c.list_size.ensures in
-    list_tells IsFile file_name file_body_fields (files_view c.args.list.now) c.entries_size.result c.list_size.result c.as_slice-set.ensures.is_part_number (search rules) bytes
+    list_tells IsListedFile file_name file_body_fields (files_list_view c.args.list.now) c.entries_size.result c.list_size.result c.as_slice-set.ensures.is_part_number (search rules) bytes
     (member.0 c.if-not-is_member.false) (user.0 c.if-not-is_user_data.false) (meet.0 c.if-not-files_meet_limits.false) entries total
 
 pub entries_size-requires-clause-count : goal.entries_size-requires-clause-count
