@@ -1,11 +1,11 @@
 -- How formats made of others spell their values.
-use Rattle.std.proofs.Common.{◌≡◌, ℕ, zero, suc, ◌+◌, Bool, true, List, [], ◌∷◌, ◌++◌, length, Result, Ok, refl, sym, ap, subst, ◌∙◌, ◌-◌, arith}
+use Rattle.std.proofs.Common.{◌≡◌, ℕ, zero, suc, ◌+◌, List, [], ◌∷◌, ◌++◌, length, Result, Ok, refl, sym, ap, subst, ◌∙◌, ◌-◌, arith}
 use Rattle.std.specs.List.{concat, flat_map, All, AllByRecursion}
 use Rattle.std.proofs.lemmas.Bool.{eqb-true, eq-eqb}
 use Rattle.std.proofs.lemmas.List.{append-nil, length-append}
 use Rattle.std.proofs.lemmas.List.Concat.{flat_map-cons}
 use Rattle.std.proofs.lemmas.List.Elements.{All-from_recursion, recursion_from_All}
-use Rattle.field_grammar.specs.Grammar.{Grammar, seq, renamed, read, Follows, pair, mapped, tested, expected, judged, measured, times}
+use Rattle.field_grammar.specs.Grammar.{Grammar, seq, renamed, read, Follows, pair, mapped, expected, judged, measured, times}
 use Rattle.field_grammar.specs.Spelling.{IsSpelledBy, IsReadBack}
 use Rattle.field_grammar.specs.GrammarLaws.{what_follows_is_read}
 
@@ -65,19 +65,6 @@ pub spelled-renamed : {E F A : Type 0} (m : E → F) (g : Grammar E A) (s : A �
 spelled-renamed m g s P one = record {
   to = λ before fields after value follows. one.to before fields after value follows;
   from = λ before after value fits. one.from before after value fits;
-}
-
--- a value that passes a test
-pub spelled-tested : {F A : Type 0} (g : Grammar F A) (test : A → Bool) (wrong : A → F) (s : A → List (List ℕ)) (P : A → Type 0)
-    → IsSpelledBy g s P → IsSpelledBy (tested g test wrong) s (λ x. P x × (test x ≡ true))
-spelled-tested {A = A} g test wrong s P one = record {
-  to = λ before fields after value follows.
-      let (x, first, others, parts, fx, (u, f2, o2, parts2, fu, last)) = follows in
-      let a = one.to before first (length (concat others) + after) x fx in
-      let whole : fields ≡ s x = rw (parts, parts2, fu.0, last.0, a.0, append-nil) refl in
-      subst (λ (v : A). (fields ≡ s v) × (P v × (test v ≡ true))) last.1 (whole, (a.1, fu.1));
-  from = λ before after value fits.
-      (value, s value, [], sym (append-nil (s value)), one.from before (0 + after) value fits.0, (tt, [], [], refl, (refl, fits.1), (refl, refl)));
 }
 
 -- this number

@@ -1,11 +1,11 @@
 -- What a decoder promises that gives a format's answer.
-use Rattle.std.proofs.Common.{◌≡◌, ℕ, List, [], ◌++◌, length, Result, Ok, Err, refl, sym, ap, ◌∙◌, ◌⊎◌, inl, inr}
+use Rattle.std.proofs.Common.{◌≡◌, ℕ, List, [], length, Result, Ok, Err, refl, sym, ap, ◌∙◌, ◌⊎◌, inl, inr}
 use Rattle.std.proofs.lemmas.List.{append-nil, nil_from_length}
 use Rattle.std.specs.Prelude.{IfOk, IfErr}
 use Rattle.std.specs.List.{concat}
 use Rattle.field_grammar.specs.Grammar.{Grammar, IsBytes, Spelled, SpelledAtFront, Fault, EndsTheBytes}
 use Rattle.field_grammar.specs.Answers.{answer, Gives}
-use Rattle.field_grammar.specs.Spelling.{SpellsWhole, IsPlacedBy}
+use Rattle.field_grammar.specs.Spelling.{SpellsWhole}
 use Rattle.field_grammar.specs.ExactLaws.{answer-spelled, answer-fault, answer_is_spelled, answer_is_fault, spelled_at_front, spelled_whole}
 
 -- two answers to one question
@@ -51,21 +51,6 @@ found memory view g bytes (Ok x) ends fit gives = spelled_whole g bytes (view x)
 pub only : {F T X : Type 0} (memory : F) (view : T → X) (g : Grammar F X) (bytes : List ℕ) (r : Result T F)
     → Gives memory view r (answer g bytes) → (v : X) → Spelled g bytes v → Gives memory view r (Ok v)
 only memory view g bytes r gives v spelled = only_at_front memory view g bytes r gives v (spelled_at_front g bytes v spelled)
-
--- ---- values of bytes that have one spelling each
-
--- bytes that begin with what a format spells begin with the one spelling of a value that fits
-pub spelling_at_front : {F X : Type 0} (g : Grammar F X) (s : List ℕ → X → List (List ℕ)) (P : List ℕ → ℕ → X → Type 0) (bytes : List ℕ) (v : X)
-    → IsPlacedBy g s P → SpelledAtFront g bytes v → (rest : List ℕ) × (bytes ≡ concat (s [] v) ++ rest) × P [] (length rest) v
-spelling_at_front g s P bytes v spells spelled =
-    let (fields, rest, parts, follows) = spelled in
-    let a = spells.to [] fields (length rest) v follows in
-    (rest, parts ∙ ap (λ (f : List (List ℕ)). concat f ++ rest) a.0, a.1)
-
--- and the other way round
-pub spelled_at_front_by : {F X : Type 0} (g : Grammar F X) (s : List ℕ → X → List (List ℕ)) (P : List ℕ → ℕ → X → Type 0) (bytes rest : List ℕ) (v : X)
-    → IsPlacedBy g s P → bytes ≡ concat (s [] v) ++ rest → P [] (length rest) v → SpelledAtFront g bytes v
-spelled_at_front_by g s P bytes rest v spells parts fits = (s [] v, rest, parts, spells.from [] (length rest) v fits)
 
 -- ---- values of whole bytes that have one spelling each
 

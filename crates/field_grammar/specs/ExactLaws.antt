@@ -6,7 +6,6 @@ use Rattle.std.proofs.lemmas.List.{append-nil, nil_from_length}
 use Rattle.field_grammar.specs.Cursor.{Cursor, start}
 use Rattle.field_grammar.specs.Grammar.{Grammar, seq, renamed, ended, Took, read, IsBytes, Spelled, SpelledAtFront, Fault, EndsTheBytes, IsDecided, IsDecidedAtFront}
 use Rattle.field_grammar.specs.Answers.{answer}
-use Rattle.field_grammar.specs.Spelling.{IsPlacedBy}
 use Rattle.field_grammar.specs.StepLaws.{then_ok, then_err}
 use Rattle.field_grammar.specs.GrammarLaws.{what_follows_is_read, what_stops_is_refused, what_is_read_follows, what_is_refused_stops}
 
@@ -122,11 +121,6 @@ ends_before g k ends = record {
 -- other faults
 pub ends_renamed : {E F A : Type 0} (m : E → F) (g : Grammar E A) → EndsTheBytes g → EndsTheBytes (renamed m g)
 ends_renamed m g ends = record { at_end = λ before fields after value follows. ends.at_end before fields after value follows }
-
--- a format of whole bytes with one spelling for each value
-pub ends_by_spelling : {F A : Type 0} (g : Grammar F A) (s : List ℕ → A → List (List ℕ)) (P : List ℕ → ℕ → A → Type 0)
-    → ((before : List ℕ) (after : ℕ) (x : A) → P before after x → after ≡ 0) → IsPlacedBy g s P → EndsTheBytes g
-ends_by_spelling g s P none one = record { at_end = λ before fields after value follows. none before after value (one.to before fields after value follows).1 }
 
 -- ---- whole bytes
 

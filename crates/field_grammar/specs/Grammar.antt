@@ -54,13 +54,6 @@ mapped f g = do
   x ← g
   give (f x)
 
--- a value that passes a test, and else a fault
-abbrev pub tested : {F A : Type 0} → Grammar F A → (A → Bool) → (A → F) → Grammar F A
-tested g test wrong = do
-  x ← g
-  check (test x) (wrong x)
-  give x
-
 -- this number, and the fault of any other
 abbrev pub expected : {F : Type 0} → Grammar F ℕ → ℕ → (ℕ → F) → Grammar F (Unit {0})
 expected g wanted wrong = do
@@ -73,19 +66,6 @@ judged g verdict = do
   before ← front
   x ← g
   judge (verdict (length before) x)
-
--- a test of the place
-abbrev pub placed_at : {F : Type 0} → (ℕ → Bool) → (ℕ → F) → Grammar F (Unit {0})
-placed_at test wrong = do
-  before ← front
-  check (test (length before)) (wrong (length before))
-
--- a number that the bytes before it tell, as a check sum of them
-abbrev pub told : {F : Type 0} → Grammar F ℕ → (List ℕ → ℕ) → (ℕ → ℕ → F) → Grammar F (Unit {0})
-told g due wrong = do
-  before ← front
-  said ← g
-  check (said == due before) (wrong said (due before))
 
 -- a number that says how many bytes there are from its own first byte on
 abbrev pub sized : {F : Type 0} → Grammar F ℕ → (ℕ → ℕ) → (ℕ → ℕ → F) → Grammar F ℕ
@@ -126,13 +106,6 @@ listed zero item so_far = give so_far
 listed (suc n) item so_far = do
   x ← item so_far
   listed n item (so_far ++ x ∷ [])
-
--- so many steps, each from the state that the step before it made
-unfoldable pub steps : {F S : Type 0} → ℕ → (S → Grammar F S) → S → Grammar F S
-steps zero step state = give state
-steps (suc n) step state = do
-  next ← step state
-  steps n step next
 
 -- ---- reading
 

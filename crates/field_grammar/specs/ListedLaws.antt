@@ -2,8 +2,8 @@
 use Rattle.std.proofs.Common.{◌≡◌, ℕ, zero, suc, ◌+◌, List, [], ◌∷◌, ◌++◌, length, refl, sym, ap, subst, ◌∙◌, append_assoc}
 use Rattle.std.specs.List.{concat, flat_map}
 use Rattle.std.proofs.lemmas.List.{append-nil}
-use Rattle.field_grammar.specs.Grammar.{Grammar, seq, listed, Follows}
-use Rattle.field_grammar.specs.Spelling.{IsPlacedBy, IsSpelledBy, AllPlaced, listed_fields}
+use Rattle.field_grammar.specs.Grammar.{Grammar, listed, Follows}
+use Rattle.field_grammar.specs.Spelling.{IsPlacedBy, AllPlaced, listed_fields}
 
 -- where no spelling looks at the values before
 pub listed_fields_alone : {A : Type 0} (s : A → List (List ℕ)) (so_far xs : List A) → listed_fields (λ before. s) so_far xs ≡ flat_map s xs
@@ -52,28 +52,4 @@ placed-listed {A = A} item s P n one = record {
       subst (λ (v : List A). (fields ≡ listed_fields s [] v) × ((length v ≡ n) × AllPlaced s P [] before after v)) (sym is) (same, (size, all));
   from = λ before after value fits.
       subst (λ (m : ℕ). Follows (listed m item []) before (listed_fields s [] value) after value) fits.0 (listed_from item s P one value [] before after fits.1);
-}
-
--- a count, and so many values, each of which may depend on the count and on those before it
-pub placed-counted : {F A : Type 0} (count : Grammar F ℕ) (item : ℕ → List A → Grammar F A) (c : ℕ → List (List ℕ)) (s : ℕ → List A → A → List (List ℕ)) (C : ℕ → Type 0) (P : ℕ → List A → List ℕ → ℕ → A → Type 0)
-    → IsSpelledBy count c C → ((n : ℕ) (so_far : List A) → IsPlacedBy (item n so_far) (λ before. s n so_far) (P n so_far))
-    → IsPlacedBy (seq count (λ n. listed n (item n) [])) (λ before xs. c (length xs) ++ listed_fields (s (length xs)) [] xs)
-    (λ before after xs. C (length xs) × AllPlaced (s (length xs)) (P (length xs)) [] (before ++ concat (c (length xs))) after xs)
-placed-counted {A = A} count item c s C P one two = record {
-  to = λ before fields after value follows.
-      let (n, first, others, parts, fn, later) = follows in
-      let a = one.to before first (length (concat others) + after) n fn in
-      let b = (placed-listed (item n) (s n) (P n) n (two n)).to (before ++ concat first) others after value later in
-      let all : AllPlaced (s n) (P n) [] (before ++ concat (c n)) after value = subst (λ (f : List (List ℕ)). AllPlaced (s n) (P n) [] (before ++ concat f) after value) a.0 b.1.1 in
-      let whole : fields ≡ c n ++ listed_fields (s n) [] value = parts ∙ (ap (λ (f : List (List ℕ)). f ++ others) a.0 ∙ ap (λ (o : List (List ℕ)). c n ++ o) b.0) in
-      subst (λ (m : ℕ). (fields ≡ c m ++ listed_fields (s m) [] value) × (C m × AllPlaced (s m) (P m) [] (before ++ concat (c m)) after value)) (sym b.1.0) (whole, (a.1, all));
-  from = λ before after value fits.
-      let n : ℕ = length value in (
-        n,
-        c n,
-        listed_fields (s n) [] value,
-        refl,
-        one.from before (length (concat (listed_fields (s n) [] value)) + after) n fits.0,
-        (placed-listed (item n) (s n) (P n) n (two n)).from (before ++ concat (c n)) after value (refl, fits.1),
-      );
 }

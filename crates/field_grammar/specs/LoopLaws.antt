@@ -1,5 +1,5 @@
 -- Loops over a count: what was read so far, and what is read yet.
-use Rattle.std.proofs.Common.{◌≡◌, ℕ, ◌+◌, ◌-◌, ◌<◌, ◌≤◌, List, [], ◌∷◌, ◌++◌, Result, Ok, Err, refl, sym, ap, ◌∙◌, append_assoc, arith, ◌⊎◌, inl, inr}
+use Rattle.std.proofs.Common.{◌≡◌, ℕ, ◌+◌, ◌-◌, ◌<◌, ◌≤◌, List, [], ◌∷◌, ◌++◌, Result, Ok, Err, refl, sym, ap, ◌∙◌, append_assoc, arith}
 use Rattle.std.proofs.Common.{suc, length, take, get_or}
 use Rattle.std.specs.Prelude.{map}
 use Rattle.std.specs.List.{concat, flat_map}
@@ -7,9 +7,7 @@ use Rattle.std.proofs.lemmas.List.{append-nil, map_more, map_push}
 use Rattle.std.proofs.lemmas.List.Concat.{flat_map-append, flat_map-cons}
 use Rattle.std.proofs.lemmas.List.Folds.{concat-append}
 use Rattle.field_grammar.specs.Cursor.{Cursor}
-use Rattle.field_grammar.specs.Spelling.{listed_fields}
-use Rattle.field_grammar.specs.ListedLaws.{listed_fields_more}
-use Rattle.field_grammar.specs.Grammar.{Grammar, read, times, listed, steps, ◌then◌}
+use Rattle.field_grammar.specs.Grammar.{Grammar, read, times, listed, ◌then◌}
 
 -- ---- so many values of one kind
 
@@ -108,54 +106,12 @@ list_ends item so_far count i c f total yet lt here =
     let more : count - i ≡ suc (count - (i + 1)) = omega arith in
     sym yet ∙ (ap (λ (n : ℕ). read (listed n item so_far) c) more ∙ item_stop item so_far (count - (i + 1)) c f here)
 
--- the same where memory may be wanting too
-pub list_ends_unless : {F A : Type 0} (memory : F) (item : List A → Grammar F A) (so_far : List A) (count i : ℕ) (c : Cursor) (f : F) (total : Result (List A × Cursor) F)
-    → read (listed (count - i) item so_far) c ≡ total → i < count → (f ≡ memory) ⊎ (read (item so_far) c ≡ Err f) → (f ≡ memory) ⊎ (total ≡ Err f)
-list_ends_unless memory item so_far count i c f total yet lt here =
-    elim here [ inl wants ↦ inl wants | inr refused ↦ inr (list_ends item so_far count i c f total yet lt refused) ]
-
 -- the list is done
 pub list_is_done : {F A : Type 0} (item : List A → Grammar F A) (so_far : List A) (count i : ℕ) (c : Cursor) (total : Result (List A × Cursor) F)
     → read (listed (count - i) item so_far) c ≡ total → count ≤ i → total ≡ Ok (so_far, c)
 list_is_done item so_far count i c total yet le =
     let none : count - i ≡ 0 = omega arith in
     sym yet ∙ (ap (λ (n : ℕ). read (listed n item so_far) c) none ∙ item_none item so_far c)
-
--- ---- so many steps from one state to the next
-
-step_more : {F S : Type 0} (step : S → Grammar F S) (state next : S) (n : ℕ) (c d : Cursor)
-    → read (step state) c ≡ Ok (next, d) → read (steps (suc n) step state) c ≡ read (steps n step next) d
-unfolding steps
-step_more step state next n c d here = rw here refl
-
-step_stop : {F S : Type 0} (step : S → Grammar F S) (state : S) (n : ℕ) (c : Cursor) (f : F) → read (step state) c ≡ Err f → read (steps (suc n) step state) c ≡ Err f
-unfolding steps
-step_stop step state n c f here = rw here refl
-
-step_none : {F S : Type 0} (step : S → Grammar F S) (state : S) (c : Cursor) → read (steps 0 step state) c ≡ Ok (state, c)
-unfolding steps
-step_none step state c = refl
-
--- the steps go on
-pub steps_go_on : {F S : Type 0} (step : S → Grammar F S) (state next : S) (count i : ℕ) (c d : Cursor) (total : Result (S × Cursor) F)
-    → read (steps (count - i) step state) c ≡ total → i < count → read (step state) c ≡ Ok (next, d) → read (steps (count - (i + 1)) step next) d ≡ total
-steps_go_on step state next count i c d total yet lt here =
-    let more : suc (count - (i + 1)) ≡ count - i = omega arith in
-    sym (step_more step state next (count - (i + 1)) c d here) ∙ (ap (λ (n : ℕ). read (steps n step state) c) more ∙ yet)
-
--- the steps end with a fault
-pub steps_end : {F S : Type 0} (step : S → Grammar F S) (state : S) (count i : ℕ) (c : Cursor) (f : F) (total : Result (S × Cursor) F)
-    → read (steps (count - i) step state) c ≡ total → i < count → read (step state) c ≡ Err f → total ≡ Err f
-steps_end step state count i c f total yet lt here =
-    let more : count - i ≡ suc (count - (i + 1)) = omega arith in
-    sym yet ∙ (ap (λ (n : ℕ). read (steps n step state) c) more ∙ step_stop step state (count - (i + 1)) c f here)
-
--- the steps are done
-pub steps_are_done : {F S : Type 0} (step : S → Grammar F S) (state : S) (count i : ℕ) (c : Cursor) (total : Result (S × Cursor) F)
-    → read (steps (count - i) step state) c ≡ total → count ≤ i → total ≡ Ok (state, c)
-steps_are_done step state count i c total yet le =
-    let none : count - i ≡ 0 = omega arith in
-    sym yet ∙ (ap (λ (n : ℕ). read (steps n step state) c) none ∙ step_none step state c)
 
 -- ---- a loop that writes so many values one behind the other
 
@@ -164,9 +120,3 @@ pub concat_more : {X Y : Type 0} (f : Y → List (List ℕ)) (v : X → Y) (xs :
 concat_more f v xs i d lt =
     let one : flat_map f (v (get_or xs i d) ∷ []) ≡ f (v (get_or xs i d)) = flat_map-cons f (v (get_or xs i d)) [] ∙ append-nil (f (v (get_or xs i d))) in
     rw (map_more v xs i d lt, flat_map-append f (map v (take i xs)) (v (get_or xs i d) ∷ []), one, concat-append) refl
-
--- the same where the fields of each may depend on the values before it
-pub listed_more : {X Y : Type 0} (f : List Y → Y → List (List ℕ)) (v : X → Y) (xs : List X) (i : ℕ) (d : X) → i < length xs
-    → concat (listed_fields f [] (map v (take i xs))) ++ concat (f (map v (take i xs)) (v (get_or xs i d))) ≡ concat (listed_fields f [] (map v (take (i + 1) xs)))
-listed_more f v xs i d lt =
-    rw (map_more v xs i d lt, listed_fields_more f [] (map v (take i xs)) (v (get_or xs i d)), concat-append) refl

@@ -1,11 +1,11 @@
 -- How formats spell their values where a test looks at the place, at the bytes before or at how many are
 -- left.
-use Rattle.std.proofs.Common.{◌≡◌, ℕ, ◌+◌, Bool, true, List, [], ◌++◌, length, Result, Ok, refl, sym, ap, subst, ◌∙◌, arith}
+use Rattle.std.proofs.Common.{◌≡◌, ℕ, ◌+◌, List, [], ◌++◌, length, refl, sym, ap, subst, ◌∙◌, arith}
 use Rattle.std.specs.List.{concat}
 use Rattle.std.proofs.lemmas.Bool.{eqb-true, eq-eqb}
 use Rattle.std.proofs.lemmas.List.{append-nil}
-use Rattle.field_grammar.specs.Grammar.{Grammar, give, judge, check, seq, front, left, renamed, ◌>>◌, pair, mapped, placed_at, told, sized, ended, Follows}
-use Rattle.field_grammar.specs.Spelling.{IsPlacedBy, IsSpelledBy, SpellsWhole}
+use Rattle.field_grammar.specs.Grammar.{Grammar, give, seq, front, left, renamed, ◌>>◌, sized, ended, Follows}
+use Rattle.field_grammar.specs.Spelling.{IsPlacedBy, IsSpelledBy}
 
 -- ---- to and from formats that don't look
 
@@ -38,107 +38,11 @@ placed-as g s t P Q there back one = record {
       subst (λ (f : List (List ℕ)). Follows g before f after value) b.0 (one.from before after value b.1);
 }
 
--- a format of whole bytes
-pub spells_whole : {F A : Type 0} (g : Grammar F A) (s : List ℕ → A → List (List ℕ)) (P : List ℕ → ℕ → A → Type 0) (Q : A → Type 0)
-    → ((after : ℕ) (x : A) → P [] after x → Q x × (after ≡ 0)) → ((x : A) → Q x → P [] 0 x) → IsPlacedBy g s P → SpellsWhole g (s []) Q
-spells_whole g s P Q there back one = record {
-  to = λ fields after value follows.
-      let a = one.to [] fields after value follows in
-      let q = there after value a.1 in
-      (a.0, q.0, q.1);
-  from = λ value fits. one.from [] 0 value (back value fits);
-}
-
 -- ---- one format behind another
-
--- A first part whose value the bytes before and the whole value tell, and a second part that may depend on it.
-pub placed-seq : {F A B : Type 0} (g : Grammar F A) (k : A → Grammar F B) (part : List ℕ → B → A) (s : List ℕ → A → List (List ℕ)) (t : A → List ℕ → B → List (List ℕ))
-    (P : List ℕ → ℕ → A → Type 0) (Q : A → List ℕ → ℕ → B → Type 0)
-    → IsPlacedBy g s P → ((x : A) → IsPlacedBy (k x) (t x) (Q x))
-    → ((x : A) (before : List ℕ) (after : ℕ) (y : B) → P before (length (concat (t x (before ++ concat (s before x)) y)) + after) x → Q x (before ++ concat (s before x)) after y → x ≡ part before y)
-    → IsPlacedBy (seq g k) (λ before y. s before (part before y) ++ t (part before y) (before ++ concat (s before (part before y))) y)
-    (λ before after y. P before (length (concat (t (part before y) (before ++ concat (s before (part before y))) y)) + after) (part before y) × Q (part before y) (before ++ concat (s before (part before y))) after y)
-placed-seq {A = A} g k part s t P Q one two tells = record {
-  to = λ before fields after value follows.
-      let (x, first, others, parts, fx, fy) = follows in
-      let a = one.to before first (length (concat others) + after) x fx in
-      let b = (two x).to (before ++ concat first) others after value fy in
-      let there : List ℕ = before ++ concat (s before x) in
-      let behind : others ≡ t x there value = subst (λ (f : List (List ℕ)). others ≡ t x (before ++ concat f) value) a.0 b.0 in
-      let whole : fields ≡ s before x ++ t x there value = parts ∙ (ap (λ (f : List (List ℕ)). f ++ others) a.0 ∙ ap (λ (o : List (List ℕ)). s before x ++ o) behind) in
-      let p : P before (length (concat (t x there value)) + after) x = subst (λ (o : List (List ℕ)). P before (length (concat o) + after) x) behind a.1 in
-      let q : Q x there after value = subst (λ (f : List (List ℕ)). Q x (before ++ concat f) after value) a.0 b.1 in
-      let is : x ≡ part before value = tells x before after value p q in
-      subst (λ (v : A). (fields ≡ s before v ++ t v (before ++ concat (s before v)) value)
-      × (P before (length (concat (t v (before ++ concat (s before v)) value)) + after) v × Q v (before ++ concat (s before v)) after value)) is (whole, (p, q));
-  from = λ before after value fits.
-      let x : A = part before value in
-      let there : List ℕ = before ++ concat (s before x) in
-      (x, s before x, t x there value, refl, one.from before (length (concat (t x there value)) + after) x fits.0, (two x).from there after value fits.1);
-}
 
 -- what stands behind the last part is what stands behind the whole
 none_behind : (others : List (List ℕ)) (after : ℕ) → others ≡ [] → length (concat others) + after ≡ after
 none_behind others after none = rw none (omega arith)
-
--- one value and then another
-pub placed-pair : {F A B : Type 0} (g : Grammar F A) (h : Grammar F B) (s : List ℕ → A → List (List ℕ)) (t : List ℕ → B → List (List ℕ)) (P : List ℕ → ℕ → A → Type 0) (Q : List ℕ → ℕ → B → Type 0)
-    → IsPlacedBy g s P → IsPlacedBy h t Q
-    → IsPlacedBy (pair g h) (λ before p. s before p.0 ++ t (before ++ concat (s before p.0)) p.1)
-    (λ before after p. P before (length (concat (t (before ++ concat (s before p.0)) p.1)) + after) p.0 × Q (before ++ concat (s before p.0)) after p.1)
-placed-pair {A = A} {B = B} g h s t P Q one two = record {
-  to = λ before fields after value follows.
-      let (x, first, others, parts, fx, (y, second, none, parts2, fy, last)) = follows in
-      let a = one.to before first (length (concat others) + after) x fx in
-      let b = two.to (before ++ concat first) second (length (concat none) + after) y fy in
-      let there : List ℕ = before ++ concat (s before x) in
-      let same : before ++ concat first ≡ there = ap (λ (f : List (List ℕ)). before ++ concat f) a.0 in
-      let behind : others ≡ t there y = parts2 ∙ (ap (λ (n : List (List ℕ)). second ++ n) last.0 ∙ (append-nil second ∙ (b.0 ∙ ap (λ (l : List ℕ). t l y) same))) in
-      let whole : fields ≡ s before x ++ t there y = parts ∙ (ap (λ (f : List (List ℕ)). f ++ others) a.0 ∙ ap (λ (o : List (List ℕ)). s before x ++ o) behind) in
-      let p : P before (length (concat (t there y)) + after) x = subst (λ (o : List (List ℕ)). P before (length (concat o) + after) x) behind a.1 in
-      let q : Q there after y = subst (λ (n : ℕ). Q there n y) (none_behind none after last.0) (subst (λ (l : List ℕ). Q l (length (concat none) + after) y) same b.1) in
-      subst (λ (v : A × B). (fields ≡ s before v.0 ++ t (before ++ concat (s before v.0)) v.1)
-      × (P before (length (concat (t (before ++ concat (s before v.0)) v.1)) + after) v.0 × Q (before ++ concat (s before v.0)) after v.1)) last.1 (whole, (p, q));
-  from = λ before after value fits.
-      let there : List ℕ = before ++ concat (s before value.0) in
-      let later : Q there (0 + after) value.1 = subst (λ (n : ℕ). Q there n value.1) (sym (none_behind [] after refl)) fits.1 in (
-        value.0,
-        s before value.0,
-        t there value.1,
-        refl,
-        one.from before (length (concat (t there value.1)) + after) value.0 fits.0,
-        (value.1, t there value.1, [], sym (append-nil (t there value.1)), two.from there (0 + after) value.1 later, (refl, refl)),
-      );
-}
-
--- the same value in another form, from which a value that fits can be told
-pub placed-mapped : {F A B : Type 0} (f : A → B) (back : List ℕ → B → A) (g : Grammar F A) (s : List ℕ → A → List (List ℕ)) (P : List ℕ → ℕ → A → Type 0) (Q : List ℕ → ℕ → B → Type 0)
-    → ((before : List ℕ) (after : ℕ) (x : A) → P before after x → (back before (f x) ≡ x) × Q before after (f x))
-    → ((before : List ℕ) (after : ℕ) (y : B) → Q before after y → (f (back before y) ≡ y) × P before after (back before y))
-    → IsPlacedBy g s P → IsPlacedBy (mapped f g) (λ before y. s before (back before y)) Q
-placed-mapped {A = A} {B = B} f back g s P Q there again one = record {
-  to = λ before fields after value follows.
-      let (x, first, none, parts, fx, last) = follows in
-      let a = one.to before first (length (concat none) + after) x fx in
-      let fits : P before after x = subst (λ (n : ℕ). P before n x) (none_behind none after last.0) a.1 in
-      let t = there before after x fits in
-      let whole : fields ≡ s before x = parts ∙ (ap (λ (n : List (List ℕ)). first ++ n) last.0 ∙ (append-nil first ∙ a.0)) in
-      let told_by : fields ≡ s before (back before (f x)) = whole ∙ ap (s before) (sym t.0) in
-      subst (λ (y : B). (fields ≡ s before (back before y)) × Q before after y) last.1 (told_by, t.1);
-  from = λ before after value fits.
-      let x : A = back before value in
-      let t = again before after value fits in
-      let here : P before (0 + after) x = subst (λ (n : ℕ). P before n x) (sym (none_behind [] after refl)) t.1 in
-      (x, s before x, [], sym (append-nil (s before x)), one.from before (0 + after) x here, (refl, t.0));
-}
-
--- fields that say nothing of the value, and then the value
-pub placed-behind : {F A : Type 0} (g : Grammar F (Unit {0})) (h : Grammar F A) (s : List ℕ → Unit {0} → List (List ℕ)) (t : List ℕ → A → List (List ℕ)) (P : List ℕ → ℕ → Unit {0} → Type 0) (Q : List ℕ → ℕ → A → Type 0)
-    → IsPlacedBy g s P → IsPlacedBy h t Q
-    → IsPlacedBy (g >> h) (λ before y. s before tt ++ t (before ++ concat (s before tt)) y)
-    (λ before after y. P before (length (concat (t (before ++ concat (s before tt)) y)) + after) tt × Q (before ++ concat (s before tt)) after y)
-placed-behind g h s t P Q one two =
-    placed-seq g (λ u. h) (λ before y. tt) s (λ u. t) P (λ u. Q) one (λ u. two) (λ u before after y p q. refl)
 
 -- the value, and then fields that say nothing more of it
 pub placed-before : {F A : Type 0} (g : Grammar F A) (h : A → Grammar F (Unit {0})) (s : List ℕ → A → List (List ℕ)) (t : A → List ℕ → Unit {0} → List (List ℕ)) (P : List ℕ → ℕ → A → Type 0) (Q : A → List ℕ → ℕ → Unit {0} → Type 0)
@@ -214,53 +118,6 @@ placed-left k t Q two = record {
       let here : before ≡ before ++ [] = sym (append-nil before) in
       let later : Follows (k n) (before ++ []) (t before value) after value = subst (λ (l : List ℕ). Follows (k n) l (t before value) after value) here ((two n).from before after value fits) in
       (n, [], t before value, refl, (refl, refl), later);
-}
-
--- a test, and what comes behind it
-pub placed-check : {F A : Type 0} (b : Bool) (f : F) (k : Grammar F A) (t : List ℕ → A → List (List ℕ)) (Q : List ℕ → ℕ → A → Type 0)
-    → IsPlacedBy k t Q → IsPlacedBy (seq (check b f) (λ _. k)) t (λ before after y. (b ≡ true) × Q before after y)
-placed-check b f k t Q two = record {
-  to = λ before fields after value follows.
-      let (u, first, others, parts, fb, fy) = follows in
-      let a = two.to (before ++ concat first) others after value fy in
-      let here : before ++ concat first ≡ before = ap (λ (l : List (List ℕ)). before ++ concat l) fb.0 ∙ append-nil before in
-      let none : fields ≡ others = parts ∙ ap (λ (l : List (List ℕ)). l ++ others) fb.0 in
-      (none ∙ (a.0 ∙ ap (λ (l : List ℕ). t l value) here), (fb.1, subst (λ (l : List ℕ). Q l after value) here a.1));
-  from = λ before after value fits.
-      let here : before ≡ before ++ [] = sym (append-nil before) in
-      let later : Follows k (before ++ []) (t before value) after value = subst (λ (l : List ℕ). Follows k l (t before value) after value) here (two.from before after value fits.1) in
-      (tt, [], t before value, refl, (refl, fits.0), later);
-}
-
--- a test alone
-pub placed-test : {F : Type 0} (b : Bool) (f : F) → IsPlacedBy (check b f) (λ before u. []) (λ before after u. b ≡ true)
-placed-test b f = record { to = λ before fields after value follows. follows; from = λ before after value fits. (refl, fits) }
-
--- the value given at the end
-pub placed-give : {F A : Type 0} (x : A) → IsPlacedBy (give {F = F} x) (λ before y. []) (λ before after y. x ≡ y)
-placed-give x = record { to = λ before fields after value follows. follows; from = λ before after value fits. (refl, fits) }
-
--- the value or fault at the end
-pub placed-judge : {F A : Type 0} (r : Result A F) → IsPlacedBy (judge r) (λ before y. []) (λ before after y. r ≡ Ok y)
-placed-judge r = record { to = λ before fields after value follows. follows; from = λ before after value fits. (refl, fits) }
-
--- a test of the place
-pub placed-placed_at : {F : Type 0} (test : ℕ → Bool) (wrong : ℕ → F) → IsPlacedBy (placed_at test wrong) (λ before u. []) (λ before after u. test (length before) ≡ true)
-placed-placed_at test wrong = placed-front (λ b. check (test (length b)) (wrong (length b))) (λ b before u. []) (λ b before after u. test (length b) ≡ true) (λ b. placed-test (test (length b)) (wrong (length b)))
-
--- a number that the bytes before it tell
-pub placed-told : {F : Type 0} (g : Grammar F ℕ) (due : List ℕ → ℕ) (wrong : ℕ → ℕ → F) (s : ℕ → List (List ℕ)) (P : ℕ → Type 0)
-    → IsSpelledBy g s P → IsPlacedBy (told g due wrong) (λ before u. s (due before)) (λ before after u. P (due before))
-placed-told g due wrong s P one = record {
-  to = λ before fields after value follows.
-      let (b, f1, o1, parts1, h1, (said, f2, o2, parts2, h2, h3)) = follows in
-      let a = one.to (before ++ concat f1) f2 (length (concat o2) + after) said h2 in
-      let is : said ≡ due before = eqb-true _ _ h3.1 ∙ ap due (sym h1.1) in
-      let whole : fields ≡ s said = rw (parts1, h1.0, parts2, h3.0, a.0, append-nil) refl in
-      subst (λ (v : ℕ). (fields ≡ s v) × P v) is (whole, a.1);
-  from = λ before after value fits.
-      let said : ℕ = due before in
-      (before, [], s said, refl, (refl, refl), (said, s said, [], sym (append-nil (s said)), one.from (before ++ []) (0 + after) said fits, (refl, eq-eqb said said refl)));
 }
 
 -- the end of the bytes

@@ -206,7 +206,3 @@ concat_padded_fields text =
 
 pub length_short_text : (text : List ℕ) → length (short_text text) ≡ 1 + length text
 length_short_text text = omega (arith, length-append (number_bytes 1 (length text)) text, length_number_bytes 1 (length text))
-
-pub length_padded_text : (text : List ℕ) → length (padded_text text) ≡ 2 + length text + length text % 2
-length_padded_text text =
-    omega (arith, length-append (number_bytes 2 (length text) ++ text) (pad_bytes (length text)), length-append (number_bytes 2 (length text)) text, length_number_bytes 2 (length text), length_pad_bytes (length text))

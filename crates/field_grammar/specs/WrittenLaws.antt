@@ -69,9 +69,6 @@ all_more P xs i x lt is all here = rw (take_more xs i x lt) (all_append P (take 
 pub all_taken : {X : Type 0} (P : X → Type 0) (xs : List X) (i : ℕ) → length xs ≤ i → AllByRecursion P (take i xs) → AllByRecursion P xs
 all_taken P xs i le all = rw (take_all i xs le) at all
 
-pub written_all : {X : Type 0} (f : X → List (List ℕ)) (xs : List X) (i : ℕ) (before now : List ℕ) → length xs ≤ i → now ≡ before ++ concat (flat_map f (take i xs)) → now ≡ before ++ concat (flat_map f xs)
-written_all f xs i before now le is = rw (take_all i xs le) at is
-
 -- ---- how long it is
 
 -- values of at most so many bytes each

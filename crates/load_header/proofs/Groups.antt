@@ -1,24 +1,24 @@
 -- How the groups of sections of a header are spelled, at their places.
-use Rattle.std.proofs.Common.{◌≡◌, ℕ, ◌+◌, ◌*◌, ◌/◌, ◌%◌, ◌<◌, ◌≤◌, ◌^◌, List, [], ◌∷◌, ◌++◌, length, refl, sym, ap, subst, ◌∙◌, arith}
+use Rattle.std.proofs.Common.{◌≡◌, ℕ, ◌+◌, ◌/◌, ◌<◌, ◌≤◌, ◌^◌, List, [], ◌++◌, length, refl, sym, ap, subst, ◌∙◌, arith}
 use Rattle.std.specs.List.{concat, AllByRecursion}
-use Rattle.std.proofs.lemmas.Bool.{eqb-true, eq-eqb}
+use Rattle.std.proofs.lemmas.Bool.{eqb-true}
 use Rattle.std.proofs.lemmas.List.{append-nil}
 use Rattle.crc_fields.specs.CheckSums.{crc16_of}
 use Rattle.crc_fields.specs.WidthLaws.{crc16_fits}
 use Rattle.load_base.specs.Text.{IsText}
 use Rattle.part_number.specs.PartNumber.{IsPartNumberText}
-use Rattle.field_grammar.specs.Grammar.{IsBytes}
 use Rattle.field_grammar.specs.Spelling.{size_of, IsPlacedBy}
 use Rattle.field_grammar.specs.Fields.{number_fields, padded_fields}
-use Rattle.field_grammar.specs.PlacedLaws.{placed-ended}
-use Rattle.field_grammar.specs.SectionLaws.{place_behind, placed-section}
-use Rattle.load_header.specs.Header.{HardwareView, identity, targets, all_files, user_data, no_check_value, check_sums, tail}
-use Rattle.load_header.specs.HeaderFields.{texts_fields, positions_fields, files_fields, user_fields, AreTexts, IsHardwareAt, IsFile}
-use Rattle.load_header.specs.declared.fault.HeaderFault.TheVariants as faults
+use Rattle.field_grammar.specs.PlacedLaws.{placed-renamed}
+use Rattle.field_grammar.specs.SectionLaws.{place_behind}
+use Rattle.header_sections.specs.Sections.{user_data}
+use Rattle.header_sections.specs.SectionFields.{texts_fields, user_fields, IsUserData}
+use Rattle.header_sections.specs.SectionLaws.{placed-user_data, placed-end}
+use Rattle.load_header.specs.Header.{HardwareAtView, refused, shared, identity, targets, all_files, no_check_value, check_sums, tail}
+use Rattle.load_header.specs.HeaderFields.{positions_fields, files_fields, AreTexts, IsHardwareAt, IsHeaderFile}
 use Rattle.load_header.specs.declared.header.FileEntry.{FileEntry}
 use Rattle.load_header.specs.declared.reading.Pointers.{Pointers}
-use Rattle.load_header.proofs.Texts.{spelled-text, spelled-part}
-use Rattle.load_header.proofs.Pieces.{spelled-u16, spelled-u32, spelled-bytes, spelled-texts, spelled-positions, placed-files}
+use Rattle.load_header.proofs.Pieces.{spelled-u16, spelled-u32, spelled-text, spelled-part, spelled-texts, spelled-positions, placed-section, placed-files}
 
 -- ---- what the load is
 
@@ -42,9 +42,9 @@ placed-identity places = record {
       let (u0, f0, o0, e0, h0, (number, f1, o1, e1, h1, (u2, f2, o2, e2, h2, (title, f3, o3, e3, h3, (id, f4, o4, e4, h4, last))))) = follows in
       let b1 : List ℕ = before ++ concat f0 in
       let b2 : List ℕ = b1 ++ concat f1 in
-      let a0 = (placed-section (faults.Pointer 1 places.part) places.part).to before f0 (length (concat o0) + after) u0 h0 in
+      let a0 = (placed-section 1 places.part).to before f0 (length (concat o0) + after) u0 h0 in
       let a1 = spelled-part.to b1 f1 (length (concat o1) + after) number h1 in
-      let a2 = (placed-section (faults.Pointer 2 places.type_name) places.type_name).to b2 f2 (length (concat o2) + after) u2 h2 in
+      let a2 = (placed-section 2 places.type_name).to b2 f2 (length (concat o2) + after) u2 h2 in
       let a3 = spelled-text.to (b2 ++ concat f2) f3 (length (concat o3) + after) title h3 in
       let a4 = spelled-u16.to ((b2 ++ concat f2) ++ concat f3) f4 (length (concat o4) + after) id h4 in
       let size : length b2 ≡ length before + size_of (padded_fields number) = omega (arith, place_behind before f0 [] a0.0, place_behind b1 f1 (padded_fields number) a1.0) in
@@ -60,7 +60,7 @@ placed-identity places = record {
         [],
         identity_parts value,
         refl,
-        (placed-section (faults.Pointer 1 places.part) places.part).from before _ tt fits.part_place,
+        (placed-section 1 places.part).from before _ tt fits.part_place,
         (
           value.0,
           padded_fields value.0,
@@ -72,7 +72,7 @@ placed-identity places = record {
             [],
             type_part,
             refl,
-            (placed-section (faults.Pointer 2 places.type_name) places.type_name).from b2 _ tt (fits.type_place ∙ ap (λ (n : ℕ). n / 2) (sym size)),
+            (placed-section 2 places.type_name).from b2 _ tt (fits.type_place ∙ ap (λ (n : ℕ). n / 2) (sym size)),
             (
               value.1,
               padded_fields value.1,
@@ -89,7 +89,7 @@ placed-identity places = record {
 -- ---- what it is for
 
 abbrev pub Targets : Type 0
-Targets = List (List ℕ) × List HardwareView
+Targets = List (List ℕ) × List HardwareAtView
 
 abbrev pub targets_parts : Targets → List (List ℕ)
 targets_parts v = texts_fields v.0 ++ positions_fields v.1
@@ -107,9 +107,9 @@ placed-targets places = record {
       let (u0, f0, o0, e0, h0, (hardware, f1, o1, e1, h1, (u2, f2, o2, e2, h2, (list, f3, o3, e3, h3, last)))) = follows in
       let b1 : List ℕ = before ++ concat f0 in
       let b2 : List ℕ = b1 ++ concat f1 in
-      let a0 = (placed-section (faults.Pointer 3 places.hardware) places.hardware).to before f0 (length (concat o0) + after) u0 h0 in
+      let a0 = (placed-section 3 places.hardware).to before f0 (length (concat o0) + after) u0 h0 in
       let a1 = spelled-texts.to b1 f1 (length (concat o1) + after) hardware h1 in
-      let a2 = (placed-section (faults.Pointer 4 places.positions) places.positions).to b2 f2 (length (concat o2) + after) u2 h2 in
+      let a2 = (placed-section 4 places.positions).to b2 f2 (length (concat o2) + after) u2 h2 in
       let a3 = spelled-positions.to (b2 ++ concat f2) f3 (length (concat o3) + after) list h3 in
       let size : length b2 ≡ length before + size_of (texts_fields hardware) = omega (arith, place_behind before f0 [] a0.0, place_behind b1 f1 (texts_fields hardware) a1.0) in
       let is : Targets = (hardware, list) in
@@ -123,7 +123,7 @@ placed-targets places = record {
         [],
         targets_parts value,
         refl,
-        (placed-section (faults.Pointer 3 places.hardware) places.hardware).from before _ tt fits.hardware_place,
+        (placed-section 3 places.hardware).from before _ tt fits.hardware_place,
         (
           value.0,
           texts_fields value.0,
@@ -135,7 +135,7 @@ placed-targets places = record {
             [],
             positions_fields value.1,
             refl,
-            (placed-section (faults.Pointer 4 places.positions) places.positions).from b2 _ tt (fits.positions_place ∙ ap (λ (n : ℕ). n / 2) (sym size)),
+            (placed-section 4 places.positions).from b2 _ tt (fits.positions_place ∙ ap (λ (n : ℕ). n / 2) (sym size)),
             (value.1, positions_fields value.1, [], sym (append-nil (positions_fields value.1)), spelled-positions.from _ _ value.1 fits.positions, (refl, refl)),
           ),
         ),
@@ -152,9 +152,9 @@ all_files_parts v = files_fields v.0 ++ files_fields v.1
 
 pub record AreFiles (places : Pointers) (before : List ℕ) (v : AllFiles) : Type 0 where
   pub data_place : places.data_files ≡ length before / 2
-  pub data_files : AllByRecursion IsFile v.0
+  pub data_files : AllByRecursion IsHeaderFile v.0
   pub support_place : places.support_files ≡ (length before + size_of (files_fields v.0)) / 2
-  pub support_files : AllByRecursion IsFile v.1
+  pub support_files : AllByRecursion IsHeaderFile v.1
   pub few : length v.0 + length v.1 ≤ 255
 
 pub placed-all_files : (places : Pointers) → IsPlacedBy (all_files places) (λ before. all_files_parts) (λ before after v. AreFiles places before v)
@@ -194,54 +194,21 @@ placed-all_files places = record {
 
 -- ---- the end
 
-pub record IsUserData (said : ℕ) (before v : List ℕ) : Type 0 where
-  pub place : said ≡ length before / 2
-  pub bytes : IsBytes v
-  pub even : length v % 2 ≡ 0
-  pub size : length v / 2 < 2 ^ 16
-
-placed-user_data : (said : ℕ) → IsPlacedBy (user_data said) (λ before. user_fields) (λ before after v. IsUserData said before v)
-unfolding user_data user_fields
-placed-user_data said = record {
-  to = λ before fields after value follows.
-      let (u0, f0, o0, e0, h0, (words, f1, o1, e1, h1, h2)) = follows in
-      let a0 = (placed-section (faults.Pointer 7 said) said).to before f0 (length (concat o0) + after) u0 h0 in
-      let a1 = spelled-u16.to (before ++ concat f0) f1 (length (concat o1) + after) words h1 in
-      let a2 = (spelled-bytes (2 * words)).to ((before ++ concat f0) ++ concat f1) o1 after value h2 in
-      let half : words ≡ length value / 2 = omega (arith, a2.1.0) in
-      let is : fields ≡ number_fields 2 words ++ value ∷ [] = rw (e0, e1, a0.0, a1.0, a2.0) refl in
-      let whole : fields ≡ user_fields value = subst (λ (n : ℕ). fields ≡ number_fields 2 n ++ value ∷ []) half is in
-      (whole, record { place = a0.1; bytes = a2.1.1; even = omega (arith, a2.1.0); size = omega (arith, half, a1.1) });
-  from = λ before after value fits.
-      let words : ℕ = length value / 2 in (
-        tt,
-        [],
-        user_fields value,
-        refl,
-        (placed-section (faults.Pointer 7 said) said).from before _ tt fits.place,
-        (
-          words,
-          number_fields 2 words,
-          value ∷ [],
-          refl,
-          spelled-u16.from _ _ words fits.size,
-          (spelled-bytes (2 * words)).from _ _ value (omega (arith, fits.even), fits.bytes),
-        ),
-      );
-}
+placed-user : (said : ℕ) → IsPlacedBy (shared (user_data 7 said)) (λ before. user_fields) (λ before after v. (said ≡ length before / 2) × IsUserData v)
+placed-user said = placed-renamed refused (user_data 7 said) (λ before. user_fields) (λ before after v. (said ≡ length before / 2) × IsUserData v) (placed-user_data 7 said)
 
 placed-no_check_value : (said : ℕ) → IsPlacedBy (no_check_value said) (λ before u. number_fields 2 0) (λ before after u. said ≡ length before / 2)
 unfolding no_check_value
 placed-no_check_value said = record {
   to = λ before fields after value follows.
       let (u0, f0, o0, e0, h0, (size, f1, o1, e1, h1, h2)) = follows in
-      let a0 = (placed-section (faults.Pointer 8 said) said).to before f0 (length (concat o0) + after) u0 h0 in
+      let a0 = (placed-section 8 said).to before f0 (length (concat o0) + after) u0 h0 in
       let a1 = spelled-u16.to (before ++ concat f0) f1 (length (concat o1) + after) size h1 in
       let none : size ≡ 0 = eqb-true size 0 h2.1 in
       let is : fields ≡ number_fields 2 size = rw (e0, e1, h2.0, a0.0, a1.0) refl in
       (subst (λ (n : ℕ). fields ≡ number_fields 2 n) none is, a0.1);
   from = λ before after value fits.
-      (tt, [], number_fields 2 0, refl, (placed-section (faults.Pointer 8 said) said).from before _ tt fits, (0, number_fields 2 0, [], refl, spelled-u16.from _ _ 0 (omega arith), (refl, refl)));
+      (tt, [], number_fields 2 0, refl, (placed-section 8 said).from before _ tt fits, (0, number_fields 2 0, [], refl, spelled-u16.from _ _ 0 (omega arith), (refl, refl)));
 }
 
 abbrev pub sums_parts : List ℕ → ℕ → List (List ℕ)
@@ -251,14 +218,14 @@ placed-check_sums : IsPlacedBy check_sums sums_parts (λ before after v. (v < 2 
 unfolding check_sums
 placed-check_sums = record {
   to = λ before fields after value follows.
-      let (b, f0, o0, e0, h0, (said, f1, o1, e1, h1, (load, f2, o2, e2, h2, (u3, f3, o3, e3, h3, (u4, f4, o4, e4, h4, last))))) = follows in
+      let (b, f0, o0, e0, h0, (said, f1, o1, e1, h1, (load, f2, o2, e2, h2, (u3, f3, o3, e3, h3, last)))) = follows in
       let a1 = spelled-u16.to (before ++ concat f0) f1 (length (concat o1) + after) said h1 in
       let a2 = spelled-u32.to ((before ++ concat f0) ++ concat f1) f2 (length (concat o2) + after) load h2 in
-      let a3 = (placed-ended faults.Rest).to (((before ++ concat f0) ++ concat f1) ++ concat f2) f3 (length (concat o3) + after) u3 h3 in
-      let is : said ≡ crc16_of before = eqb-true said (crc16_of b) h4.1 ∙ ap crc16_of (sym h0.1) in
-      let parts : fields ≡ number_fields 2 said ++ number_fields 4 load = rw (e0, h0.0, e1, e2, e3, a3.0, e4, h4.0, last.0, a1.0, a2.0) refl in
+      let a3 = (placed-end said (crc16_of b)).to (((before ++ concat f0) ++ concat f1) ++ concat f2) f3 (length (concat o3) + after) u3 h3 in
+      let is : said ≡ crc16_of before = a3.1.1 ∙ ap crc16_of (sym h0.1) in
+      let parts : fields ≡ number_fields 2 said ++ number_fields 4 load = rw (e0, h0.0, e1, e2, e3, a3.0, last.0, a1.0, a2.0) refl in
       let whole : fields ≡ sums_parts before load = subst (λ (n : ℕ). fields ≡ number_fields 2 n ++ number_fields 4 load) is parts in
-      subst (λ (v : ℕ). (fields ≡ sums_parts before v) × ((v < 2 ^ 32) × (after ≡ 0))) last.1 (whole, (a2.1, omega (arith, a3.1)));
+      subst (λ (v : ℕ). (fields ≡ sums_parts before v) × ((v < 2 ^ 32) × (after ≡ 0))) last.1 (whole, (a2.1, omega (arith, a3.1.0)));
   from = λ before after value fits.
       let said : ℕ = crc16_of before in (
         before,
@@ -278,7 +245,7 @@ placed-check_sums = record {
             [],
             refl,
             spelled-u32.from _ _ value fits.0,
-            (tt, [], [], refl, (placed-ended faults.Rest).from _ _ tt (omega (arith, fits.1)), (tt, [], [], refl, (refl, eq-eqb said said refl), (refl, refl))),
+            (tt, [], [], refl, (placed-end said said).from _ _ tt (omega (arith, fits.1), refl), (refl, refl)),
           ),
         ),
       );
@@ -291,7 +258,8 @@ abbrev pub tail_parts : List ℕ → Tail → List (List ℕ)
 tail_parts before v = user_fields v.0 ++ (number_fields 2 0 ++ sums_parts ((before ++ concat (user_fields v.0)) ++ concat (number_fields 2 0)) v.1)
 
 pub record IsTail (places : Pointers) (before : List ℕ) (after : ℕ) (v : Tail) : Type 0 where
-  pub user : IsUserData places.user before v.0
+  pub user_place : places.user ≡ length before / 2
+  pub user : IsUserData v.0
   pub check_place : places.check_value ≡ (length before + size_of (user_fields v.0)) / 2
   pub load_crc : v.1 < 2 ^ 32
   pub none : after ≡ 0
@@ -301,14 +269,15 @@ unfolding tail
 placed-tail places = record {
   to = λ before fields after value follows.
       let (user, f1, o1, e1, h1, (u2, f2, o2, e2, h2, (load, f3, o3, e3, h3, last))) = follows in
-      let a1 = (placed-user_data places.user).to before f1 (length (concat o1) + after) user h1 in
+      let a1 = (placed-user places.user).to before f1 (length (concat o1) + after) user h1 in
       let a2 = (placed-no_check_value places.check_value).to (before ++ concat f1) f2 (length (concat o2) + after) u2 h2 in
       let a3 = placed-check_sums.to ((before ++ concat f1) ++ concat f2) f3 (length (concat o3) + after) load h3 in
       let is : Tail = (user, load) in
       let whole : fields ≡ tail_parts before is = rw (e1, e2, e3, last.0, a3.0, a1.0, a2.0) refl in
       let none : after ≡ 0 = omega (arith, a3.1.1) in
       let fits : IsTail places before after is = record {
-        user = a1.1;
+        user_place = a1.1.0;
+        user = a1.1.1;
         check_place = a2.1 ∙ ap (λ (n : ℕ). n / 2) (place_behind before f1 (user_fields user) a1.0);
         load_crc = a3.1.0;
         none = none;
@@ -322,7 +291,7 @@ placed-tail places = record {
         user_fields value.0,
         number_fields 2 0 ++ sums_parts b2 value.1,
         refl,
-        (placed-user_data places.user).from before _ value.0 fits.user,
+        (placed-user places.user).from before _ value.0 (fits.user_place, fits.user),
         (
           tt,
           number_fields 2 0,

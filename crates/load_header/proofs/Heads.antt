@@ -2,15 +2,15 @@
 use Rattle.std.proofs.Common.{◌≡◌, ℕ, ◌+◌, ◌*◌, ◌/◌, ◌<◌, ◌^◌, List, [], ◌++◌, length, refl, sym, ap, subst, ◌∙◌, arith, length-append}
 use Rattle.std.specs.List.{concat}
 use Rattle.std.proofs.lemmas.List.{append-nil}
-use Rattle.field_grammar.specs.Grammar.{Follows, expected}
-use Rattle.field_grammar.specs.Spelling.{size_of, IsSpelledBy}
+use Rattle.field_grammar.specs.Grammar.{Follows}
+use Rattle.field_grammar.specs.Spelling.{size_of, IsSpelledBy, IsPlacedBy}
 use Rattle.field_grammar.specs.Fields.{number_fields}
-use Rattle.field_grammar.specs.CombinedLaws.{spelled-expected}
-use Rattle.field_grammar.specs.PlacedLaws.{placed-sized}
+use Rattle.field_grammar.specs.PlacedLaws.{placed-renamed}
 use Rattle.field_grammar.specs.NumberLaws.{length_number_bytes}
-use Rattle.load_header.specs.Header.{u16, u32, four, pointers, head}
+use Rattle.header_sections.specs.Sections.{start}
+use Rattle.header_sections.specs.SectionLaws.{placed-start}
+use Rattle.load_header.specs.Header.{refused, shared, four, pointers, head}
 use Rattle.load_header.specs.HeaderFields.{pointers_fields, head_fields}
-use Rattle.load_header.specs.declared.fault.HeaderFault.TheVariants as faults
 use Rattle.load_header.specs.declared.reading.Pointers.{Pointers}
 use Rattle.load_header.proofs.Pieces.{spelled-u16, spelled-u32}
 
@@ -93,20 +93,13 @@ spelled-pointers = record {
       );
 }
 
-size_pointers : (p : Pointers) → size_of (pointers_fields p) ≡ 32
-unfolding pointers_fields
-size_pointers p = simp (length-append, length_number_bytes) refl
-
 pub size_head : (size flags : ℕ) (p : Pointers) → size_of (head_fields size flags p) ≡ 40
 unfolding head_fields pointers_fields
 size_head size flags p = simp (length-append, length_number_bytes) refl
 
-size_behind : (flags : ℕ) (p : Pointers) → size_of (number_fields 2 0x8004 ++ (number_fields 2 flags ++ pointers_fields p)) ≡ 36
+size_behind : (flags : ℕ) (p : Pointers) → size_of (number_fields 2 flags ++ pointers_fields p) ≡ 34
 unfolding pointers_fields
 size_behind flags p = simp (length-append, length_number_bytes) refl
-
-size_number : (n x : ℕ) → length (concat (number_fields n x)) ≡ n
-size_number n x = simp (append-nil, length_number_bytes) refl
 
 abbrev pub Head : Type 0
 Head = ℕ × Pointers
@@ -117,22 +110,21 @@ pub record IsHead (after : ℕ) (h : Head) : Type 0 where
   pub flags : h.0 < 2 ^ 16
   pub pointers : ArePointers h.1
 
-spelled-version : IsSpelledBy (expected u16 0x8004 faults.Version) (λ u. number_fields 2 0x8004) (λ u. Unit {0})
-spelled-version = spelled-expected u16 0x8004 faults.Version (number_fields 2) (λ n. n < 2 ^ 16) spelled-u16 (omega arith)
+placed-beginning : IsPlacedBy (shared (start 0x8004)) (λ before words. number_fields 4 words ++ number_fields 2 0x8004) (λ before after words. (words < 2 ^ 32) × (2 * words ≡ 6 + after))
+placed-beginning =
+    placed-renamed refused (start 0x8004) (λ before words. number_fields 4 words ++ number_fields 2 0x8004) (λ before after words. (words < 2 ^ 32) × (2 * words ≡ 6 + after)) (placed-start 0x8004 (omega arith))
 
 -- a head says how many bytes there are from its own first on
 pub head_to : (before : List ℕ) (fields : List (List ℕ)) (after : ℕ) (value : Head) → Follows head before fields after value → (fields ≡ head_fields (40 + after) value.0 value.1) × IsHead after value
 unfolding head head_fields
 head_to before fields after value follows =
-    let (said, f1, o1, e1, h1, (u, f2, o2, e2, h2, (flags, f3, o3, e3, h3, (places, f4, o4, e4, h4, last)))) = follows in
-    let p1 = (placed-sized u32 (λ words. 2 * words) faults.Length (number_fields 4) (λ n. n < 2 ^ 32) spelled-u32).to before f1 (length (concat o1) + after) said h1 in
-    let p2 = spelled-version.to (before ++ concat f1) f2 (length (concat o2) + after) u h2 in
-    let p3 = spelled-u16.to ((before ++ concat f1) ++ concat f2) f3 (length (concat o3) + after) flags h3 in
-    let p4 = spelled-pointers.to (((before ++ concat f1) ++ concat f2) ++ concat f3) f4 (length (concat o4) + after) places h4 in
-    let others : o1 ≡ number_fields 2 0x8004 ++ (number_fields 2 flags ++ pointers_fields places) = rw (e2, e3, e4, last.0, p2.0, p3.0, p4.0, append-nil) refl in
-    let more : length (concat o1) ≡ 36 = ap (λ (o : List (List ℕ)). length (concat o)) others ∙ size_behind flags places in
-    let four : length (concat (number_fields 4 said)) ≡ 4 = size_number 4 said in
-    let twice : 2 * said ≡ 40 + after = omega (arith, p1.1.1, more, four) in
+    let (said, f1, o1, e1, h1, (flags, f3, o3, e3, h3, (places, f4, o4, e4, h4, last))) = follows in
+    let p1 = placed-beginning.to before f1 (length (concat o1) + after) said h1 in
+    let p3 = spelled-u16.to (before ++ concat f1) f3 (length (concat o3) + after) flags h3 in
+    let p4 = spelled-pointers.to ((before ++ concat f1) ++ concat f3) f4 (length (concat o4) + after) places h4 in
+    let others : o1 ≡ number_fields 2 flags ++ pointers_fields places = rw (e3, e4, last.0, p3.0, p4.0, append-nil) refl in
+    let more : length (concat o1) ≡ 34 = ap (λ (o : List (List ℕ)). length (concat o)) others ∙ size_behind flags places in
+    let twice : 2 * said ≡ 40 + after = omega (arith, p1.1.1, more) in
     let half : said ≡ (40 + after) / 2 = omega (arith, twice) in
     let is : Head = (flags, places) in
     let parts : fields ≡ number_fields 4 said ++ (number_fields 2 0x8004 ++ (number_fields 2 flags ++ pointers_fields places)) = rw (e1, p1.0, others) refl in
@@ -145,27 +137,19 @@ pub head_from : (before : List ℕ) (after : ℕ) (value : Head) → IsHead afte
 unfolding head head_fields
 head_from before after value fits =
     let said : ℕ = (40 + after) / 2 in
-    let rest : List (List ℕ) = number_fields 2 0x8004 ++ (number_fields 2 value.0 ++ pointers_fields value.1) in
-    let more : length (concat rest) ≡ 36 = size_behind value.0 value.1 in
-    let four : length (concat (number_fields 4 said)) ≡ 4 = size_number 4 said in (
+    let rest : List (List ℕ) = number_fields 2 value.0 ++ pointers_fields value.1 in
+    let more : length (concat rest) ≡ 34 = size_behind value.0 value.1 in (
       said,
-      number_fields 4 said,
+      number_fields 4 said ++ number_fields 2 0x8004,
       rest,
       refl,
-      (placed-sized u32 (λ words. 2 * words) faults.Length (number_fields 4) (λ n. n < 2 ^ 32) spelled-u32).from before (length (concat rest) + after) said (fits.size, omega (arith, fits.whole, more, four)),
+      placed-beginning.from before (length (concat rest) + after) said (fits.size, omega (arith, fits.whole, more)),
       (
-        tt,
-        number_fields 2 0x8004,
-        number_fields 2 value.0 ++ pointers_fields value.1,
+        value.0,
+        number_fields 2 value.0,
+        pointers_fields value.1,
         refl,
-        spelled-version.from _ _ tt tt,
-        (
-          value.0,
-          number_fields 2 value.0,
-          pointers_fields value.1,
-          refl,
-          spelled-u16.from _ _ value.0 fits.flags,
-          (value.1, pointers_fields value.1, [], sym (append-nil (pointers_fields value.1)), spelled-pointers.from _ _ value.1 fits.pointers, (refl, refl)),
-        ),
+        spelled-u16.from _ _ value.0 fits.flags,
+        (value.1, pointers_fields value.1, [], sym (append-nil (pointers_fields value.1)), spelled-pointers.from _ _ value.1 fits.pointers, (refl, refl)),
       ),
     )

@@ -1,5 +1,4 @@
 pub mod Whole
-pub mod Texts
 pub mod Pieces
 pub mod Groups
 pub mod Heads
@@ -7,3 +6,4 @@ pub mod Sizes
 pub mod Spelled
 pub mod Limits
 pub mod Writes
+pub mod Changed

@@ -1,21 +1,24 @@
 -- The limits of a header.
-use Rattle.std.proofs.Common.{◌≡◌, ℕ, zero, suc, ◌+◌, ◌%◌, ◌<◌, ◌≤◌, List, [], ◌∷◌, ◌++◌, length, take, get_or, Bool, true, false, refl, sym, ap, ◌∙◌, arith, ◌&&◌, ◌==◌, leb, ltb}
+use Rattle.std.proofs.Common.{◌≡◌, ℕ, zero, suc, ◌+◌, ◌%◌, ◌<◌, ◌≤◌, ◌^◌, List, [], ◌∷◌, ◌++◌, length, take, get_or, Bool, true, false, refl, sym, ap, ◌∙◌, arith, ◌&&◌, ◌==◌, leb, ltb}
 use Rattle.std.specs.Prelude.{map}
-use Rattle.std.specs.List.{flat_map, list_all}
-use Rattle.std.proofs.lemmas.Bool.{leb-true, ltb-true, lt-leb, eqb-true}
-use Rattle.std.proofs.lemmas.List.{append-nil, take_more, take_all, length-map}
-use Rattle.std.proofs.lemmas.List.Concat.{flat_map-append, flat_map-cons}
-use Rattle.field_grammar.specs.Spelling.{size_of, listed_fields}
+use Rattle.std.specs.List.{flat_map, list_all, All, AllByRecursion}
+use Rattle.std.proofs.lemmas.List.Elements.{All-nil, All-cons}
+use Rattle.std.proofs.lemmas.Bool.{leb-true, ltb-true, lt-leb, lt-ltb, le-leb, eqb-true, eq-eqb, and_from}
+use Rattle.std.proofs.lemmas.List.{take_all, length-map}
+use Rattle.std.proofs.lemmas.List.Concat.{flat_map-cons}
+use Rattle.field_grammar.specs.Spelling.{size_of}
 use Rattle.field_grammar.specs.Fields.{number_fields, padded_fields}
-use Rattle.load_header.specs.Header.{HeaderView, hardware_view, header_view, distance_of}
-use Rattle.load_header.specs.HeaderFields.{texts_fields, hardware_at_fields, positions_fields, file_body_fields, entry_fields, entry_fields_behind, files_fields, type_fields, check_place, header_size, few_positions, has_size, few_members, few_files, short_enough, fits, kind_fields, pointers_by, pointers_of, AreSizes}
+use Rattle.load_header.specs.Header.{HeaderView, hardware_at_view, header_view}
+use Rattle.load_header.specs.HeaderFields.{hardware_at_fields, positions_fields, file_body_fields, type_fields, check_place, header_size, pointers_of, IsHardwareAt, IsHeaderFile, IsHeader}
+use Rattle.load_header.specs.Encoding.{few_positions, few_members, short_enough, kind_fields, pointers_by, AreSizes, IsKind, HasFiles, HasParts}
 use Rattle.load_header.specs.declared.header.FileEntry.{FileEntry}
 use Rattle.load_header.specs.declared.header.HardwareAt.{HardwareAt}
 use Rattle.load_header.specs.declared.header.LoadHeader.{LoadHeader}
 use Rattle.load_header.specs.declared.measuring.Sizes.{Sizes}
-use Rattle.load_header.proofs.Pieces.{size_body}
+use Rattle.header_sections.specs.SectionFields.{texts_fields, HaveDistances}
+use Rattle.header_sections.specs.SizeLaws.{size_user}
 use Rattle.field_grammar.specs.SectionLaws.{size_more, size_number, size_padded}
-use Rattle.load_header.proofs.Sizes.{size_user}
+use Rattle.load_header.proofs.Sizes.{size_body}
 
 both : (a b : Bool) → (a && b) ≡ true → (a ≡ true) × (b ≡ true)
 both true b e = (refl, e)
@@ -23,7 +26,7 @@ both false b e = absurd cc
 
 -- ---- what the tests say
 
-pub all_viewed : (list : List HardwareAt) → list_all few_positions (map hardware_view list) ≡ list_all (λ h. few_positions (hardware_view h)) list
+pub all_viewed : (list : List HardwareAt) → list_all few_positions (map hardware_at_view list) ≡ list_all (λ h. few_positions (hardware_at_view h)) list
 all_viewed [] = refl
 all_viewed (h ∷ list) = rw (all_viewed list) refl
 
@@ -41,7 +44,7 @@ few_kinds h few = ltb-true (length h.positions) 65536 (later_members h few).0
 
 -- the same of a header as it is kept
 pub few_kept : (h : LoadHeader) → few_members (header_view h) ≡ true → length h.positions.items < 65536
-few_kept h few = omega (arith, few_kinds (header_view h) few, length-map h.positions.items hardware_view)
+few_kept h few = omega (arith, few_kinds (header_view h) few, length-map h.positions.items hardware_at_view)
 
 -- the sizes of the sections give that of the whole
 pub total_size : (h : HeaderView) (s : Sizes) (n : ℕ) → AreSizes h s
@@ -51,17 +54,6 @@ total_size h s n are whole = omega (arith, whole, are.part, are.type_name, are.h
 
 pub few_of_each : (h : HeaderView) → few_members h ≡ true → list_all few_positions h.positions ≡ true
 few_of_each h few = (later_members h few).1
-
-pub few_together : (h : HeaderView) → few_files h ≡ true → length h.data_files + length h.support_files ≤ 255
-unfolding few_files
-few_together h few =
-    leb-true (length h.data_files + length h.support_files) 255 (both (leb (length h.data_files + length h.support_files) 255) (list_all has_size h.data_files && list_all has_size h.support_files) few).0
-
-pub few_data_files : (h : HeaderView) → few_files h ≡ true → length h.data_files ≤ 255
-few_data_files h few = omega (arith, few_together h few)
-
-pub few_support_files : (h : HeaderView) → few_files h ≡ true → length h.support_files ≤ 255
-few_support_files h few = omega (arith, few_together h few)
 
 pub size_type : (h : HeaderView) → size_of (type_fields h) ≡ 2 + length h.type_name + length h.type_name % 2 + 2
 unfolding type_fields
@@ -76,107 +68,90 @@ long_user h long =
 
 -- ---- one more member
 
-pub kinds_viewed : (list : List HardwareAt) → flat_map kind_fields list ≡ flat_map hardware_at_fields (map hardware_view list)
+pub kinds_viewed : (list : List HardwareAt) → flat_map kind_fields list ≡ flat_map hardware_at_fields (map hardware_at_view list)
 kinds_viewed [] = refl
 kinds_viewed (h ∷ list) =
-    flat_map-cons kind_fields h list ∙ (ap (λ (l : List (List ℕ)). kind_fields h ++ l) (kinds_viewed list) ∙ sym (flat_map-cons hardware_at_fields (hardware_view h) (map hardware_view list)))
+    flat_map-cons kind_fields h list ∙ (ap (λ (l : List (List ℕ)). kind_fields h ++ l) (kinds_viewed list) ∙ sym (flat_map-cons hardware_at_fields (hardware_at_view h) (map hardware_at_view list)))
 
--- an entry whose distance is 0: it has the length of any other
-abbrev pub plain_entry : FileEntry → List (List ℕ)
-plain_entry f = number_fields 2 0 ++ file_body_fields f
+pub kinds_all : (list : List HardwareAt) → AllByRecursion IsKind list → AllByRecursion IsHardwareAt (map hardware_at_view list)
+kinds_all [] all = tt
+kinds_all (h ∷ list) all = (all.0, kinds_all list all.1)
 
-pub size_taken : {X : Type 0} (f : X → List (List ℕ)) (xs : List X) (i : ℕ) (d : X) → i < length xs
-    → size_of (flat_map f (take (i + 1) xs)) ≡ size_of (flat_map f (take i xs)) + size_of (f (get_or xs i d))
-size_taken f xs i d lt =
-    let one : flat_map f (get_or xs i d ∷ []) ≡ f (get_or xs i d) = flat_map-cons f (get_or xs i d) [] ∙ append-nil (f (get_or xs i d)) in
-    ap (λ (l : List _). size_of (flat_map f l)) (take_more xs i d lt)
-    ∙ (ap (λ (l : List (List ℕ)). size_of l) (flat_map-append f (take i xs) (get_or xs i d ∷ [])) ∙ (size_more (flat_map f (take i xs)) (flat_map f (get_or xs i d ∷ [])) ∙ ap (λ (l : List (List ℕ)). size_of (flat_map f (take i xs)) + size_of l) one))
-
-pub all_texts : (texts : List (List ℕ)) (i : ℕ) → length texts ≤ i → 2 + size_of (flat_map padded_fields (take i texts)) ≡ size_of (texts_fields texts)
-unfolding texts_fields
-all_texts texts i le =
-    let whole : take i texts ≡ texts = take_all i texts le in
-    rw whole (sym (size_more (number_fields 2 (length texts)) (flat_map padded_fields texts) ∙ ap (λ (n : ℕ). n + size_of (flat_map padded_fields texts)) (size_number 2 (length texts))))
-
-pub size_kind : (h : HardwareAt) → size_of (hardware_at_fields (hardware_view h)) ≡ size_of (padded_fields h.hardware) + size_of (texts_fields h.positions.items)
+pub size_kind : (h : HardwareAt) → size_of (hardware_at_fields (hardware_at_view h)) ≡ size_of (padded_fields h.hardware) + size_of (texts_fields h.positions.items)
 size_kind h = size_more (padded_fields h.hardware) (texts_fields h.positions.items)
 
-pub positions_few : (h : HardwareAt) → few_positions (hardware_view h) ≡ true → length h.positions.items < 65536
+pub positions_few : (h : HardwareAt) → few_positions (hardware_at_view h) ≡ true → length h.positions.items < 65536
 positions_few h few = ltb-true (length h.positions.items) 65536 few
 
-pub all_kinds : (list : List HardwareAt) (i : ℕ) → length list ≤ i → 2 + size_of (flat_map kind_fields (take i list)) ≡ size_of (positions_fields (map hardware_view list))
+pub all_kinds : (list : List HardwareAt) (i : ℕ) → length list ≤ i → 2 + size_of (flat_map kind_fields (take i list)) ≡ size_of (positions_fields (map hardware_at_view list))
 unfolding positions_fields
 all_kinds list i le =
     let whole : take i list ≡ list = take_all i list le in
-    let kinds : List (List ℕ) = flat_map hardware_at_fields (map hardware_view list) in
+    let kinds : List (List ℕ) = flat_map hardware_at_fields (map hardware_at_view list) in
     let viewed : flat_map kind_fields list ≡ kinds = kinds_viewed list in
-    rw whole (ap (λ (l : List (List ℕ)). 2 + size_of l) viewed ∙ sym (size_more (number_fields 2 (length (map hardware_view list))) kinds ∙ ap (λ (n : ℕ). n + size_of kinds) (size_number 2 (length (map hardware_view list)))))
+    rw whole (ap (λ (l : List (List ℕ)). 2 + size_of l) viewed ∙ sym (size_more (number_fields 2 (length (map hardware_at_view list))) kinds ∙ ap (λ (n : ℕ). n + size_of kinds) (size_number 2 (length (map hardware_at_view list)))))
 
-pub few_at : (list : List HardwareAt) (i : ℕ) (d : HardwareAt) → i < length list → list_all few_positions (map hardware_view list) ≡ true → few_positions (hardware_view (get_or list i d)) ≡ true
+pub few_at : (list : List HardwareAt) (i : ℕ) (d : HardwareAt) → i < length list → list_all few_positions (map hardware_at_view list) ≡ true → few_positions (hardware_at_view (get_or list i d)) ≡ true
 few_at [] i d lt all = absurd (omega arith)
-few_at (h ∷ list) zero d lt all = (both (few_positions (hardware_view h)) (list_all few_positions (map hardware_view list)) all).0
-few_at (h ∷ list) (suc i) d lt all = few_at list i d (omega (arith, lt)) (both (few_positions (hardware_view h)) (list_all few_positions (map hardware_view list)) all).1
+few_at (h ∷ list) zero d lt all = (both (few_positions (hardware_at_view h)) (list_all few_positions (map hardware_at_view list)) all).0
+few_at (h ∷ list) (suc i) d lt all = few_at list i d (omega (arith, lt)) (both (few_positions (hardware_at_view h)) (list_all few_positions (map hardware_at_view list)) all).1
 
-pub size_entry : (f : FileEntry) → 2 + size_of (file_body_fields f) ≡ 2 + (2 + length f.name + length f.name % 2) + (2 + length f.part + length f.part % 2) + 14
-size_entry f = omega (arith, size_body f)
+-- ---- what a header that has a spelling passes
 
-size_plain : (f : FileEntry) → size_of (plain_entry f) ≡ 2 + size_of (file_body_fields f)
-size_plain f = size_more (number_fields 2 0) (file_body_fields f) ∙ ap (λ (n : ℕ). n + size_of (file_body_fields f)) (size_number 2 0)
+all_pass : {A : Type 0} (test : A → Bool) (P : A → Type 0) → ((x : A) → P x → test x ≡ true) → (xs : List A) → AllByRecursion P xs → list_all test xs ≡ true
+all_pass test P tells [] all = refl
+all_pass test P tells (x ∷ xs) all = and_from (test x) (list_all test xs) (tells x all.0) (all_pass test P tells xs all.1)
 
-size_listed : (n : ℕ) (so_far xs : List FileEntry) → size_of (listed_fields (entry_fields_behind n) so_far xs) ≡ size_of (flat_map plain_entry xs)
-unfolding listed_fields
-size_listed n so_far [] = refl
-size_listed n so_far (x ∷ xs) =
-    let last : Bool = length so_far + 1 == n in
-    let here : size_of (entry_fields last x) ≡ 2 + size_of (file_body_fields x) =
-    size_more (number_fields 2 (distance_of last (2 + size_of (file_body_fields x)))) (file_body_fields x) ∙ ap (λ (k : ℕ). k + size_of (file_body_fields x)) (size_number 2 (distance_of last (2 + size_of (file_body_fields x)))) in
-    let there : size_of (flat_map plain_entry (x ∷ xs)) ≡ size_of (plain_entry x) + size_of (flat_map plain_entry xs) =
-    ap (λ (l : List (List ℕ)). size_of l) (flat_map-cons plain_entry x xs) ∙ size_more (plain_entry x) (flat_map plain_entry xs) in
-    omega (arith, size_more (entry_fields last x) (listed_fields (entry_fields_behind n) (so_far ++ x ∷ []) xs), here, there, size_plain x, size_listed n (so_far ++ x ∷ []) xs)
+pub header_members : (h : HeaderView) → IsHeader h → few_members h ≡ true
+unfolding few_members
+header_members h is =
+    let each : list_all few_positions h.positions ≡ true = all_pass few_positions IsHardwareAt (λ kind are. lt-ltb (length kind.positions) 65536 (omega (arith, are.1.0))) h.positions is.positions in
+    and_from (ltb (length h.hardware) 65536) (ltb (length h.positions) 65536 && list_all few_positions h.positions) (lt-ltb (length h.hardware) 65536 (omega (arith, is.hardware.0)))
+    (and_from (ltb (length h.positions) 65536) (list_all few_positions h.positions) (lt-ltb (length h.positions) 65536 (omega (arith, is.positions_count))) each)
 
-pub size_taken_entry : (xs : List FileEntry) (i : ℕ) (d : FileEntry) → i < length xs
-    → size_of (flat_map plain_entry (take (i + 1) xs)) ≡ size_of (flat_map plain_entry (take i xs)) + (2 + size_of (file_body_fields (get_or xs i d)))
-size_taken_entry xs i d lt = size_taken plain_entry xs i d lt ∙ ap (λ (n : ℕ). size_of (flat_map plain_entry (take i xs)) + n) (size_plain (get_or xs i d))
+pub header_files : (h : HeaderView) → IsHeader h → HasFiles h
+header_files h is = record { few = is.files; data_files = is.data_files; support_files = is.support_files }
 
-pub all_entries : (files : List FileEntry) (i : ℕ) → length files ≤ i → 2 + size_of (flat_map plain_entry (take i files)) ≡ size_of (files_fields files)
-unfolding files_fields
-all_entries files i le =
-    let whole : take i files ≡ files = take_all i files le in
-    let entries : List (List ℕ) = listed_fields (entry_fields_behind (length files)) [] files in
-    rw whole (omega (arith, size_more (number_fields 2 (length files)) entries, size_number 2 (length files), size_listed (length files) [] files))
+-- files that can be written are short enough for their distances
+pub files_fit : (files : List FileEntry) → AllByRecursion IsHeaderFile files → All (λ file. file.length ≤ 16777215) files
+files_fit [] all = All-nil (λ file. file.length ≤ 16777215)
+files_fit (file ∷ files) all = All-cons (λ file. file.length ≤ 16777215) file files all.0.size (files_fit files all.1)
 
--- ---- what it means to fit
+pub files_short : (files : List FileEntry) → AllByRecursion IsHeaderFile files → HaveDistances file_body_fields files
+files_short [] all = tt
+files_short (file ∷ []) all = tt
+files_short (file ∷ next ∷ files) all = (omega (arith, size_body file, all.0.name.size.1, all.0.part.size), files_short (next ∷ files) all.1)
 
-pub fits_members : (h : HeaderView) → fits h ≡ true → few_members h ≡ true
-unfolding fits
-fits_members h is = (both (few_members h) (few_files h && short_enough h) is).0
+pub header_short : (h : HeaderView) → IsHeader h → short_enough h ≡ true
+unfolding short_enough
+header_short h is = and_from (length h.user % 2 == 0) (leb (header_size h) 65536) (eq-eqb (length h.user % 2) 0 is.user_even) (le-leb (header_size h) 65536 is.size)
 
-pub fits_files : (h : HeaderView) → fits h ≡ true → few_files h ≡ true
-unfolding fits
-fits_files h is = (both (few_files h) (short_enough h) (both (few_members h) (few_files h && short_enough h) is).1).0
-
-pub fits_short : (h : HeaderView) → fits h ≡ true → (length h.user % 2 ≡ 0) × (header_size h ≤ 65536)
-unfolding fits short_enough
-fits_short h is =
-    let short = (both (few_files h) (short_enough h) (both (few_members h) (few_files h && short_enough h) is).1).1 in
-    let two = both (length h.user % 2 == 0) (leb (header_size h) 65536) short in
-    (eqb-true (length h.user % 2) 0 two.0, leb-true (header_size h) 65536 two.1)
-
-pub fits_user : (h : HeaderView) → fits h ≡ true → length h.user ≤ 65536
+pub header_user : (h : HeaderView) → IsHeader h → length h.user ≤ 65536
 unfolding header_size
-fits_user h is =
-    let size : check_place h + 8 ≤ 65536 = (fits_short h is).1 in
+header_user h is =
+    let size : check_place h + 8 ≤ 65536 = is.size in
     omega (arith, size, size_user h.user)
 
-pub sized_files : (h : HeaderView) → few_files h ≡ true → (list_all has_size h.data_files ≡ true) × (list_all has_size h.support_files ≡ true)
-unfolding few_files
-sized_files h few =
-    both (list_all has_size h.data_files) (list_all has_size h.support_files) (both (leb (length h.data_files + length h.support_files) 255) (list_all has_size h.data_files && list_all has_size h.support_files) few).1
-
-pub sized_at : (files : List FileEntry) (i : ℕ) (d : FileEntry) → i < length files → list_all has_size files ≡ true → has_size (get_or files i d) ≡ true
-sized_at [] i d lt all = absurd (omega arith)
-sized_at (f ∷ files) zero d lt all = (both (has_size f) (list_all has_size files) all).0
-sized_at (f ∷ files) (suc i) d lt all = sized_at files i d (omega (arith, lt)) (both (has_size f) (list_all has_size files) all).1
+-- a header that passes the tests, whose parts are such
+pub is_header : (h : HeaderView) → few_members h ≡ true → HasFiles h → short_enough h ≡ true → HasParts h → h.flags < 2 ^ 16 → h.load_crc < 2 ^ 32 → IsHeader h
+unfolding short_enough
+is_header h members files short has flags load =
+    let two = both (length h.user % 2 == 0) (leb (header_size h) 65536) short in record {
+      flags = flags;
+      part = has.part;
+      type_name = has.type_name;
+      type_id = has.type_id;
+      hardware = has.hardware;
+      positions_count = omega (arith, few_kinds h members);
+      positions = has.positions;
+      data_files = files.data_files;
+      support_files = files.support_files;
+      files = files.few;
+      user = has.user;
+      user_even = eqb-true (length h.user % 2) 0 two.0;
+      load_crc = load;
+      size = leb-true (header_size h) 65536 two.1;
+    }
 
 -- pointers are half the places, however they are computed
 pub pointers_are : (h : HeaderView) (s : Sizes) → AreSizes h s → pointers_by s ≡ pointers_of h

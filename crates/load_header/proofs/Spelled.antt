@@ -9,12 +9,14 @@ use Rattle.field_grammar.specs.Grammar.{Follows}
 use Rattle.field_grammar.specs.Spelling.{size_of, IsPlacedBy, SpellsWhole}
 use Rattle.field_grammar.specs.Fields.{number_fields, padded_fields}
 use Rattle.field_grammar.specs.SectionLaws.{size_more, size_number, place_behind}
+use Rattle.header_sections.specs.SectionFields.{texts_fields, user_fields, IsUserData}
+use Rattle.header_sections.specs.SizeLaws.{size_user}
 use Rattle.load_header.specs.Header.{HeaderView, limit, head, header}
-use Rattle.load_header.specs.HeaderFields.{texts_fields, positions_fields, files_fields, type_fields, user_fields, type_place, hardware_place, positions_place, data_place, support_place, user_place, check_place, header_size, pointers_of, head_fields, identity_fields, targets_fields, all_files_fields, sections_fields, covered_fields, header_fields, IsHeader}
+use Rattle.load_header.specs.HeaderFields.{positions_fields, files_fields, type_fields, type_place, hardware_place, positions_place, data_place, support_place, user_place, check_place, header_size, pointers_of, head_fields, identity_fields, targets_fields, all_files_fields, sections_fields, covered_fields, header_fields, IsHeader}
 use Rattle.load_header.specs.declared.reading.Pointers.{Pointers}
-use Rattle.load_header.proofs.Groups.{Identity, identity_parts, IsIdentity, placed-identity, Targets, targets_parts, AreTargets, placed-targets, AllFiles, all_files_parts, AreFiles, placed-all_files, Tail, tail_parts, sums_parts, IsTail, IsUserData, placed-tail}
+use Rattle.load_header.proofs.Groups.{Identity, identity_parts, IsIdentity, placed-identity, Targets, targets_parts, AreTargets, placed-targets, AllFiles, all_files_parts, AreFiles, placed-all_files, Tail, tail_parts, sums_parts, IsTail, placed-tail}
 use Rattle.load_header.proofs.Heads.{Head, IsHead, ArePointers, size_head, head_to, head_from}
-use Rattle.load_header.proofs.Sizes.{size_user, even_place}
+use Rattle.load_header.proofs.Sizes.{even_place}
 
 placed-limit : IsPlacedBy limit (λ before u. []) (λ before after u. after ≤ 65536)
 unfolding limit
@@ -170,7 +172,7 @@ header_to fields after value follows =
     (a3.1.positions_place ∙ half (length b2 + size_of (texts_fields whom.0)) (positions_place is) (omega (arith, s2)))
     (a4.1.data_place ∙ half (length b3) (data_place is) s3)
     (a4.1.support_place ∙ half (length b3 + size_of (files_fields parts.0)) (support_place is) (omega (arith, s3)))
-    (a5.1.user.place ∙ half (length b4) (user_place is) s4)
+    (a5.1.user_place ∙ half (length b4) (user_place is) s4)
     (a5.1.check_place ∙ half (length b4 + size_of (user_fields stop.0)) (check_place is) (omega (arith, s4))) in
     let others : o1 ≡ rest_fields is b4 =
     follow_on o1 f2 f3 f4 f5 o2 o3 o4 o5 (identity_parts what) (targets_parts whom) (all_files_parts parts) (tail_parts b4 stop) e2 a2.0 e3 a3.0 e4 a4.0 e5 a5.0 last.0 in
@@ -278,8 +280,9 @@ header_from value fits =
       support_files = fits.support_files;
       few = fits.files;
     } in
-    let is_user : IsUserData places.user b4 value.user = record { place = half (user_place value) (length b4) (sym s4); bytes = fits.user; even = fits.user_even; size = user_small value fits } in
+    let is_user : IsUserData value.user = record { bytes = fits.user; even = fits.user_even; size = user_small value fits } in
     let is_tail : IsTail places b4 (0 + 0) (stop_of value) = record {
+      user_place = half (user_place value) (length b4) (sym s4);
       user = is_user;
       check_place = half (check_place value) (length b4 + size_of (user_fields value.user)) (omega (arith, s4));
       load_crc = fits.load_crc;

@@ -1,13 +1,15 @@
 -- Nothing stands behind a header.
 use Rattle.field_grammar.specs.Grammar.{EndsTheBytes}
-use Rattle.field_grammar.specs.ExactLaws.{ends_at_end, ends_last, ends_before}
-use Rattle.load_header.specs.Header.{header, tail, check_sums}
-use Rattle.load_header.specs.declared.fault.HeaderFault.TheVariants as faults
+use Rattle.field_grammar.specs.ExactLaws.{ends_renamed, ends_last, ends_before}
+use Rattle.crc_fields.specs.CheckSums.{crc16_of}
+use Rattle.header_sections.specs.Sections.{end}
+use Rattle.header_sections.specs.SectionLaws.{ends-end}
+use Rattle.load_header.specs.Header.{refused, header, tail, check_sums}
 use Rattle.load_header.specs.declared.reading.Pointers.{Pointers}
 
 ends-check_sums : EndsTheBytes check_sums
 unfolding check_sums
-ends-check_sums = ends_last _ _ (λ before. ends_last _ _ (λ said. ends_last _ _ (λ load_crc. ends_before _ _ (ends_at_end faults.Rest))))
+ends-check_sums = ends_last _ _ (λ before. ends_last _ _ (λ said. ends_last _ _ (λ load_crc. ends_before _ _ (ends_renamed refused (end said (crc16_of before)) (ends-end said (crc16_of before))))))
 
 ends-tail : (places : Pointers) → EndsTheBytes (tail places)
 unfolding tail

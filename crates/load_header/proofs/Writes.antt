@@ -1,31 +1,29 @@
 -- What the encoder has written, member by member.
-use Rattle.std.proofs.Common.{◌≡◌, ℕ, ◌<◌, ◌^◌, List, [], ◌∷◌, ◌++◌, length, true, refl, sym, ap, ◌∙◌, arith, append_assoc}
+use Rattle.std.proofs.Common.{◌≡◌, ℕ, List, ◌++◌, length, refl, sym, ap, ◌∙◌, append_assoc}
 use Rattle.std.specs.Prelude.{map}
-use Rattle.std.specs.List.{concat, flat_map, AllByRecursion}
+use Rattle.std.specs.List.{concat, flat_map}
 use Rattle.std.proofs.lemmas.List.{append-nil, length-map}
 use Rattle.std.proofs.lemmas.List.Folds.{concat-append}
 use Rattle.crc_fields.specs.CheckSums.{crc16_of}
 use Rattle.field_grammar.specs.Fields.{number_bytes, number_fields}
-use Rattle.load_header.specs.Header.{HeaderView, hardware_view}
-use Rattle.load_header.specs.HeaderFields.{hardware_at_fields, texts_fields, positions_fields, files_fields, user_fields, identity_fields, targets_fields, all_files_fields, sections_fields, head_fields, covered_fields, header_fields, header_size, pointers_of, pointers_by, whole_size, AreSizes, HasParts, IsHeader, fits, kind_fields, IsKind, IsHardwareAt}
+use Rattle.load_header.specs.Header.{HeaderView, hardware_at_view}
+use Rattle.load_header.specs.HeaderFields.{hardware_at_fields, positions_fields, files_fields, identity_fields, targets_fields, all_files_fields, sections_fields, head_fields, covered_fields, header_fields, header_size, pointers_of}
+use Rattle.header_sections.specs.SectionFields.{texts_fields, user_fields}
+use Rattle.load_header.specs.Encoding.{pointers_by, whole_size, AreSizes, kind_fields}
 use Rattle.load_header.specs.declared.header.HardwareAt.{HardwareAt}
 use Rattle.load_header.specs.declared.measuring.Sizes.{Sizes}
 use Rattle.load_header.specs.declared.reading.Pointers.{Pointers}
-use Rattle.load_header.proofs.Limits.{kinds_viewed, total_size, pointers_are, fits_short, fits_members, fits_files, few_kinds, few_together}
+use Rattle.load_header.proofs.Limits.{kinds_viewed, total_size, pointers_are}
 
-pub kinds_all : (list : List HardwareAt) → AllByRecursion IsKind list → AllByRecursion IsHardwareAt (map hardware_view list)
-kinds_all [] all = tt
-kinds_all (h ∷ list) all = (all.0, kinds_all list all.1)
-
-pub kinds_written : (list : List HardwareAt) → concat (flat_map kind_fields list) ≡ concat (flat_map hardware_at_fields (map hardware_view list))
+pub kinds_written : (list : List HardwareAt) → concat (flat_map kind_fields list) ≡ concat (flat_map hardware_at_fields (map hardware_at_view list))
 kinds_written list = ap (λ (l : List (List ℕ)). concat l) (kinds_viewed list)
 
 pub positions_written : (list : List HardwareAt) (before middle now : List ℕ) → middle ≡ before ++ number_bytes 2 (length list) → now ≡ middle ++ concat (flat_map kind_fields list)
-    → now ≡ before ++ concat (positions_fields (map hardware_view list))
+    → now ≡ before ++ concat (positions_fields (map hardware_at_view list))
 unfolding positions_fields
 positions_written list before middle now first second =
-    let size : length list ≡ length (map hardware_view list) = sym (length-map list hardware_view) in
-    let counted : middle ≡ before ++ number_bytes 2 (length (map hardware_view list)) = first ∙ ap (λ (n : ℕ). before ++ number_bytes 2 n) size in
+    let size : length list ≡ length (map hardware_at_view list) = sym (length-map list hardware_at_view) in
+    let counted : middle ≡ before ++ number_bytes 2 (length (map hardware_at_view list)) = first ∙ ap (λ (n : ℕ). before ++ number_bytes 2 n) size in
     rw (second, counted, kinds_written list, append_assoc) refl
 
 pub sections_written : (h : HeaderView) (o0 o1 o2 o3 o4 o5 o6 o7 : List ℕ) → o1 ≡ o0 ++ concat (identity_fields h) → o2 ≡ o1 ++ concat (texts_fields h.hardware) → o3 ≡ o2 ++ concat (positions_fields h.positions)
@@ -53,30 +51,10 @@ covered_written h s o1 o2 are one two =
     one ∙ (ap (λ (n : ℕ). concat (head_fields n h.flags (pointers_by s))) size ∙ ap (λ (p : Pointers). concat (head_fields (header_size h) h.flags p)) (pointers_are h s are)) in
     two ∙ (ap (λ (o : List ℕ). o ++ concat (sections_fields h)) head ∙ sym (concat-append (head_fields (header_size h) h.flags (pointers_of h)) (sections_fields h)))
 
-pub header_written : (h : HeaderView) (covered whole : List ℕ) → covered ≡ concat (covered_fields h) → whole ≡ covered ++ (number_bytes 2 (crc16_of covered) ++ number_bytes 4 h.load_crc) → whole ≡ concat (header_fields h)
+pub header_written : (h : HeaderView) (covered whole : List ℕ) → covered ≡ concat (covered_fields h) → whole ≡ (covered ++ number_bytes 2 (crc16_of covered)) ++ number_bytes 4 h.load_crc → whole ≡ concat (header_fields h)
 unfolding header_fields
 header_written h covered whole one two =
     let c : List (List ℕ) = covered_fields h in
     let end : List (List ℕ) = number_fields 2 (crc16_of (concat c)) ++ number_fields 4 h.load_crc in
     let ended : concat end ≡ number_bytes 2 (crc16_of (concat c)) ++ number_bytes 4 h.load_crc = simp append-nil refl in
-    two ∙ (ap (λ (l : List ℕ). l ++ (number_bytes 2 (crc16_of l) ++ number_bytes 4 h.load_crc)) one ∙ (ap (λ (l : List ℕ). concat c ++ l) (sym ended) ∙ sym (concat-append c end)))
-
--- a header with such parts that meets the limits
-pub is_header : (h : HeaderView) → fits h ≡ true → HasParts h → h.flags < 2 ^ 16 → h.load_crc < 2 ^ 32 → IsHeader h
-is_header h fit has flags load =
-    let short = fits_short h fit in record {
-      flags = flags;
-      part = has.part;
-      type_name = has.type_name;
-      type_id = has.type_id;
-      hardware = has.hardware;
-      positions_count = omega (arith, few_kinds h (fits_members h fit));
-      positions = has.positions;
-      data_files = has.data_files;
-      support_files = has.support_files;
-      files = few_together h (fits_files h fit);
-      user = has.user;
-      user_even = short.0;
-      load_crc = load;
-      size = short.1;
-    }
+    two ∙ (append_assoc covered (number_bytes 2 (crc16_of covered)) (number_bytes 4 h.load_crc) ∙ ap (λ (l : List ℕ). l ++ (number_bytes 2 (crc16_of l) ++ number_bytes 4 h.load_crc)) one ∙ (ap (λ (l : List ℕ). concat c ++ l) (sym ended) ∙ sym (concat-append c end)))

@@ -1,31 +1,26 @@
 -- How a load header is written, field by field (docs/FORMATS.md).
-use Rattle.std.specs.Prelude.{◌≡◌, ℕ, ◌+◌, ◌/◌, ◌%◌, ◌<◌, ◌≤◌, ◌^◌, List, [], ◌∷◌, ◌++◌, length, ◌==◌, nat_lt, nat_le, ◌&&◌, Bool}
-use Rattle.std.specs.List.{concat, flat_map, AllByRecursion, list_all}
+use Rattle.std.specs.Prelude.{◌≡◌, ℕ, ◌+◌, ◌/◌, ◌%◌, ◌<◌, ◌≤◌, ◌^◌, List, ◌++◌, length}
+use Rattle.std.specs.List.{concat, flat_map, AllByRecursion}
 use Rattle.crc_fields.specs.CheckSums.{crc16_of}
 use Rattle.load_base.specs.Name.{IsName}
 use Rattle.load_base.specs.Text.{IsText}
 use Rattle.part_number.specs.PartNumber.{IsPartNumberText}
 use Rattle.field_grammar.specs.Grammar.{IsBytes}
-use Rattle.field_grammar.specs.Spelling.{size_of, with_last, listed_fields}
+use Rattle.field_grammar.specs.Spelling.{size_of}
 use Rattle.field_grammar.specs.Fields.{number_fields, padded_fields}
-use Rattle.load_header.specs.Header.{HeaderView, HardwareView, hardware_view, distance_of}
+use Rattle.header_sections.specs.SectionFields.{texts_fields, user_fields, entries_fields}
+use Rattle.load_header.specs.Header.{HeaderView, HardwareAtView}
 use Rattle.load_header.specs.declared.header.FileEntry.{FileEntry}
-use Rattle.load_header.specs.declared.header.HardwareAt.{HardwareAt}
 use Rattle.load_header.specs.declared.reading.Pointers.{Pointers}
-use Rattle.load_header.specs.declared.measuring.Sizes.{Sizes}
 
 -- ---- the sections
 
--- a count, and so many texts
-unfoldable pub texts_fields : List (List ℕ) → List (List ℕ)
-texts_fields texts = number_fields 2 (length texts) ++ flat_map padded_fields texts
-
 -- a kind of hardware and its positions
-abbrev pub hardware_at_fields : HardwareView → List (List ℕ)
+abbrev pub hardware_at_fields : HardwareAtView → List (List ℕ)
 hardware_at_fields h = padded_fields h.hardware ++ texts_fields h.positions
 
 -- a count, and so many kinds of hardware with their positions
-unfoldable pub positions_fields : List HardwareView → List (List ℕ)
+unfoldable pub positions_fields : List HardwareAtView → List (List ℕ)
 positions_fields list = number_fields 2 (length list) ++ flat_map hardware_at_fields list
 
 -- what an entry says of its file, behind the distance: the length in words is that in bytes, halved and rounded up
@@ -33,24 +28,12 @@ unfoldable pub file_body_fields : FileEntry → List (List ℕ)
 file_body_fields file =
     padded_fields file.name ++ (padded_fields file.part ++ (number_fields 4 ((file.length + 1) / 2) ++ (number_fields 8 file.length ++ number_fields 2 file.crc16)))
 
--- an entry: its distance is half its length, and 0 for the last of its list
-abbrev pub entry_fields : Bool → FileEntry → List (List ℕ)
-entry_fields last file = number_fields 2 (distance_of last (2 + size_of (file_body_fields file))) ++ file_body_fields file
-
--- the entry behind those so far, in a list of so many
-abbrev pub entry_fields_behind : ℕ → List FileEntry → FileEntry → List (List ℕ)
-entry_fields_behind count so_far file = with_last entry_fields count so_far file
-
 -- a count, and the entries
-unfoldable pub files_fields : List FileEntry → List (List ℕ)
-files_fields files = number_fields 2 (length files) ++ listed_fields (entry_fields_behind (length files)) [] files
+abbrev pub files_fields : List FileEntry → List (List ℕ)
+files_fields files = entries_fields file_body_fields files
 
 unfoldable pub type_fields : HeaderView → List (List ℕ)
 type_fields h = padded_fields h.type_name ++ number_fields 2 h.type_id
-
--- the length in words, and the bytes
-unfoldable pub user_fields : List ℕ → List (List ℕ)
-user_fields user = number_fields 2 (length user / 2) ++ user ∷ []
 
 -- ---- where the sections begin
 
@@ -133,11 +116,11 @@ header_fields h = covered_fields h ++ (number_fields 2 (crc16_of (concat (covere
 abbrev pub AreTexts : List (List ℕ) → Type 0
 AreTexts texts = (length texts < 2 ^ 16) × AllByRecursion IsText texts
 
-abbrev pub IsHardwareAt : HardwareView → Type 0
+abbrev pub IsHardwareAt : HardwareAtView → Type 0
 IsHardwareAt h = IsText h.hardware × AreTexts h.positions
 
 -- at most 16,777,215 bytes
-pub record IsFile (file : FileEntry) : Type 0 where
+pub record IsHeaderFile (file : FileEntry) : Type 0 where
   pub name : IsName file.name
   pub part : IsText file.part
   pub size : file.length ≤ 16777215
@@ -152,8 +135,8 @@ pub record IsHeader (h : HeaderView) : Type 0 where
   pub hardware : AreTexts h.hardware
   pub positions_count : length h.positions < 2 ^ 16
   pub positions : AllByRecursion IsHardwareAt h.positions
-  pub data_files : AllByRecursion IsFile h.data_files
-  pub support_files : AllByRecursion IsFile h.support_files
+  pub data_files : AllByRecursion IsHeaderFile h.data_files
+  pub support_files : AllByRecursion IsHeaderFile h.support_files
   pub files : length h.data_files + length h.support_files ≤ 255
   pub user : IsBytes h.user
   pub user_even : length h.user % 2 ≡ 0
@@ -163,87 +146,3 @@ pub record IsHeader (h : HeaderView) : Type 0 where
 -- The header has this one spelling, and can be written.
 abbrev pub HeaderSpells : HeaderView → List ℕ → Type 0
 HeaderSpells h bytes = IsHeader h × (bytes ≡ concat (header_fields h))
-
--- ---- the limits
-
-abbrev pub few_positions : HardwareView → Bool
-few_positions h = nat_lt (length h.positions) 65536
-
-abbrev pub has_size : FileEntry → Bool
-has_size file = nat_le file.length 16777215
-
--- at most 65,535 kinds of hardware, with and without positions, and as many positions of each
-unfoldable pub few_members : HeaderView → Bool
-few_members h = nat_lt (length h.hardware) 65536 && (nat_lt (length h.positions) 65536 && list_all few_positions h.positions)
-
--- at most 255 files, each of at most 16,777,215 bytes
-unfoldable pub few_files : HeaderView → Bool
-few_files h = nat_le (length h.data_files + length h.support_files) 255 && (list_all has_size h.data_files && list_all has_size h.support_files)
-
--- an even number of bytes of user data, and at most 65,536 bytes in all
-unfoldable pub short_enough : HeaderView → Bool
-short_enough h = (length h.user % 2 == 0) && nat_le (header_size h) 65536
-
--- a header that meets the limits
-unfoldable pub fits : HeaderView → Bool
-fits h = few_members h && (few_files h && short_enough h)
-
--- how many bytes the sections take
-pub record AreSizes (h : HeaderView) (s : Sizes) : Type 0 where
-  pub part : s.part ≡ size_of (padded_fields h.part)
-  pub type_name : s.type_name ≡ size_of (type_fields h)
-  pub hardware : s.hardware ≡ size_of (texts_fields h.hardware)
-  pub positions : s.positions ≡ size_of (positions_fields h.positions)
-  pub data_files : s.data_files ≡ size_of (files_fields h.data_files)
-  pub support_files : s.support_files ≡ size_of (files_fields h.support_files)
-  pub user : s.user ≡ size_of (user_fields h.user)
-
--- small enough to be added in 64 bits
-pub record AreSmall (s : Sizes) : Type 0 where
-  pub part : s.part < 2 ^ 50
-  pub type_name : s.type_name < 2 ^ 50
-  pub hardware : s.hardware < 2 ^ 50
-  pub positions : s.positions < 2 ^ 50
-  pub data_files : s.data_files < 2 ^ 50
-  pub support_files : s.support_files < 2 ^ 50
-  pub user : s.user < 2 ^ 50
-
--- ---- for the encoder
-
--- the bytes of a header whose sections take these
-abbrev pub whole_size : Sizes → ℕ
-whole_size s = 40 + s.part + s.type_name + s.hardware + s.positions + s.data_files + s.support_files + s.user + 8
-
--- the pointers to sections that take so many bytes
-unfoldable pub pointers_by : Sizes → Pointers
-pointers_by s = record {
-  part = 20;
-  type_name = (40 + s.part) / 2;
-  hardware = (40 + s.part + s.type_name) / 2;
-  positions = (40 + s.part + s.type_name + s.hardware) / 2;
-  data_files = (40 + s.part + s.type_name + s.hardware + s.positions) / 2;
-  support_files = (40 + s.part + s.type_name + s.hardware + s.positions + s.data_files) / 2;
-  user = (40 + s.part + s.type_name + s.hardware + s.positions + s.data_files + s.support_files) / 2;
-  check_value = (40 + s.part + s.type_name + s.hardware + s.positions + s.data_files + s.support_files + s.user) / 2;
-}
-
--- a kind of hardware and its positions, as it is kept
-abbrev pub kind_fields : HardwareAt → List (List ℕ)
-kind_fields h = hardware_at_fields (hardware_view h)
-
-abbrev pub IsKind : HardwareAt → Type 0
-IsKind h = IsHardwareAt (hardware_view h)
-
-abbrev pub entries_fields : List FileEntry → List (List ℕ)
-entries_fields files = listed_fields (entry_fields_behind (length files)) [] files
-
--- the texts, names, part numbers and bytes of a header are such
-pub record HasParts (h : HeaderView) : Type 0 where
-  pub type_id : h.type_id < 2 ^ 16
-  pub user : IsBytes h.user
-  pub part : IsPartNumberText h.part
-  pub type_name : IsText h.type_name
-  pub hardware : AreTexts h.hardware
-  pub positions : AllByRecursion IsHardwareAt h.positions
-  pub data_files : AllByRecursion IsFile h.data_files
-  pub support_files : AllByRecursion IsFile h.support_files

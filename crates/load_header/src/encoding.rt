@@ -1,50 +1,44 @@
 //! The encoder of a load header.
-ghost use Rattle.std.specs.Prelude.{◌≡◌, ◌+◌, ◌++◌, ◌/◌, ◌<◌, ◌≤◌, ◌^◌, length, true, IfOk, OnOk};
+ghost use Rattle.std.specs.Prelude.{◌≡◌, ◌+◌, ◌++◌, ◌/◌, ◌≤◌, IfOk, OnOk};
 ghost use Rattle.std.specs.List.{concat};
-ghost use Rattle.load_base.specs.Text.{IsText};
-ghost use Rattle.part_number.specs.PartNumber.{IsPartNumberText};
-ghost use Rattle.field_grammar.specs.Grammar.{IsBytes};
-ghost use Rattle.field_grammar.specs.Fields.{number_bytes};
+ghost use Rattle.field_grammar.specs.Fields.{number_bytes as bytes_of_number};
 ghost use Rattle.load_header.specs.Header.{header_view};
-ghost use Rattle.load_header.specs.HeaderFields.{user_fields, pointers_fields, head_fields, identity_fields, sections_fields, covered_fields, pointers_by, whole_size, fits, HasParts, HeaderSpells};
+ghost use Rattle.load_header.specs.HeaderFields.{pointers_fields, head_fields, identity_fields, sections_fields, covered_fields, IsHeader, HeaderSpells};
+ghost use Rattle.load_header.specs.Encoding.{pointers_by, whole_size};
 
 use crate::header::LoadHeader;
 use crate::measuring::{Sizes, header_size, sizes_of};
 use crate::reading::Pointers;
-use crate::writing::{put_files, put_positions, put_text, put_texts};
-use crc_fields::crc16;
+use crate::writing::put_positions;
 use field_codec::Writer;
+use header_sections::{put_entries, put_text, put_texts, put_user, with_check_sum};
 use load_base::{Bytes, NoMemory};
 use std::alloc::Global;
 
 /// The bytes of a header that meets the limits.
 pub(crate) fn header_bytes(alloc: Global, header: &LoadHeader) -> Result<Bytes, NoMemory>
-    requires { fits (header_view header.now) ≡ true }
+    requires { IsHeader (header_view header.now) }
     ensures { IfOk result (λ bytes. HeaderSpells (header_view header.now) bytes.items) }
 {
-    let mut covered = covered_bytes(alloc, header)?;
-    let end = sums_bytes(alloc, crc16(covered.as_slice()), header.load_crc)?;
-    covered.extend(end.as_slice())?;
-    Ok(covered)
+    let covered = covered_bytes(alloc, header)?;
+    let mut whole = with_check_sum(alloc, covered)?;
+    let load_crc = number_bytes(alloc, header.load_crc)?;
+    whole.extend(load_crc.as_slice())?;
+    Ok(whole)
 }
 
-// Both check sums.
-fn sums_bytes(alloc: Global, header_crc: u16, load_crc: u32) -> Result<Bytes, NoMemory>
-    ensures sums { IfOk result (λ bytes. bytes.items ≡ number_bytes 2 header_crc ++ number_bytes 4 load_crc) }
-    ensures load_crc { load_crc < 2 ^ 32 }
+fn number_bytes(alloc: Global, value: u32) -> Result<Bytes, NoMemory>
+    ensures { IfOk result (λ bytes. bytes.items ≡ bytes_of_number 4 value) }
 {
     let mut out = Writer::new(alloc);
-    out.put_u16(header_crc)?;
-    out.put_u32(load_crc)?;
+    out.put_u32(value)?;
     Ok(out.finish())
 }
 
 // All that the check sum of the header covers.
 fn covered_bytes(alloc: Global, header: &LoadHeader) -> Result<Bytes, NoMemory>
-    requires { fits (header_view header.now) ≡ true }
-    ensures covered { IfOk result (λ bytes. bytes.items ≡ concat (covered_fields (header_view header.now))) }
-    ensures parts { IfOk result (λ bytes. HasParts (header_view header.now)) }
-    ensures flags { IfOk result (λ bytes. header.now.flags < 2 ^ 16) }
+    requires { IsHeader (header_view header.now) }
+    ensures { IfOk result (λ bytes. bytes.items ≡ concat (covered_fields (header_view header.now))) }
 {
     let sizes = sizes_of(header);
     let mut out = Writer::new(alloc);
@@ -59,7 +53,7 @@ fn covered_bytes(alloc: Global, header: &LoadHeader) -> Result<Bytes, NoMemory>
 }
 
 // The words at which the sections begin.
-#[tactic(auto, unfolding(crate::specs::HeaderFields::pointers_by))]
+#[tactic(auto, unfolding(crate::specs::Encoding::pointers_by))]
 fn pointers_of(sizes: Sizes) -> Pointers
     requires { whole_size sizes ≤ 65536 }
     ensures { result ≡ pointers_by sizes }
@@ -85,8 +79,7 @@ fn pointers_of(sizes: Sizes) -> Pointers
 
 #[tactic(auto, unfolding(crate::specs::HeaderFields::head_fields))]
 fn put_head(out: &mut Writer, size: u32, flags: u16, pointers: Pointers) -> Result<(), NoMemory>
-    ensures fields { OnOk result (out.new ≡ out.old ++ concat (head_fields size flags pointers)) }
-    ensures flags { flags < 2 ^ 16 }
+    ensures { OnOk result (out.new ≡ out.old ++ concat (head_fields size flags pointers)) }
 {
     out.put_u32(size / 2)?;
     out.put_u16(0x8004)?;
@@ -117,7 +110,7 @@ fn put_pointers(out: &mut Writer, pointers: Pointers) -> Result<(), NoMemory>
 }
 
 fn put_four(out: &mut Writer, a: u32, b: u32, c: u32, d: u32) -> Result<(), NoMemory>
-    ensures { OnOk result (out.new ≡ out.old ++ (number_bytes 4 a ++ (number_bytes 4 b ++ (number_bytes 4 c ++ number_bytes 4 d)))) }
+    ensures { OnOk result (out.new ≡ out.old ++ (bytes_of_number 4 a ++ (bytes_of_number 4 b ++ (bytes_of_number 4 c ++ bytes_of_number 4 d)))) }
 {
     out.put_u32(a)?;
     out.put_u32(b)?;
@@ -127,15 +120,14 @@ fn put_four(out: &mut Writer, a: u32, b: u32, c: u32, d: u32) -> Result<(), NoMe
 }
 
 fn put_sections(out: &mut Writer, header: &LoadHeader) -> Result<(), NoMemory>
-    requires { fits (header_view header.now) ≡ true }
-    ensures fields { OnOk result (out.new ≡ out.old ++ concat (sections_fields (header_view header.now))) }
-    ensures parts { OnOk result (HasParts (header_view header.now)) }
+    requires { IsHeader (header_view header.now) }
+    ensures { OnOk result (out.new ≡ out.old ++ concat (sections_fields (header_view header.now))) }
 {
     put_identity(out, header)?;
     put_texts(out, header.hardware.as_slice())?;
     put_positions(out, header.positions.as_slice())?;
-    put_files(out, header.data_files.as_slice())?;
-    put_files(out, header.support_files.as_slice())?;
+    put_entries(out, header.data_files.as_slice())?;
+    put_entries(out, header.support_files.as_slice())?;
     put_user(out, header.user.as_slice())?;
     out.put_u16(0)?;
     Ok(())
@@ -143,24 +135,10 @@ fn put_sections(out: &mut Writer, header: &LoadHeader) -> Result<(), NoMemory>
 
 #[tactic(auto, using(part_number::specs::VerdictLaws::part_size), unfolding(crate::specs::HeaderFields::identity_fields, crate::specs::HeaderFields::type_fields))]
 fn put_identity(out: &mut Writer, header: &LoadHeader) -> Result<(), NoMemory>
-    ensures fields { OnOk result (out.new ≡ out.old ++ concat (identity_fields (header_view header.now))) }
-    ensures part { IsPartNumberText header.now.part }
-    ensures type_name { OnOk result (IsText header.now.type_name) }
-    ensures type_id { OnOk result (header.now.type_id < 2 ^ 16) }
+    ensures { OnOk result (out.new ≡ out.old ++ concat (identity_fields (header_view header.now))) }
 {
     out.put_padded(header.part.as_slice())?;
     put_text(out, &header.type_name)?;
     out.put_u16(header.type_id)?;
-    Ok(())
-}
-
-#[tactic(auto, unfolding(crate::specs::HeaderFields::user_fields))]
-fn put_user(out: &mut Writer, user: &[u8]) -> Result<(), NoMemory>
-    requires { length user.now ≤ 65536 }
-    ensures fields { OnOk result (out.new ≡ out.old ++ concat (user_fields user.now)) }
-    ensures bytes { IsBytes user.now }
-{
-    out.put_u16((user.len() / 2) as u16)?;
-    out.put_raw(user)?;
     Ok(())
 }

@@ -1,9 +1,10 @@
 //! Why bytes are no load header.
 ghost use Rattle.std.specs.Prelude.{◌≡◌};
 ghost use Rattle.load_header.specs.declared.fault.HeaderFault.TheVariants.{Memory};
-ghost use Rattle.load_header.specs.Header.{named};
+ghost use Rattle.load_header.specs.Header.{named, refused};
 
 use field_codec::FieldFault;
+use header_sections::SectionFault;
 use load_base::{NameFault, NoMemory, TextFault};
 use part_number::PartFault;
 
@@ -78,6 +79,40 @@ impl From<FieldFault> for HeaderFault {
         match field {
             FieldFault::Short(place) => HeaderFault::Short(place),
             FieldFault::BadPad(place) => HeaderFault::Pad(place),
+        }
+    }
+}
+
+impl From<SectionFault> for HeaderFault {
+    ghost from_gives = { λ piece fault. fault ≡ refused piece };
+
+    fn from(piece: SectionFault) -> HeaderFault {
+        match piece {
+            SectionFault::Short(place) => HeaderFault::Short(place),
+            SectionFault::Pad(place) => HeaderFault::Pad(place),
+            SectionFault::Length { said, found } => HeaderFault::Length { said, found },
+            SectionFault::Version(found) => HeaderFault::Version(found),
+            SectionFault::Pointer {
+                which,
+                said,
+                expected,
+            } => HeaderFault::Pointer {
+                which,
+                said,
+                expected,
+            },
+            SectionFault::Name { offset, fault } => HeaderFault::Name {
+                place: offset,
+                fault,
+            },
+            SectionFault::Part { fault, .. } => HeaderFault::Part(fault),
+            SectionFault::Text { offset, fault } => HeaderFault::Text {
+                place: offset,
+                fault,
+            },
+            SectionFault::Rest(place) => HeaderFault::Rest(place),
+            SectionFault::Sum { said, found } => HeaderFault::HeaderCrc { said, found },
+            SectionFault::Memory => HeaderFault::Memory,
         }
     }
 }

@@ -1,9 +1,9 @@
 //! What a load header says.
-ghost use Rattle.std.specs.Prelude.{◌≡◌, ◌⊎◌, true, IfOk, IfErr};
+ghost use Rattle.std.specs.Prelude.{◌≡◌, ◌⊎◌, ◌↔◌, IsTrue, IfOk, IfErr};
 ghost use Rattle.field_grammar.specs.Grammar.{Fault};
 ghost use Rattle.field_grammar.specs.Answers.{Gives};
 ghost use Rattle.load_header.specs.Header.{header, header_view, HeaderView};
-ghost use Rattle.load_header.specs.HeaderFields.{HeaderSpells, fits};
+ghost use Rattle.load_header.specs.HeaderFields.{IsHeader, HeaderSpells};
 ghost use Rattle.load_header.specs.declared.fault.HeaderFault.{HeaderFault};
 ghost use Rattle.load_header.specs.declared.fault.HeaderFault.TheVariants.{Memory};
 
@@ -67,11 +67,12 @@ impl LoadHeader {
         header_of(alloc, bytes)
     }
 
-    /// Whether the header meets the limits: at most 65,536 bytes in all, at most 255 data and support files
-    /// together, each of at most 16,777,215 bytes, an even number of bytes of user data, and at most 65,535
-    /// members of each other list. It takes no memory.
+    /// Whether the header meets the limits of the format (this project's layout, docs/FORMATS.md), so that it
+    /// has a spelling: at most 65,536 bytes in all; at most 255 data and support files together, each of at
+    /// most 16,777,215 bytes; at most 65,535 members of each other list; and an even number of bytes of user
+    /// data. It takes no memory.
     pub fn fits(&self) -> bool
-        ensures { result ≡ fits (header_view self.now) }
+        ensures { IsTrue result ↔ IsHeader (header_view self.now) }
     {
         measuring::fits(self)
     }
@@ -79,7 +80,7 @@ impl LoadHeader {
     /// The one spelling of a header that meets the limits. Lengths, pointers, distances and the check sum of
     /// the header are computed; the check sum of the load is the field `load_crc`.
     pub fn encode(&self, alloc: Global) -> Result<Bytes, NoMemory>
-        requires { fits (header_view self.now) ≡ true }
+        requires { IsHeader (header_view self.now) }
         ensures { IfOk result (λ bytes. HeaderSpells (header_view self.now) bytes.items) }
     {
         encoding::header_bytes(alloc, self)

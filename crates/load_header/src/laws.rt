@@ -1,8 +1,10 @@
 //! What holds of the format of load headers.
-ghost use Rattle.std.specs.Prelude.{◌≡◌, ◌↔◌, ℕ, List};
+ghost use Rattle.std.specs.Prelude.{◌≡◌, ◌↔◌, ◌-◌, ◌++◌, ℕ, List, length, take};
 ghost use Rattle.field_grammar.specs.Grammar.{IsBytes, IsDecided, Spelled};
 ghost use Rattle.load_header.specs.Header.{header, HeaderView};
-ghost use Rattle.load_header.specs.HeaderFields.{HeaderSpells};
+ghost use Rattle.field_grammar.specs.Fields.{number_bytes};
+ghost use Rattle.load_header.specs.HeaderFields.{header_size, IsHeader, HeaderSpells};
+ghost use Rattle.load_header.specs.HeaderChanges.{HaveSameTexts, HasNumbers, with_load_crc};
 
 /// Laws of the format of load headers, for callers that compare headers and their bytes.
 pub fn header_laws()
@@ -13,4 +15,13 @@ pub fn header_laws()
     // Bytes spell one header, and a header has one spelling.
     ensures one_header { (g h : HeaderView) (bytes : List ℕ) → HeaderSpells g bytes → HeaderSpells h bytes → g ≡ h }
     ensures one_spelling { (h : HeaderView) (bytes others : List ℕ) → HeaderSpells h bytes → HeaderSpells h others → bytes ≡ others }
+
+    // How long its bytes are, which depends on no number of it; numbers of their widths may be put in place of others.
+    ensures length { (h : HeaderView) (bytes : List ℕ) → HeaderSpells h bytes → length bytes ≡ header_size h }
+    ensures same_size { (g h : HeaderView) → HaveSameTexts g h → header_size g ≡ header_size h }
+    ensures still_header { (g h : HeaderView) → IsHeader g → HaveSameTexts g h → HasNumbers h → IsHeader h }
+
+    // The last 4 bytes are the load CRC, and the bytes before them don't depend on it.
+    ensures ends_in_load_crc { (h : HeaderView) (bytes : List ℕ) → HeaderSpells h bytes → bytes ≡ take (length bytes - 4) bytes ++ number_bytes 4 h.load_crc }
+    ensures before_load_crc { (h : HeaderView) (crc : ℕ) (bytes others : List ℕ) → HeaderSpells h bytes → HeaderSpells (with_load_crc h crc) others → take (length bytes - 4) bytes ≡ take (length others - 4) others }
 {}

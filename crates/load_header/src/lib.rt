@@ -12,7 +12,6 @@ mod printing;
 mod reading;
 #[cfg(test)]
 mod tests;
-mod verdicts;
 mod writing;
 
 pub use fault::HeaderFault;

@@ -2,17 +2,23 @@
 ghost use Rattle.std.specs.Prelude.{◌≡◌, [], ◌*◌, ◌/◌, ◌+◌, ◌==◌, ◌≤◌, ◌<◌, length, map, IfOk};
 ghost use Rattle.field_grammar.specs.Grammar.{times, listed};
 ghost use Rattle.field_grammar.specs.Answers.{answer, Decodes, Gives};
-ghost use Rattle.load_header.specs.Header.{text, name, part, texts, section_at, four, pointers, head, identity, hardware_at, positions, targets, file_size, file_body, file_entry, entry_behind, files, all_files, user_data, no_check_value, check_sums, tail, limit, header, hardware_view, header_view};
+ghost use Rattle.load_header.specs.Header.{counted_texts, four, pointers, head, identity, hardware_at, positions, targets, file_size, file_body, file_entry, entry_behind, files, all_files, no_check_value, check_sums, tail, limit, header, hardware_at_view, header_view};
 ghost use Rattle.load_header.specs.declared.fault.HeaderFault.TheVariants.{Memory};
 
 use crate::fault::HeaderFault;
 use crate::header::{FileEntry, HardwareAt, LoadHeader};
-use crate::verdicts::{name_of, part_of, text_of};
 use crc_fields::crc16;
 use field_codec::Reader;
-use load_base::{Bytes, List, Name, Text};
+use header_sections::{
+    is_distance, read_name, read_part, read_start, read_text, read_texts, read_user_data, test_end,
+    test_section,
+};
+use load_base::{Bytes, List, Text};
 use part_number::PartNumber;
 use std::alloc::Global;
+
+/// The version of a header.
+const VERSION: u16 = 0x8004;
 
 /// The most bytes of a header.
 pub(crate) const LONGEST_HEADER: usize = 65_536;
@@ -79,15 +85,7 @@ fn test_limit(reader: &mut Reader) -> Result<(), HeaderFault>
 fn read_head(reader: &mut Reader) -> Result<(u16, Pointers), HeaderFault>
     ensures { Decodes Memory (λ h. h) head reader.old result reader.new }
 {
-    let found = reader.left() as u64;
-    let said = u64::from(reader.take_u32()?);
-    if 2 * said != found {
-        return Err(HeaderFault::Length { said, found });
-    }
-    let version = reader.take_u16()?;
-    if version != 0x8004 {
-        return Err(HeaderFault::Version(u64::from(version)));
-    }
+    read_start(reader, VERSION)?;
     let flags = reader.take_u16()?;
     let pointers = read_pointers(reader)?;
     Ok((flags, pointers))
@@ -122,82 +120,14 @@ fn read_four(reader: &mut Reader) -> Result<(u32, u32, u32, u32), HeaderFault>
     Ok((a, b, c, d))
 }
 
-// The section begins where its pointer says.
-#[tactic(auto, unfolding(field_grammar::specs::Fields::section))]
-fn test_section(reader: &mut Reader, which: u64, said: u32) -> Result<(), HeaderFault>
-    ensures { Decodes Memory (λ u. u) (section_at which said) reader.old result reader.new }
-{
-    let said = u64::from(said);
-    let expected = reader.place() as u64 / 2;
-    if said == expected {
-        Ok(())
-    } else {
-        Err(HeaderFault::Pointer {
-            which,
-            said,
-            expected,
-        })
-    }
-}
-
 // ---- texts
 
-#[tactic(auto, unfolding(crate::specs::Header::text))]
-fn read_text(alloc: Global, reader: &mut Reader) -> Result<Text, HeaderFault>
-    ensures { Decodes Memory (λ t. t) text reader.old result reader.new }
+#[tactic(auto, unfolding(crate::specs::Header::counted_texts))]
+fn read_counted_texts(alloc: Global, reader: &mut Reader) -> Result<List<Text>, HeaderFault>
+    ensures { Decodes Memory (λ l. l.items) counted_texts reader.old result reader.new }
 {
-    let size = reader.take_u16()? as usize;
-    let place = reader.place() as u64;
-    let bytes = reader.take_raw(size)?;
-    let text = text_of(alloc, bytes, place)?;
-    reader.take_pad(size)?;
-    Ok(text)
-}
-
-#[tactic(auto, unfolding(crate::specs::Header::name))]
-fn read_name(reader: &mut Reader) -> Result<Name, HeaderFault>
-    ensures { Decodes Memory (λ t. t) name reader.old result reader.new }
-{
-    let size = reader.take_u16()? as usize;
-    let place = reader.place() as u64;
-    let bytes = reader.take_raw(size)?;
-    let name = name_of(bytes, place)?;
-    reader.take_pad(size)?;
-    Ok(name)
-}
-
-#[tactic(auto, unfolding(crate::specs::Header::part))]
-fn read_part(reader: &mut Reader) -> Result<PartNumber, HeaderFault>
-    ensures { Decodes Memory (λ t. t) part reader.old result reader.new }
-{
-    let size = reader.take_u16()? as usize;
-    let bytes = reader.take_raw(size)?;
-    let part = part_of(bytes)?;
-    reader.take_pad(size)?;
-    Ok(part)
-}
-
-#[tactic(auto, unfolding(crate::specs::Header::texts))]
-fn read_texts(alloc: Global, reader: &mut Reader) -> Result<List<Text>, HeaderFault>
-    ensures { Decodes Memory (λ l. l.items) texts reader.old result reader.new }
-{
-    let count = reader.take_u16()?;
-    let texts = read_so_many_texts(alloc, reader, count)?;
-    Ok(texts)
-}
-
-#[tactic(auto, using(field_grammar::specs::LoopLaws::goes_on, field_grammar::specs::LoopLaws::ends, field_grammar::specs::LoopLaws::is_done, field_grammar::specs::LoopLaws::begins))]
-fn read_so_many_texts(
-    alloc: Global,
-    reader: &mut Reader,
-    count: u16,
-) -> Result<List<Text>, HeaderFault>
-    ensures { Decodes Memory (λ l. l.items) (times count text) reader.old result reader.new }
-{
-    let mut texts = List::new(alloc);
-    for _ in 0..count {
-        texts.push(read_text(alloc, reader)?)?;
-    }
+    let count = reader.take_u16()? as usize;
+    let texts = read_texts(alloc, reader, count)?;
     Ok(texts)
 }
 
@@ -225,10 +155,10 @@ fn read_targets(
     reader: &mut Reader,
     pointers: Pointers,
 ) -> Result<(List<Text>, List<HardwareAt>), HeaderFault>
-    ensures { Decodes Memory (λ x. (x.0.items, map hardware_view x.1.items)) (targets pointers) reader.old result reader.new }
+    ensures { Decodes Memory (λ x. (x.0.items, map hardware_at_view x.1.items)) (targets pointers) reader.old result reader.new }
 {
     test_section(reader, 3, pointers.hardware)?;
-    let hardware = read_texts(alloc, reader)?;
+    let hardware = read_counted_texts(alloc, reader)?;
     test_section(reader, 4, pointers.positions)?;
     let positions = read_positions(alloc, reader)?;
     Ok((hardware, positions))
@@ -236,7 +166,7 @@ fn read_targets(
 
 #[tactic(auto, unfolding(crate::specs::Header::positions))]
 fn read_positions(alloc: Global, reader: &mut Reader) -> Result<List<HardwareAt>, HeaderFault>
-    ensures { Decodes Memory (λ l. map hardware_view l.items) positions reader.old result reader.new }
+    ensures { Decodes Memory (λ l. map hardware_at_view l.items) positions reader.old result reader.new }
 {
     let count = reader.take_u16()?;
     let positions = read_so_many_positions(alloc, reader, count)?;
@@ -249,7 +179,7 @@ fn read_so_many_positions(
     reader: &mut Reader,
     count: u16,
 ) -> Result<List<HardwareAt>, HeaderFault>
-    ensures { Decodes Memory (λ l. map hardware_view l.items) (times count hardware_at) reader.old result reader.new }
+    ensures { Decodes Memory (λ l. map hardware_at_view l.items) (times count hardware_at) reader.old result reader.new }
 {
     let mut positions = List::new(alloc);
     for _ in 0..count {
@@ -260,10 +190,10 @@ fn read_so_many_positions(
 
 #[tactic(auto, unfolding(crate::specs::Header::hardware_at))]
 fn read_hardware_at(alloc: Global, reader: &mut Reader) -> Result<HardwareAt, HeaderFault>
-    ensures { Decodes Memory hardware_view hardware_at reader.old result reader.new }
+    ensures { Decodes Memory hardware_at_view hardware_at reader.old result reader.new }
 {
     let hardware = read_text(alloc, reader)?;
-    let positions = read_texts(alloc, reader)?;
+    let positions = read_counted_texts(alloc, reader)?;
     Ok(HardwareAt {
         hardware,
         positions,
@@ -335,11 +265,10 @@ fn read_entry(
     ensures { Decodes Memory (λ f. f) (file_entry file last) reader.old result reader.new }
 {
     let start = reader.place();
-    let said = reader.take_u16()? as usize;
+    let said = reader.take_u16()?;
     let entry = read_file_body(alloc, reader, file)?;
     let size = reader.place() - start;
-    let due = if last { 0 } else { size / 2 };
-    if said == due {
+    if is_distance(said, size, last) {
         Ok(entry)
     } else {
         Err(HeaderFault::Distance(file))
@@ -385,22 +314,10 @@ fn read_tail(
 ) -> Result<(Bytes, u32), HeaderFault>
     ensures { Decodes Memory (λ x. (x.0.items, x.1)) (tail pointers) reader.old result reader.new }
 {
-    let user = read_user_data(alloc, reader, pointers.user)?;
+    let user = read_user_data(alloc, reader, 7, pointers.user)?;
     test_check_value(reader, pointers.check_value)?;
     let load_crc = read_check_sums(reader)?;
     Ok((user, load_crc))
-}
-
-#[tactic(auto, unfolding(crate::specs::Header::user_data))]
-fn read_user_data(alloc: Global, reader: &mut Reader, said: u32) -> Result<Bytes, HeaderFault>
-    ensures { Decodes Memory (λ b. b.items) (user_data said) reader.old result reader.new }
-{
-    test_section(reader, 7, said)?;
-    let words = reader.take_u16()? as usize;
-    let bytes = reader.take_raw(2 * words)?;
-    let mut user = Bytes::new(alloc);
-    user.extend(bytes)?;
-    Ok(user)
 }
 
 #[tactic(auto, unfolding(crate::specs::Header::no_check_value))]
@@ -423,15 +340,6 @@ fn read_check_sums(reader: &mut Reader) -> Result<u32, HeaderFault>
     let found = crc16(reader.before());
     let said = reader.take_u16()?;
     let load_crc = reader.take_u32()?;
-    if reader.left() != 0 {
-        return Err(HeaderFault::Rest(reader.place() as u64));
-    }
-    if said == found {
-        Ok(load_crc)
-    } else {
-        Err(HeaderFault::HeaderCrc {
-            said: u64::from(said),
-            found: u64::from(found),
-        })
-    }
+    test_end(reader, said, found)?;
+    Ok(load_crc)
 }

@@ -10,17 +10,19 @@ use Rattle.field_grammar.specs.Fields.{number_fields}
 use Rattle.field_grammar.specs.CombinedLaws.{spelled-measured}
 use Rattle.field_grammar.specs.ListedLaws.{placed-listed}
 use Rattle.field_grammar.specs.PlacedLaws.{placed}
-use Rattle.field_grammar.specs.SectionLaws.{size_number, placed-section}
+use Rattle.field_grammar.specs.SectionLaws.{size_number}
+use Rattle.header_sections.specs.Sections.{distance_of}
+use Rattle.header_sections.specs.SectionFields.{entry_size, entry_fields, entry_fields_after, entries_fields, HaveDistances}
 use Rattle.media_lists.specs.Lists.{u16}
-use Rattle.media_lists.specs.Entries.{distance_of, entry, is_listed, new_entry, entry_behind, entries}
-use Rattle.media_lists.specs.ListFields.{entry_size, entry_fields, entry_fields_behind, entries_fields, HaveDistances, AreNew, AreEntries}
+use Rattle.media_lists.specs.Entries.{numbered_entry, is_listed, new_entry, entry_behind, entries}
+use Rattle.media_lists.specs.ListFields.{AreNew, AreEntries}
 use Rattle.media_lists.specs.declared.fault.ListFault.{ListFault}
 use Rattle.media_lists.specs.declared.fault.ListFault.TheVariants as faults
-use Rattle.media_lists.proofs.Pieces.{spelled-u16, spelled-counted_few}
+use Rattle.media_lists.proofs.Pieces.{spelled-u16, spelled-counted_few, placed-section}
 
 spelled-entry : {E : Type 0} (body : Grammar ListFault E) (f : E → List (List ℕ)) (P : E → Type 0) (number : ℕ) (last : Bool) → IsSpelledBy body f P
-    → IsSpelledBy (entry body number last) (entry_fields f last) (λ e. (distance_of last (entry_size f e) < 2 ^ 16) × P e)
-unfolding entry
+    → IsSpelledBy (numbered_entry body number last) (entry_fields f last) (λ e. (distance_of last (entry_size f e) < 2 ^ 16) × P e)
+unfolding numbered_entry
 spelled-entry body f P number last one = spelled-measured u16 (distance_of last) (faults.Distance number) body 2 (number_fields 2) f (λ n. n < 2 ^ 16) P (size_number 2) spelled-u16 one
 
 not_true : (b : Bool) → not b ≡ true → b ≡ false
@@ -52,11 +54,11 @@ spelled-new_entry {E = E} body name_of f P number last so_far one = record {
 }
 
 placed-entries_behind : {E : Type 0} (body : Grammar ListFault E) (name_of : E → List ℕ) (f : E → List (List ℕ)) (P : E → Type 0) (count : ℕ) → IsSpelledBy body f P
-    → IsPlacedBy (listed count (entry_behind body name_of count) []) (λ before. listed_fields (entry_fields_behind f count) [])
-    (λ before after xs. (length xs ≡ count) × AllPlaced (entry_fields_behind f count) (Fits name_of f P count) [] before after xs)
+    → IsPlacedBy (listed count (entry_behind body name_of count) []) (λ before. listed_fields (entry_fields_after f count) [])
+    (λ before after xs. (length xs ≡ count) × AllPlaced (entry_fields_after f count) (Fits name_of f P count) [] before after xs)
 placed-entries_behind body name_of f P count one =
-    placed-listed (entry_behind body name_of count) (entry_fields_behind f count) (Fits name_of f P count) count
-    (λ so_far. placed (entry_behind body name_of count so_far) (entry_fields_behind f count so_far)
+    placed-listed (entry_behind body name_of count) (entry_fields_after f count) (Fits name_of f P count) count
+    (λ so_far. placed (entry_behind body name_of count so_far) (entry_fields_after f count so_far)
     (λ e. ((distance_of (length so_far + 1 == count) (entry_size f e) < 2 ^ 16) × P e) × (is_listed name_of (name_of e) so_far ≡ false))
     (spelled-new_entry body name_of f P (length so_far + 1) (length so_far + 1 == count) so_far one))
 
@@ -84,29 +86,29 @@ is_last : {E : Type 0} (so_far : List E) (x : E) (count : ℕ) → length so_far
 is_last so_far x count whole other = both_tests (length so_far + 1 == count) (eq-eqb (length so_far + 1) count (omega (arith, whole))) other
 
 each_there : {E : Type 0} (name_of : E → List ℕ) (f : E → List (List ℕ)) (P : E → Type 0) (count : ℕ) (xs so_far : List E) (before : List ℕ) (after : ℕ)
-    → AllPlaced (entry_fields_behind f count) (Fits name_of f P count) so_far before after xs → AllByRecursion P xs × AreNew name_of so_far xs
+    → AllPlaced (entry_fields_after f count) (Fits name_of f P count) so_far before after xs → AllByRecursion P xs × AreNew name_of so_far xs
 each_there name_of f P count [] so_far before after all = (tt, tt)
 each_there name_of f P count (x ∷ xs) so_far before after all =
-    let later = each_there name_of f P count xs (so_far ++ x ∷ []) (before ++ concat (entry_fields_behind f count so_far x)) after all.1 in
+    let later = each_there name_of f P count xs (so_far ++ x ∷ []) (before ++ concat (entry_fields_after f count so_far x)) after all.1 in
     ((all.0.0.1, later.0), (all.0.1, later.1))
 
 distances_there : {E : Type 0} (name_of : E → List ℕ) (f : E → List (List ℕ)) (P : E → Type 0) (count : ℕ) → ((e : E) → entry_size f e % 2 ≡ 0) → (xs so_far : List E) (before : List ℕ) (after : ℕ)
-    → length so_far + length xs ≡ count → AllPlaced (entry_fields_behind f count) (Fits name_of f P count) so_far before after xs → HaveDistances f xs
+    → length so_far + length xs ≡ count → AllPlaced (entry_fields_after f count) (Fits name_of f P count) so_far before after xs → HaveDistances f xs
 distances_there name_of f P count even [] so_far before after whole all = tt
 distances_there name_of f P count even (x ∷ []) so_far before after whole all = tt
 distances_there name_of f P count even (x ∷ y ∷ xs) so_far before after whole all = (
   short_enough (length so_far + 1 == count) (entry_size f x) (not_last so_far x y xs count whole) (even x) all.0.0.0,
-  distances_there name_of f P count even (y ∷ xs) (so_far ++ x ∷ []) (before ++ concat (entry_fields_behind f count so_far x)) after (one_more so_far x (y ∷ xs) count whole) all.1,
+  distances_there name_of f P count even (y ∷ xs) (so_far ++ x ∷ []) (before ++ concat (entry_fields_after f count so_far x)) after (one_more so_far x (y ∷ xs) count whole) all.1,
 )
 
 all_again : {E : Type 0} (name_of : E → List ℕ) (f : E → List (List ℕ)) (P : E → Type 0) (count : ℕ) (xs so_far : List E) (before : List ℕ) (after : ℕ)
-    → length so_far + length xs ≡ count → AllByRecursion P xs → HaveDistances f xs → AreNew name_of so_far xs → AllPlaced (entry_fields_behind f count) (Fits name_of f P count) so_far before after xs
+    → length so_far + length xs ≡ count → AllByRecursion P xs → HaveDistances f xs → AreNew name_of so_far xs → AllPlaced (entry_fields_after f count) (Fits name_of f P count) so_far before after xs
 all_again name_of f P count [] so_far before after whole each short new = tt
 all_again name_of f P count (x ∷ []) so_far before after whole each short new =
     (((distance_fits (length so_far + 1 == count) (entry_size f x) (λ other. absurd (is_last so_far x count whole other)), each.0), new.0), tt)
 all_again name_of f P count (x ∷ y ∷ xs) so_far before after whole each short new = (
   ((distance_fits (length so_far + 1 == count) (entry_size f x) (λ other. short.0), each.0), new.0),
-  all_again name_of f P count (y ∷ xs) (so_far ++ x ∷ []) (before ++ concat (entry_fields_behind f count so_far x)) after (one_more so_far x (y ∷ xs) count whole) each.1 short.1 new.1,
+  all_again name_of f P count (y ∷ xs) (so_far ++ x ∷ []) (before ++ concat (entry_fields_after f count so_far x)) after (one_more so_far x (y ∷ xs) count whole) each.1 short.1 new.1,
 )
 
 -- the entries where their pointer says
@@ -116,13 +118,13 @@ unfolding entries entries_fields
 placed-entries {E = E} body name_of f P even one said = record {
   to = λ before fields after value follows.
       let (u0, f0, o0, e0, h0, (count, f1, o1, e1, h1, h3)) = follows in
-      let s = (placed-section (faults.Pointer 2 said) said).to before f0 (length (concat o0) + after) u0 h0 in
+      let s = (placed-section 2 said).to before f0 (length (concat o0) + after) u0 h0 in
       let a = spelled-counted_few.to (before ++ concat f0) f1 (length (concat o1) + after) count h1 in
       let there : List ℕ = (before ++ concat f0) ++ concat f1 in
       let b = (placed-entries_behind body name_of f P count one).to there o1 after value h3 in
-      let parts : fields ≡ number_fields 2 count ++ listed_fields (entry_fields_behind f count) [] value = rw (e0, s.0, e1, a.0, b.0) refl in
-      let whole : fields ≡ number_fields 2 (length value) ++ listed_fields (entry_fields_behind f (length value)) [] value =
-      subst (λ (n : ℕ). fields ≡ number_fields 2 n ++ listed_fields (entry_fields_behind f n) [] value) (sym b.1.0) parts in
+      let parts : fields ≡ number_fields 2 count ++ listed_fields (entry_fields_after f count) [] value = rw (e0, s.0, e1, a.0, b.0) refl in
+      let whole : fields ≡ number_fields 2 (length value) ++ listed_fields (entry_fields_after f (length value)) [] value =
+      subst (λ (n : ℕ). fields ≡ number_fields 2 n ++ listed_fields (entry_fields_after f n) [] value) (sym b.1.0) parts in
       let each = each_there name_of f P count value [] there after b.1.1 in
       let fits : AreEntries P name_of f value = record {
         count = omega (arith, a.1, b.1.0);
@@ -133,13 +135,13 @@ placed-entries {E = E} body name_of f P even one said = record {
       (whole, (s.1, fits));
   from = λ before after value fits.
       let count : ℕ = length value in
-      let list : List (List ℕ) = listed_fields (entry_fields_behind f count) [] value in
+      let list : List (List ℕ) = listed_fields (entry_fields_after f count) [] value in
       let there : List ℕ = (before ++ []) ++ concat (number_fields 2 count) in (
         tt,
         [],
         number_fields 2 count ++ list,
         refl,
-        (placed-section (faults.Pointer 2 said) said).from before _ tt fits.0,
+        (placed-section 2 said).from before _ tt fits.0,
         (
           count,
           number_fields 2 count,

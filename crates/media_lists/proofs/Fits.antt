@@ -1,9 +1,9 @@
 -- What it means for a list to fit.
 use Rattle.std.proofs.Common.{◌≡◌, ℕ, zero, suc, ◌+◌, ◌%◌, ◌<◌, ◌≤◌, ◌^◌, List, [], ◌∷◌, ◌++◌, length, take, get_or, Bool, true, false, Some, None, refl, sym, ap, subst, ◌∙◌, arith, append_assoc, leb}
-use Rattle.std.specs.Prelude.{map, not, IsTrue}
+use Rattle.std.specs.Prelude.{map, not, IsTrue, ⊤}
 use Rattle.std.specs.List.{AllByRecursion, All}
 use Rattle.std.proofs.lemmas.Bool.{leb-true, le-leb}
-use Rattle.std.proofs.lemmas.List.{append-nil, take_more, take_all, take-map, get_or-map, length-map}
+use Rattle.std.proofs.lemmas.List.{append-nil, take_more, take-map, get_or-map, length-map}
 use Rattle.std.proofs.lemmas.List.Elements.{All-nil, All-cons}
 use Rattle.part_number.specs.VerdictLaws.{part_size}
 use Rattle.field_grammar.specs.Spelling.{size_of}
@@ -11,16 +11,22 @@ use Rattle.part_number.specs.PartNumber.{IsPartNumberText}
 use Rattle.field_grammar.specs.Grammar.{IsBytes}
 use Rattle.media_lists.specs.Lists.{ListView}
 use Rattle.media_lists.specs.Entries.{is_listed}
-use Rattle.media_lists.specs.ListFields.{entry_size, entries_fields, IsMember, HaveDistances, AreNew, AreEntries, IsMediaList}
-use Rattle.media_lists.specs.Files.{file_body_fields, IsFile}
-use Rattle.media_lists.specs.Loads.{load_view, IsLoad}
+use Rattle.header_sections.specs.SectionFields.{entry_size, entries_fields, HaveDistances}
+use Rattle.media_lists.specs.ListFields.{IsMember, AreNew, AreEntries, IsMediaList}
+use Rattle.media_lists.specs.Files.{file_body_fields, IsListedFile}
+use Rattle.media_lists.specs.Loads.{load_entry_view, IsListedLoad}
 use Rattle.media_lists.specs.declared.lists.ListedFile.{ListedFile}
 use Rattle.media_lists.specs.declared.lists.LoadEntry.{LoadEntry}
 use Rattle.media_lists.proofs.Sizes.{size_file, whole_size}
 
-pub few_hardware : (members : ℕ) (loads : List LoadEntry) → AllByRecursion (IsLoad members) (map load_view loads) → All (λ load. length load.hardware.items ≤ 1024) loads
+pub few_hardware : (members : ℕ) (loads : List LoadEntry) → AllByRecursion (IsListedLoad members) (map load_entry_view loads) → All (λ load. length load.hardware.items ≤ 1024) loads
 few_hardware members [] each = All-nil (λ load. length load.hardware.items ≤ 1024)
 few_hardware members (load ∷ loads) each = All-cons (λ load. length load.hardware.items ≤ 1024) load loads each.0.few (few_hardware members loads each.1)
+
+-- each file fits
+pub all_fit : (files : List ListedFile) → All (λ file. ⊤) files
+all_fit [] = All-nil (λ file. ⊤)
+all_fit (file ∷ files) = All-cons (λ file. ⊤) file files tt (all_fit files)
 
 -- ---- one of the entries
 
@@ -46,12 +52,9 @@ pub new_more : {E : Type 0} (name_of : E → List ℕ) (es : List E) (i : ℕ) (
 new_more name_of es i d lt is new one =
     rw (take_more es i d lt) (new_append name_of [] (take i es) (get_or es i d) new (subst (λ (e : _). is_listed name_of (name_of e) (take i es) ≡ false) is one))
 
-pub new_taken : {E : Type 0} (name_of : E → List ℕ) (es : List E) (i : ℕ) → length es ≤ i → AreNew name_of [] (take i es) → AreNew name_of [] es
-new_taken name_of es i le new = subst (λ (l : List _). AreNew name_of [] l) (take_all i es le) new
-
 -- ---- files
 
-pub files_short : (members : ℕ) (files : List ListedFile) → AllByRecursion (IsFile members) files → HaveDistances file_body_fields files
+pub files_short : (members : ℕ) (files : List ListedFile) → AllByRecursion (IsListedFile members) files → HaveDistances file_body_fields files
 files_short members [] each = tt
 files_short members (file ∷ []) each = tt
 files_short members (file ∷ next ∷ files) each = (omega (arith, size_file file, each.0.name.size.1, each.0.path.size), files_short members (next ∷ files) each.1)

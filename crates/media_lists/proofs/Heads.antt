@@ -1,19 +1,17 @@
 -- How the head, the set and the end of a list are spelled, at their places.
-use Rattle.std.proofs.Common.{◌≡◌, ℕ, ◌+◌, ◌*◌, ◌/◌, ◌%◌, ◌<◌, ◌≤◌, ◌^◌, List, [], ◌∷◌, ◌++◌, length, refl, sym, ap, subst, ◌∙◌, arith, leb}
+use Rattle.std.proofs.Common.{◌≡◌, ℕ, ◌+◌, ◌/◌, ◌<◌, ◌≤◌, ◌^◌, List, [], ◌++◌, length, refl, sym, ap, subst, ◌∙◌, arith, leb}
 use Rattle.std.specs.List.{concat}
-use Rattle.std.proofs.lemmas.Bool.{leb-true, le-leb, eqb-true, eq-eqb, and_from}
+use Rattle.std.proofs.lemmas.Bool.{leb-true, le-leb, and_from}
 use Rattle.crc_fields.specs.CheckSums.{crc16_of}
 use Rattle.crc_fields.specs.WidthLaws.{crc16_fits}
-use Rattle.field_grammar.specs.Grammar.{IsBytes, renamed}
 use Rattle.field_grammar.specs.Spelling.{IsSpelledBy, IsPlacedBy}
-use Rattle.field_grammar.specs.Fields.{raw, number_fields}
-use Rattle.field_grammar.specs.CombinedLaws.{spelled-renamed}
-use Rattle.field_grammar.specs.NumberLaws.{spelled-raw}
-use Rattle.field_grammar.specs.PlacedLaws.{placed-ended}
-use Rattle.field_grammar.specs.SectionLaws.{placed-section}
-use Rattle.media_lists.specs.Lists.{named, pointers, membership, user_data, check_sum, limit}
-use Rattle.media_lists.specs.ListFields.{IsMember, user_fields}
-use Rattle.media_lists.specs.declared.fault.ListFault.TheVariants as faults
+use Rattle.field_grammar.specs.Fields.{number_fields}
+use Rattle.field_grammar.specs.PlacedLaws.{placed-renamed}
+use Rattle.header_sections.specs.Sections.{user_data}
+use Rattle.header_sections.specs.SectionFields.{user_fields, IsUserData}
+use Rattle.header_sections.specs.SectionLaws.{placed-user_data, placed-end}
+use Rattle.media_lists.specs.Lists.{refused, shared, pointers, membership, check_sum, limit}
+use Rattle.media_lists.specs.ListFields.{IsMember}
 use Rattle.media_lists.specs.declared.reading.Pointers.{Pointers}
 use Rattle.media_lists.proofs.Pieces.{both, spelled-u8, spelled-u16, spelled-u32}
 
@@ -124,70 +122,20 @@ spelled-membership = record {
 
 -- ---- the end
 
-pub record IsUserData (said : ℕ) (before v : List ℕ) : Type 0 where
-  pub place : said ≡ length before / 2
-  pub bytes : IsBytes v
-  pub even : length v % 2 ≡ 0
-  pub size : length v / 2 < 2 ^ 16
-
-spelled-bytes : (n : ℕ) → IsSpelledBy (renamed named (raw n)) (λ b. b ∷ []) (λ b. (length b ≡ n) × IsBytes b)
-spelled-bytes n = spelled-renamed named (raw n) (λ b. b ∷ []) (λ b. (length b ≡ n) × IsBytes b) (spelled-raw n)
-
-pub placed-user_data : (said : ℕ) → IsPlacedBy (user_data said) (λ before. user_fields) (λ before after v. IsUserData said before v)
-unfolding user_data user_fields
-placed-user_data said = record {
-  to = λ before fields after value follows.
-      let (u0, f0, o0, e0, h0, (words, f1, o1, e1, h1, h2)) = follows in
-      let a0 = (placed-section (faults.Pointer 3 said) said).to before f0 (length (concat o0) + after) u0 h0 in
-      let a1 = spelled-u16.to (before ++ concat f0) f1 (length (concat o1) + after) words h1 in
-      let a2 = (spelled-bytes (2 * words)).to ((before ++ concat f0) ++ concat f1) o1 after value h2 in
-      let half : words ≡ length value / 2 = omega (arith, a2.1.0) in
-      let is : fields ≡ number_fields 2 words ++ value ∷ [] = rw (e0, e1, a0.0, a1.0, a2.0) refl in
-      let whole : fields ≡ user_fields value = subst (λ (n : ℕ). fields ≡ number_fields 2 n ++ value ∷ []) half is in
-      (whole, record { place = a0.1; bytes = a2.1.1; even = omega (arith, a2.1.0); size = omega (arith, half, a1.1) });
-  from = λ before after value fits.
-      let words : ℕ = length value / 2 in (
-        tt,
-        [],
-        user_fields value,
-        refl,
-        (placed-section (faults.Pointer 3 said) said).from before _ tt fits.place,
-        (
-          words,
-          number_fields 2 words,
-          value ∷ [],
-          refl,
-          spelled-u16.from _ _ words fits.size,
-          (spelled-bytes (2 * words)).from _ _ value (omega (arith, fits.even), fits.bytes),
-        ),
-      );
-}
+pub placed-user : (said : ℕ) → IsPlacedBy (shared (user_data 3 said)) (λ before. user_fields) (λ before after v. (said ≡ length before / 2) × IsUserData v)
+placed-user said = placed-renamed refused (user_data 3 said) (λ before. user_fields) (λ before after v. (said ≡ length before / 2) × IsUserData v) (placed-user_data 3 said)
 
 pub placed-check_sum : IsPlacedBy check_sum (λ before u. number_fields 2 (crc16_of before)) (λ before after u. after ≡ 0)
 unfolding check_sum
 placed-check_sum = record {
   to = λ before fields after value follows.
-      let (b, f0, o0, e0, h0, (said, f1, o1, e1, h1, (u3, f3, o3, e3, h3, h4))) = follows in
+      let (b, f0, o0, e0, h0, (said, f1, o1, e1, h1, h2)) = follows in
       let a1 = spelled-u16.to (before ++ concat f0) f1 (length (concat o1) + after) said h1 in
-      let a3 = (placed-ended faults.Rest).to ((before ++ concat f0) ++ concat f1) f3 (length (concat o3) + after) u3 h3 in
-      let is : said ≡ crc16_of before = eqb-true said (crc16_of b) h4.1 ∙ ap crc16_of (sym h0.1) in
-      let none : length (concat o3) ≡ 0 = rw h4.0 refl in
-      let parts : fields ≡ number_fields 2 said = rw (e0, h0.0, e1, e3, a3.0, h4.0, a1.0) refl in
-      (subst (λ (n : ℕ). fields ≡ number_fields 2 n) is parts, omega (arith, a3.1, none));
+      let a2 = (placed-end said (crc16_of b)).to ((before ++ concat f0) ++ concat f1) o1 after value h2 in
+      let is : said ≡ crc16_of before = a2.1.1 ∙ ap crc16_of (sym h0.1) in
+      let parts : fields ≡ number_fields 2 said = rw (e0, h0.0, e1, a2.0, a1.0) refl in
+      (subst (λ (n : ℕ). fields ≡ number_fields 2 n) is parts, a2.1.0);
   from = λ before after value fits.
-      let said : ℕ = crc16_of before in (
-        before,
-        [],
-        number_fields 2 said,
-        refl,
-        (refl, refl),
-        (
-          said,
-          number_fields 2 said,
-          [],
-          refl,
-          spelled-u16.from _ _ said (crc16_fits before),
-          (tt, [], [], refl, (placed-ended faults.Rest).from _ _ tt (omega (arith, fits)), (refl, eq-eqb said (crc16_of before) refl)),
-        ),
-      );
+      let said : ℕ = crc16_of before in
+      (before, [], number_fields 2 said, refl, (refl, refl), (said, number_fields 2 said, [], refl, spelled-u16.from _ _ said (crc16_fits before), (placed-end said said).from _ _ tt (fits, refl)));
 }

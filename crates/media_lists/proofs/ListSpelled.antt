@@ -10,11 +10,12 @@ use Rattle.field_grammar.specs.SectionLaws.{size_more, size_number}
 use Rattle.field_grammar.specs.Fields.{number_fields}
 use Rattle.media_lists.specs.Lists.{head, ListView, media_list}
 use Rattle.media_lists.specs.Entries.{entries}
-use Rattle.media_lists.specs.ListFields.{entry_size, entries_fields, head_fields, user_fields, entries_place, user_place, list_size, pointers_of, sections_fields, covered_fields, list_fields, IsMediaList}
+use Rattle.header_sections.specs.SectionFields.{entry_size, entries_fields, user_fields, IsUserData}
+use Rattle.media_lists.specs.ListFields.{head_fields, entries_place, user_place, list_size, pointers_of, sections_fields, covered_fields, list_fields, IsMediaList}
 use Rattle.media_lists.specs.declared.fault.ListFault.{ListFault}
 use Rattle.media_lists.specs.declared.reading.Pointers.{Pointers}
 use Rattle.media_lists.proofs.Entries.{placed-entries}
-use Rattle.media_lists.proofs.Heads.{placed-limit, ArePointers, IsUserData}
+use Rattle.media_lists.proofs.Heads.{placed-limit, ArePointers}
 use Rattle.media_lists.proofs.Groups.{IsHead, head_to, head_from, Identity, identity_parts, placed-identity, placed-tail}
 use Rattle.media_lists.proofs.Sizes.{size_head, even_size}
 
@@ -80,7 +81,7 @@ list_to {E = E} version body name_of f P small has fields after value follows =
     let place3 : length b3 ≡ user_place f v = length-append b2 (concat f3) ∙ omega (arith, place2, ap (λ (f : List (List ℕ)). size_of f) a3.0) in
     let set_is : places.set ≡ 10 = a2.1.place ∙ ap (λ (n : ℕ). n / 2) place1 in
     let entries_is : places.entries ≡ entries_place v / 2 = a3.1.0 ∙ ap (λ (n : ℕ). n / 2) place2 in
-    let user_is : places.user ≡ user_place f v / 2 = a4.1.0.place ∙ ap (λ (n : ℕ). n / 2) place3 in
+    let user_is : places.user ≡ user_place f v / 2 = a4.1.0.0 ∙ ap (λ (n : ℕ). n / 2) place3 in
     let places_are : places ≡ pointers_of f v = same_pointers places 10 (entries_place v / 2) (user_place f v / 2) set_is entries_is user_is in
     let h : List (List ℕ) = head_fields version (list_size f v) (pointers_of f v) in
     let head_is : f1 ≡ h = a1.0 ∙ (ap (λ (n : ℕ). head_fields version n places) size ∙ ap (λ (p : Pointers). head_fields version (list_size f v) p) places_are) in
@@ -94,9 +95,9 @@ list_to {E = E} version body name_of f P small has fields after value follows =
       member = a2.1.member.0;
       members = a2.1.member.1;
       entries = a3.1.1;
-      user = a4.1.0.bytes;
-      user_even = a4.1.0.even;
-      user_size = omega (arith, a4.1.0.even, a4.1.0.size);
+      user = a4.1.0.1.bytes;
+      user_even = a4.1.0.1.even;
+      user_size = omega (arith, a4.1.0.1.even, a4.1.0.1.size);
       size = omega (arith, a0.1, gone, done);
     } in
     subst (λ (x : ListView E). (fields ≡ list_fields version f x) × IsMediaList P name_of f x × (after ≡ 0)) last.1 (whole, fits, done)
@@ -133,7 +134,7 @@ list_from {E = E} version body name_of f P small has v fits =
     let even : size % 2 ≡ 0 = even_size f has.even v fits.user_even in
     let is_head : IsHead after places = record { size = omega (arith, total, fits.size); whole = omega (arith, total, even); pointers = pointers_fit f v fits.size } in
     let head_follows = subst (λ (n : ℕ). Follows (head version) b0 (head_fields version n places) after places) total (head_from version small b0 after places is_head) in
-    let is_user : IsUserData places.user b3 v.user = record { place = ap (λ (n : ℕ). n / 2) (sym place3); bytes = fits.user; even = fits.user_even; size = omega (arith, fits.user_size) } in
+    let is_user : IsUserData v.user = record { bytes = fits.user; even = fits.user_even; size = omega (arith, fits.user_size) } in
     let sum_is : sum ≡ end_of (concat (h ++ (w ++ (l ++ u)))) = ap end_of (all_before h w l u) in
     let fields_are : h ++ rest ≡ list_fields version f v = ap (λ (s : List (List ℕ)). h ++ (w ++ (l ++ (u ++ s)))) sum_is ∙ simp append_assoc refl in
     subst (λ (s : List (List ℕ)). Follows (list_of version body name_of) [] s 0 v) fields_are (
@@ -160,7 +161,7 @@ list_from {E = E} version body name_of f P small has v fits =
             u ++ sum,
             refl,
             (placed-entries (body v.members) name_of f (P v.members) has.even (has.spelled v.members) places.entries).from b2 _ v.entries (ap (λ (n : ℕ). n / 2) (sym place2), fits.entries),
-            (v.user, u ++ sum, [], sym (append-nil (u ++ sum)), (placed-tail places.user).from b3 (0 + 0) v.user (is_user, refl), (refl, refl)),
+            (v.user, u ++ sum, [], sym (append-nil (u ++ sum)), (placed-tail places.user).from b3 (0 + 0) v.user ((ap (λ (n : ℕ). n / 2) (sym place3), is_user), refl), (refl, refl)),
           ),
         ),
       ),

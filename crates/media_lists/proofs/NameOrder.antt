@@ -11,7 +11,7 @@ use Rattle.std.proofs.lemmas.Bool.Decides.{nat_tests}
 use Rattle.std.proofs.lemmas.List.{get_or_append_left, length-map, map-append}
 use Rattle.std.proofs.lemmas.List.Edits.{length-insert, get_or-insert_below, get_or-insert_at, get_or-insert_above}
 use Rattle.std.proofs.lemmas.List.Elements.{All-cons, All-tail}
-use Rattle.std.proofs.lemmas.List.Sorted.{searchable_from_sorted, IsPermutation-refl, list_any-IsPermutation, IsPermutation-trans, IsPermutation-insert, IsPermutation-to_front, IsPermutation-cons, IsPermutation-map, All-permutation, length_permutation}
+use Rattle.std.proofs.lemmas.List.Sorted.{searchable_from_sorted, list_any-IsPermutation, IsPermutation-trans, IsPermutation-insert, IsPermutation-to_front, IsPermutation-cons, IsPermutation-map, All-permutation, length_permutation}
 use Rattle.load_base.specs.Written.{same_bytes}
 use Rattle.media_lists.specs.NameOrder.{name_at, by_bytes, IsOrder}
 
@@ -141,9 +141,6 @@ one_more_name names places name at order within parts =
       whole = IsPermutation-trans (names ++ name ∷ []) (map key (p ∷ places)) (map key (insert places at p)) (subst (λ (l : List (List ℕ)). IsPermutation (names ++ name ∷ []) l) seen all)
           (IsPermutation-map key (p ∷ places) (insert places at p) (IsPermutation-insert places at p));
     }
-
-pub no_names : (places : List ℕ) → places ≡ [] → IsOrder [] places
-no_names places none = subst (λ (l : List ℕ). IsOrder [] l) (sym none) (record { within = λ k d lt. absurd (omega (arith, lt)); rises = λ k d from lt. absurd (omega (arith, lt)); whole = IsPermutation-refl [] })
 
 -- an entry was added behind the others
 pub order_pushed : {E : Type 0} (name_of : E → List ℕ) (es new : List E) (e : E) (places : List ℕ) → new ≡ es ++ e ∷ [] → IsOrder (map name_of es ++ name_of e ∷ []) places → IsOrder (map name_of new) places

@@ -1,19 +1,26 @@
 -- How the pieces of a list are spelled that stand anywhere.
-use Rattle.std.proofs.Common.{◌≡◌, ℕ, ◌+◌, ◌<◌, ◌≤◌, ◌^◌, [], ◌++◌, length, Bool, true, false, refl, sym, subst, arith, leb, ◌&&◌}
+use Rattle.std.proofs.Common.{◌≡◌, ℕ, ◌+◌, ◌/◌, ◌<◌, ◌≤◌, ◌^◌, [], ◌++◌, length, Bool, true, false, refl, sym, subst, arith, leb, ◌&&◌}
 use Rattle.std.specs.List.{concat, AllByRecursion}
 use Rattle.std.proofs.lemmas.Bool.{leb-true, le-leb, and_from}
 use Rattle.std.proofs.lemmas.List.{append-nil}
+use Rattle.load_base.specs.Name.{IsName}
 use Rattle.load_base.specs.Text.{IsText}
-use Rattle.field_grammar.specs.Spelling.{IsSpelledBy}
+use Rattle.part_number.specs.PartNumber.{IsPartNumberText}
+use Rattle.field_grammar.specs.Spelling.{IsSpelledBy, IsPlacedBy}
 use Rattle.field_grammar.specs.Fields.{number, number_fields, padded_fields}
-use Rattle.field_grammar.specs.CombinedLaws.{spelled-renamed, spelled-counted}
+use Rattle.field_grammar.specs.CombinedLaws.{spelled-renamed}
 use Rattle.field_grammar.specs.NumberLaws.{wide1, wide2, wide4, spelled-number}
-use Rattle.media_lists.specs.Lists.{named, u8, u16, u32, text, counted, member_of}
+use Rattle.field_grammar.specs.PlacedLaws.{placed-renamed}
+use Rattle.header_sections.specs.Sections.{name, part, section_at}
+use Rattle.header_sections.specs.SectionFields.{texts_fields}
+use Rattle.header_sections.specs.SectionLaws as texts
+use Rattle.header_sections.specs.SectionLaws.{placed-section_at}
+use Rattle.media_lists.specs.Lists.{named, refused, shared, u8, u16, u32, counted, member_of}
 use Rattle.media_lists.specs.ListFields.{IsMember}
-use Rattle.media_lists.specs.Files.{file_body, file_body_fields, IsFile}
-use Rattle.media_lists.specs.Loads.{texts, load_body, texts_fields, load_body_fields, IsLoad, LoadView}
+use Rattle.media_lists.specs.Files.{file_body, file_body_fields, IsListedFile}
+use Rattle.media_lists.specs.Loads.{counted_texts, load_body, load_body_fields, IsListedLoad, LoadEntryView}
 use Rattle.media_lists.specs.declared.lists.ListedFile.{ListedFile}
-use Rattle.media_lists.proofs.Texts.{spelled-text, spelled-name, spelled-part, spelled-path}
+use Rattle.media_lists.proofs.Texts.{spelled-path}
 
 -- ---- numbers
 
@@ -65,13 +72,23 @@ spelled-counted_few = record {
       (value, number_fields 2 value, [], refl, spelled-u16.from _ _ value (omega (arith, fits)), (tt, [], [], refl, (refl, le-leb value 1024 fits), (refl, refl)));
 }
 
-pub spelled-texts : IsSpelledBy texts texts_fields (λ t. (length t ≤ 1024) × AllByRecursion IsText t)
-unfolding texts texts_fields
-spelled-texts = spelled-counted counted text (number_fields 2) padded_fields (λ n. n ≤ 1024) IsText spelled-counted_few spelled-text
+spelled-name : IsSpelledBy (shared name) padded_fields IsName
+spelled-name = spelled-renamed refused name padded_fields IsName texts.spelled-name
+
+pub spelled-part : IsSpelledBy (shared part) padded_fields IsPartNumberText
+spelled-part = spelled-renamed refused part padded_fields IsPartNumberText texts.spelled-part
+
+spelled-texts : IsSpelledBy counted_texts texts_fields (λ t. (length t ≤ 1024) × AllByRecursion IsText t)
+unfolding counted_texts
+spelled-texts = texts.spelled-texts refused counted (λ n. n ≤ 1024) spelled-counted_few
+
+-- a section begins where its pointer says
+pub placed-section : (which said : ℕ) → IsPlacedBy (shared (section_at which said)) (λ before u. []) (λ before after u. said ≡ length before / 2)
+placed-section which said = placed-renamed refused (section_at which said) (λ before u. []) (λ before after u. said ≡ length before / 2) (placed-section_at which said)
 
 -- ---- files
 
-pub spelled-file_body : (members : ℕ) → IsSpelledBy (file_body members) file_body_fields (IsFile members)
+pub spelled-file_body : (members : ℕ) → IsSpelledBy (file_body members) file_body_fields (IsListedFile members)
 unfolding file_body file_body_fields
 spelled-file_body members = record {
   to = λ before fields after value follows.
@@ -82,8 +99,8 @@ spelled-file_body members = record {
       let d = spelled-u16.to (((before ++ concat f1) ++ concat f2) ++ concat f3) f4 (length (concat o4) + after) sum h4 in
       let is : ListedFile = record { name = title; path = place; member = member; crc16 = sum } in
       let whole : fields ≡ file_body_fields is = rw (e1, e2, e3, e4, last.0, a.0, b.0, c.0, d.0) refl in
-      let fits : IsFile members is = record { name = a.1; path = b.1; member = c.1; sum = d.1 } in
-      subst (λ (v : ListedFile). (fields ≡ file_body_fields v) × IsFile members v) last.1 (whole, fits);
+      let fits : IsListedFile members is = record { name = a.1; path = b.1; member = c.1; sum = d.1 } in
+      subst (λ (v : ListedFile). (fields ≡ file_body_fields v) × IsListedFile members v) last.1 (whole, fits);
   from = λ before after value fits. (
     value.name,
     padded_fields value.name,
@@ -110,7 +127,7 @@ spelled-file_body members = record {
 
 -- ---- loads
 
-pub spelled-load_body : (members : ℕ) → IsSpelledBy (load_body members) load_body_fields (IsLoad members)
+pub spelled-load_body : (members : ℕ) → IsSpelledBy (load_body members) load_body_fields (IsListedLoad members)
 unfolding load_body load_body_fields
 spelled-load_body members = record {
   to = λ before fields after value follows.
@@ -119,10 +136,10 @@ spelled-load_body members = record {
       let b = spelled-name.to (before ++ concat f1) f2 (length (concat o2) + after) title h2 in
       let c = (spelled-member_of members).to ((before ++ concat f1) ++ concat f2) f3 (length (concat o3) + after) member h3 in
       let d = spelled-texts.to (((before ++ concat f1) ++ concat f2) ++ concat f3) f4 (length (concat o4) + after) hardware h4 in
-      let is : LoadView = record { part = number; header_name = title; member = member; hardware = hardware } in
+      let is : LoadEntryView = record { part = number; header_name = title; member = member; hardware = hardware } in
       let whole : fields ≡ load_body_fields is = rw (e1, e2, e3, e4, last.0, a.0, b.0, c.0, d.0, append-nil) refl in
-      let fits : IsLoad members is = record { part = a.1; header_name = b.1; member = c.1; few = d.1.0; hardware = d.1.1 } in
-      subst (λ (v : LoadView). (fields ≡ load_body_fields v) × IsLoad members v) last.1 (whole, fits);
+      let fits : IsListedLoad members is = record { part = a.1; header_name = b.1; member = c.1; few = d.1.0; hardware = d.1.1 } in
+      subst (λ (v : LoadEntryView). (fields ≡ load_body_fields v) × IsListedLoad members v) last.1 (whole, fits);
   from = λ before after value fits. (
     value.part,
     padded_fields value.part,

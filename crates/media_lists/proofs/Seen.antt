@@ -1,38 +1,31 @@
 -- Entries, whether or not the rooms of their lists are seen.
-use Rattle.std.proofs.Common.{◌≡◌, ℕ, zero, suc, ◌<◌, ◌≤◌, get_or, false, arith, List, [], ◌∷◌, ◌++◌, length, Bool, refl, sym, ap, subst, ◌∙◌}
+use Rattle.std.proofs.Common.{◌≡◌, ℕ, List, [], ◌∷◌, ◌++◌, length, Bool, refl, sym, ap, ◌∙◌}
 use Rattle.std.specs.Prelude.{map, ◌||◌, ◌+◌, ◌==◌}
 use Rattle.std.specs.List.{list_any, AllByRecursion}
-use Rattle.std.proofs.lemmas.Bool.{eqb-false, ne_eqb}
 use Rattle.std.proofs.lemmas.List.{length-map, map-append}
 use Rattle.load_base.specs.Written.{same_bytes}
 use Rattle.field_grammar.specs.Spelling.{listed_fields}
 use Rattle.field_grammar.specs.Fields.{number_fields}
 use Rattle.media_lists.specs.Entries.{is_listed}
-use Rattle.media_lists.specs.ListFields.{entry_fields, entry_fields_behind, entries_fields, entry_size, HaveDistances}
-use Rattle.media_lists.specs.Loads.{load_view, load_body_fields}
-use Rattle.media_lists.specs.declared.lists.LoadEntry.{LoadEntry}
-
--- what an entry of a list of loads says of its load
-abbrev pub kept_fields : LoadEntry → List (List ℕ)
-kept_fields load = load_body_fields (load_view load)
+use Rattle.header_sections.specs.SectionFields.{entry_fields, entry_fields_after, entries_fields, HaveDistances}
 
 listed_seen_from : {E V : Type 0} (f : V → List (List ℕ)) (view : E → V) (n : ℕ) (so_far es : List E)
-    → listed_fields (entry_fields_behind f n) (map view so_far) (map view es) ≡ listed_fields (entry_fields_behind (λ e. f (view e)) n) so_far es
+    → listed_fields (entry_fields_after f n) (map view so_far) (map view es) ≡ listed_fields (entry_fields_after (λ e. f (view e)) n) so_far es
 unfolding listed_fields
 listed_seen_from f view n so_far [] = refl
 listed_seen_from f view n so_far (e ∷ es) =
-    let here : entry_fields_behind f n (map view so_far) (view e) ≡ entry_fields_behind (λ e. f (view e)) n so_far e =
+    let here : entry_fields_after f n (map view so_far) (view e) ≡ entry_fields_after (λ e. f (view e)) n so_far e =
     ap (λ (k : ℕ). entry_fields f (k + 1 == n) (view e)) (length-map so_far view) in
     let one_more : map view so_far ++ view e ∷ [] ≡ map view (so_far ++ e ∷ []) = sym (map-append view so_far (e ∷ [])) in
-    let there : listed_fields (entry_fields_behind f n) (map view so_far ++ view e ∷ []) (map view es) ≡ listed_fields (entry_fields_behind (λ e. f (view e)) n) (so_far ++ e ∷ []) es =
-    ap (λ (l : List _). listed_fields (entry_fields_behind f n) l (map view es)) one_more ∙ listed_seen_from f view n (so_far ++ e ∷ []) es in
-    ap (λ (l : List (List ℕ)). l ++ listed_fields (entry_fields_behind f n) (map view so_far ++ view e ∷ []) (map view es)) here ∙ ap (λ (l : List (List ℕ)). entry_fields_behind (λ e. f (view e)) n so_far e ++ l) there
+    let there : listed_fields (entry_fields_after f n) (map view so_far ++ view e ∷ []) (map view es) ≡ listed_fields (entry_fields_after (λ e. f (view e)) n) (so_far ++ e ∷ []) es =
+    ap (λ (l : List _). listed_fields (entry_fields_after f n) l (map view es)) one_more ∙ listed_seen_from f view n (so_far ++ e ∷ []) es in
+    ap (λ (l : List (List ℕ)). l ++ listed_fields (entry_fields_after f n) (map view so_far ++ view e ∷ []) (map view es)) here ∙ ap (λ (l : List (List ℕ)). entry_fields_after (λ e. f (view e)) n so_far e ++ l) there
 
 -- the section of entries
 pub entries_seen : {E V : Type 0} (f : V → List (List ℕ)) (view : E → V) (es : List E) → entries_fields f (map view es) ≡ entries_fields (λ e. f (view e)) es
 unfolding entries_fields
 entries_seen f view es =
-    ap (λ (n : ℕ). number_fields 2 n ++ listed_fields (entry_fields_behind f n) [] (map view es)) (length-map es view)
+    ap (λ (n : ℕ). number_fields 2 n ++ listed_fields (entry_fields_after f n) [] (map view es)) (length-map es view)
     ∙ ap (λ (l : List (List ℕ)). number_fields 2 (length es) ++ l) (listed_seen_from f view (length es) [] es)
 
 listed_seen : {E V : Type 0} (name_of : V → List ℕ) (view : E → V) (title : List ℕ) (es : List E)
@@ -75,11 +68,3 @@ each_seen P view (e ∷ es) all = (all.0, each_seen P view es all.1)
 pub each_unseen : {E V : Type 0} (P : V → Type 0) (view : E → V) (es : List E) → AllByRecursion (λ e. P (view e)) es → AllByRecursion P (map view es)
 each_unseen P view [] all = tt
 each_unseen P view (e ∷ es) all = (all.0, each_unseen P view es all.1)
-
--- an entry that isn't the last is short enough
-pub short_at : {E : Type 0} (f : E → List (List ℕ)) (es : List E) (i : ℕ) (d : E) → HaveDistances f es → i < length es → d ≡ get_or es i d → (i + 1 == length es) ≡ false → entry_size f d ≤ 131070
-short_at f [] i d short lt is other = absurd (omega arith)
-short_at f (x ∷ []) i d short lt is other = absurd (eqb-false (i + 1) 1 other (omega (arith, lt)))
-short_at f (x ∷ y ∷ es) zero d short lt is other = subst (λ (e : _). entry_size f e ≤ 131070) (sym is) short.0
-short_at f (x ∷ y ∷ es) (suc i) d short lt is other =
-    short_at f (y ∷ es) i d short.1 (omega (arith, lt)) is (ne_eqb (i + 1) (length (y ∷ es)) (λ same. eqb-false (suc i + 1) (length (x ∷ y ∷ es)) other (omega (arith, same))))

@@ -1,40 +1,23 @@
--- How the words of a list are spelled.
+-- How a path is spelled.
 use Rattle.std.proofs.Common.{◌≡◌, ℕ, zero, suc, List, [], ◌∷◌, ◌++◌, Some, true, refl, sym, subst, arith}
 use Rattle.std.specs.Prelude.{slice_index}
 use Rattle.std.proofs.lemmas.Bool.Decides.{nat_tests}
 use Rattle.load_base.specs.Bytes.{AllGood}
 use Rattle.std.specs.List.{flat_map, AllByRecursion}
 use Rattle.std.proofs.lemmas.List.Concat.{flat_map-cons}
-use Rattle.load_base.specs.Name.{IsName, IsNameFault, is_name_byte}
+use Rattle.load_base.specs.Name.{IsName, is_name_byte}
 use Rattle.load_base.specs.Text.{IsText, is_printable}
-use Rattle.load_base.specs.Verdicts.{name_fault_of, text_fault_of, TellsFaults}
-use Rattle.load_base.specs.VerdictLaws.{name_faults, text_faults}
-use Rattle.part_number.specs.PartNumber.{IsPartNumberText, IsPartFault}
-use Rattle.part_number.specs.Verdicts.{part_fault_of}
-use Rattle.part_number.specs.VerdictLaws.{part_faults, part_size}
+use Rattle.load_base.specs.Verdicts.{TellsFaults}
+use Rattle.load_base.specs.VerdictLaws.{text_faults}
 use Rattle.field_grammar.specs.Spelling.{IsSpelledBy}
 use Rattle.field_grammar.specs.Fields.{padded_fields}
 use Rattle.field_grammar.specs.JudgedLaws.{spelled-right_padded}
-use Rattle.media_lists.specs.Lists.{named, text, name, part, path}
+use Rattle.media_lists.specs.Lists.{named, path}
 use Rattle.media_lists.specs.Paths.{closed, path_fault_of, IsPath}
 use Rattle.media_lists.specs.declared.fault.ListFault.TheVariants as faults
 use Rattle.media_lists.specs.declared.fault.WordFault.TheVariants as words
 use Rattle.media_lists.specs.declared.fault.PathFault.TheVariants as paths
 use Rattle.media_lists.proofs.PathLaws.{is_path, has_no_fault}
-
-pub spelled-text : IsSpelledBy text padded_fields IsText
-unfolding text
-spelled-text = spelled-right_padded named (λ place fault. faults.Word place (words.Text fault)) text_fault_of IsText _ text_faults (λ t is. omega (arith, is.size))
-
-pub spelled-name : IsSpelledBy name padded_fields IsName
-unfolding name
-spelled-name = spelled-right_padded named (λ place fault. faults.Word place (words.Name fault)) name_fault_of IsName IsNameFault name_faults (λ t is. omega (arith, is.size.1))
-
-pub spelled-part : IsSpelledBy part padded_fields IsPartNumberText
-unfolding part
-spelled-part = spelled-right_padded named (λ place fault. faults.Word place (words.Part fault)) part_fault_of IsPartNumberText IsPartFault part_faults (λ t is. omega (arith, part_size t is))
-
--- ---- paths
 
 good_more : (byte : ℕ) (rest : List ℕ) → is_printable byte ≡ true → AllGood is_printable rest → AllGood is_printable (byte ∷ rest)
 good_more byte rest one good zero lt = one

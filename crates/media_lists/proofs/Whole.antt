@@ -2,35 +2,37 @@
 use Rattle.std.proofs.Common.{ℕ, arith}
 use Rattle.field_grammar.specs.Grammar.{Grammar, EndsTheBytes}
 use Rattle.field_grammar.specs.Spelling.{SpellsWhole}
-use Rattle.field_grammar.specs.ExactLaws.{ends_at_end, ends_last, ends_before}
+use Rattle.field_grammar.specs.ExactLaws.{ends_renamed, ends_last, ends_before}
+use Rattle.crc_fields.specs.CheckSums.{crc16_of}
+use Rattle.header_sections.specs.Sections.{end}
+use Rattle.header_sections.specs.SectionLaws.{ends-end}
 use Rattle.std.specs.Prelude.{List}
-use Rattle.media_lists.specs.Lists.{tail, check_sum, media_list}
+use Rattle.media_lists.specs.Lists.{refused, tail, check_sum, media_list}
 use Rattle.media_lists.specs.ListFields.{list_fields}
-use Rattle.media_lists.specs.Files.{file_body, file_name, file_body_fields, files_list, IsFile, IsFilesList}
-use Rattle.media_lists.specs.Loads.{load_body, load_name, load_body_fields, loads_list, IsLoad, IsLoadsList}
+use Rattle.media_lists.specs.Files.{file_body, file_name, file_body_fields, files_list, IsListedFile, IsFilesList}
+use Rattle.media_lists.specs.Loads.{load_body, load_name, load_body_fields, loads_list, IsListedLoad, IsLoadsList}
 use Rattle.media_lists.specs.declared.fault.ListFault.{ListFault}
-use Rattle.media_lists.specs.declared.fault.ListFault.TheVariants as faults
 use Rattle.media_lists.proofs.Pieces.{spelled-file_body, spelled-load_body}
 use Rattle.media_lists.proofs.Sizes.{even_file, even_load}
 use Rattle.media_lists.proofs.ListSpelled.{HasEntries, spells-list}
 
-has_files : HasEntries file_body file_body_fields IsFile
+has_files : HasEntries file_body file_body_fields IsListedFile
 has_files = record { even = even_file; spelled = spelled-file_body }
 
-has_loads : HasEntries load_body load_body_fields IsLoad
+has_loads : HasEntries load_body load_body_fields IsListedLoad
 has_loads = record { even = even_load; spelled = spelled-load_body }
 
 pub spells-files_list : SpellsWhole files_list (list_fields 0xA004 file_body_fields) IsFilesList
-spells-files_list = spells-list 0xA004 file_body file_name file_body_fields IsFile (omega arith) has_files
+spells-files_list = spells-list 0xA004 file_body file_name file_body_fields IsListedFile (omega arith) has_files
 
 pub spells-loads_list : SpellsWhole loads_list (list_fields 0x9004 load_body_fields) IsLoadsList
-spells-loads_list = spells-list 0x9004 load_body load_name load_body_fields IsLoad (omega arith) has_loads
+spells-loads_list = spells-list 0x9004 load_body load_name load_body_fields IsListedLoad (omega arith) has_loads
 
 -- ---- nothing stands behind them
 
 ends-check_sum : EndsTheBytes check_sum
 unfolding check_sum
-ends-check_sum = ends_last _ _ (λ before. ends_last _ _ (λ said. ends_before _ _ (ends_at_end faults.Rest)))
+ends-check_sum = ends_last _ _ (λ before. ends_last _ _ (λ said. ends_renamed refused (end said (crc16_of before)) (ends-end said (crc16_of before))))
 
 ends-tail : (said : ℕ) → EndsTheBytes (tail said)
 unfolding tail

@@ -1,33 +1,16 @@
--- What an encoder has written, entry by entry and section by section.
-use Rattle.std.proofs.Common.{◌≡◌, ℕ, ◌+◌, ◌/◌, ◌≤◌, List, [], ◌++◌, length, take, refl, sym, ap, ◌∙◌, arith, append_assoc}
+-- What an encoder has written, section by section.
+use Rattle.std.proofs.Common.{◌≡◌, ℕ, ◌+◌, ◌/◌, List, [], ◌++◌, length, refl, sym, ap, ◌∙◌, arith, append_assoc}
 use Rattle.std.specs.List.{concat}
-use Rattle.std.proofs.lemmas.List.{append-nil, take_all}
+use Rattle.std.proofs.lemmas.List.{append-nil}
 use Rattle.std.proofs.lemmas.List.Folds.{concat-append}
 use Rattle.crc_fields.specs.CheckSums.{crc16_of}
-use Rattle.field_grammar.specs.Spelling.{size_of, listed_fields}
+use Rattle.field_grammar.specs.Spelling.{size_of}
 use Rattle.field_grammar.specs.Fields.{number_bytes, number_fields}
 use Rattle.media_lists.specs.Lists.{ListView}
-use Rattle.media_lists.specs.ListFields.{entry_fields_behind, entries_fields, head_fields, identity_fields, user_fields, entries_place, list_size, pointers_of, sections_fields, covered_fields, list_fields}
+use Rattle.header_sections.specs.SectionFields.{entries_fields, user_fields}
+use Rattle.media_lists.specs.ListFields.{head_fields, identity_fields, entries_place, list_size, pointers_of, sections_fields, covered_fields, list_fields}
 use Rattle.media_lists.specs.declared.reading.Pointers.{Pointers}
 use Rattle.media_lists.proofs.Sizes.{size_identity, whole_size}
-
--- the entries so far, in a list of so many
-abbrev pub entries_to : {E : Type 0} → (E → List (List ℕ)) → List E → ℕ → List ℕ
-entries_to f es i = concat (listed_fields (entry_fields_behind f (length es)) [] (take i es))
-
-pub begins : {E : Type 0} (f : E → List (List ℕ)) (es : List E) (start : List ℕ) → start ≡ start ++ entries_to f es 0
-unfolding listed_fields
-begins f es start = sym (append-nil start)
-
--- a count and all the entries
-pub all_written : {E : Type 0} (f : E → List (List ℕ)) (es : List E) (i : ℕ) (before now : List ℕ) → length es ≤ i
-    → now ≡ (before ++ number_bytes 2 (length es)) ++ entries_to f es i → now ≡ before ++ concat (entries_fields f es)
-unfolding entries_fields
-all_written f es i before now le is =
-    is ∙ (ap (λ (l : List _). (before ++ number_bytes 2 (length es)) ++ concat (listed_fields (entry_fields_behind f (length es)) [] l)) (take_all i es le)
-    ∙ append_assoc before (number_bytes 2 (length es)) (concat (listed_fields (entry_fields_behind f (length es)) [] es)))
-
--- ---- the whole
 
 pub sections_written : {E : Type 0} (f : E → List (List ℕ)) (v : ListView E) (o0 o1 o2 o3 : List ℕ) → o1 ≡ o0 ++ concat (identity_fields v.set v.member v.members) → o2 ≡ o1 ++ concat (entries_fields f v.entries)
     → o3 ≡ o2 ++ concat (user_fields v.user) → o3 ≡ o0 ++ concat (sections_fields f v)

@@ -1,32 +1,15 @@
 -- How the media lists are written, field by field (docs/FORMATS.md).
-use Rattle.std.specs.Prelude.{◌≡◌, ℕ, ◌+◌, ◌/◌, ◌%◌, ◌<◌, ◌≤◌, ◌^◌, List, [], ◌∷◌, ◌++◌, length, Bool, false, ⊤}
+use Rattle.std.specs.Prelude.{◌≡◌, ℕ, ◌+◌, ◌/◌, ◌%◌, ◌<◌, ◌≤◌, ◌^◌, List, [], ◌∷◌, ◌++◌, length, false, ⊤}
 use Rattle.std.specs.List.{concat, AllByRecursion}
 use Rattle.crc_fields.specs.CheckSums.{crc16_of}
 use Rattle.part_number.specs.PartNumber.{IsPartNumberText}
 use Rattle.field_grammar.specs.Grammar.{IsBytes}
-use Rattle.field_grammar.specs.Spelling.{size_of, with_last, listed_fields}
+use Rattle.field_grammar.specs.Spelling.{size_of}
 use Rattle.field_grammar.specs.Fields.{number_fields, padded_fields}
+use Rattle.header_sections.specs.SectionFields.{user_fields, entries_fields, HaveDistances}
 use Rattle.media_lists.specs.Lists.{ListView}
-use Rattle.media_lists.specs.Entries.{distance_of, is_listed}
+use Rattle.media_lists.specs.Entries.{is_listed}
 use Rattle.media_lists.specs.declared.reading.Pointers.{Pointers}
-
--- ---- entries
-
--- how many bytes an entry takes, with its distance
-abbrev pub entry_size : {E : Type 0} → (E → List (List ℕ)) → E → ℕ
-entry_size body_fields this = 2 + size_of (body_fields this)
-
--- an entry: its distance is half its length, and 0 for the last of its list
-abbrev pub entry_fields : {E : Type 0} → (E → List (List ℕ)) → Bool → E → List (List ℕ)
-entry_fields body_fields last this = number_fields 2 (distance_of last (entry_size body_fields this)) ++ body_fields this
-
--- the entry behind those so far, in a list of so many
-abbrev pub entry_fields_behind : {E : Type 0} → (E → List (List ℕ)) → ℕ → List E → E → List (List ℕ)
-entry_fields_behind body_fields count so_far this = with_last (entry_fields body_fields) count so_far this
-
--- a count, and the entries
-unfoldable pub entries_fields : {E : Type 0} → (E → List (List ℕ)) → List E → List (List ℕ)
-entries_fields body_fields entries = number_fields 2 (length entries) ++ listed_fields (entry_fields_behind body_fields (length entries)) [] entries
 
 -- ---- the whole
 
@@ -38,10 +21,6 @@ head_fields version size places =
 -- the part number of the set, and which member of how many
 unfoldable pub identity_fields : List ℕ → ℕ → ℕ → List (List ℕ)
 identity_fields set member members = padded_fields set ++ (number_fields 1 member ++ number_fields 1 members)
-
--- the length in words, and the bytes
-unfoldable pub user_fields : List ℕ → List (List ℕ)
-user_fields user = number_fields 2 (length user / 2) ++ user ∷ []
 
 -- the head has 20 bytes
 abbrev pub entries_place : {E : Type 0} → ListView E → ℕ
@@ -58,7 +37,7 @@ list_size body_fields v = user_place body_fields v + size_of (user_fields v.user
 unfoldable pub pointers_of : {E : Type 0} → (E → List (List ℕ)) → ListView E → Pointers
 pointers_of body_fields v = record { set = 10; entries = entries_place v / 2; user = user_place body_fields v / 2 }
 
--- the sections behind the head
+-- the sections after the head
 unfoldable pub sections_fields : {E : Type 0} → (E → List (List ℕ)) → ListView E → List (List ℕ)
 sections_fields body_fields v = identity_fields v.set v.member v.members ++ (entries_fields body_fields v.entries ++ user_fields v.user)
 
@@ -74,12 +53,6 @@ list_fields version body_fields v = covered_fields version body_fields v ++ numb
 -- the number of a member of a set of so many, in at most two bytes
 abbrev pub IsMember : ℕ → ℕ → Type 0
 IsMember members member = (1 ≤ member) × (member ≤ members) × (member < 2 ^ 16)
-
--- All entries but the last have at most 131,070 bytes, so that half of them fits the distance.
-abbrev pub HaveDistances : {E : Type 0} → (E → List (List ℕ)) → List E → Type 0
-HaveDistances body_fields [] = ⊤
-HaveDistances body_fields (last ∷ []) = ⊤
-HaveDistances body_fields (this ∷ next ∷ more) = (entry_size body_fields this ≤ 131070) × HaveDistances body_fields (next ∷ more)
 
 -- None of the entries has the name of one before it.
 abbrev pub AreNew : {E : Type 0} → (E → List ℕ) → List E → List E → Type 0

@@ -1,12 +1,14 @@
 -- What the two media lists share (docs/FORMATS.md).
-use Rattle.std.specs.Prelude.{ℕ, ◌*◌, List, length, nat_le, ◌==◌, Bool, ◌&&◌, Result}
+use Rattle.std.specs.Prelude.{ℕ, List, length, nat_le, Bool, ◌&&◌, Result}
 use Rattle.crc_fields.specs.CheckSums.{crc16_of}
-use Rattle.field_grammar.specs.Grammar.{Grammar, give, check, front, left, renamed, expected, sized, ended, ◌>>=◌, ◌>>◌}
-use Rattle.field_grammar.specs.Fields.{raw, number, judged_padded, section}
+use Rattle.field_grammar.specs.Grammar.{Grammar, give, check, front, left, renamed, expected, ◌>>=◌, ◌>>◌}
+use Rattle.field_grammar.specs.Fields.{number, judged_padded}
 use Rattle.field_grammar.specs.declared.fault.FieldFault.{FieldFault}
 use Rattle.field_grammar.specs.declared.fault.FieldFault.TheVariants as fields
-use Rattle.load_base.specs.Verdicts.{text_fault_of, name_fault_of, verdict}
-use Rattle.part_number.specs.Verdicts.{part_fault_of}
+use Rattle.load_base.specs.Verdicts.{verdict}
+use Rattle.header_sections.specs.Sections.{part, start, section_at, user_data, end}
+use Rattle.header_sections.specs.declared.fault.SectionFault.{SectionFault}
+use Rattle.header_sections.specs.declared.fault.SectionFault.TheVariants as sections
 use Rattle.media_lists.specs.Paths.{path_fault_of}
 use Rattle.media_lists.specs.declared.fault.ListFault.{ListFault}
 use Rattle.media_lists.specs.declared.fault.ListFault.TheVariants as faults
@@ -18,8 +20,8 @@ use Rattle.media_lists.specs.declared.reading.Pointers.{Pointers}
 
 -- the refusal of a field, as that of a list
 abbrev pub named : FieldFault → ListFault
-named (fields.Short place) = faults.Short place
-named (fields.BadPad place) = faults.Pad place
+named (fields.Short offset) = faults.Short offset
+named (fields.BadPad offset) = faults.Pad offset
 
 abbrev pub u8 : Grammar ListFault ℕ
 u8 = renamed named (number 1)
@@ -30,29 +32,25 @@ u16 = renamed named (number 2)
 abbrev pub u32 : Grammar ListFault ℕ
 u32 = renamed named (number 4)
 
-abbrev pub text_verdict : ℕ → List ℕ → Result (List ℕ) ListFault
-text_verdict place bytes = verdict (λ fault. faults.Word place (words.Text fault)) (text_fault_of bytes) bytes
+-- the refusal of a piece that lists share with load headers, as that of a list
+abbrev pub refused : SectionFault → ListFault
+refused (sections.Short offset) = faults.Short offset
+refused (sections.Pad offset) = faults.Pad offset
+refused (sections.Length said found) = faults.Length said found
+refused (sections.Version found) = faults.Version found
+refused (sections.Pointer which said expected) = faults.Pointer which said expected
+refused (sections.Name offset fault) = faults.Word offset (words.Name fault)
+refused (sections.Part offset fault) = faults.Word offset (words.Part fault)
+refused (sections.Text offset fault) = faults.Word offset (words.Text fault)
+refused (sections.Rest offset) = faults.Rest offset
+refused (sections.Sum said found) = faults.Crc said found
+refused sections.Memory = faults.Memory
 
-abbrev pub name_verdict : ℕ → List ℕ → Result (List ℕ) ListFault
-name_verdict place bytes = verdict (λ fault. faults.Word place (words.Name fault)) (name_fault_of bytes) bytes
-
-abbrev pub part_verdict : ℕ → List ℕ → Result (List ℕ) ListFault
-part_verdict place bytes = verdict (λ fault. faults.Word place (words.Part fault)) (part_fault_of bytes) bytes
+abbrev pub shared : {A : Type 0} → Grammar SectionFault A → Grammar ListFault A
+shared piece = renamed refused piece
 
 abbrev pub path_verdict : ℕ → List ℕ → Result (List ℕ) ListFault
-path_verdict place bytes = verdict (λ end. faults.Word place (words.Path (paths.Path end))) (path_fault_of bytes) bytes
-
--- a text that people read, padded
-unfoldable pub text : Grammar ListFault (List ℕ)
-text = judged_padded named text_verdict
-
--- a file's name, padded
-unfoldable pub name : Grammar ListFault (List ℕ)
-name = judged_padded named name_verdict
-
--- a part number, padded
-unfoldable pub part : Grammar ListFault (List ℕ)
-part = judged_padded named part_verdict
+path_verdict offset bytes = verdict (λ end. faults.Word offset (words.Path (paths.Path end))) (path_fault_of bytes) bytes
 
 -- a path, padded
 unfoldable pub path : Grammar ListFault (List ℕ)
@@ -65,10 +63,6 @@ counted = do
   check (nat_le count 1024) faults.TooLong
   give count
 
--- a section begins where pointer `which` says
-abbrev pub section_at : ℕ → ℕ → Grammar ListFault (Unit {0})
-section_at which said = section (faults.Pointer which said) said
-
 -- ---- the head
 
 -- the pointers to the three sections
@@ -79,11 +73,10 @@ pointers = do
   user ← u32
   give (record { set = set; entries = entries; user = user })
 
--- the length in words, which is that of the whole list, the version, the spare word and the pointers
+-- the length in words, the version, the spare word and the pointers
 unfoldable pub head : ℕ → Grammar ListFault Pointers
 head version = do
-  _ ← sized u32 (λ words. 2 * words) faults.Length
-  expected u16 version faults.Version
+  _ ← shared (start version)
   expected u16 0 faults.Spare
   pointers
 
@@ -115,32 +108,24 @@ member_of members = do
 -- the part number of the set, and which member of how many the list belongs to
 unfoldable pub identity : ℕ → Grammar ListFault (List ℕ × ℕ × ℕ)
 identity said = do
-  section_at 1 said
-  set ← part
+  shared (section_at 1 said)
+  set ← shared part
   which ← membership
   give (set, which.0, which.1)
 
 -- ---- the end
 
--- the user data, behind its length in words
-unfoldable pub user_data : ℕ → Grammar ListFault (List ℕ)
-user_data said = do
-  section_at 3 said
-  words ← u16
-  renamed named (raw (2 * words))
-
--- the CRC-16 of all before it, and nothing behind it; the two are compared last
+-- the CRC-16 of all before it, and nothing after it
 unfoldable pub check_sum : Grammar ListFault (Unit {0})
 check_sum = do
   before ← front
   said ← u16
-  ended faults.Rest
-  check (said == crc16_of before) (faults.Crc said (crc16_of before))
+  shared (end said (crc16_of before))
 
 -- the user data and the check sum
 unfoldable pub tail : ℕ → Grammar ListFault (List ℕ)
 tail said = do
-  user ← user_data said
+  user ← shared (user_data 3 said)
   check_sum
   give user
 

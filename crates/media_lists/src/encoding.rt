@@ -1,14 +1,15 @@
 //! The encoders of the two media lists.
 ghost use Rattle.std.specs.Prelude.{◌≡◌, ◌+◌, ◌<◌, ◌≤◌, ◌/◌, ◌^◌, IfOk};
-ghost use Rattle.media_lists.specs.Files.{files_view, IsFilesList, FilesSpells};
-ghost use Rattle.media_lists.specs.Loads.{loads_view, IsLoadsList, LoadsSpells};
+ghost use Rattle.media_lists.specs.Files.{files_list_view, IsFilesList, FilesSpells};
+ghost use Rattle.media_lists.specs.Loads.{loads_list_view, IsLoadsList, LoadsSpells};
 ghost use Rattle.media_lists.specs.declared.reading.Pointers.{Pointers};
 
 use crate::lists::{FILES_VERSION, FilesList, LOADS_VERSION, LoadsList};
-use crate::measuring::{files_size, list_size, loads_size};
+use crate::measuring::list_size;
 use crate::reading::Pointers;
-use crate::writing::{put_files, put_head, put_identity, put_loads, put_user, with_check_sum};
+use crate::writing::{put_head, put_identity};
 use field_codec::Writer;
+use header_sections::{entries_size, put_entries, put_user, with_check_sum};
 use load_base::{Bytes, NoMemory};
 use std::alloc::Global;
 
@@ -26,15 +27,15 @@ fn pointers_of(entries: u64) -> Pointers
 
 /// The bytes of a list of files that meets the limits.
 pub(crate) fn files_bytes(alloc: Global, list: &FilesList) -> Result<Bytes, NoMemory>
-    requires { IsFilesList (files_view list.now) }
-    ensures { IfOk result (λ bytes. FilesSpells (files_view list.now) bytes.items) }
+    requires { IsFilesList (files_list_view list.now) }
+    ensures { IfOk result (λ bytes. FilesSpells (files_list_view list.now) bytes.items) }
 {
-    let entries = files_size(list.files.as_slice());
+    let entries = entries_size(list.files.as_slice());
     let size = list_size(entries, list.user.len()) as u32;
     let mut out = Writer::new(alloc);
     put_head(&mut out, FILES_VERSION, size, pointers_of(entries))?;
     put_identity(&mut out, &list.set, list.member, list.members)?;
-    put_files(&mut out, list.files.as_slice())?;
+    put_entries(&mut out, list.files.as_slice())?;
     put_user(&mut out, list.user.as_slice())?;
     let whole = with_check_sum(alloc, out.finish())?;
     Ok(whole)
@@ -42,15 +43,15 @@ pub(crate) fn files_bytes(alloc: Global, list: &FilesList) -> Result<Bytes, NoMe
 
 /// The bytes of a list of loads that meets the limits.
 pub(crate) fn loads_bytes(alloc: Global, list: &LoadsList) -> Result<Bytes, NoMemory>
-    requires { IsLoadsList (loads_view list.now) }
-    ensures { IfOk result (λ bytes. LoadsSpells (loads_view list.now) bytes.items) }
+    requires { IsLoadsList (loads_list_view list.now) }
+    ensures { IfOk result (λ bytes. LoadsSpells (loads_list_view list.now) bytes.items) }
 {
-    let entries = loads_size(list.loads.as_slice());
+    let entries = entries_size(list.loads.as_slice());
     let size = list_size(entries, list.user.len()) as u32;
     let mut out = Writer::new(alloc);
     put_head(&mut out, LOADS_VERSION, size, pointers_of(entries))?;
     put_identity(&mut out, &list.set, list.member, list.members)?;
-    put_loads(&mut out, list.loads.as_slice())?;
+    put_entries(&mut out, list.loads.as_slice())?;
     put_user(&mut out, list.user.as_slice())?;
     let whole = with_check_sum(alloc, out.finish())?;
     Ok(whole)

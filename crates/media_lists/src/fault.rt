@@ -1,9 +1,10 @@
 //! Why bytes are no media list.
 ghost use Rattle.std.specs.Prelude.{◌≡◌};
 ghost use Rattle.media_lists.specs.declared.fault.ListFault.TheVariants.{Memory};
-ghost use Rattle.media_lists.specs.Lists.{named};
+ghost use Rattle.media_lists.specs.Lists.{named, refused};
 
 use field_codec::FieldFault;
+use header_sections::SectionFault;
 use load_base::{NameFault, NoMemory, TextFault};
 use part_number::PartFault;
 
@@ -90,6 +91,43 @@ impl From<FieldFault> for ListFault {
         match field {
             FieldFault::Short(place) => ListFault::Short(place),
             FieldFault::BadPad(place) => ListFault::Pad(place),
+        }
+    }
+}
+
+impl From<SectionFault> for ListFault {
+    ghost from_gives = { λ piece fault. fault ≡ refused piece };
+
+    fn from(piece: SectionFault) -> ListFault {
+        match piece {
+            SectionFault::Short(place) => ListFault::Short(place),
+            SectionFault::Pad(place) => ListFault::Pad(place),
+            SectionFault::Length { said, found } => ListFault::Length { said, found },
+            SectionFault::Version(found) => ListFault::Version(found),
+            SectionFault::Pointer {
+                which,
+                said,
+                expected,
+            } => ListFault::Pointer {
+                which,
+                said,
+                expected,
+            },
+            SectionFault::Name { offset, fault } => ListFault::Word {
+                place: offset,
+                fault: WordFault::Name(fault),
+            },
+            SectionFault::Part { offset, fault } => ListFault::Word {
+                place: offset,
+                fault: WordFault::Part(fault),
+            },
+            SectionFault::Text { offset, fault } => ListFault::Word {
+                place: offset,
+                fault: WordFault::Text(fault),
+            },
+            SectionFault::Rest(place) => ListFault::Rest(place),
+            SectionFault::Sum { said, found } => ListFault::Crc { said, found },
+            SectionFault::Memory => ListFault::Memory,
         }
     }
 }

@@ -3,15 +3,17 @@ ghost use Rattle.std.specs.Prelude.{◌≡◌, ◌↔◌, ◌<◌, ◌≤◌, �
 ghost use Rattle.std.specs.List.{All, AllByRecursion};
 ghost use Rattle.field_grammar.specs.Grammar.{IsBytes};
 ghost use Rattle.media_lists.specs.Paths.{IsPath};
-ghost use Rattle.media_lists.specs.ListFields.{IsMember as is_such_member, entry_size, HaveDistances, AreNew, AreEntries};
-ghost use Rattle.media_lists.specs.Files.{files_view, file_name, file_body_fields, IsFile as is_such_file, IsFilesList};
-ghost use Rattle.media_lists.specs.Loads.{load_view, loads_view, load_name, load_body_fields, IsLoad as is_such_load, IsLoadsList};
+ghost use Rattle.media_lists.specs.ListFields.{IsMember as is_such_member, AreNew, AreEntries};
+ghost use Rattle.header_sections.specs.SectionFields.{entry_size, HaveDistances};
+ghost use Rattle.media_lists.specs.Files.{files_list_view, file_name, file_body_fields, IsListedFile as is_such_file, IsFilesList};
+ghost use Rattle.media_lists.specs.Loads.{load_entry_view, loads_list_view, load_name, load_body_fields, IsListedLoad as is_such_load, IsLoadsList};
 
 use crate::lists::{FilesList, ListedFile, LoadEntry, LoadsList};
-use crate::measuring::{files_size, list_size, load_size, loads_size};
+use crate::measuring::{list_size, load_body_size};
 use crate::names::{Order, is_new, is_new_load};
 use crate::paths::path_fault;
 use crate::reading::{LONGEST_LIST, MOST_ENTRIES};
+use header_sections::entries_size;
 use load_base::Text;
 
 /// The most bytes of user data and of an entry that isn't the last: 65,535 words.
@@ -85,7 +87,7 @@ fn files_meet_limits(files: &[ListedFile], members: u8) -> bool
 
 /// The list of files meets the limits.
 pub(crate) fn files_fit(list: &FilesList) -> bool
-    ensures { IsTrue result ↔ IsFilesList (files_view list.now) }
+    ensures { IsTrue result ↔ IsFilesList (files_list_view list.now) }
 {
     // The part number is such by its type.
     let _set = list.set.as_slice();
@@ -99,24 +101,24 @@ pub(crate) fn files_fit(list: &FilesList) -> bool
     if !files_meet_limits(files, list.members) {
         return false;
     }
-    list_size(files_size(files), list.user.len()) <= LONGEST_LIST as u64
+    list_size(entries_size(files), list.user.len()) <= LONGEST_LIST as u64
 }
 
 // ---- loads
 
 // The entry meets the limits, as the last or another of its list.
 fn is_load(load: &LoadEntry, members: u8, last: bool) -> bool
-    ensures { IsTrue result ↔ (is_such_load members (load_view load.now) × (last ≡ false → entry_size load_body_fields (load_view load.now) ≤ 131070)) }
+    ensures { IsTrue result ↔ (is_such_load members (load_entry_view load.now) × (last ≡ false → entry_size load_body_fields (load_entry_view load.now) ≤ 131070)) }
 {
     if load.hardware.len() > MOST_ENTRIES {
         return false;
     }
-    let size = load_size(load);
+    let size = 2 + load_body_size(load);
     is_member(members, load.member) && (last || size <= MOST_BYTES as u64)
 }
 
 fn are_loads(loads: &[LoadEntry], members: u8) -> bool
-    ensures { IsTrue result ↔ (AllByRecursion (is_such_load members) (map load_view loads.now) × HaveDistances load_body_fields (map load_view loads.now)) }
+    ensures { IsTrue result ↔ (AllByRecursion (is_such_load members) (map load_entry_view loads.now) × HaveDistances load_body_fields (map load_entry_view loads.now)) }
 {
     for (index, load) in loads.iter().enumerate() {
         if !is_load(load, members, index + 1 == loads.len()) {
@@ -128,7 +130,7 @@ fn are_loads(loads: &[LoadEntry], members: u8) -> bool
 
 fn are_new_loads(loads: &[LoadEntry]) -> bool
     requires { length loads.now ≤ 1024 }
-    ensures { IsTrue result ↔ AreNew load_name [] (map load_view loads.now) }
+    ensures { IsTrue result ↔ AreNew load_name [] (map load_entry_view loads.now) }
 {
     let mut order = Order::new();
     for (index, load) in loads.iter().enumerate() {
@@ -140,7 +142,7 @@ fn are_new_loads(loads: &[LoadEntry]) -> bool
 }
 
 fn loads_meet_limits(loads: &[LoadEntry], members: u8) -> bool
-    ensures { IsTrue result ↔ AreEntries (is_such_load members) load_name load_body_fields (map load_view loads.now) }
+    ensures { IsTrue result ↔ AreEntries (is_such_load members) load_name load_body_fields (map load_entry_view loads.now) }
 {
     if loads.len() > MOST_ENTRIES {
         return false;
@@ -150,7 +152,7 @@ fn loads_meet_limits(loads: &[LoadEntry], members: u8) -> bool
 
 /// The list of loads meets the limits.
 pub(crate) fn loads_fit(list: &LoadsList) -> bool
-    ensures { IsTrue result ↔ IsLoadsList (loads_view list.now) }
+    ensures { IsTrue result ↔ IsLoadsList (loads_list_view list.now) }
 {
     // The part number is such by its type.
     let _set = list.set.as_slice();
@@ -164,5 +166,5 @@ pub(crate) fn loads_fit(list: &LoadsList) -> bool
     if !loads_meet_limits(loads, list.members) {
         return false;
     }
-    list_size(loads_size(loads), list.user.len()) <= LONGEST_LIST as u64
+    list_size(entries_size(loads), list.user.len()) <= LONGEST_LIST as u64
 }

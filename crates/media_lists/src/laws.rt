@@ -1,8 +1,8 @@
 //! What holds of the formats of media lists.
 ghost use Rattle.std.specs.Prelude.{◌≡◌, ◌↔◌, ℕ, List, Some, None};
 ghost use Rattle.field_grammar.specs.Grammar.{IsBytes, IsDecided, Spelled};
-ghost use Rattle.media_lists.specs.Files.{files_list, FilesView, FilesSpells};
-ghost use Rattle.media_lists.specs.Loads.{loads_list, LoadsView, LoadsSpells};
+ghost use Rattle.media_lists.specs.Files.{files_list, FilesListView, FilesSpells};
+ghost use Rattle.media_lists.specs.Loads.{loads_list, LoadsListView, LoadsSpells};
 ghost use Rattle.media_lists.specs.Paths.{path_fault_of, IsPath, IsLongestFront};
 
 /// Laws of the format of lists of files, for callers that compare lists and their bytes.
@@ -10,18 +10,18 @@ pub fn files_list_laws()
     // Whatever the bytes, they spell one list, or fail with one fault, and never both.
     ensures decided { (bytes : List ℕ) → IsBytes bytes → IsDecided files_list bytes }
     // The format says of bytes what the list of fields says.
-    ensures spelled { (v : FilesView) (bytes : List ℕ) → Spelled files_list bytes v ↔ FilesSpells v bytes }
+    ensures spelled { (v : FilesListView) (bytes : List ℕ) → Spelled files_list bytes v ↔ FilesSpells v bytes }
     // Bytes spell one list, and a list has one spelling.
-    ensures one_list { (v w : FilesView) (bytes : List ℕ) → FilesSpells v bytes → FilesSpells w bytes → v ≡ w }
-    ensures one_spelling { (v : FilesView) (bytes others : List ℕ) → FilesSpells v bytes → FilesSpells v others → bytes ≡ others }
+    ensures one_list { (v w : FilesListView) (bytes : List ℕ) → FilesSpells v bytes → FilesSpells w bytes → v ≡ w }
+    ensures one_spelling { (v : FilesListView) (bytes others : List ℕ) → FilesSpells v bytes → FilesSpells v others → bytes ≡ others }
 {}
 
 /// The same laws of the format of lists of loads.
 pub fn loads_list_laws()
     ensures decided { (bytes : List ℕ) → IsBytes bytes → IsDecided loads_list bytes }
-    ensures spelled { (v : LoadsView) (bytes : List ℕ) → Spelled loads_list bytes v ↔ LoadsSpells v bytes }
-    ensures one_list { (v w : LoadsView) (bytes : List ℕ) → LoadsSpells v bytes → LoadsSpells w bytes → v ≡ w }
-    ensures one_spelling { (v : LoadsView) (bytes others : List ℕ) → LoadsSpells v bytes → LoadsSpells v others → bytes ≡ others }
+    ensures spelled { (v : LoadsListView) (bytes : List ℕ) → Spelled loads_list bytes v ↔ LoadsSpells v bytes }
+    ensures one_list { (v w : LoadsListView) (bytes : List ℕ) → LoadsSpells v bytes → LoadsSpells w bytes → v ≡ w }
+    ensures one_spelling { (v : LoadsListView) (bytes others : List ℕ) → LoadsSpells v bytes → LoadsSpells v others → bytes ≡ others }
 {}
 
 /// Laws of the paths of listed files.

@@ -20,7 +20,6 @@ mod reading_loads;
 mod tests;
 #[cfg(test)]
 mod vectors;
-mod verdicts;
 mod writing;
 
 pub use fault::{ListFault, PathFault, WordFault};

@@ -2,8 +2,8 @@
 ghost use Rattle.std.specs.Prelude.{◌≡◌, ◌⊎◌, ◌↔◌, IsTrue, IfOk, IfErr};
 ghost use Rattle.field_grammar.specs.Grammar.{Fault};
 ghost use Rattle.field_grammar.specs.Answers.{Gives};
-ghost use Rattle.media_lists.specs.Files.{files_list, files_view, FilesView, FilesSpells, IsFilesList};
-ghost use Rattle.media_lists.specs.Loads.{loads_list, loads_view, LoadsView, LoadsSpells, IsLoadsList};
+ghost use Rattle.media_lists.specs.Files.{files_list, files_list_view, FilesListView, FilesSpells, IsFilesList};
+ghost use Rattle.media_lists.specs.Loads.{loads_list, loads_list_view, LoadsListView, LoadsSpells, IsLoadsList};
 ghost use Rattle.media_lists.specs.declared.fault.ListFault.{ListFault};
 ghost use Rattle.media_lists.specs.declared.fault.ListFault.TheVariants.{Memory};
 
@@ -53,13 +53,13 @@ impl FilesList {
     /// last, `Rest` and then `Crc`.
     pub fn decode(alloc: Global, bytes: &[u8]) -> Result<FilesList, ListFault>
         // What is read is spelled so.
-        ensures found { IfOk result (λ l. FilesSpells (files_view l) bytes.now) }
+        ensures found { IfOk result (λ l. FilesSpells (files_list_view l) bytes.now) }
         // What is spelled so is read, unless memory is wanting.
-        ensures only { (v : FilesView) → FilesSpells v bytes.now → Gives Memory files_view result (Ok v) }
+        ensures only { (v : FilesListView) → FilesSpells v bytes.now → Gives Memory files_list_view result (Ok v) }
         // A refusal is the first fault,
         ensures refused { IfErr result (λ fault. (fault ≡ Memory) ⊎ Fault files_list bytes.now fault) }
         // and where there is a fault, it is refused so.
-        ensures faulty { (fault : ListFault) → Fault files_list bytes.now fault → Gives Memory files_view result (Err fault) }
+        ensures faulty { (fault : ListFault) → Fault files_list bytes.now fault → Gives Memory files_list_view result (Err fault) }
     {
         files_of(alloc, bytes)
     }
@@ -69,7 +69,7 @@ impl FilesList {
     /// number from 1 to `members`; an even number of at most 131,070 bytes of user data; and at most 1,048,576
     /// bytes in all. It takes no memory.
     pub fn fits(&self) -> bool
-        ensures { IsTrue result ↔ IsFilesList (files_view self.now) }
+        ensures { IsTrue result ↔ IsFilesList (files_list_view self.now) }
     {
         fitting::files_fit(self)
     }
@@ -77,8 +77,8 @@ impl FilesList {
     /// The one spelling of a list that meets the limits. Lengths, pointers, distances and the check sum are
     /// computed.
     pub fn encode(&self, alloc: Global) -> Result<Bytes, NoMemory>
-        requires { IsFilesList (files_view self.now) }
-        ensures { IfOk result (λ bytes. FilesSpells (files_view self.now) bytes.items) }
+        requires { IsFilesList (files_list_view self.now) }
+        ensures { IfOk result (λ bytes. FilesSpells (files_list_view self.now) bytes.items) }
     {
         encoding::files_bytes(alloc, self)
     }
@@ -114,13 +114,13 @@ impl LoadsList {
     /// [`FilesList::decode`]; the names that may not stand twice are those of the headers.
     pub fn decode(alloc: Global, bytes: &[u8]) -> Result<LoadsList, ListFault>
         // What is read is spelled so.
-        ensures found { IfOk result (λ l. LoadsSpells (loads_view l) bytes.now) }
+        ensures found { IfOk result (λ l. LoadsSpells (loads_list_view l) bytes.now) }
         // What is spelled so is read, unless memory is wanting.
-        ensures only { (v : LoadsView) → LoadsSpells v bytes.now → Gives Memory loads_view result (Ok v) }
+        ensures only { (v : LoadsListView) → LoadsSpells v bytes.now → Gives Memory loads_list_view result (Ok v) }
         // A refusal is the first fault,
         ensures refused { IfErr result (λ fault. (fault ≡ Memory) ⊎ Fault loads_list bytes.now fault) }
         // and where there is a fault, it is refused so.
-        ensures faulty { (fault : ListFault) → Fault loads_list bytes.now fault → Gives Memory loads_view result (Err fault) }
+        ensures faulty { (fault : ListFault) → Fault loads_list bytes.now fault → Gives Memory loads_list_view result (Err fault) }
     {
         loads_of(alloc, bytes)
     }
@@ -131,7 +131,7 @@ impl LoadsList {
     /// 1 to `members`; an even number of at most 131,070 bytes of user data; and at most 1,048,576 bytes in all.
     /// It takes no memory.
     pub fn fits(&self) -> bool
-        ensures { IsTrue result ↔ IsLoadsList (loads_view self.now) }
+        ensures { IsTrue result ↔ IsLoadsList (loads_list_view self.now) }
     {
         fitting::loads_fit(self)
     }
@@ -139,8 +139,8 @@ impl LoadsList {
     /// The one spelling of a list that meets the limits. Lengths, pointers, distances and the check sum are
     /// computed.
     pub fn encode(&self, alloc: Global) -> Result<Bytes, NoMemory>
-        requires { IsLoadsList (loads_view self.now) }
-        ensures { IfOk result (λ bytes. LoadsSpells (loads_view self.now) bytes.items) }
+        requires { IsLoadsList (loads_list_view self.now) }
+        ensures { IfOk result (λ bytes. LoadsSpells (loads_list_view self.now) bytes.items) }
     {
         encoding::loads_bytes(alloc, self)
     }

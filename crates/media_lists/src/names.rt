@@ -4,7 +4,7 @@ ghost use Rattle.std.specs.List.{list_any, AllWithin};
 ghost use Rattle.std.specs.List.Sorted.{IsPartitionPoint};
 ghost use Rattle.load_base.specs.Written.{same_bytes};
 ghost use Rattle.media_lists.specs.Entries.{is_listed};
-ghost use Rattle.media_lists.specs.Loads.{load_view, load_name};
+ghost use Rattle.media_lists.specs.Loads.{load_entry_view, load_name};
 ghost use Rattle.media_lists.specs.NameOrder.{name_at, by_bytes, IsOrder};
 
 use crate::lists::{ListedFile, LoadEntry};
@@ -60,9 +60,9 @@ pub(crate) fn is_new<E: Named>(order: &mut Order, entries: &[E], name: &[u8]) ->
 /// The same of a load, as a list of loads sees it.
 pub(crate) fn is_new_load(order: &mut Order, loads: &[LoadEntry], name: &[u8]) -> bool
     requires few { length loads.now < 1024 }
-    requires order { IsOrder (map load_name (map load_view loads.now)) order.old.items }
-    ensures new { result ≡ not (is_listed load_name name.now (map load_view loads.now)) }
-    ensures order { IsTrue result → IsOrder (map load_name (map load_view loads.now) ++ name.now ∷ []) order.new.items }
+    requires order { IsOrder (map load_name (map load_entry_view loads.now)) order.old.items }
+    ensures new { result ≡ not (is_listed load_name name.now (map load_entry_view loads.now)) }
+    ensures order { IsTrue result → IsOrder (map load_name (map load_entry_view loads.now) ++ name.now ∷ []) order.new.items }
 {
     is_new(order, loads, name)
 }

@@ -1,7 +1,14 @@
 //! The paths of listed files.
-ghost use Rattle.std.specs.Prelude.{◌≡◌, ◌≤◌};
+ghost use Rattle.std.specs.Prelude.{◌≡◌, ◌≤◌, IfOk};
+ghost use Rattle.field_grammar.specs.Answers.{Gives};
+ghost use Rattle.media_lists.specs.Lists.{path_verdict};
+ghost use Rattle.media_lists.specs.declared.fault.ListFault.TheVariants.{Memory};
 ghost use Rattle.load_base.specs.Name.{is_name_byte as is_good};
-ghost use Rattle.media_lists.specs.Paths.{path_fault_of, name_goes_on as goes_on};
+ghost use Rattle.media_lists.specs.Paths.{path_fault_of, name_goes_on as goes_on, IsPath};
+
+use crate::fault::{ListFault, PathFault, WordFault};
+use load_base::{NoMemory, Text, TextFault};
+use std::alloc::Global;
 
 /// The most names of a path.
 pub(crate) const MOST_NAMES: usize = 4;
@@ -50,4 +57,32 @@ fn is_name_byte(byte: u8) -> bool
     ensures { result ≡ is_good byte }
 {
     matches!(byte, 0x21..=0x7E) && byte != b'/' && byte != b'\\'
+}
+
+// The path that these bytes are, or the fault of the path whose bytes stand at this place.
+pub(crate) fn path_of(alloc: Global, bytes: &[u8], place: u64) -> Result<Text, ListFault>
+    ensures { Gives Memory (λ t. t) result (path_verdict place bytes.now) }
+{
+    if let Some(end) = path_fault(bytes) {
+        return Err(ListFault::Word {
+            place,
+            fault: WordFault::Path(PathFault::Path(end as u64)),
+        });
+    }
+    let path = path_text(alloc, bytes)?;
+    Ok(path)
+}
+
+// A path is a text, so that only memory can be wanting.
+fn path_text(alloc: Global, bytes: &[u8]) -> Result<Text, NoMemory>
+    requires { IsPath bytes.now }
+    ensures { IfOk result (λ text. text ≡ bytes.now) }
+{
+    match Text::read(alloc, bytes) {
+        Ok(text) => Ok(text),
+        Err(fault) => match fault {
+            TextFault::Memory => Err(NoMemory),
+            _ => unreachable!(),
+        },
+    }
 }

@@ -1,14 +1,15 @@
 //! What the decoders of the two media lists share, part by part of their formats.
 ghost use Rattle.std.specs.Prelude.{◌≡◌, ◌≤◌, IfOk};
 ghost use Rattle.field_grammar.specs.Answers.{Decodes};
-ghost use Rattle.media_lists.specs.Lists.{text, name, part, path, counted, section_at, pointers, head, is_member as has_member, membership, member_of, identity, user_data, check_sum, tail, limit};
+ghost use Rattle.media_lists.specs.Lists.{path, counted, pointers, head, is_member as has_member, membership, member_of, identity, check_sum, tail, limit};
 ghost use Rattle.media_lists.specs.declared.fault.ListFault.TheVariants.{Memory};
 
 use crate::fault::ListFault;
-use crate::verdicts::{name_of, part_of, path_of, text_of};
+use crate::paths::path_of;
 use crc_fields::crc16;
 use field_codec::Reader;
-use load_base::{Bytes, Name, Text};
+use header_sections::{read_part, read_start, read_user_data, test_end, test_section};
+use load_base::{Bytes, Text};
 use part_number::PartNumber;
 use std::alloc::Global;
 
@@ -43,15 +44,7 @@ pub(crate) fn test_limit(reader: &mut Reader) -> Result<(), ListFault>
 pub(crate) fn read_head(reader: &mut Reader, version: u16) -> Result<Pointers, ListFault>
     ensures { Decodes Memory (λ p. p) (head version) reader.old result reader.new }
 {
-    let found = reader.left() as u64;
-    let said = u64::from(reader.take_u32()?);
-    if 2 * said != found {
-        return Err(ListFault::Length { said, found });
-    }
-    let here = reader.take_u16()?;
-    if here != version {
-        return Err(ListFault::Version(u64::from(here)));
-    }
+    read_start(reader, version)?;
     let spare = reader.take_u16()?;
     if spare != 0 {
         return Err(ListFault::Spare(u64::from(spare)));
@@ -70,60 +63,7 @@ fn read_pointers(reader: &mut Reader) -> Result<Pointers, ListFault>
     Ok(Pointers { set, entries, user })
 }
 
-#[tactic(auto, unfolding(field_grammar::specs::Fields::section))]
-pub(crate) fn test_section(reader: &mut Reader, which: u64, said: u32) -> Result<(), ListFault>
-    ensures { Decodes Memory (λ u. u) (section_at which said) reader.old result reader.new }
-{
-    let said = u64::from(said);
-    let expected = reader.place() as u64 / 2;
-    if said == expected {
-        Ok(())
-    } else {
-        Err(ListFault::Pointer {
-            which,
-            said,
-            expected,
-        })
-    }
-}
-
-// ---- words
-
-#[tactic(auto, unfolding(crate::specs::Lists::text))]
-pub(crate) fn read_text(alloc: Global, reader: &mut Reader) -> Result<Text, ListFault>
-    ensures { Decodes Memory (λ t. t) text reader.old result reader.new }
-{
-    let size = reader.take_u16()? as usize;
-    let place = reader.place() as u64;
-    let bytes = reader.take_raw(size)?;
-    let text = text_of(alloc, bytes, place)?;
-    reader.take_pad(size)?;
-    Ok(text)
-}
-
-#[tactic(auto, unfolding(crate::specs::Lists::name))]
-pub(crate) fn read_name(reader: &mut Reader) -> Result<Name, ListFault>
-    ensures { Decodes Memory (λ t. t) name reader.old result reader.new }
-{
-    let size = reader.take_u16()? as usize;
-    let place = reader.place() as u64;
-    let bytes = reader.take_raw(size)?;
-    let name = name_of(bytes, place)?;
-    reader.take_pad(size)?;
-    Ok(name)
-}
-
-#[tactic(auto, unfolding(crate::specs::Lists::part))]
-pub(crate) fn read_part(reader: &mut Reader) -> Result<PartNumber, ListFault>
-    ensures { Decodes Memory (λ t. t) part reader.old result reader.new }
-{
-    let size = reader.take_u16()? as usize;
-    let place = reader.place() as u64;
-    let bytes = reader.take_raw(size)?;
-    let part = part_of(bytes, place)?;
-    reader.take_pad(size)?;
-    Ok(part)
-}
+// ---- paths and counts
 
 #[tactic(auto, unfolding(crate::specs::Lists::path))]
 pub(crate) fn read_path(alloc: Global, reader: &mut Reader) -> Result<Text, ListFault>
@@ -208,20 +148,8 @@ pub(crate) fn read_identity(
 pub(crate) fn read_tail(alloc: Global, reader: &mut Reader, said: u32) -> Result<Bytes, ListFault>
     ensures { Decodes Memory (λ b. b.items) (tail said) reader.old result reader.new }
 {
-    let user = read_user_data(alloc, reader, said)?;
+    let user = read_user_data(alloc, reader, 3, said)?;
     test_check_sum(reader)?;
-    Ok(user)
-}
-
-#[tactic(auto, unfolding(crate::specs::Lists::user_data))]
-fn read_user_data(alloc: Global, reader: &mut Reader, said: u32) -> Result<Bytes, ListFault>
-    ensures { Decodes Memory (λ b. b.items) (user_data said) reader.old result reader.new }
-{
-    test_section(reader, 3, said)?;
-    let words = reader.take_u16()? as usize;
-    let bytes = reader.take_raw(2 * words)?;
-    let mut user = Bytes::new(alloc);
-    user.extend(bytes)?;
     Ok(user)
 }
 
@@ -231,15 +159,6 @@ fn test_check_sum(reader: &mut Reader) -> Result<(), ListFault>
 {
     let found = crc16(reader.before());
     let said = reader.take_u16()?;
-    if reader.left() != 0 {
-        return Err(ListFault::Rest(reader.place() as u64));
-    }
-    if said == found {
-        Ok(())
-    } else {
-        Err(ListFault::Crc {
-            said: u64::from(said),
-            found: u64::from(found),
-        })
-    }
+    test_end(reader, said, found)?;
+    Ok(())
 }

@@ -3,25 +3,25 @@ ghost use Rattle.std.specs.Prelude.{◌≡◌, ◌≤◌, ◌<◌, ◌+◌, ◌+
 ghost use Rattle.media_lists.specs.NameOrder.{IsOrder};
 ghost use Rattle.field_grammar.specs.Grammar.{listed};
 ghost use Rattle.field_grammar.specs.Answers.{answer, Decodes, Gives};
-ghost use Rattle.media_lists.specs.Entries.{entry as entry_of, entry_behind};
-ghost use Rattle.media_lists.specs.Files.{file_body, file_name, file_entries, files_list, files_view};
+ghost use Rattle.media_lists.specs.Entries.{numbered_entry, entry_behind};
+ghost use Rattle.media_lists.specs.Files.{file_body, file_name, file_entries, files_list, files_list_view};
 ghost use Rattle.media_lists.specs.declared.fault.ListFault.TheVariants.{Memory};
 
 use crate::fault::ListFault;
 use crate::lists::{FILES_VERSION, FilesList, ListedFile};
 use crate::names::{Order, is_new};
 use crate::reading::{
-    read_count, read_head, read_identity, read_member_of, read_name, read_path, read_tail,
-    test_limit, test_section,
+    read_count, read_head, read_identity, read_member_of, read_path, read_tail, test_limit,
 };
 use field_codec::Reader;
+use header_sections::{is_distance, read_name, test_section};
 use load_base::List;
 use std::alloc::Global;
 
 /// The list that the bytes spell, or their first fault.
 #[tactic(auto, unfolding(crate::specs::Lists::media_list))]
 pub(crate) fn files_of(alloc: Global, bytes: &[u8]) -> Result<FilesList, ListFault>
-    ensures { Gives Memory files_view result (answer files_list bytes.now) }
+    ensures { Gives Memory files_list_view result (answer files_list bytes.now) }
 {
     let mut reader = Reader::new(bytes);
     test_limit(&mut reader)?;
@@ -95,7 +95,7 @@ fn read_new_file(
     }
 }
 
-#[tactic(auto, using(field_grammar::specs::MoveLaws::place_goes_on), unfolding(crate::specs::Entries::entry))]
+#[tactic(auto, using(field_grammar::specs::MoveLaws::place_goes_on), unfolding(crate::specs::Entries::numbered_entry))]
 fn read_file_entry(
     alloc: Global,
     reader: &mut Reader,
@@ -103,14 +103,13 @@ fn read_file_entry(
     entry: u64,
     last: bool,
 ) -> Result<ListedFile, ListFault>
-    ensures { Decodes Memory (λ f. f) (entry_of (file_body members) entry last) reader.old result reader.new }
+    ensures { Decodes Memory (λ f. f) (numbered_entry (file_body members) entry last) reader.old result reader.new }
 {
     let start = reader.place();
-    let said = reader.take_u16()? as usize;
+    let said = reader.take_u16()?;
     let file = read_file_body(alloc, reader, members)?;
     let size = reader.place() - start;
-    let due = if last { 0 } else { size / 2 };
-    if said == due {
+    if is_distance(said, size, last) {
         Ok(file)
     } else {
         Err(ListFault::Distance(entry))

@@ -1,28 +1,25 @@
 //! The decoder of a list of loads, part by part of its format.
 ghost use Rattle.std.specs.Prelude.{◌≡◌, ◌≤◌, ◌<◌, ◌+◌, ◌++◌, ◌∷◌, ◌==◌, [], length, map, IfOk};
 ghost use Rattle.media_lists.specs.NameOrder.{IsOrder};
-ghost use Rattle.field_grammar.specs.Grammar.{listed, times};
+ghost use Rattle.field_grammar.specs.Grammar.{listed};
 ghost use Rattle.field_grammar.specs.Answers.{answer, Decodes, Gives};
-ghost use Rattle.media_lists.specs.Lists.{text};
-ghost use Rattle.media_lists.specs.Entries.{entry as entry_of, entry_behind};
-ghost use Rattle.media_lists.specs.Loads.{texts, load_body, load_name, load_entries, loads_list, load_view, loads_view};
+ghost use Rattle.media_lists.specs.Entries.{numbered_entry, entry_behind};
+ghost use Rattle.media_lists.specs.Loads.{counted_texts, load_body, load_name, load_entries, loads_list, load_entry_view, loads_list_view};
 ghost use Rattle.media_lists.specs.declared.fault.ListFault.TheVariants.{Memory};
 
 use crate::fault::ListFault;
 use crate::lists::{LOADS_VERSION, LoadEntry, LoadsList};
 use crate::names::{Order, is_new_load};
-use crate::reading::{
-    read_count, read_head, read_identity, read_member_of, read_name, read_part, read_tail,
-    read_text, test_limit, test_section,
-};
+use crate::reading::{read_count, read_head, read_identity, read_member_of, read_tail, test_limit};
 use field_codec::Reader;
+use header_sections::{is_distance, read_name, read_part, read_texts, test_section};
 use load_base::{List, Text};
 use std::alloc::Global;
 
 /// The list that the bytes spell, or their first fault.
 #[tactic(auto, unfolding(crate::specs::Lists::media_list))]
 pub(crate) fn loads_of(alloc: Global, bytes: &[u8]) -> Result<LoadsList, ListFault>
-    ensures { Gives Memory loads_view result (answer loads_list bytes.now) }
+    ensures { Gives Memory loads_list_view result (answer loads_list bytes.now) }
 {
     let mut reader = Reader::new(bytes);
     test_limit(&mut reader)?;
@@ -46,7 +43,7 @@ fn read_loads(
     members: u8,
     said: u32,
 ) -> Result<List<LoadEntry>, ListFault>
-    ensures { Decodes Memory (λ l. map load_view l.items) (load_entries members said) reader.old result reader.new }
+    ensures { Decodes Memory (λ l. map load_entry_view l.items) (load_entries members said) reader.old result reader.new }
 {
     test_section(reader, 2, said)?;
     let count = read_count(reader)?;
@@ -62,7 +59,7 @@ fn read_so_many_loads(
     count: usize,
 ) -> Result<List<LoadEntry>, ListFault>
     requires { count ≤ 1024 }
-    ensures { Decodes Memory (λ l. map load_view l.items) (listed count (entry_behind (load_body members) load_name count) []) reader.old result reader.new }
+    ensures { Decodes Memory (λ l. map load_entry_view l.items) (listed count (entry_behind (load_body members) load_name count) []) reader.old result reader.new }
 {
     let mut loads = List::new(alloc);
     let mut order = Order::new();
@@ -83,9 +80,9 @@ fn read_new_load(
     order: &mut Order,
 ) -> Result<LoadEntry, ListFault>
     requires few { length loads.now.items < 1024 }
-    requires order { IsOrder (map load_name (map load_view loads.now.items)) order.old.items }
-    ensures read { Decodes Memory load_view (entry_behind (load_body members) load_name count (map load_view loads.now.items)) reader.old result reader.new }
-    ensures order { IfOk result (λ load. IsOrder (map load_name (map load_view loads.now.items) ++ load.header_name ∷ []) order.new.items) }
+    requires order { IsOrder (map load_name (map load_entry_view loads.now.items)) order.old.items }
+    ensures read { Decodes Memory load_entry_view (entry_behind (load_body members) load_name count (map load_entry_view loads.now.items)) reader.old result reader.new }
+    ensures order { IfOk result (λ load. IsOrder (map load_name (map load_entry_view loads.now.items) ++ load.header_name ∷ []) order.new.items) }
 {
     let entry = loads.len() + 1;
     let load = read_load_entry(alloc, reader, members, entry as u64, entry == count)?;
@@ -96,7 +93,7 @@ fn read_new_load(
     }
 }
 
-#[tactic(auto, using(field_grammar::specs::MoveLaws::place_goes_on), unfolding(crate::specs::Entries::entry))]
+#[tactic(auto, using(field_grammar::specs::MoveLaws::place_goes_on), unfolding(crate::specs::Entries::numbered_entry))]
 fn read_load_entry(
     alloc: Global,
     reader: &mut Reader,
@@ -104,14 +101,13 @@ fn read_load_entry(
     entry: u64,
     last: bool,
 ) -> Result<LoadEntry, ListFault>
-    ensures { Decodes Memory load_view (entry_of (load_body members) entry last) reader.old result reader.new }
+    ensures { Decodes Memory load_entry_view (numbered_entry (load_body members) entry last) reader.old result reader.new }
 {
     let start = reader.place();
-    let said = reader.take_u16()? as usize;
+    let said = reader.take_u16()?;
     let load = read_load_body(alloc, reader, members)?;
     let size = reader.place() - start;
-    let due = if last { 0 } else { size / 2 };
-    if said == due {
+    if is_distance(said, size, last) {
         Ok(load)
     } else {
         Err(ListFault::Distance(entry))
@@ -120,12 +116,12 @@ fn read_load_entry(
 
 #[tactic(auto, unfolding(crate::specs::Loads::load_body))]
 fn read_load_body(alloc: Global, reader: &mut Reader, members: u8) -> Result<LoadEntry, ListFault>
-    ensures { Decodes Memory load_view (load_body members) reader.old result reader.new }
+    ensures { Decodes Memory load_entry_view (load_body members) reader.old result reader.new }
 {
     let part = read_part(reader)?;
     let header_name = read_name(reader)?;
     let member = read_member_of(reader, members)?;
-    let hardware = read_texts(alloc, reader)?;
+    let hardware = read_counted_texts(alloc, reader)?;
     Ok(LoadEntry {
         part,
         header_name,
@@ -134,26 +130,11 @@ fn read_load_body(alloc: Global, reader: &mut Reader, members: u8) -> Result<Loa
     })
 }
 
-#[tactic(auto, unfolding(crate::specs::Loads::texts))]
-fn read_texts(alloc: Global, reader: &mut Reader) -> Result<List<Text>, ListFault>
-    ensures { Decodes Memory (λ l. l.items) texts reader.old result reader.new }
+#[tactic(auto, unfolding(crate::specs::Loads::counted_texts))]
+fn read_counted_texts(alloc: Global, reader: &mut Reader) -> Result<List<Text>, ListFault>
+    ensures { Decodes Memory (λ l. l.items) counted_texts reader.old result reader.new }
 {
     let count = read_count(reader)?;
-    let texts = read_so_many_texts(alloc, reader, count)?;
-    Ok(texts)
-}
-
-#[tactic(auto, using(field_grammar::specs::LoopLaws::goes_on, field_grammar::specs::LoopLaws::ends, field_grammar::specs::LoopLaws::is_done, field_grammar::specs::LoopLaws::begins))]
-fn read_so_many_texts(
-    alloc: Global,
-    reader: &mut Reader,
-    count: usize,
-) -> Result<List<Text>, ListFault>
-    ensures { Decodes Memory (λ l. l.items) (times count text) reader.old result reader.new }
-{
-    let mut texts = List::new(alloc);
-    for _ in 0..count {
-        texts.push(read_text(alloc, reader)?)?;
-    }
+    let texts = read_texts(alloc, reader, count)?;
     Ok(texts)
 }

@@ -1,21 +1,16 @@
 //! The encoders of the two media lists, part by part of their fields.
-ghost use Rattle.std.specs.Prelude.{◌≡◌, ◌++◌, ◌≤◌, length, map, false, IfOk, OnOk};
-ghost use Rattle.std.specs.List.{concat, flat_map, All};
-ghost use Rattle.crc_fields.specs.CheckSums.{crc16_of};
-ghost use Rattle.field_grammar.specs.Fields.{number_bytes, padded_fields};
-ghost use Rattle.media_lists.specs.Entries.{distance_of};
-ghost use Rattle.media_lists.specs.ListFields.{entry_size, entry_fields, entries_fields, head_fields, identity_fields, user_fields, HaveDistances};
-ghost use Rattle.media_lists.specs.Files.{file_body_fields};
-ghost use Rattle.media_lists.specs.Loads.{load_view, texts_fields, load_body_fields};
+ghost use Rattle.std.specs.Prelude.{◌≡◌, ◌++◌, OnOk};
+ghost use Rattle.std.specs.List.{concat};
+ghost use Rattle.field_grammar.specs.Fields.{number_bytes};
+ghost use Rattle.media_lists.specs.ListFields.{head_fields, identity_fields};
 
 use crate::lists::{ListedFile, LoadEntry};
-use crate::measuring::{file_size, load_size};
+use crate::measuring::load_body_size;
 use crate::reading::Pointers;
-use crc_fields::crc16;
 use field_codec::Writer;
-use load_base::{Bytes, NoMemory, Text};
+use header_sections::{Entry, name_size, put_texts, text_size};
+use load_base::NoMemory;
 use part_number::PartNumber;
-use std::alloc::Global;
 
 // ---- what the two lists share
 
@@ -60,148 +55,49 @@ pub(crate) fn put_identity(
     Ok(())
 }
 
-#[tactic(auto, unfolding(crate::specs::ListFields::user_fields))]
-pub(crate) fn put_user(out: &mut Writer, user: &[u8]) -> Result<(), NoMemory>
-    requires { length user.now ≤ 131070 }
-    ensures { OnOk result (out.new ≡ out.old ++ concat (user_fields user.now)) }
-{
-    out.put_u16((user.len() / 2) as u16)?;
-    out.put_raw(user)?;
-    Ok(())
-}
+// ---- entries
 
-/// The bytes with their check sum behind them.
-pub(crate) fn with_check_sum(alloc: Global, covered: Bytes) -> Result<Bytes, NoMemory>
-    ensures { IfOk result (λ bytes. bytes.items ≡ covered.items ++ number_bytes 2 (crc16_of covered.items)) }
-{
-    let mut whole = covered;
-    let sum = number_of(alloc, crc16(whole.as_slice()))?;
-    whole.extend(sum.as_slice())?;
-    Ok(whole)
-}
+impl Entry for ListedFile {
+    ghost use Rattle.std.specs.Prelude.{⊤};
+    ghost use Rattle.media_lists.specs.Files.{file_body_fields};
 
-fn number_of(alloc: Global, value: u16) -> Result<Bytes, NoMemory>
-    ensures { IfOk result (λ bytes. bytes.items ≡ number_bytes 2 value) }
-{
-    let mut out = Writer::new(alloc);
-    out.put_u16(value)?;
-    Ok(out.finish())
-}
+    ghost body_fields = { file_body_fields };
 
-// ---- files
+    ghost Fits = { λ _. ⊤ };
 
-#[tactic(auto, unfolding(crate::specs::Files::file_body_fields))]
-fn put_file_body(out: &mut Writer, file: &ListedFile) -> Result<(), NoMemory>
-    ensures { OnOk result (out.new ≡ out.old ++ concat (file_body_fields file.now)) }
-{
-    out.put_padded(file.name.as_slice())?;
-    out.put_padded(file.path.as_slice())?;
-    out.put_u16(file.member)?;
-    out.put_u16(file.crc16)?;
-    Ok(())
-}
+    #[tactic(auto, using(crate::proofs::Sizes::size_file_parts))]
+    fn body_size(&self) -> u64 {
+        name_size(&self.name) + text_size(&self.path) + 4
+    }
 
-fn file_distance(file: &ListedFile, last: bool) -> u16
-    ensures { result ≡ distance_of last (entry_size file_body_fields file.now) }
-{
-    if last {
-        0
-    } else {
-        (file_size(file) / 2) as u16
+    #[tactic(auto, unfolding(crate::specs::Files::file_body_fields))]
+    fn put_body(&self, out: &mut Writer) -> Result<(), NoMemory> {
+        out.put_padded(self.name.as_slice())?;
+        out.put_padded(self.path.as_slice())?;
+        out.put_u16(self.member)?;
+        out.put_u16(self.crc16)?;
+        Ok(())
     }
 }
 
-fn put_file(out: &mut Writer, file: &ListedFile, last: bool) -> Result<(), NoMemory>
-    ensures { OnOk result (out.new ≡ out.old ++ concat (entry_fields file_body_fields last file.now)) }
-{
-    out.put_u16(file_distance(file, last))?;
-    put_file_body(out, file)?;
-    Ok(())
-}
+impl Entry for LoadEntry {
+    ghost use Rattle.std.specs.Prelude.{◌≤◌, length};
+    ghost use Rattle.media_lists.specs.Loads.{kept_fields};
 
-/// The section of entries of a list of files.
-pub(crate) fn put_files(out: &mut Writer, files: &[ListedFile]) -> Result<(), NoMemory>
-    requires { length files.now ≤ 1024 }
-    ensures { OnOk result (out.new ≡ out.old ++ concat (entries_fields file_body_fields files.now)) }
-{
-    out.put_u16(files.len() as u16)?;
-    for (index, file) in files.iter().enumerate() {
-        put_file(out, file, index + 1 == files.len())?;
+    ghost body_fields = { kept_fields };
+
+    ghost Fits = { λ load. length load.hardware.items ≤ 1024 };
+
+    fn body_size(&self) -> u64 {
+        load_body_size(self)
     }
-    Ok(())
-}
 
-// ---- loads
-
-#[tactic(auto, unfolding(crate::specs::Loads::texts_fields))]
-fn put_texts(out: &mut Writer, texts: &[Text]) -> Result<(), NoMemory>
-    requires { length texts.now ≤ 1024 }
-    ensures { OnOk result (out.new ≡ out.old ++ concat (texts_fields texts.now)) }
-{
-    out.put_u16(texts.len() as u16)?;
-    put_each_text(out, texts)?;
-    Ok(())
-}
-
-fn put_each_text(out: &mut Writer, texts: &[Text]) -> Result<(), NoMemory>
-    ensures { OnOk result (out.new ≡ out.old ++ concat (flat_map padded_fields texts.now)) }
-{
-    for text in texts {
-        put_text(out, text)?;
+    #[tactic(auto, using(part_number::specs::VerdictLaws::part_size), unfolding(crate::specs::Loads::load_body_fields))]
+    fn put_body(&self, out: &mut Writer) -> Result<(), NoMemory> {
+        out.put_padded(self.part.as_slice())?;
+        out.put_padded(self.header_name.as_slice())?;
+        out.put_u16(self.member)?;
+        put_texts(out, self.hardware.as_slice())?;
+        Ok(())
     }
-    Ok(())
-}
-
-fn put_text(out: &mut Writer, text: &Text) -> Result<(), NoMemory>
-    ensures { OnOk result (out.new ≡ out.old ++ concat (padded_fields text.now)) }
-{
-    out.put_padded(text.as_slice())
-}
-
-#[tactic(auto, using(part_number::specs::VerdictLaws::part_size), unfolding(crate::specs::Loads::load_body_fields))]
-fn put_load_body(out: &mut Writer, load: &LoadEntry) -> Result<(), NoMemory>
-    requires { length load.now.hardware.items ≤ 1024 }
-    ensures { OnOk result (out.new ≡ out.old ++ concat (load_body_fields (load_view load.now))) }
-{
-    out.put_padded(load.part.as_slice())?;
-    out.put_padded(load.header_name.as_slice())?;
-    out.put_u16(load.member)?;
-    put_texts(out, load.hardware.as_slice())?;
-    Ok(())
-}
-
-fn load_distance(load: &LoadEntry, last: bool) -> u16
-    requires few { length load.now.hardware.items ≤ 1024 }
-    requires short { last ≡ false → entry_size load_body_fields (load_view load.now) ≤ 131070 }
-    ensures { result ≡ distance_of last (entry_size load_body_fields (load_view load.now)) }
-{
-    if last {
-        0
-    } else {
-        (load_size(load) / 2) as u16
-    }
-}
-
-fn put_load(out: &mut Writer, load: &LoadEntry, last: bool) -> Result<(), NoMemory>
-    requires few { length load.now.hardware.items ≤ 1024 }
-    requires short { last ≡ false → entry_size load_body_fields (load_view load.now) ≤ 131070 }
-    ensures { OnOk result (out.new ≡ out.old ++ concat (entry_fields load_body_fields last (load_view load.now))) }
-{
-    out.put_u16(load_distance(load, last))?;
-    put_load_body(out, load)?;
-    Ok(())
-}
-
-/// The section of entries of a list of loads.
-pub(crate) fn put_loads(out: &mut Writer, loads: &[LoadEntry]) -> Result<(), NoMemory>
-    requires count { length loads.now ≤ 1024 }
-    requires few { All (λ load. length load.hardware.items ≤ 1024) loads.now }
-    requires distances { HaveDistances load_body_fields (map load_view loads.now) }
-    ensures { OnOk result (out.new ≡ out.old ++ concat (entries_fields load_body_fields (map load_view loads.now))) }
-{
-    out.put_u16(loads.len() as u16)?;
-    for (index, load) in loads.iter().enumerate() {
-        put_load(out, load, index + 1 == loads.len())?;
-    }
-    Ok(())
 }

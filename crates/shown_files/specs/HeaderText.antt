@@ -3,7 +3,7 @@ use Rattle.std.specs.Prelude.{ℕ, ◌-◌, ◌/◌, List, [], ◌∷◌, ◌++�
 use Rattle.std.specs.List.{flat_map}
 use Rattle.std.specs.Fmt.{decimal}
 use Rattle.crc_fields.specs.CheckSums.{crc16_of}
-use Rattle.load_header.specs.Header.{HeaderView, HardwareView}
+use Rattle.load_header.specs.Header.{HeaderView, HardwareAtView}
 use Rattle.load_header.specs.declared.header.FileEntry.{FileEntry}
 use Rattle.shown_files.specs.Lines.{line, hex_16, hex_32, user_line}
 
@@ -23,7 +23,7 @@ unfoldable pub position_line : List ℕ → List ℕ → List ℕ
 position_line hardware position = line (codes "position" ∷ hardware ∷ position ∷ [])
 
 -- one line a position, or `position ID` where an entry has none
-unfoldable pub position_lines : HardwareView → List ℕ
+unfoldable pub position_lines : HardwareAtView → List ℕ
 position_lines at = lines_of at.hardware at.positions
   where
     lines_of : List ℕ → List (List ℕ) → List ℕ

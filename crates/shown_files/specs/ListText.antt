@@ -3,8 +3,8 @@ use Rattle.std.specs.Prelude.{ℕ, ◌-◌, ◌/◌, List, [], ◌∷◌, ◌++�
 use Rattle.std.specs.List.{flat_map}
 use Rattle.std.specs.Fmt.{decimal}
 use Rattle.crc_fields.specs.CheckSums.{crc16_of}
-use Rattle.media_lists.specs.Files.{FilesView}
-use Rattle.media_lists.specs.Loads.{LoadView, LoadsView}
+use Rattle.media_lists.specs.Files.{FilesListView}
+use Rattle.media_lists.specs.Loads.{LoadEntryView, LoadsListView}
 use Rattle.media_lists.specs.declared.lists.ListedFile.{ListedFile}
 use Rattle.media_lists.specs.declared.lists.TheConstants.{FILES_VERSION, LOADS_VERSION}
 use Rattle.shown_files.specs.Lines.{line, field_line, hex_16, user_line}
@@ -30,13 +30,13 @@ unfoldable pub listed_file_line : ListedFile → List ℕ
 listed_file_line file = line (codes "file" ∷ file.name ∷ file.path ∷ decimal file.member ∷ hex_16 file.crc16 ∷ [])
 
 -- the list of files that these bytes spell
-unfoldable pub shown_files_list : List ℕ → FilesView → List ℕ
+unfoldable pub shown_files_list : List ℕ → FilesListView → List ℕ
 shown_files_list bytes l =
     kind_line (codes "files") (length bytes / 2) FILES_VERSION ++ set_lines l.set l.member l.members
     ++ flat_map listed_file_line l.entries ++ user_line l.user ++ crc_line bytes
 
 -- `load PART HEADER MEMBER HARDWARE`, with the number of its hardware
-unfoldable pub listed_load_line : LoadView → List ℕ
+unfoldable pub listed_load_line : LoadEntryView → List ℕ
 listed_load_line load =
     line (codes "load" ∷ load.part ∷ load.header_name ∷ decimal load.member ∷ decimal (length load.hardware) ∷ [])
 
@@ -45,11 +45,11 @@ abbrev pub load_hardware_line : List ℕ → List ℕ
 load_hardware_line hardware = field_line (codes "hardware") hardware
 
 -- a load, and a line for each of its hardware
-unfoldable pub listed_load_lines : LoadView → List ℕ
+unfoldable pub listed_load_lines : LoadEntryView → List ℕ
 listed_load_lines load = listed_load_line load ++ flat_map load_hardware_line load.hardware
 
 -- the list of loads that these bytes spell
-unfoldable pub shown_loads_list : List ℕ → LoadsView → List ℕ
+unfoldable pub shown_loads_list : List ℕ → LoadsListView → List ℕ
 shown_loads_list bytes l =
     kind_line (codes "loads") (length bytes / 2) LOADS_VERSION ++ set_lines l.set l.member l.members
     ++ flat_map listed_load_lines l.entries ++ user_line l.user ++ crc_line bytes

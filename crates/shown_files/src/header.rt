@@ -3,7 +3,7 @@ ghost use Rattle.std.specs.Prelude.{◌≡◌, ◌∷◌, ◌++◌, [], codes, l
 ghost use Rattle.std.specs.List.{flat_map};
 ghost use Rattle.std.specs.Fmt.{decimal};
 ghost use Rattle.crc_fields.specs.CheckSums.{crc16_of};
-ghost use Rattle.load_header.specs.Header.{header_view, hardware_view};
+ghost use Rattle.load_header.specs.Header.{header_view, hardware_at_view};
 ghost use Rattle.shown_files.specs.HeaderText.{shown_header, head_lines, hardware_line, position_line, position_lines, file_line, header_crc_line, load_crc_line};
 ghost use Rattle.shown_files.specs.Lines.{line, hex_16, hex_32};
 
@@ -86,7 +86,7 @@ fn put_hardware(out: &mut Bytes, hardware: &[Text]) -> Result<(), NoMemory>
 }
 
 fn put_positions(out: &mut Bytes, positions: &[HardwareAt]) -> Result<(), NoMemory>
-    ensures { OnOk result (out.new.items ≡ out.old.items ++ flat_map position_lines (map hardware_view positions.now)) }
+    ensures { OnOk result (out.new.items ≡ out.old.items ++ flat_map position_lines (map hardware_at_view positions.now)) }
 {
     for at in positions {
         put_entry(out, at)?;
@@ -96,7 +96,7 @@ fn put_positions(out: &mut Bytes, positions: &[HardwareAt]) -> Result<(), NoMemo
 
 #[tactic(auto, unfolding(crate::specs::HeaderText::position_lines))]
 fn put_entry(out: &mut Bytes, at: &HardwareAt) -> Result<(), NoMemory>
-    ensures { OnOk result (out.new.items ≡ out.old.items ++ position_lines (hardware_view at.now)) }
+    ensures { OnOk result (out.new.items ≡ out.old.items ++ position_lines (hardware_at_view at.now)) }
 {
     if at.positions.is_empty() {
         return put_line(out, b"position ", at.hardware.as_slice());

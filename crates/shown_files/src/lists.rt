@@ -2,8 +2,8 @@
 ghost use Rattle.std.specs.Prelude.{◌≡◌, ◌∷◌, ◌++◌, [], codes, length, map, OnOk, IfOk};
 ghost use Rattle.std.specs.List.{flat_map};
 ghost use Rattle.std.specs.Fmt.{decimal};
-ghost use Rattle.media_lists.specs.Files.{files_view};
-ghost use Rattle.media_lists.specs.Loads.{load_view, loads_view};
+ghost use Rattle.media_lists.specs.Files.{files_list_view};
+ghost use Rattle.media_lists.specs.Loads.{load_entry_view, loads_list_view};
 ghost use Rattle.shown_files.specs.Lines.{hex_16};
 ghost use Rattle.shown_files.specs.ListText.{member_line, kind_line, set_lines, crc_line, listed_file_line, shown_files_list, listed_load_line, load_hardware_line, listed_load_lines, shown_loads_list};
 
@@ -17,7 +17,7 @@ use std::alloc::Global;
 /// The fields of a list of files that these bytes spell, and its check sum.
 #[tactic(auto, unfolding(crate::specs::ListText::shown_files_list))]
 pub fn files_list_text(alloc: Global, bytes: &[u8], list: &FilesList) -> Result<Bytes, NoMemory>
-    ensures { IfOk result (λ text. text.items ≡ shown_files_list bytes.now (files_view list.now)) }
+    ensures { IfOk result (λ text. text.items ≡ shown_files_list bytes.now (files_list_view list.now)) }
 {
     let mut out = Bytes::new(alloc);
     put_kind(alloc, &mut out, b"files", bytes.len() / 2, FILES_VERSION)?;
@@ -31,7 +31,7 @@ pub fn files_list_text(alloc: Global, bytes: &[u8], list: &FilesList) -> Result<
 /// The fields of a list of loads that these bytes spell, and its check sum.
 #[tactic(auto, unfolding(crate::specs::ListText::shown_loads_list))]
 pub fn loads_list_text(alloc: Global, bytes: &[u8], list: &LoadsList) -> Result<Bytes, NoMemory>
-    ensures { IfOk result (λ text. text.items ≡ shown_loads_list bytes.now (loads_view list.now)) }
+    ensures { IfOk result (λ text. text.items ≡ shown_loads_list bytes.now (loads_list_view list.now)) }
 {
     let mut out = Bytes::new(alloc);
     put_kind(alloc, &mut out, b"loads", bytes.len() / 2, LOADS_VERSION)?;
@@ -117,7 +117,7 @@ fn put_file_crc(out: &mut Bytes, sum: u16) -> Result<(), NoMemory>
 }
 
 fn put_loads(alloc: Global, out: &mut Bytes, loads: &[LoadEntry]) -> Result<(), NoMemory>
-    ensures { OnOk result (out.new.items ≡ out.old.items ++ flat_map listed_load_lines (map load_view loads.now)) }
+    ensures { OnOk result (out.new.items ≡ out.old.items ++ flat_map listed_load_lines (map load_entry_view loads.now)) }
 {
     for load in loads {
         put_load(alloc, out, load)?;
@@ -127,7 +127,7 @@ fn put_loads(alloc: Global, out: &mut Bytes, loads: &[LoadEntry]) -> Result<(), 
 
 #[tactic(auto, unfolding(crate::specs::ListText::listed_load_lines))]
 fn put_load(alloc: Global, out: &mut Bytes, load: &LoadEntry) -> Result<(), NoMemory>
-    ensures { OnOk result (out.new.items ≡ out.old.items ++ listed_load_lines (load_view load.now)) }
+    ensures { OnOk result (out.new.items ≡ out.old.items ++ listed_load_lines (load_entry_view load.now)) }
 {
     put_load_line(alloc, out, load)?;
     put_hardware(out, load.hardware.as_slice())
@@ -135,7 +135,7 @@ fn put_load(alloc: Global, out: &mut Bytes, load: &LoadEntry) -> Result<(), NoMe
 
 #[tactic(auto, unfolding(crate::specs::ListText::listed_load_line))]
 fn put_load_line(alloc: Global, out: &mut Bytes, load: &LoadEntry) -> Result<(), NoMemory>
-    ensures { OnOk result (out.new.items ≡ out.old.items ++ listed_load_line (load_view load.now)) }
+    ensures { OnOk result (out.new.items ≡ out.old.items ++ listed_load_line (load_entry_view load.now)) }
 {
     out.extend(b"load ")?;
     out.extend(load.part.as_slice())?;

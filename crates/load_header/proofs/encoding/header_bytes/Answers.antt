@@ -1,10 +1,8 @@
 use Rattle.load_header.specs.Header.{header_view}
-use Rattle.load_header.proofs.Writes.{header_written, is_header}
+use Rattle.load_header.proofs.Writes.{header_written}
 use Rattle.load_header.proofs.encoding.header_bytes.Goals as goal
 
 pub returns : goal.returns
 returns c =
-    let whole = rw (c.as_slice-2.ensures, c.in_ok-end.ensures.sums, c.crc16.ensures, c.as_slice.ensures) at c.in_ok-extend.ensures.ok in (
-      is_header (header_view c.args.header.now) c.requires c.in_ok-covered.ensures.parts c.in_ok-covered.ensures.flags c.sums_bytes.ensures.load_crc,
-      header_written (header_view c.args.header.now) c.in_ok-covered.covered.items c.extend.new.self.items c.in_ok-covered.ensures.covered whole,
-    )
+    let whole = rw (c.as_slice.ensures, c.in_ok-load_crc.ensures, c.in_ok-whole.ensures) at c.in_ok-extend.ensures.ok in
+    (c.requires, header_written (header_view c.args.header.now) c.in_ok-covered.covered.items c.extend.new.self.items c.in_ok-covered.ensures whole)

@@ -1,6 +1,6 @@
 use Rattle.load_header.proofs.Writes.{positions_written}
 use Rattle.load_header.proofs.writing.put_positions.Goals as goal
 
-pub returns-clause-fields : goal.returns-clause-fields
-returns-clause-fields c =
-    positions_written c.args.list.now c.args.out.now c.put_u16.new.self c.put_each_kind.new.out c.in_ok-put_u16.ensures.ok c.in_ok-put_each_kind.ensures.fields
+pub returns : goal.returns
+returns c =
+    positions_written c.args.list.now c.args.out.now c.put_u16.new.self c.put_each_kind.new.out c.in_ok-put_u16.ensures.ok c.in_ok-put_each_kind.ensures

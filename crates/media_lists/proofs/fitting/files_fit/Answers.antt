@@ -1,15 +1,21 @@
-use Rattle.std.proofs.Common.{rules}
-use Rattle.media_lists.specs.Files.{files_view, file_name, file_body_fields, IsFile}
-use Rattle.media_lists.proofs.Fits.{list_tells}
+use Rattle.std.proofs.Common.{rules, arith}
+use Rattle.media_lists.specs.Files.{files_list_view, file_name, file_body_fields, IsListedFile}
+use Rattle.media_lists.proofs.Fits.{all_fit, list_tells}
 use Rattle.media_lists.proofs.fitting.files_fit.Goals as goal
 
 pub returns : goal.returns
 returns c =
-    let entries = rw c.as_slice-files.ensures at c.files_size.ensures.size in
+    let entries = rw c.as_slice-files.ensures at c.entries_size.ensures.size in
     let member = rw c.from.ensures at c.is_member.ensures in
     let meet = rw c.as_slice-files.ensures at c.files_meet_limits.ensures in
     let user = rw c.as_slice.ensures at c.is_user_data.ensures.fits in
     let bytes = rw c.as_slice.ensures at c.is_user_data.ensures.bytes in
     let total = rw c.len.ensures at c.list_size.ensures in
-    list_tells IsFile file_name file_body_fields (files_view c.args.list.now) c.files_size.result c.list_size.result c.as_slice-set.ensures.is_part_number (search rules) bytes
+    list_tells IsListedFile file_name file_body_fields (files_list_view c.args.list.now) c.entries_size.result c.list_size.result c.as_slice-set.ensures.is_part_number (search rules) bytes
     (member.0 c.if-not-is_member.false) (user.0 c.if-not-is_user_data.false) (meet.0 c.if-not-files_meet_limits.false) entries total
+
+pub entries_size-requires-clause-count : goal.entries_size-requires-clause-count
+entries_size-requires-clause-count c = omega (arith, (c.files_meet_limits.ensures.0 c.if-not-files_meet_limits.false).count)
+
+pub entries_size-requires-clause-each : goal.entries_size-requires-clause-each
+entries_size-requires-clause-each c = all_fit c.as_slice-files.result.now

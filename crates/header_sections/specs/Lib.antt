@@ -1,0 +1,5 @@
+pub mod Sections
+pub mod SectionFields
+pub mod SectionLaws
+pub mod SizeLaws
+pub mod WrittenLaws
