@@ -44,9 +44,6 @@ while_shutting store old new at image s result is opened works told was elapses 
     (λ left torn. torn_gate_stands store image left s opened was
     (λ place out apart. torn.same place (subst (λ (n : ℕ). (place < n) ⊎ (n + 1 ≤ place)) (sym is) apart) ∙ works.near image torn.before told torn.was place out))
 
-pub was_shut : (store : Store) (image now : Image) (s : StandingView) → store.other_is_open ≡ false → image ≡ now → StandsFor store image s → IsShutFor store now s
-was_shut store image now s shut same was = subst (λ (i : Image). IsShutFor store i s) same (record { by = was.by; shut = was.gate.shut_there shut })
-
 pub begun_stands : (old new : Store) (image now : Image) (s : StandingView) → RulesAs old new → new.other_is_open ≡ false → StandsFor old image s → IsShutFor old now s → StandsFor new now s
 begun_stands old new image now s rules shut was is = record {
   by = subst (λ (n : ℕ). StandsBy now n s) (sym rules.slot) is.by;

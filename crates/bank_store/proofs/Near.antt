@@ -120,9 +120,6 @@ torn_gate_stands store one other s is was same = elim (cases_eq (other (other_sl
 
 -- ---- images that a write may leave
 
-pub near_self : (store : Store) (one : Image) → SameButForWork store one one
-near_self store one place out = refl
-
 pub near_back : (store : Store) (one other : Image) → SameButForWork store one other → SameButForWork store other one
 near_back store one other same place out = sym (same place out)
 

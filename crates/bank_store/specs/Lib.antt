@@ -6,4 +6,3 @@ pub mod Front
 pub mod Given
 pub mod Safe
 pub mod Store
-pub mod Whole

@@ -4,7 +4,6 @@
 mod fault;
 mod formatting;
 mod front;
-mod install;
 mod laws;
 mod stage;
 mod store;
