@@ -5,14 +5,14 @@ use Rattle.disk_layout.specs.Places.{bank_at}
 use Rattle.disk_layout.specs.Slots.{IsOpen}
 use Rattle.disk_layout.specs.Stands.{StandingView, StandsBy}
 use Rattle.bank_store.specs.Bounds.{other_slot}
-use Rattle.bank_store.specs.Store.{work_at, other_bank, RulesAs}
-use Rattle.bank_store.specs.Safe.{StandsFor, MayChange, SameButForWork}
+use Rattle.bank_store.specs.Store.{work_at, other_bank, SameActive}
+use Rattle.bank_store.specs.Fits.{HoldsFor, MayChange, SameButForWork}
 use Rattle.bank_store.specs.declared.store.Store.{Store}
 
-pub work_carried : (old new : Store) → RulesAs old new → work_at new ≡ work_at old
+pub work_carried : (old new : Store) → SameActive old new → work_at new ≡ work_at old
 work_carried old new rules = ap₂ (λ (s : ℕ) (b : ℕ). bank_at s (other_bank b)) rules.size rules.bank
 
-module _ (old new : Store) (rules : RulesAs old new) (gate : new.other_is_open ≡ old.other_is_open) where
+module _ (old new : Store) (rules : SameActive old new) (gate : new.other_is_open ≡ old.other_is_open) where
   may_carried : (place : ℕ) → MayChange old place → MayChange new place
   may_carried place (inl bank) = inl (
     subst (λ (w : ℕ). w ≤ place) (sym (work_carried old new rules)) bank.0,
@@ -27,7 +27,7 @@ module _ (old new : Store) (rules : RulesAs old new) (gate : new.other_is_open �
   pub near_carried : (one other : Image) → SameButForWork old one other → SameButForWork new one other
   near_carried one other same place out = same place (λ may. out (may_carried place may))
 
-  pub stands_carried : (image : Image) (s : StandingView) → StandsFor old image s → StandsFor new image s
+  pub stands_carried : (image : Image) (s : StandingView) → HoldsFor old image s → HoldsFor new image s
   stands_carried image s was = record {
     by = subst (λ (n : ℕ). StandsBy image n s) (sym rules.slot) was.by;
     bank = was.bank ∙ sym rules.bank;

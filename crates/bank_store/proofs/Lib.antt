@@ -6,6 +6,7 @@ pub mod Footprint
 pub mod Gates
 pub mod Giving
 pub mod Images
+pub mod Keeping
 pub mod Layouts
 pub mod Moments
 pub mod Near

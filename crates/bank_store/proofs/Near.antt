@@ -8,7 +8,7 @@ use Rattle.disk_layout.specs.Slots.{IsOpen, IsSlot}
 use Rattle.disk_layout.specs.Stands.{StandingView, StandsBy, Stands}
 use Rattle.bank_store.specs.Bounds.{other_slot, is_slot_place}
 use Rattle.bank_store.specs.Store.{work_at}
-use Rattle.bank_store.specs.Safe.{StandsFor, GateIsAsKept, MayChange, SameButForWork}
+use Rattle.bank_store.specs.Fits.{HoldsFor, GateIsAsKept, MayChange, SameButForWork}
 use Rattle.bank_store.specs.declared.store.Store.{Store}
 use Rattle.bank_store.proofs.Footprint.{standing_kept}
 
@@ -60,7 +60,7 @@ abbrev pub SameButForGate : Store → Image → Image → Type 0
 SameButForGate store one other = (place : ℕ) → ¬ MayChange store place → (place < other_slot store.slot) ⊎ (other_slot store.slot + 1 ≤ place) → other place ≡ one place
 
 -- so they stand for the same, where the other slot is the same or shut
-stands_by : (store : Store) (one other : Image) (s : StandingView) → StandsFor store one s → SameButForGate store one other
+stands_by : (store : Store) (one other : Image) (s : StandingView) → HoldsFor store one s → SameButForGate store one other
     → ¬ IsOpen other (other_slot store.slot) ⊎ ((k : ℕ) → k < 29 → other (other_slot store.slot + k) ≡ one (other_slot store.slot + k)) → StandsBy other store.slot s
 stands_by store one other s was same others =
     let is_slot = slot_from store.slot store.keeps.slot_is in
@@ -84,7 +84,7 @@ stands_by store one other s was same others =
     })
 
 -- images that differ only where an installation writes stand for the same
-pub near_stands : (store : Store) (one other : Image) (s : StandingView) → StandsFor store one s → SameButForWork store one other → StandsFor store other s
+pub near_stands : (store : Store) (one other : Image) (s : StandingView) → HoldsFor store one s → SameButForWork store one other → HoldsFor store other s
 near_stands store one other s was same = record {
   by = stands_by store one other s was (λ place out apart. same place out) (others_same store one other store.other_is_open refl was.gate same);
   bank = was.bank;
@@ -97,11 +97,11 @@ near_stands store one other s was same = record {
 }
 
 -- with the other slot shut the image stands for the same
-pub shut_stands : (store : Store) (one other : Image) (s : StandingView) → StandsFor store one s → SameButForGate store one other → ¬ IsOpen other (other_slot store.slot) → StandsBy other store.slot s
+pub shut_stands : (store : Store) (one other : Image) (s : StandingView) → HoldsFor store one s → SameButForGate store one other → ¬ IsOpen other (other_slot store.slot) → StandsBy other store.slot s
 shut_stands store one other s was same shut = stands_by store one other s was same (inl shut)
 
 -- whatever the gate of a slot that was open, the image stands for the same
-pub torn_gate_stands : (store : Store) (one other : Image) (s : StandingView) → store.other_is_open ≡ true → StandsFor store one s → SameButForGate store one other → Stands other s
+pub torn_gate_stands : (store : Store) (one other : Image) (s : StandingView) → store.other_is_open ≡ true → HoldsFor store one s → SameButForGate store one other → Stands other s
 torn_gate_stands store one other s is was same = elim (cases_eq (other (other_slot store.slot)) 0xA5) [
   | inl opened ↦
       let near : SameButForWork store one other = λ place out. elim (cases_eq place (other_slot store.slot)) [

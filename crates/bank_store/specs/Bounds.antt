@@ -17,13 +17,13 @@ longest_load = 17681
 
 -- The bank has room for the bytes that came, and what its manifest may take is enough for the files that are still to
 -- come of the last load. Where none is, no file is in progress.
-pub record IsInRange (size : ℕ) (body : Listed ℕ) (far : Filling) : Type 0 where
-  pub few : far.loads ≤ most_loads
-  pub missing : far.missing ≤ most_files
-  pub taken : length body.items + 69 * far.missing ≤ longest_load * far.loads
-  pub start : far.start ≤ far.end
-  pub end : far.end ≤ size
-  pub whole : far.missing ≡ 0 → far.start ≡ far.end
+pub record IsInRange (size : ℕ) (body : Listed ℕ) (progress : Filling) : Type 0 where
+  pub few : progress.loads ≤ most_loads
+  pub missing : progress.missing ≤ most_files
+  pub taken : length body.items + 69 * progress.missing ≤ longest_load * progress.loads
+  pub start : progress.start ≤ progress.end
+  pub end : progress.end ≤ size
+  pub whole : progress.missing ≡ 0 → progress.start ≡ progress.end
 
 -- a begun installation has shut the other gate, can count on, and has the room for the rest of its manifest
 pub record HasBegun (sequence : ℕ) (other_is_open : Bool) (body : Listed ℕ) : Type 0 where
@@ -41,4 +41,4 @@ pub record IsStore (size slot bank sequence : ℕ) (other_is_open : Bool) (body 
   pub is_bank : bank < 2
   pub idle : stage ≡ stages.Idle → body.items ≡ []
   pub begun : stage ≢ stages.Idle → HasBegun sequence other_is_open body
-  pub in_range : (far : Filling) → stage ≡ stages.Filling far → IsInRange size body far
+  pub in_range : (progress : Filling) → stage ≡ stages.Filling progress → IsInRange size body progress

@@ -1,8 +1,9 @@
 -- What a store keeps of the disk that it installs on (docs/DISK.md).
-use Rattle.std.specs.Prelude.{◌≡◌, ℕ, ◌+◌, ◌-◌, ◌≤◌, Bool, true, if◌then◌else◌, List, [], ◌∷◌, ◌++◌, length}
+use Rattle.std.specs.Prelude.{◌≡◌, ℕ, ◌+◌, ◌-◌, ◌<◌, ◌≤◌, Bool, true, if◌then◌else◌, List, [], ◌∷◌, ◌++◌, length}
+use Rattle.load_base.specs.Host.{longest_file}
 use Rattle.field_grammar.specs.Fields.{number_bytes}
 use Rattle.disk_model.specs.Image.{Image, overlay}
-use Rattle.disk_layout.specs.Places.{bank_at, longest_manifest}
+use Rattle.disk_layout.specs.Places.{bank_at, longest_manifest, most_loads}
 use Rattle.bank_store.specs.Bounds.{other_slot}
 use Rattle.bank_store.specs.declared.store.Store.{Store}
 use Rattle.bank_store.specs.declared.stage.Stage.{Stage}
@@ -44,7 +45,7 @@ IsIdle store = store.stage ≡ stages.Idle
 
 -- an installation has begun whose contents are coming
 abbrev pub IsFilling : Store → Filling → Type 0
-IsFilling store far = store.stage ≡ stages.Filling far
+IsFilling store progress = store.stage ≡ stages.Filling progress
 
 -- all of an installation is written but the gate
 abbrev pub IsSealed : Store → Type 0
@@ -56,7 +57,7 @@ pub record IsPrepared (store : Store) : Type 0 where
   pub room : longest_manifest ≤ store.body.room
 
 -- the same bank rules, with the same sequence number, by the same slot
-pub record RulesAs (old new : Store) : Type 0 where
+pub record SameActive (old new : Store) : Type 0 where
   pub size : new.size ≡ old.size
   pub slot : new.slot ≡ old.slot
   pub bank : new.bank ≡ old.bank
@@ -71,17 +72,46 @@ pub record Switches (old new : Store) : Type 0 where
   pub opened : new.other_is_open ≡ true
   pub idle : IsIdle new
 
+-- an installation has begun, and nothing is given yet
+abbrev pub nothing_filled : Filling
+nothing_filled = record { loads = 0; missing = 0; end = 0; start = 0 }
+
+-- the loads that were announced have all their files
+abbrev pub IsBetweenLoads : Store → Type 0
+IsBetweenLoads store = (progress : Filling) × IsFilling store progress × (progress.missing ≡ 0)
+
+-- and there may be one load more
+abbrev pub AwaitsLoad : Store → Type 0
+AwaitsLoad store = (progress : Filling) × IsFilling store progress × (progress.loads < most_loads) × (progress.missing ≡ 0)
+
+-- a file of the last load is still to end
+abbrev pub AwaitsFile : Store → Type 0
+AwaitsFile store = (progress : Filling) × IsFilling store progress × (1 ≤ progress.missing)
+
+-- a file of the last load is still to end, and what came of it isn't too long
+abbrev pub AwaitsEnd : Store → Type 0
+AwaitsEnd store = (progress : Filling) × IsFilling store progress × (1 ≤ progress.missing) × (progress.end ≤ progress.start + longest_file)
+
+-- with n bytes after the contents the other bank would need so many bytes, more than it has
+abbrev pub PassesBank : Store → (n need have : ℕ) → Type 0
+PassesBank store n need have =
+    (progress : Filling) × IsFilling store progress × (need ≡ progress.end + n) × (have ≡ store.size) × (have < need)
+
+-- the active configuration has the last sequence number
+abbrev pub IsSpent : Store → Type 0
+IsSpent store = store.sequence ≡ 4294967295
+
 -- a load more was announced, of so many files
 abbrev pub load_announced : ℕ → Filling → Filling
-load_announced files far = record { loads = far.loads + 1; missing = files; end = far.end; start = far.start }
+load_announced files progress = record { loads = progress.loads + 1; missing = files; end = progress.end; start = progress.start }
 
 -- so many bytes more stand in the bank
 abbrev pub bytes_appended : ℕ → Filling → Filling
-bytes_appended n far = record { loads = far.loads; missing = far.missing; end = far.end + n; start = far.start }
+bytes_appended n progress = record { loads = progress.loads; missing = progress.missing; end = progress.end + n; start = progress.start }
 
 -- the file in progress has ended
 abbrev pub file_ended : Filling → Filling
-file_ended far = record { loads = far.loads; missing = far.missing - 1; end = far.end; start = far.end }
+file_ended progress = record { loads = progress.loads; missing = progress.missing - 1; end = progress.end; start = progress.end }
 
 -- how many more bytes of a manifest surely take no memory
 abbrev pub room_of : Store → ℕ
@@ -103,11 +133,11 @@ with_gate_shut store image = if store.other_is_open then overlay image (other_sl
 
 -- the image with a piece of the contents behind those that came
 abbrev pub with_piece : Store → Filling → List ℕ → Image → Image
-with_piece store far bytes image = overlay image (work_at store + far.end) bytes
+with_piece store progress bytes image = overlay image (work_at store + progress.end) bytes
 
 -- the image with the manifest behind the contents
 abbrev pub with_manifest : Store → Filling → Image → Image
-with_manifest store far image = overlay (overlay image (work_at store + far.end) (number_bytes 2 far.loads)) (work_at store + far.end + 2) store.body.items
+with_manifest store progress image = overlay (overlay image (work_at store + progress.end) (number_bytes 2 progress.loads)) (work_at store + progress.end + 2) store.body.items
 
 -- the image with the other slot's body
 abbrev pub with_slot : Store → (place length : ℕ) → Image → Image

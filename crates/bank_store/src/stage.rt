@@ -1,4 +1,4 @@
-//! How far an installation is.
+//! How progress an installation is.
 
 /// An installation whose contents are coming.
 #[derive(Clone, Copy)]
@@ -13,7 +13,7 @@ pub struct Filling {
     pub start: u32,
 }
 
-/// How far an installation is.
+/// How progress an installation is.
 #[derive(Clone, Copy)]
 pub enum Stage {
     /// None has begun, or the last one has ended.

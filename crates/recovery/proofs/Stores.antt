@@ -8,7 +8,7 @@ use Rattle.disk_layout.specs.declared.identity.Identity.{Identity}
 use Rattle.disk_layout.specs.declared.manifest.Manifest.{Manifest}
 use Rattle.bank_store.specs.Bounds.{other_slot}
 use Rattle.bank_store.specs.Store.{size_of, slot_of, bank_of, sequence_of, is_other_open}
-use Rattle.bank_store.specs.Safe.{StandsFor}
+use Rattle.bank_store.specs.Fits.{HoldsFor}
 use Rattle.bank_store.specs.declared.store.Store.{Store}
 use Rattle.recovery.specs.Parts.{TellsOther}
 use Rattle.recovery.specs.Surveys.{IsSurveyed, outline_of_survey}
@@ -22,7 +22,7 @@ other_is_slot slot (inr e) = (inl (omega (arith, e)), λ same. omega (arith, e, 
 
 -- A configuration of the outline that was found is one that the store keeps as what rules.
 pub store_stands : (image : Image) (s : Surveyed) → IsSurveyed image s → size_of s.store ≡ s.identity.bank
-    → (standing : StandingView) → StandsBy image (slot_of s.store) standing → outline_of standing ≡ outline_of_survey s → StandsFor s.store image standing
+    → (standing : StandingView) → StandsBy image (slot_of s.store) standing → outline_of standing ≡ outline_of_survey s → HoldsFor s.store image standing
 store_stands image s found size standing by is =
     let other = other_is_slot (slot_of s.store) found.outline.ruled.rules.is_slot in
     let tells = found.other (other_slot (slot_of s.store)) other.0 other.1 in

@@ -1,6 +1,7 @@
 //! What rules on a disk: the identity, the slot, and the manifest that it names.
 ghost use Rattle.std.specs.Prelude.{◌≡◌, ◌+◌, ◌≤◌, ◌<◌, ◌↔◌, IsTrue, IfSome, IfNone, Some, false, map, OnOk, IfOk, IfErr};
 ghost use Rattle.std.specs.List.{sum_by};
+ghost use Rattle.std.specs.Option.{ForSome};
 ghost use Rattle.disk_model.specs.Image.{Image, range};
 ghost use Rattle.disk_model.specs.State.{IsSettled};
 ghost use Rattle.field_grammar.specs.Grammar.{Spelled};
@@ -11,7 +12,8 @@ ghost use Rattle.disk_layout.specs.Manifest.{ManifestFits, manifest, manifest_vi
 ghost use Rattle.disk_layout.specs.Stands.{StandingView, outline_of, Refuses};
 ghost use Rattle.disk_layout.specs.Looks.{IsOfDisk, Looks};
 ghost use Rattle.bank_store.specs.Store.{size_of as bank_size_of, slot_of as ruling_slot_of, bank_of, sequence_of, is_other_open, IsIdle};
-ghost use Rattle.bank_store.specs.Safe.{StandsFor, Works};
+ghost use Rattle.bank_store.specs.Acts.{IsRunning};
+ghost use Rattle.bank_store.specs.Fits.{HoldsFor, Fits, Works};
 ghost use Rattle.recovery.specs.Parts.{IsSlotAt, IsRulerOn, RefusesSlots, IsSoundAt, RefusesSlot, RefusesBytes, RefusesManifest};
 ghost use Rattle.recovery.specs.Surveys.{IsSurveyed, IsInRange, outline_of_survey};
 
@@ -19,7 +21,7 @@ use crate::identity::identity_of;
 use crate::looking::{bytes_on, read_from};
 use crate::manifest::manifest_in;
 use crate::slot::{Slot, rules_over, slot_of};
-use bank_store::{Store, a_settled_disk_works};
+use bank_store::{Store, a_settled_disk_works, a_store_goes_on_fitting};
 use disk_layout::places::{
     BANK_IN_SLOT, BANKS, LENGTH_IN_SLOT, LONGEST_IDENTITY, LONGEST_MANIFEST, OPEN, PLACE_IN_SLOT,
     SLOT_A, SLOT_B, SLOT_LENGTH,
@@ -46,13 +48,14 @@ pub struct Surveyed {
 /// The store that it gives installs on this disk, beside what rules there. What its calls promise of a power
 /// loss they promise where the disk was settled, as it is behind a sync or a restart.
 pub fn survey<K: Disk>(alloc: Global, disk: &mut K) -> Result<Surveyed, RecoverFault>
-    requires { (K.state disk.old).stopped ≡ false }
-    ensures found { IfOk result (λ surveyed. (image : Image) → (K.state disk.old).reads ≡ Some image → IsSurveyed image surveyed) }
-    ensures refused { IfErr result (λ fault. (image : Image) → (K.state disk.old).reads ≡ Some image → Refuses image fault) }
+    requires { IsRunning (K.state disk.old) }
+    ensures found { IfOk result (λ surveyed. ForSome (K.state disk.old).reads (λ image. IsSurveyed image surveyed)) }
+    ensures refused { IfErr result (λ fault. ForSome (K.state disk.old).reads (λ image. Refuses image fault)) }
     ensures in_range { IfOk result (λ surveyed. IsInRange surveyed) }
     ensures idle { IfOk result (λ surveyed. IsIdle surveyed.store) }
-    ensures stands { IfOk result (λ surveyed. (image : Image) → (K.state disk.old).reads ≡ Some image
-        → (s : StandingView) × StandsFor surveyed.store image s × (outline_of s ≡ outline_of_survey surveyed)) }
+    ensures holds { IfOk result (λ surveyed. ForSome (K.state disk.old).reads
+        (λ image. (s : StandingView) × HoldsFor surveyed.store image s × (outline_of s ≡ outline_of_survey surveyed))) }
+    ensures fits { IfOk result (λ surveyed. Fits surveyed.store (K.state disk.new)) }
     ensures works { IfOk result (λ surveyed. IsSettled (K.state disk.old) → Works surveyed.store (K.state disk.new)) }
     ensures looks { Looks (K.state disk.old) (K.state disk.new) result }
 {
@@ -63,6 +66,7 @@ pub fn survey<K: Disk>(alloc: Global, disk: &mut K) -> Result<Surveyed, RecoverF
     let store = store_of(alloc, identity.bank, &ruler);
     an_outline_is_filled();
     a_settled_disk_works::<K>();
+    a_store_goes_on_fitting::<K>();
     Ok(Surveyed {
         identity,
         manifest,

@@ -203,11 +203,11 @@ fn put_file(
     first: &[u8],
     second: &[u8],
 ) -> Result<(), StoreFault>
-    requires filling { (far : Filling) × IsFilling store.old far × (1 ≤ far.missing) × (far.start ≡ far.end) }
+    requires filling { (progress : Filling) × IsFilling store.old progress × (1 ≤ progress.missing) × (progress.start ≡ progress.end) }
     requires short { length first.now + length second.now ≤ longest_file }
     requires running { (state_of disk.old).stopped ≡ false }
-    ensures goes_on { OnOk result ((far : Filling) → IsFilling store.old far
-        → IsFilling store.new (file_ended (bytes_appended (length second.now) (bytes_appended (length first.now) far)))) }
+    ensures goes_on { OnOk result ((progress : Filling) → IsFilling store.old progress
+        → IsFilling store.new (file_ended (bytes_appended (length second.now) (bytes_appended (length first.now) progress)))) }
     ensures running { OnOk result ((state_of disk.new).stopped ≡ false) }
 {
     store.append(disk, first)?;

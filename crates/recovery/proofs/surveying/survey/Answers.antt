@@ -41,15 +41,23 @@ returns-clause-found g c image told =
     (c.in_ok-manifest.ensures.found image (c.in_ok-ruler.ensures.looks.ok.reads ∙ told_ruler)) c.in_ok-manifest.ensures.lengths in
     store_found image c.in_ok-identity.identity c.in_ok-manifest.manifest c.store_of-store.result ruler store.slot store.bank store.sequence store.other outline found.other
 
-pub returns-clause-stands : goal.returns-clause-stands
-returns-clause-stands g c image told =
+pub returns-clause-holds : goal.returns-clause-holds
+returns-clause-holds g c image told =
     let found = returns-clause-found g c image told in
     let (s, by, is) = c.an_outline_is_filled.ensures image _ _ found.outline in
     (s, store_stands image _ found c.store_of-store.ensures.size s by is, is)
 
+pub returns-clause-fits : goal.returns-clause-fits
+returns-clause-fits g c =
+    let looked = look_more _ _ _ _ (look_more _ _ _ _ (look_more _ _ _ _ (not_yet _ c.requires) c.in_ok-identity.ensures.looks) c.in_ok-ruler.ensures.looks) c.in_ok-manifest.ensures.looks in
+    c.a_store_goes_on_fitting.ensures.read_fits c.store_of-store.result c.args.disk.now _ looked.runs
+    (c.a_settled_disk_works.ensures.fits c.store_of-store.result c.args.disk.now c.store_of-store.ensures.idle c.requires
+    (λ image told. let (s, holds, is) = returns-clause-holds g c image told in (s, holds)))
+
 pub returns-clause-works : goal.returns-clause-works
 returns-clause-works g c settled =
     let looked = look_more _ _ _ _ (look_more _ _ _ _ (look_more _ _ _ _ (not_yet _ c.requires) c.in_ok-identity.ensures.looks) c.in_ok-ruler.ensures.looks) c.in_ok-manifest.ensures.looks in
-    let before = c.a_settled_disk_works.ensures.settled c.store_of-store.result c.args.disk.now c.store_of-store.ensures.idle settled
-    (λ image told. let (s, stands, is) = returns-clause-stands g c image told in (s, stands)) in
-    c.a_settled_disk_works.ensures.read c.store_of-store.result _ _ looked.only_reads looked.runs.reads before
+    let fits = c.a_settled_disk_works.ensures.fits c.store_of-store.result c.args.disk.now c.store_of-store.ensures.idle c.requires
+    (λ image told. let (s, holds, is) = returns-clause-holds g c image told in (s, holds)) in
+    c.a_store_goes_on_fitting.ensures.read_works c.store_of-store.result c.args.disk.now _ looked.runs looked.only_reads.now
+    (c.a_settled_disk_works.ensures.works c.store_of-store.result c.args.disk.now c.store_of-store.ensures.idle settled fits)
