@@ -8,8 +8,8 @@ use Rattle.disk_model.specs.OverlayLaws.{overlay_inside, overlay_outside}
 use Rattle.disk_layout.specs.Slots.{IsOpen}
 use Rattle.disk_layout.specs.Stands.{StandingView, StandsBy, Stands}
 use Rattle.bank_store.specs.Acts.{AddsOnly, IsRunning}
-use Rattle.bank_store.specs.Bounds.{other_slot}
-use Rattle.bank_store.specs.Store.{IsFilling, SameActive, nothing_filled}
+use Rattle.disk_layout.specs.Slots.{other_slot}
+use Rattle.bank_store.specs.Store.{active_slot, IsFilling, SameActive, nothing_filled}
 use Rattle.bank_store.specs.Given.{nothing_given}
 use Rattle.bank_store.specs.Fits.{HoldsFor, Fits, Works, InstallsBeside}
 use Rattle.bank_store.specs.Keeps.{IsShutFor, LeavesActive, LeavesRest, Keeps}
@@ -20,25 +20,32 @@ use Rattle.bank_store.proofs.Gates.{same_image}
 use Rattle.bank_store.proofs.Giving.{given_nothing}
 use Rattle.bank_store.proofs.Images.{told_before}
 use Rattle.bank_store.proofs.Moments.{adds_first}
-use Rattle.bank_store.proofs.Near.{shut_stands, torn_gate_stands}
+use Rattle.bank_store.proofs.Near.{SameButForGate, offset_same, length_same, shut_stands, torn_gate_stands}
+use Rattle.bank_store.proofs.Carried.{offset_carried, length_carried, same_slot, same_bank, same_sequence}
 
 pub on_ok_by : {T E A B : Type 0} (result : Result T E) → (A → B) → OnOk result A → OnOk result B
 on_ok_by (Ok x) f a = f a
 on_ok_by (Err e) f a = tt
 
 -- the gate was shut, or is torn
-pub shut_gate : (store : Store) (image : Image) (s : StandingView) (at : ℕ) → at ≡ other_slot store.slot → HoldsFor store image s → IsShutFor store (overlay image at (0 ∷ [])) s
+pub shut_gate : (store : Store) (image : Image) (s : StandingView) (at : ℕ) → at ≡ other_slot (active_slot store) → HoldsFor store image s → IsShutFor store (overlay image at (0 ∷ [])) s
 shut_gate store image s at is was =
     let now : Image = overlay image at (0 ∷ []) in
-    let here : other_slot store.slot ≡ at + 0 = omega (arith, is) in
-    let zero_there : now (other_slot store.slot) ≡ 0 = ap now here ∙ overlay_inside image at (0 ∷ []) 0 (omega arith) in
-    let shut : ¬ IsOpen now (other_slot store.slot) = λ opened. absurd (zero_not (now (other_slot store.slot)) zero_there opened) in
-    record { by = shut_stands store image now s was (λ place out apart. overlay_outside image at (0 ∷ []) place (subst (λ (n : ℕ). (place < n) ⊎ (n + 1 ≤ place)) (sym is) apart)) shut; shut = shut }
+    let here : other_slot (active_slot store) ≡ at + 0 = omega (arith, is) in
+    let zero_there : now (other_slot (active_slot store)) ≡ 0 = ap now here ∙ overlay_inside image at (0 ∷ []) 0 (omega arith) in
+    let shut : ¬ IsOpen now (other_slot (active_slot store)) = λ opened. absurd (zero_not (now (other_slot (active_slot store))) zero_there opened) in
+    let same : SameButForGate store image now = λ place out apart. overlay_outside image at (0 ∷ []) place (subst (λ (n : ℕ). (place < n) ⊎ (n + 1 ≤ place)) (sym is) apart) in
+    record {
+      by = shut_stands store image now s was same shut;
+      shut = shut;
+      offset = offset_same store image now s was same;
+      length = length_same store image now s was same;
+    }
   where
     zero_not : (byte : ℕ) → byte ≡ 0 → byte ≡ 0xA5 → ⊥
     zero_not byte is opened = omega (arith, is, opened)
 
-pub while_shutting : {T : Type 0} (store : Store) (old new : DiskState) (at : ℕ) (s : StandingView) (result : Result T DiskFault) → at ≡ other_slot store.slot → store.other_is_open ≡ true
+pub while_shutting : {T : Type 0} (store : Store) (old new : DiskState) (at : ℕ) (s : StandingView) (result : Result T DiskFault) → at ≡ other_slot (active_slot store) → store.other_is_open ≡ true
     → InstallsBeside store old s → Elapses old new (Torn at 1 old.now) result → AddsOnly old new (λ left. Stands left s)
 while_shutting store old new at s result is opened beside elapses =
     adds_first old new (Torn at 1 old.now) (λ left. Stands left s) result elapses
@@ -47,13 +54,15 @@ while_shutting store old new at s result is opened beside elapses =
 
 pub begun_stands : (old new : Store) (image now : Image) (s : StandingView) → SameActive old new → new.other_is_open ≡ false → HoldsFor old image s → IsShutFor old now s → HoldsFor new now s
 begun_stands old new image now s rules shut was is = record {
-  by = subst (λ (n : ℕ). StandsBy now n s) (sym rules.slot) is.by;
-  bank = was.bank ∙ sym rules.bank;
-  sequence = was.sequence ∙ sym rules.sequence;
+  by = subst (λ (n : ℕ). StandsBy now n s) (sym (same_slot rules)) is.by;
+  bank = was.bank ∙ sym (same_bank rules);
+  sequence = was.sequence ∙ sym (same_sequence rules);
   size = was.size ∙ sym rules.size;
+  offset = offset_carried old new now rules is.offset;
+  length = length_carried old new now rules is.length;
   gate = record {
     open_there = λ opened. absurd (true_not_false (sym opened ∙ shut));
-    shut_there = λ _ there. is.shut (subst (λ (n : ℕ). IsOpen now (other_slot n)) rules.slot there);
+    shut_there = λ _ there. is.shut (subst (λ (n : ℕ). IsOpen now (other_slot n)) (same_slot rules) there);
   };
 }
   where

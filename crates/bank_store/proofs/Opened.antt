@@ -12,13 +12,16 @@ use Rattle.disk_model.specs.RangeLaws.{same_range, byte_of_range}
 use Rattle.disk_model.specs.OverlayLaws.{overlay_inside, overlay_outside, overlay_joined, range_of_overlay, range_beside_overlay}
 use Rattle.disk_layout.specs.Places.{slot_b, bank_at, number_at, longest_manifest}
 use Rattle.disk_layout.specs.Slots.{IsOpen, IsSlot, Rules, sequence_of, bank_of, manifest_place_of, manifest_length_of}
+use Rattle.disk_layout.specs.SlotLaws.{offset_is_slot, number_below}
 use Rattle.disk_layout.specs.Identity.{identity}
 use Rattle.disk_layout.specs.Manifest.{manifest_fields}
 use Rattle.disk_layout.specs.ManifestSpelling.{manifest_spelling}
 use Rattle.disk_layout.specs.Contents.{entries_of, bytes_of}
 use Rattle.disk_layout.specs.Stands.{StandingView, StandsBy, manifest_at, manifest_of}
-use Rattle.bank_store.specs.Bounds.{other_slot, IsInRange}
-use Rattle.bank_store.specs.Store.{IsFilling, work_at, other_bank, manifest_length, slot_body, with_manifest, with_slot}
+use Rattle.disk_layout.specs.Slots.{other_slot}
+use Rattle.bank_store.specs.Bounds.{IsInRange}
+use Rattle.disk_layout.specs.Slots.{other_bank}
+use Rattle.bank_store.specs.Store.{active_slot, active_bank, active_sequence, IsFilling, work_at, manifest_length, slot_body, with_manifest, with_slot}
 use Rattle.bank_store.specs.Given.{Given, GivenLoad, HasGiven, IsWhole, Misses, bytes_given, configured, loads_of, load_of}
 use Rattle.bank_store.specs.Fits.{HoldsFor}
 use Rattle.bank_store.specs.declared.store.Store.{Store}
@@ -28,7 +31,7 @@ use Rattle.bank_store.specs.declared.stage.Filling.{Filling}
 use Rattle.bank_store.proofs.Footprint.{which_slot}
 use Rattle.bank_store.proofs.Giving.{same_filling}
 use Rattle.bank_store.proofs.Layouts.{part_is}
-use Rattle.bank_store.proofs.Near.{slot_from, other_low, slot_low, slots_apart}
+use Rattle.bank_store.proofs.Near.{other_low, slot_low, slots_apart}
 use Rattle.bank_store.proofs.Sealing.{all_whole, same_contents, same_total, given_fit, manifest_bytes, headers_first}
 
 -- a number among other bytes
@@ -55,24 +58,24 @@ other_bank_less bank less = omega (arith, less)
 
 -- the manifest, the other slot's body and its gate, laid over an image
 abbrev pub opened : Store → Filling → Image → Image
-opened store progress image = overlay (with_slot store progress.end (manifest_length store) (with_manifest store progress image)) (other_slot store.slot) (0xA5 ∷ [])
+opened store progress image = overlay (with_slot store progress.end (manifest_length store) (with_manifest store progress image)) (other_slot (active_slot store)) (0xA5 ∷ [])
 
 pub slot_body_length : (store : Store) (place size : ℕ) → length (slot_body store place size) ≡ 13
 slot_body_length store place size =
     omega (
       arith,
-      length-append ((number_bytes 4 (store.sequence + 1) ++ (other_bank store.bank ∷ [])) ++ number_bytes 4 place) (number_bytes 4 size),
-      length-append (number_bytes 4 (store.sequence + 1) ++ (other_bank store.bank ∷ [])) (number_bytes 4 place),
-      length-append (number_bytes 4 (store.sequence + 1)) (other_bank store.bank ∷ []),
-      length_number_bytes 4 (store.sequence + 1),
+      length-append ((number_bytes 4 ((active_sequence store) + 1) ++ (other_bank (active_bank store) ∷ [])) ++ number_bytes 4 place) (number_bytes 4 size),
+      length-append (number_bytes 4 ((active_sequence store) + 1) ++ (other_bank (active_bank store) ∷ [])) (number_bytes 4 place),
+      length-append (number_bytes 4 ((active_sequence store) + 1)) (other_bank (active_bank store) ∷ []),
+      length_number_bytes 4 ((active_sequence store) + 1),
       length_number_bytes 4 place,
       length_number_bytes 4 size,
     )
 
 -- where they lie
 pub record Lies (store : Store) (progress : Filling) : Type 0 where
-  pub low : 4096 ≤ other_slot store.slot
-  pub high : other_slot store.slot + 29 ≤ 8192
+  pub low : 4096 ≤ other_slot (active_slot store)
+  pub high : other_slot (active_slot store) + 29 ≤ 8192
   pub work : 8192 ≤ work_at store
   pub fits : progress.end + manifest_length store ≤ store.size
 
@@ -81,7 +84,7 @@ module _ (store : Store) (progress : Filling) (image : Image) (lies : Lies store
   work = work_at store
 
   abbrev other : ℕ
-  other = other_slot store.slot
+  other = other_slot (active_slot store)
 
   abbrev text : List ℕ
   text = number_bytes 2 progress.loads ++ store.body.items
@@ -132,7 +135,7 @@ module _ (store : Store) (progress : Filling) (image : Image) (lies : Lies store
       ∙ overlay_outside image (work + progress.end) text place (inl (omega (arith, early, lies.work)))
 
   abbrev one : List ℕ
-  one = number_bytes 4 (store.sequence + 1)
+  one = number_bytes 4 ((active_sequence store) + 1)
 
   abbrev two : List ℕ
   two = number_bytes 4 progress.end
@@ -140,27 +143,27 @@ module _ (store : Store) (progress : Filling) (image : Image) (lies : Lies store
   abbrev three : List ℕ
   three = number_bytes 4 (manifest_length store)
 
-  pub sequence_there : store.sequence < 4294967295 → sequence_of (opened store progress image) other ≡ store.sequence + 1
+  pub sequence_there : (active_sequence store) < 4294967295 → sequence_of (opened store progress image) other ≡ (active_sequence store) + 1
   sequence_there goes_on =
       ap (λ (at : ℕ). number_at 4 (opened store progress image) at) (omega arith)
-      ∙ number_part (opened store progress image) (other + 16) 13 0 (store.sequence + 1) [] ((other_bank store.bank ∷ []) ++ (two ++ three)) body slot_there (simp append_assoc) refl (omega arith) (omega (arith, goes_on))
+      ∙ number_part (opened store progress image) (other + 16) 13 0 ((active_sequence store) + 1) [] ((other_bank (active_bank store) ∷ []) ++ (two ++ three)) body slot_there (simp append_assoc) refl (omega arith) (omega (arith, goes_on))
 
-  pub bank_there : bank_of (opened store progress image) other ≡ other_bank store.bank
+  pub bank_there : bank_of (opened store progress image) other ≡ other_bank (active_bank store)
   bank_there =
       ap (opened store progress image) (omega arith)
-      ∙ byte_part (opened store progress image) (other + 16) 13 4 (other_bank store.bank) one (two ++ three) body slot_there (simp append_assoc) (length_number_bytes 4 (store.sequence + 1)) (omega arith)
+      ∙ byte_part (opened store progress image) (other + 16) 13 4 (other_bank (active_bank store)) one (two ++ three) body slot_there (simp append_assoc) (length_number_bytes 4 ((active_sequence store) + 1)) (omega arith)
 
   pub place_there : progress.end < 2 ^ 32 → manifest_place_of (opened store progress image) other ≡ progress.end
   place_there small =
       ap (λ (at : ℕ). number_at 4 (opened store progress image) at) (omega arith)
-      ∙ number_part (opened store progress image) (other + 16) 13 5 progress.end (one ++ (other_bank store.bank ∷ [])) three body slot_there (simp append_assoc)
-      (omega (arith, length-append one (other_bank store.bank ∷ []), length_number_bytes 4 (store.sequence + 1))) (omega arith) small
+      ∙ number_part (opened store progress image) (other + 16) 13 5 progress.end (one ++ (other_bank (active_bank store) ∷ [])) three body slot_there (simp append_assoc)
+      (omega (arith, length-append one (other_bank (active_bank store) ∷ []), length_number_bytes 4 ((active_sequence store) + 1))) (omega arith) small
 
   pub length_there : manifest_length store < 2 ^ 32 → manifest_length_of (opened store progress image) other ≡ manifest_length store
   length_there small =
       ap (λ (at : ℕ). number_at 4 (opened store progress image) at) (omega arith)
-      ∙ number_part (opened store progress image) (other + 16) 13 9 (manifest_length store) ((one ++ (other_bank store.bank ∷ [])) ++ two) [] body slot_there (ap (λ (l : List ℕ). ((one ++ (other_bank store.bank ∷ [])) ++ two) ++ l) (sym (append-nil three)))
-      (omega (arith, length-append (one ++ (other_bank store.bank ∷ [])) two, length-append one (other_bank store.bank ∷ []), length_number_bytes 4 (store.sequence + 1), length_number_bytes 4 progress.end)) (omega arith) small
+      ∙ number_part (opened store progress image) (other + 16) 13 9 (manifest_length store) ((one ++ (other_bank (active_bank store) ∷ [])) ++ two) [] body slot_there (ap (λ (l : List ℕ). ((one ++ (other_bank (active_bank store) ∷ [])) ++ two) ++ l) (sym (append-nil three)))
+      (omega (arith, length-append (one ++ (other_bank (active_bank store) ∷ [])) two, length-append one (other_bank (active_bank store) ∷ []), length_number_bytes 4 ((active_sequence store) + 1), length_number_bytes 4 progress.end)) (omega arith) small
 
 -- ---- and so it stands
 
@@ -178,8 +181,8 @@ all_files_end store image progress g is none filling has =
 
 pub lies_of : (store : Store) (progress : Filling) → progress.end + manifest_length store ≤ store.size → Lies store progress
 lies_of store progress fits =
-    let is_slot = slot_from store.slot store.keeps.slot_is in
-    record { low = (other_low store.slot is_slot).0; high = (other_low store.slot is_slot).1; work = omega arith; fits = fits }
+    let is_slot = offset_is_slot store.active.slot in
+    record { low = (other_low (active_slot store) is_slot).0; high = (other_low (active_slot store) is_slot).1; work = omega arith; fits = fits }
 
 filling_not_idle : (progress : Filling) → ◌≡◌ {A = Stage} (stages.Filling progress) stages.Idle → ⊥
 filling_not_idle progress e = cc
@@ -190,13 +193,13 @@ module _ (store : Store) (progress : Filling) (image : Image) (s : StandingView)
   now = opened store progress image
 
   abbrev other_place : ℕ
-  other_place = other_slot store.slot
+  other_place = other_slot (active_slot store)
 
   abbrev lies : Lies store progress
   lies = lies_of store progress fits
 
-  is_slot : IsSlot store.slot
-  is_slot = slot_from store.slot store.keeps.slot_is
+  is_slot : IsSlot (active_slot store)
+  is_slot = offset_is_slot store.active.slot
 
   in_range : IsInRange store.size store.body progress
   in_range = store.keeps.in_range progress filling
@@ -204,35 +207,35 @@ module _ (store : Store) (progress : Filling) (image : Image) (s : StandingView)
   same_far : has.progress ≡ progress
   same_far = same_filling has.progress progress (sym has.stage ∙ filling)
 
-  goes_on : store.sequence < 4294967295
+  goes_on : (active_sequence store) < 4294967295
   goes_on = (store.keeps.begun (λ idle. filling_not_idle progress (sym filling ∙ idle))).goes_on
 
-  ruling_apart : (k : ℕ) → k < 29 → (store.slot + k < other_place) ⊎ (other_place + 29 ≤ store.slot + k)
-  ruling_apart k below = slots_apart store.slot k is_slot below
+  ruling_apart : (k : ℕ) → k < 29 → ((active_slot store) + k < other_place) ⊎ (other_place + 29 ≤ (active_slot store) + k)
+  ruling_apart k below = slots_apart (active_slot store) k is_slot below
 
-  ruling_kept : (k : ℕ) → k < 29 → now (store.slot + k) ≡ image (store.slot + k)
-  ruling_kept k below = before_kept store progress image lies (store.slot + k) (omega (arith, below, (slot_low store.slot is_slot).1)) (ruling_apart k below)
+  ruling_kept : (k : ℕ) → k < 29 → now ((active_slot store) + k) ≡ image ((active_slot store) + k)
+  ruling_kept k below = before_kept store progress image lies ((active_slot store) + k) (omega (arith, below, (slot_low (active_slot store) is_slot).1)) (ruling_apart k below)
 
-  ruling_sequence : sequence_of now store.slot ≡ store.sequence
+  ruling_sequence : sequence_of now (active_slot store) ≡ (active_sequence store)
   unfolding number_at
   ruling_sequence =
-      ap (big_number 4) (same_range now image (store.slot + 16) 4 (λ k below.
-      let there : store.slot + 16 + k ≡ store.slot + (16 + k) = omega arith in
+      ap (big_number 4) (same_range now image ((active_slot store) + 16) 4 (λ k below.
+      let there : (active_slot store) + 16 + k ≡ (active_slot store) + (16 + k) = omega arith in
       ap now there ∙ ruling_kept (16 + k) (omega (arith, below)) ∙ ap image (sym there))) ∙ sym was.by.outline.sequence ∙ was.sequence
 
-  new_sequence : sequence_of now other_place ≡ store.sequence + 1
+  new_sequence : sequence_of now other_place ≡ (active_sequence store) + 1
   new_sequence = sequence_there store progress image lies goes_on
 
   new_rules : Rules now other_place
   new_rules = record {
-    is_slot = other_is_slot store.slot is_slot;
+    is_slot = other_is_slot (active_slot store) is_slot;
     gate = gate_there store progress image lies;
-    greatest = λ slot is is_open. elim (which_slot store.slot slot is_slot is) [
+    greatest = λ slot is is_open. elim (which_slot (active_slot store) slot is_slot is) [
       | inl e ↦ subst (λ (n : ℕ). sequence_of now n ≤ sequence_of now other_place) (sym e) (omega (arith, ruling_sequence, new_sequence))
       | inr e ↦ subst (λ (n : ℕ). sequence_of now n ≤ sequence_of now other_place) (sym e) (omega arith)
     ];
     tie = λ e a_open. elim is_slot [
-      | inl a ↦ subst (λ (n : ℕ). sequence_of now n < sequence_of now slot_b) a (subst (λ (n : ℕ). sequence_of now store.slot < sequence_of now n) e (omega (arith, ruling_sequence, new_sequence)))
+      | inl a ↦ subst (λ (n : ℕ). sequence_of now n < sequence_of now slot_b) a (subst (λ (n : ℕ). sequence_of now (active_slot store) < sequence_of now n) e (omega (arith, ruling_sequence, new_sequence)))
       | inr b ↦ absurd (omega (arith, e, b))
     ];
   }
@@ -240,13 +243,13 @@ module _ (store : Store) (progress : Filling) (image : Image) (s : StandingView)
   size_small : store.size ≤ 67108864
   size_small = store.keeps.is_size.1
 
-  place_is : manifest_place_of now other_place ≡ progress.end
+  pub place_is : manifest_place_of now other_place ≡ progress.end
   place_is = place_there store progress image lies (omega (arith, fits, size_small))
 
-  length_is : manifest_length_of now other_place ≡ manifest_length store
+  pub length_is : manifest_length_of now other_place ≡ manifest_length store
   length_is = length_there store progress image lies (omega (arith, fits, size_small))
 
-  bank_is : bank_of now other_place ≡ other_bank store.bank
+  bank_is : bank_of now other_place ≡ other_bank (active_bank store)
   bank_is = bank_there store progress image lies
 
   bank_at_work : bank_at s.identity.bank (other_bank s.bank) ≡ work_at store
@@ -263,7 +266,7 @@ module _ (store : Store) (progress : Filling) (image : Image) (s : StandingView)
 
   manifest_place : manifest_at now s.identity other_place ≡ work_at store + progress.end
   manifest_place =
-      ap₂ (λ (b : ℕ) (p : ℕ). bank_at s.identity.bank b + p) bank_is place_is ∙ ap (λ (n : ℕ). bank_at n (other_bank store.bank) + progress.end) was.size
+      ap₂ (λ (b : ℕ) (p : ℕ). bank_at s.identity.bank b + p) bank_is place_is ∙ ap (λ (n : ℕ). bank_at n (other_bank (active_bank store)) + progress.end) was.size
 
   manifest_is : manifest_of now s.identity other_place ≡ concat (manifest_fields (entries_of (map load_of g.loads)))
   manifest_is =
@@ -280,7 +283,7 @@ module _ (store : Store) (progress : Filling) (image : Image) (s : StandingView)
         rules = new_rules;
       };
       can_be = record {
-        bank = omega (arith, bank_is, other_bank_less store.bank store.keeps.is_bank);
+        bank = omega (arith, bank_is, other_bank_less (active_bank store) (number_below store.active.bank));
         short = omega (arith, length_is, long_enough store progress in_range none);
         within = omega (arith, place_is, length_is, fits, was.size);
       };

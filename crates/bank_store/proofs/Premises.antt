@@ -6,7 +6,7 @@ use Rattle.disk_model.specs.State.{DiskState, IsSettled}
 use Rattle.disk_layout.specs.Looks.{RunsOn}
 use Rattle.disk_layout.specs.Stands.{StandingView, Stands}
 use Rattle.bank_store.specs.Acts.{IsRunning}
-use Rattle.bank_store.specs.Store.{IsIdle}
+use Rattle.bank_store.specs.Store.{active_slot, IsIdle}
 use Rattle.bank_store.specs.Fits.{HoldsFor, HoldsAt, Fits, Works, InstallsBeside}
 use Rattle.bank_store.specs.Keeps.{Continues}
 use Rattle.bank_store.specs.declared.store.Store.{Store}
@@ -28,7 +28,7 @@ pub settled_works : (store : Store) (disk : DiskState) → IsIdle store → IsSe
 settled_works store disk idle settled fits = record {
   fits = fits;
   near = λ image told left may place out. ap (λ (i : Image). i place) (same_image left image (sym (settled.only left may) ∙ told));
-  settled = λ sealed. absurd (idle_not_sealed (sym idle ∙ sealed));
+  settled = λ sealed. absurd (idle_not_sealed sealed.0 (sym idle ∙ sealed.1));
 }
 
 -- ---- over a read, or another call that leaves the disk as it was
@@ -69,4 +69,4 @@ pub holds_now : (store : Store) (disk : DiskState) (s : StandingView) → Instal
 holds_now store disk s beside left may = near_stands store beside.image left s beside.holds (beside.works.near beside.image beside.told left may)
 
 pub stands_now : (store : Store) (disk : DiskState) (s : StandingView) → InstallsBeside store disk s → (left : Image) → disk.now left → Stands left s
-stands_now store disk s beside left may = record { slot = store.slot; by = (holds_now store disk s beside left may).by }
+stands_now store disk s beside left may = record { slot = (active_slot store); by = (holds_now store disk s beside left may).by }

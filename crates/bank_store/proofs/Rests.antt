@@ -4,9 +4,10 @@ use Rattle.std.proofs.lemmas.Bool.{cases_lt}
 use Rattle.disk_model.specs.Image.{Image, overlay}
 use Rattle.disk_model.specs.State.{DiskState}
 use Rattle.disk_model.specs.OverlayLaws.{overlay_outside}
-use Rattle.bank_store.specs.Bounds.{other_slot}
+use Rattle.disk_layout.specs.Slots.{other_slot}
 use Rattle.bank_store.specs.Fits.{MayChange, SameButForWork}
 use Rattle.bank_store.specs.Keeps.{IsBeside, LeavesRest}
+use Rattle.bank_store.specs.Store.{active_slot}
 use Rattle.bank_store.specs.declared.store.Store.{Store}
 use Rattle.bank_store.proofs.Gates.{same_image}
 
@@ -23,7 +24,7 @@ pub rest_near : (store : Store) (image now : Image) (place : ℕ) → SameButFor
 rest_near store image now place same out = same place (λ may. out (beside_work store place may))
 
 -- the other gate was written
-pub rest_gate : (store : Store) (image now : Image) (at byte place : ℕ) → at ≡ other_slot store.slot → now ≡ overlay image at (byte ∷ []) → ¬ IsBeside store place → now place ≡ image place
+pub rest_gate : (store : Store) (image now : Image) (at byte place : ℕ) → at ≡ other_slot (active_slot store) → now ≡ overlay image at (byte ∷ []) → ¬ IsBeside store place → now place ≡ image place
 rest_gate store image now at byte place is written out = ap (λ (i : Image). i place) written ∙ overlay_outside image at (byte ∷ []) place apart
   where
     apart : (place < at) ⊎ (at + length (byte ∷ []) ≤ place)

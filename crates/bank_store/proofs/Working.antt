@@ -8,8 +8,8 @@ use Rattle.disk_model.specs.OverlayLaws.{overlay_outside}
 use Rattle.disk_model.specs.declared.disk.DiskFault.{DiskFault}
 use Rattle.disk_layout.specs.Stands.{StandingView, Stands}
 use Rattle.bank_store.specs.Acts.{AddsOnly, IsRunning}
-use Rattle.bank_store.specs.Bounds.{other_slot}
-use Rattle.bank_store.specs.Store.{work_at, SameActive, IsSealed}
+use Rattle.disk_layout.specs.Slots.{other_slot}
+use Rattle.bank_store.specs.Store.{active_slot, work_at, SameActive, IsSealed}
 use Rattle.bank_store.specs.Fits.{HoldsFor, SameButForWork, HasWork, Fits, Works}
 use Rattle.bank_store.specs.Keeps.{KeepsNear, StillHolds, Keeps}
 use Rattle.bank_store.specs.declared.fault.StoreFault.{StoreFault}
@@ -33,7 +33,7 @@ bank_is_work store at n begins ends = record {
 }
 
 -- a part of the other slot's body
-pub slot_is_work : (store : Store) (at n : ℕ) → store.other_is_open ≡ false → other_slot store.slot < at → at + n ≤ other_slot store.slot + 29 → IsWork store at n
+pub slot_is_work : (store : Store) (at n : ℕ) → store.other_is_open ≡ false → other_slot (active_slot store) < at → at + n ≤ other_slot (active_slot store) + 29 → IsWork store at n
 slot_is_work store at n shut begins ends = record {
   within = λ place out. elim (cases_lt place at) [
     | inl before ↦ inl before
@@ -64,7 +64,7 @@ near_then store first old new image was keeps =
 pub rules_still : (store : Store) (first disk : DiskState) (image : Image) (s : StandingView) → HoldsFor store image s → AddsOnly first disk (SameButForWork store image)
     → AddsOnly first disk (λ left. Stands left s)
 rules_still store first disk image s was near =
-    adds_less first disk (SameButForWork store image) (λ left. Stands left s) (λ left same. record { slot = store.slot; by = (near_stands store image left s was same).by }) near
+    adds_less first disk (SameButForWork store image) (λ left. Stands left s) (λ left same. record { slot = (active_slot store); by = (near_stands store image left s was same).by }) near
 
 -- what an installation writes leaves the rest as it was
 pub near_overlay : (store : Store) (image : Image) (at : ℕ) (bytes : List ℕ) → IsWork store at (length bytes) → SameButForWork store image (overlay image at bytes)

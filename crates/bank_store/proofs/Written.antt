@@ -3,8 +3,8 @@ use Rattle.std.proofs.Common.{◌≡◌, ◌⊎◌, inl, inr, ℕ, ◌+◌, ◌<
 use Rattle.std.proofs.lemmas.Bool.{cases_lt}
 use Rattle.disk_model.specs.Image.{Image, overlay}
 use Rattle.disk_model.specs.OverlayLaws.{overlay_outside}
-use Rattle.bank_store.specs.Bounds.{other_slot}
-use Rattle.bank_store.specs.Store.{IsFilling, work_at, manifest_length, with_gate_shut, with_piece, with_manifest, with_slot}
+use Rattle.disk_layout.specs.Slots.{other_slot}
+use Rattle.bank_store.specs.Store.{active_slot, IsFilling, work_at, manifest_length, with_gate_shut, with_piece, with_manifest, with_slot}
 use Rattle.bank_store.specs.declared.stage.Filling.{Filling}
 use Rattle.bank_store.specs.declared.store.Store.{Store}
 use Rattle.bank_store.proofs.Giving.{same_filling}
@@ -15,7 +15,7 @@ told_as image = Some image
 pub shut_kept : (store : Store) (image : Image) → store.other_is_open ≡ false → told_as image ≡ told_as (with_gate_shut store image)
 shut_kept store image shut = rw shut refl
 
-pub shut_written : (store : Store) (image : Image) (at : ℕ) → store.other_is_open ≡ true → at ≡ other_slot store.slot → told_as (overlay image at (0 ∷ [])) ≡ told_as (with_gate_shut store image)
+pub shut_written : (store : Store) (image : Image) (at : ℕ) → store.other_is_open ≡ true → at ≡ other_slot (active_slot store) → told_as (overlay image at (0 ∷ [])) ≡ told_as (with_gate_shut store image)
 shut_written store image at opened is = rw opened (ap (λ (n : ℕ). told_as (overlay image n (0 ∷ []))) is)
 
 -- no bytes change nothing

@@ -11,7 +11,8 @@ use Rattle.disk_layout.specs.Places.{most_loads, most_files}
 use Rattle.disk_layout.specs.Manifest.{file_entry_fields}
 use Rattle.disk_layout.specs.Contents.{file_entry_of, bytes_of, first_name}
 use Rattle.disk_layout.specs.Stands.{StandingView}
-use Rattle.bank_store.specs.Store.{IsFilling, work_at, other_bank}
+use Rattle.disk_layout.specs.Slots.{other_bank}
+use Rattle.bank_store.specs.Store.{IsFilling, work_at}
 use Rattle.bank_store.specs.declared.store.Store.{Store}
 use Rattle.bank_store.specs.declared.stage.Filling.{Filling}
 

@@ -4,11 +4,10 @@ use Rattle.std.specs.Option.{ForSome}
 use Rattle.load_base.specs.Config.{LoadView}
 use Rattle.disk_model.specs.Image.{Image}
 use Rattle.disk_model.specs.State.{DiskState, IsSettled}
-use Rattle.disk_layout.specs.Slots.{IsOpen}
+use Rattle.disk_layout.specs.Slots.{IsOpen, other_slot, manifest_place_of, manifest_length_of}
 use Rattle.disk_layout.specs.Stands.{StandingView, Stands, StandsBy}
 use Rattle.bank_store.specs.Acts.{AddsOnly, IsAnswered, IsRunning}
-use Rattle.bank_store.specs.Bounds.{other_slot}
-use Rattle.bank_store.specs.Store.{work_at, IsSealed, IsFilling, IsPrepared, SameActive, Switches, nothing_filled, bytes_appended, manifest_length, with_gate_shut, with_piece, with_manifest, with_slot, with_gate_open}
+use Rattle.bank_store.specs.Store.{active_slot, work_at, IsSealed, IsFilling, IsPrepared, SameActive, Switches, nothing_filled, bytes_appended, manifest_length, with_gate_shut, with_piece, with_manifest, with_slot, with_gate_open}
 use Rattle.bank_store.specs.Given.{Given, HasGiven, nothing_given, with_bytes, loads_of, configured}
 use Rattle.bank_store.specs.Fits.{HoldsFor, HasWork, IsReady, SameButForWork, Fits, Works, InstallsBeside, CanActivate}
 use Rattle.bank_store.specs.declared.fault.StoreFault.{StoreFault}
@@ -22,7 +21,7 @@ IsOldOrNew old new image = Stands image old ⊎ Stands image new
 -- an offset in the other bank or in the other slot
 abbrev pub IsBeside : Store → ℕ → Type 0
 IsBeside store place =
-    ((work_at store ≤ place) × (place < work_at store + store.size)) ⊎ ((other_slot store.slot ≤ place) × (place < other_slot store.slot + 29))
+    ((work_at store ≤ place) × (place < work_at store + store.size)) ⊎ ((other_slot (active_slot store) ≤ place) × (place < other_slot (active_slot store) + 29))
 
 -- at each other offset the same is read as before
 abbrev pub LeavesRest : Store → DiskState → DiskState → Type 0
@@ -70,8 +69,10 @@ KeepsNear store old new =
 
 -- by the active slot the image holds this configuration, and the other slot is shut
 pub record IsShutFor (store : Store) (image : Image) (s : StandingView) : Type 0 where
-  pub by : StandsBy image store.slot s
-  pub shut : ¬ IsOpen image (other_slot store.slot)
+  pub by : StandsBy image (active_slot store) s
+  pub shut : ¬ IsOpen image (other_slot (active_slot store))
+  pub offset : manifest_place_of image (active_slot store) ≡ store.active.manifest.offset
+  pub length : manifest_length_of image (active_slot store) ≡ store.active.manifest.length
 
 -- ---- what a call does that answers Ok
 

@@ -1,4 +1,6 @@
-//! How progress an installation is.
+//! How far an installation is.
+
+use disk_layout::ManifestRange;
 
 /// An installation whose contents are coming.
 #[derive(Clone, Copy)]
@@ -13,13 +15,13 @@ pub struct Filling {
     pub start: u32,
 }
 
-/// How progress an installation is.
+/// How far an installation is.
 #[derive(Clone, Copy)]
 pub enum Stage {
     /// None has begun, or the last one has ended.
     Idle,
     /// Its contents are coming.
     Filling(Filling),
-    /// All is written but the gate.
-    Sealed,
+    /// All is written but the gate. The range of the new manifest in its bank.
+    Sealed(ManifestRange),
 }

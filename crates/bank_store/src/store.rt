@@ -9,13 +9,14 @@ ghost use Rattle.disk_layout.specs.Places.{IsBankSize, most_files};
 ghost use Rattle.disk_layout.specs.Stands.{StandingView};
 ghost use Rattle.bank_store.specs.declared.fault.StoreFault.TheVariants.{BankFull, SequenceSpent, Memory};
 ghost use Rattle.bank_store.specs.declared.stage.Filling.{Filling};
-ghost use Rattle.bank_store.specs.Bounds.{IsStore, is_slot_place};
+ghost use Rattle.disk_layout.specs.Slots.{IsManifestRange};
+ghost use Rattle.bank_store.specs.Bounds.{IsStore};
 
 use crate::fault::StoreFault;
 use crate::front::{u8_bytes, u16_bytes, u32_bytes};
 use crate::stage::{Filling, Stage};
-use disk_layout::Ruling;
-use disk_layout::places::{BANKS, LONGEST_MANIFEST, OPEN, SEQUENCE_IN_SLOT, SLOT_A, SLOT_B};
+use disk_layout::places::{LONGEST_MANIFEST, OPEN, SEQUENCE_IN_SLOT};
+use disk_layout::{Active, ManifestRange};
 use disk_model::{Disk, DiskFault};
 use load_base::{Bytes, Name, PartText};
 use std::alloc::Global;
@@ -32,41 +33,35 @@ const SHUT: u8 = 0;
 #[derive(Drop)]
 pub struct Store {
     size: u32,
-    slot: u32,
-    bank: u8,
-    sequence: u32,
+    active: Active,
     other_is_open: bool,
     body: Bytes,
     stage: Stage,
-    ghost keeps: { IsStore size slot bank sequence other_is_open body stage },
+    ghost keeps: { IsStore size active other_is_open body stage },
 }
 
 impl Store {
-    ghost use Rattle.bank_store.specs.Store.{size_of, slot_of, bank_of, sequence_of, is_other_open, stage_of, work_at, SameActive, IsIdle, IsFilling, IsSealed, IsPrepared, IsSpent, IsBetweenLoads, AwaitsLoad, AwaitsFile, AwaitsEnd, PassesBank, room_of, load_announced, file_ended, manifest_length, slot_body, with_gate_shut, with_manifest, with_slot};
+    ghost use Rattle.bank_store.specs.Store.{bank_size, active_of, active_slot, active_bank, active_sequence, is_other_open, stage_of, work_at, SameActive, IsIdle, IsFilling, IsSealed, IsPrepared, IsSpent, IsBetweenLoads, AwaitsLoad, AwaitsFile, AwaitsEnd, PassesBank, room_of, load_announced, file_ended, manifest_length, slot_body, with_gate_shut, with_manifest, with_slot};
     ghost use Rattle.bank_store.specs.Given.{Given, HasGiven, with_load, with_file, configured};
     ghost use Rattle.bank_store.specs.Fits.{HoldsFor, CanActivate};
     ghost use Rattle.bank_store.specs.Keeps.{Keeps, Continues, Begins, Appends, Seals, Activates, LeavesActive, LeavesRest, IsShutFor, KeepsNear, IsOldOrNew};
     ghost use Rattle.bank_store.specs.Acts.{Acts, AddsOnly, GoesOn, IsAnswered, IsRunning};
-    ghost use Rattle.bank_store.specs.Bounds.{other_slot};
+    ghost use Rattle.disk_layout.specs.Slots.{other_slot};
 
-    /// A store for a disk on which this slot rules, with banks of so many bytes. It takes no memory yet.
-    pub fn new(alloc: Global, size: u32, ruling: Ruling) -> Store
+    /// A store for a disk with banks of `size` bytes on which this is active, with a manifest that lies in its
+    /// bank, and whose other slot is open or not. It takes no memory yet.
+    pub fn new(alloc: Global, size: u32, active: Active, other_is_open: bool) -> Store
         requires size { IsBankSize size }
-        requires slot { is_slot_place ruling.slot ≡ true }
-        requires bank { ruling.bank < 2 }
+        requires manifest { IsManifestRange size active.manifest }
         ensures idle { IsIdle result }
-        ensures size { size_of result ≡ size }
-        ensures slot { slot_of result ≡ ruling.slot }
-        ensures bank { bank_of result ≡ ruling.bank }
-        ensures sequence { sequence_of result ≡ ruling.sequence }
-        ensures other { is_other_open result ≡ ruling.other_is_open }
+        ensures size { bank_size result ≡ size }
+        ensures active { active_of result ≡ active }
+        ensures other { is_other_open result ≡ other_is_open }
     {
         Store {
             size,
-            slot: ruling.slot,
-            bank: ruling.bank,
-            sequence: ruling.sequence,
-            other_is_open: ruling.other_is_open,
+            active,
+            other_is_open,
             body: Bytes::new(alloc),
             stage: Stage::Idle,
         }
@@ -102,7 +97,7 @@ impl Store {
         ensures acts { Acts (K.state disk.old) (K.state disk.new) result }
         ensures keeps { Keeps self.old self.new (K.state disk.old) (K.state disk.new) result }
     {
-        if self.sequence == u32::MAX {
+        if self.active.sequence == u32::MAX {
             return Err(StoreFault::SequenceSpent);
         }
         self.shut_other(disk)?;
@@ -259,14 +254,17 @@ impl Store {
         self.write_manifest(disk, progress)?;
         self.write_slot(disk, progress.end, length as u32)?;
         disk.sync()?;
-        self.stage = Stage::Sealed;
+        self.stage = Stage::Sealed(ManifestRange {
+            offset: progress.end,
+            length: length as u32,
+        });
         Ok(())
     }
 
     // Writes the manifest behind the contents: how many loads there are, and what the body says of each.
     fn write_manifest<K: Disk>(&self, disk: &mut K, progress: Filling) -> Result<(), DiskFault>
         requires filling { IsFilling self.now progress }
-        requires within { progress.end + manifest_length self.now ≤ size_of self.now }
+        requires within { progress.end + manifest_length self.now ≤ bank_size self.now }
         requires running { IsRunning (K.state disk.old) }
         ensures goes_on { GoesOn (K.state disk.old) (K.state disk.new) }
         ensures cause { HasCause (K.state disk.old) (K.state disk.new) result }
@@ -283,7 +281,7 @@ impl Store {
     // in it the manifest begins and how many bytes it has.
     fn write_slot<K: Disk>(&self, disk: &mut K, place: u32, length: u32) -> Result<(), DiskFault>
         requires shut { is_other_open self.now ≡ false }
-        requires goes_on { sequence_of self.now < 4294967295 }
+        requires goes_on { active_sequence self.now < 4294967295 }
         requires running { IsRunning (K.state disk.old) }
         ensures goes_on { GoesOn (K.state disk.old) (K.state disk.new) }
         ensures cause { HasCause (K.state disk.old) (K.state disk.new) result }
@@ -298,13 +296,13 @@ impl Store {
     // What the other slot is to say behind its gate, from its sequence number on.
     #[tactic(auto, unfolding(field_grammar::specs::Fields::number_bytes))]
     fn slot_bytes(&self, place: u32, length: u32) -> [u8; 13]
-        requires { sequence_of self.now < 4294967295 }
+        requires { active_sequence self.now < 4294967295 }
         ensures { result ≡ slot_body self.now place length }
     {
-        let [s0, s1, s2, s3] = u32_bytes(self.sequence + 1);
+        let [s0, s1, s2, s3] = u32_bytes(self.active.sequence + 1);
         let [p0, p1, p2, p3] = u32_bytes(place);
         let [l0, l1, l2, l3] = u32_bytes(length);
-        let bank = 1 - self.bank;
+        let bank = self.active.bank.other().number();
         [s0, s1, s2, s3, bank, p0, p1, p2, p3, l0, l1, l2, l3]
     }
 
@@ -326,13 +324,19 @@ impl Store {
         ensures clock { OnOk result ((K.state disk.old).clock < (K.state disk.new).clock) }
         ensures acts { Acts (K.state disk.old) (K.state disk.new) result }
     {
+        let Stage::Sealed(manifest) = self.stage else {
+            unreachable!()
+        };
         let slot = self.other();
         disk.write(slot, &[OPEN])?;
         disk.sync()?;
         self.forget();
-        self.slot = slot;
-        self.bank = 1 - self.bank;
-        self.sequence += 1;
+        self.active = Active {
+            slot: self.active.slot.other(),
+            bank: self.active.bank.other(),
+            sequence: self.active.sequence + 1,
+            manifest,
+        };
         self.other_is_open = true;
         Ok(())
     }
@@ -362,32 +366,32 @@ impl Store {
         self.stage = Stage::Idle;
     }
 
-    /// The sequence number that rules.
+    /// The active sequence number.
     pub fn sequence(&self) -> u32
-        ensures { result ≡ sequence_of self.now }
+        ensures { result ≡ active_sequence self.now }
     {
-        self.sequence
+        self.active.sequence
     }
 
-    /// The bank that rules, 0 or 1.
+    /// The number of the active bank, 0 or 1.
     pub fn bank(&self) -> u8
-        ensures { result ≡ bank_of self.now }
+        ensures { result ≡ active_bank self.now }
     {
-        self.bank
+        self.active.bank.number()
     }
 
-    // Where the slot begins that doesn't rule.
+    // The offset of the other slot.
     fn other(&self) -> u32
-        ensures { result ≡ other_slot (slot_of self.now) }
+        ensures { result ≡ other_slot (active_slot self.now) }
     {
-        SLOT_A + SLOT_B - self.slot
+        self.active.slot.other().offset()
     }
 
-    // Where the bank begins that doesn't rule.
+    // The offset of the other bank.
     fn work(&self) -> u32
         ensures place { result ≡ work_at self.now }
-        ensures within { result + size_of self.now ≤ 134225920 }
+        ensures within { result + bank_size self.now ≤ 134225920 }
     {
-        BANKS + self.size * u32::from(1 - self.bank)
+        self.active.bank.other().offset(self.size)
     }
 }

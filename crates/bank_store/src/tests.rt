@@ -1,7 +1,7 @@
 ghost use Rattle.std.specs.Prelude.{◌≡◌, IfOk};
 
 use crate::{Identity, Store, StoreFault, format, store_fault_text};
-use disk_layout::Ruling;
+use disk_layout::{Active, Bank, ManifestRange, Slot};
 use disk_model::{Call, Disk, FileDisk, MemDisk, Note};
 use load_base::{Ident, Name, PartText};
 use std::fs;
@@ -108,13 +108,16 @@ fn a_file_is_formatted(rt: HostRuntime) -> Result<(), Fail> {
 fn a_load_is_installed_beside_what_rules(rt: HostRuntime) -> Result<(), Fail> {
     let mut disk = MemDisk::new(rt.alloc(), &[])?;
     format(&mut disk, &target(4096)?)?;
-    let ruling = Ruling {
-        slot: 4096,
-        bank: 0,
+    let active = Active {
+        slot: Slot::A,
+        bank: Bank::Zero,
         sequence: 1,
-        other_is_open: false,
+        manifest: ManifestRange {
+            offset: 0,
+            length: 2,
+        },
     };
-    let mut store = Store::new(rt.alloc(), 4096, ruling);
+    let mut store = Store::new(rt.alloc(), 4096, active, false);
     store.prepare()?;
     store.begin(&mut disk)?;
     store.start_load(PartText::read(b"MMM12-0001-ABCD")?, 1)?;

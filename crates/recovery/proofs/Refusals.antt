@@ -13,7 +13,7 @@ use Rattle.disk_layout.specs.Stands.StandsNot.{no_open_slot, bad_slot, bad_manif
 use Rattle.disk_layout.specs.declared.identity.Identity.{Identity}
 use Rattle.disk_layout.specs.declared.fault.RecoverFault.{RecoverFault}
 use Rattle.disk_layout.specs.declared.fault.RecoverFault.TheVariants.{NotFormatted, NoOpenSlot, BadSlot, BadManifest, DiskFailed, Memory}
-use Rattle.recovery.specs.declared.slot.Slot.{Slot}
+use Rattle.recovery.specs.declared.slot.SlotFields.{SlotFields}
 use Rattle.recovery.specs.Parts.{IsSlotAt, RefusesSlots, IsSoundAt, RefusesSlot, RefusesManifest}
 use Rattle.recovery.specs.Parts.RefusesSlot.{other_bank, long, past}
 
@@ -34,7 +34,7 @@ slots_refuse image id fault has (inr none) = rw none.2 (no_open_slot id has none
 
 -- ---- the slot that rules can be or not
 
-pub can_be : (image : Image) (id : Identity) (at : ℕ) (slot : Slot) → IsSlotAt image at slot → IsSoundAt id.bank slot → IsSoundSlot image id at
+pub can_be : (image : Image) (id : Identity) (at : ℕ) (slot : SlotFields) → IsSlotAt image at slot → IsSoundAt id.bank slot → IsSoundSlot image id at
 can_be image id at slot is can = record {
   bank = rw (← is.bank) can.bank;
   short = rw (← is.length) can.short;
@@ -44,7 +44,7 @@ can_be image id at slot is can = record {
 refuses_bad : (image : Image) (id : Identity) (at place : ℕ) (fault : RecoverFault) → IsRuledBy image id at → IsBadSlot image id at place → fault ≡ BadSlot place → Refuses image fault
 refuses_bad image id at place fault ruled bad is = rw is (bad_slot id at place ruled bad refl)
 
-pub slot_refuses : (image : Image) (id : Identity) (at : ℕ) (slot : Slot) (fault : RecoverFault) → IsRuledBy image id at → IsSlotAt image at slot
+pub slot_refuses : (image : Image) (id : Identity) (at : ℕ) (slot : SlotFields) (fault : RecoverFault) → IsRuledBy image id at → IsSlotAt image at slot
     → RefusesSlot id.bank at slot fault → Refuses image fault
 slot_refuses image id at slot fault ruled says (other_bank bank is) = refuses_bad image id at (at + 20) fault ruled (no_such_bank (rw (← says.bank) bank) refl) is
 slot_refuses image id at slot fault ruled says (long bank size is) =
@@ -55,17 +55,17 @@ slot_refuses image id at slot fault ruled says (past bank size end is) =
 -- ---- the manifest that it names
 
 -- where the slot says that the manifest begins
-start_is : (image : Image) (id : Identity) (at : ℕ) (slot : Slot) → IsSlotAt image at slot → bank_at id.bank slot.bank + slot.place ≡ manifest_at image id at
+start_is : (image : Image) (id : Identity) (at : ℕ) (slot : SlotFields) → IsSlotAt image at slot → bank_at id.bank slot.bank + slot.place ≡ manifest_at image id at
 start_is image id at slot is =
     ap (λ (b : ℕ). bank_at id.bank b + slot.place) is.bank ∙ ap (λ (p : ℕ). bank_at id.bank (bank_of image at) + p) is.place
 
 -- the bytes that it names
-bytes_are : (image : Image) (id : Identity) (at : ℕ) (slot : Slot) → IsSlotAt image at slot
+bytes_are : (image : Image) (id : Identity) (at : ℕ) (slot : SlotFields) → IsSlotAt image at slot
     → range image (bank_at id.bank slot.bank + slot.place) slot.length ≡ manifest_of image id at
 bytes_are image id at slot is =
     ap (λ (p : ℕ). range image p slot.length) (start_is image id at slot is) ∙ ap (λ (n : ℕ). range image (manifest_at image id at) n) is.length
 
-pub manifest_refuses : (image : Image) (id : Identity) (at : ℕ) (slot : Slot) (fault : RecoverFault) → IsRuledBy image id at → IsSoundSlot image id at → IsSlotAt image at slot
+pub manifest_refuses : (image : Image) (id : Identity) (at : ℕ) (slot : SlotFields) (fault : RecoverFault) → IsRuledBy image id at → IsSoundSlot image id at → IsSlotAt image at slot
     → RefusesManifest image (bank_at id.bank slot.bank + slot.place) slot.length slot.place fault → Refuses image fault
 manifest_refuses image id at slot fault ruled can says (inl (inl is)) = of_disk image fault is
 manifest_refuses image id at slot fault ruled can says (inl (inr wrong)) =
@@ -79,7 +79,7 @@ manifest_refuses image id at slot fault ruled can says (inr other) =
 
 -- ---- all of it
 
-pub has_outline : (image : Image) (id : Identity) (at : ℕ) (slot : Slot) (loads : List LoadEntry) → IsRuledBy image id at → IsSoundAt id.bank slot → IsSlotAt image at slot
+pub has_outline : (image : Image) (id : Identity) (at : ℕ) (slot : SlotFields) (loads : List LoadEntry) → IsRuledBy image id at → IsSoundAt id.bank slot → IsSlotAt image at slot
     → Spelled manifest (range image (bank_at id.bank slot.bank + slot.place) slot.length) loads → total_length loads ≡ slot.place
     → HasOutline image at (record { identity = id; bank = slot.bank; sequence = slot.sequence; loads = loads })
 has_outline image id at slot loads ruled can says spelled lengths = record {

@@ -3,20 +3,20 @@ use Rattle.std.specs.Prelude.{◌≡◌, ◌≢◌, ◌⊎◌, ◌↔◌, ℕ, �
 use Rattle.disk_model.specs.Image.{Image, range}
 use Rattle.field_grammar.specs.Grammar.{Spelled, Fault}
 use Rattle.disk_layout.specs.Places.{slot_a, slot_b, longest_manifest}
-use Rattle.disk_layout.specs.Slots.{IsOpen, IsSlot, Rules, sequence_of, bank_of, manifest_place_of, manifest_length_of}
+use Rattle.disk_layout.specs.Slots.{slot_offset, IsOpen, IsSlot, Rules, sequence_of, bank_of, manifest_place_of, manifest_length_of}
 use Rattle.disk_layout.specs.Manifest.{LoadEntry, manifest, total_length}
 use Rattle.disk_layout.specs.Looks.{IsOfDisk}
 use Rattle.disk_layout.specs.declared.fault.RecoverFault.{RecoverFault}
 use Rattle.disk_layout.specs.declared.fault.RecoverFault.TheVariants.{NoOpenSlot, BadSlot, BadManifest}
 use Rattle.disk_layout.specs.declared.manifest.ManifestFault.{ManifestFault}
 use Rattle.disk_layout.specs.declared.manifest.ManifestFault.TheVariants.{Wrong, Memory}
-use Rattle.recovery.specs.declared.slot.Slot.{Slot}
+use Rattle.recovery.specs.declared.slot.SlotFields.{SlotFields}
 use Rattle.recovery.specs.declared.surveying.Ruler.{Ruler}
 
 -- ---- the slots
 
 -- what the slot at this place says
-pub record IsSlotAt (image : Image) (at : ℕ) (slot : Slot) : Type 0 where
+pub record IsSlotAt (image : Image) (at : ℕ) (slot : SlotFields) : Type 0 where
   pub gate : slot.gate ≡ image at
   pub sequence : slot.sequence ≡ sequence_of image at
   pub bank : slot.bank ≡ bank_of image at
@@ -29,22 +29,22 @@ TellsOther image at open_too = (other : ℕ) → IsSlot other → other ≢ at �
 
 -- this slot rules, and says this
 pub record IsRulerOn (image : Image) (ruler : Ruler) : Type 0 where
-  pub rules : Rules image ruler.at
-  pub says : IsSlotAt image ruler.at ruler.slot
-  pub other : TellsOther image ruler.at ruler.other_is_open
+  pub rules : Rules image (slot_offset ruler.slot)
+  pub says : IsSlotAt image (slot_offset ruler.slot) ruler.says
+  pub other : TellsOther image (slot_offset ruler.slot) ruler.other_is_open
 
 -- neither slot is open, or the disk or memory failed
 abbrev pub RefusesSlots : Image → RecoverFault → Type 0
 RefusesSlots image fault = IsOfDisk fault ⊎ (¬ IsOpen image slot_a × ¬ IsOpen image slot_b × (fault ≡ NoOpenSlot))
 
 -- what the slot says can be on a disk with banks of this size
-pub record IsSoundAt (size : ℕ) (slot : Slot) : Type 0 where
+pub record IsSoundAt (size : ℕ) (slot : SlotFields) : Type 0 where
   pub bank : slot.bank < 2
   pub short : slot.length ≤ longest_manifest
   pub within : slot.place + slot.length ≤ size
 
 -- the first that can't be in what the slot at this place says
-pub data RefusesSlot (size at : ℕ) (slot : Slot) (fault : RecoverFault) : Type 0 where
+pub data RefusesSlot (size at : ℕ) (slot : SlotFields) (fault : RecoverFault) : Type 0 where
   other_bank : 2 ≤ slot.bank → fault ≡ BadSlot (at + 20) → RefusesSlot size at slot fault
   long : slot.bank < 2 → longest_manifest < slot.length → fault ≡ BadSlot (at + 25) → RefusesSlot size at slot fault
   past : slot.bank < 2 → slot.length ≤ longest_manifest → size < slot.place + slot.length → fault ≡ BadSlot (at + 21) → RefusesSlot size at slot fault

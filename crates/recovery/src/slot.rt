@@ -7,7 +7,7 @@ use disk_layout::places::{OPEN, SLOT_LENGTH};
 
 /// What a slot says.
 #[derive(Clone, Copy)]
-pub(crate) struct Slot {
+pub(crate) struct SlotFields {
     pub(crate) gate: u8,
     pub(crate) sequence: u32,
     pub(crate) bank: u8,
@@ -15,7 +15,7 @@ pub(crate) struct Slot {
     pub(crate) length: u32,
 }
 
-pub(crate) fn slot_of(bytes: &[u8]) -> Slot
+pub(crate) fn slot_of(bytes: &[u8]) -> SlotFields
     requires { length bytes.now ≡ SLOT_LENGTH }
     ensures gate { result.gate ≡ slice_index bytes.now 0 }
     ensures sequence { result.sequence ≡ big_number 4 (slice_range bytes.now 16 20) }
@@ -23,7 +23,7 @@ pub(crate) fn slot_of(bytes: &[u8]) -> Slot
     ensures place { result.place ≡ big_number 4 (slice_range bytes.now 21 25) }
     ensures length { result.length ≡ big_number 4 (slice_range bytes.now 25 29) }
 {
-    Slot {
+    SlotFields {
         gate: bytes[0],
         sequence: BigEndian::read_u32(&bytes[16..20]),
         bank: bytes[20],
@@ -33,7 +33,7 @@ pub(crate) fn slot_of(bytes: &[u8]) -> Slot
 }
 
 /// Slot A is open, and slot B isn't both open and of a greater sequence.
-pub(crate) fn rules_over(a: &Slot, b: &Slot) -> bool
+pub(crate) fn rules_over(a: &SlotFields, b: &SlotFields) -> bool
     ensures { IsTrue result ↔ ((a.now.gate ≡ OPEN) × (b.now.gate ≡ OPEN → b.now.sequence ≤ a.now.sequence)) }
 {
     a.gate == OPEN && (b.gate != OPEN || b.sequence <= a.sequence)

@@ -7,28 +7,28 @@ ghost use Rattle.disk_model.specs.State.{IsSettled};
 ghost use Rattle.field_grammar.specs.Grammar.{Spelled};
 ghost use Rattle.disk_layout.specs.Places.{IsBankSize, bank_at};
 ghost use Rattle.disk_layout.specs.Identity.{HasIdentity};
-ghost use Rattle.disk_layout.specs.Slots.{IsSlot};
+ghost use Rattle.disk_layout.specs.Slots.{slot_offset, bank_number};
 ghost use Rattle.disk_layout.specs.Manifest.{ManifestFits, manifest, manifest_view, entry_view, total_length, size_of};
 ghost use Rattle.disk_layout.specs.Stands.{StandingView, outline_of, Refuses};
 ghost use Rattle.disk_layout.specs.Looks.{IsOfDisk, Looks};
-ghost use Rattle.bank_store.specs.Store.{size_of as bank_size_of, slot_of as ruling_slot_of, bank_of, sequence_of, is_other_open, IsIdle};
+ghost use Rattle.bank_store.specs.Store.{IsIdle};
 ghost use Rattle.bank_store.specs.Acts.{IsRunning};
 ghost use Rattle.bank_store.specs.Fits.{HoldsFor, Fits, Works};
 ghost use Rattle.recovery.specs.Parts.{IsSlotAt, IsRulerOn, RefusesSlots, IsSoundAt, RefusesSlot, RefusesBytes, RefusesManifest};
-ghost use Rattle.recovery.specs.Surveys.{IsSurveyed, IsInRange, outline_of_survey};
+ghost use Rattle.recovery.specs.Surveys.{IsSurveyed, IsInRange, FindsActive, IsFoundInRange, outline_of_survey};
 
 use crate::identity::identity_of;
 use crate::looking::{bytes_on, read_from};
 use crate::manifest::manifest_in;
-use crate::slot::{Slot, rules_over, slot_of};
+use crate::slot::{SlotFields, rules_over, slot_of};
 use bank_store::{Store, a_settled_disk_works, a_store_goes_on_fitting};
 use disk_layout::places::{
-    BANK_IN_SLOT, BANKS, LENGTH_IN_SLOT, LONGEST_IDENTITY, LONGEST_MANIFEST, OPEN, PLACE_IN_SLOT,
-    SLOT_A, SLOT_B, SLOT_LENGTH,
+    BANK_IN_SLOT, LENGTH_IN_SLOT, LONGEST_IDENTITY, LONGEST_MANIFEST, OPEN, PLACE_IN_SLOT, SLOT_A,
+    SLOT_B, SLOT_LENGTH,
 };
 use disk_layout::{
-    Identity, Manifest, ManifestFault, ManifestFile, ManifestLoad, RecoverFault, Ruling,
-    an_outline_is_filled,
+    Active, Bank, Identity, Manifest, ManifestFault, ManifestFile, ManifestLoad, ManifestRange,
+    RecoverFault, Slot, an_outline_is_filled,
 };
 use disk_model::{Disk, SIZE};
 use std::alloc::Global;
@@ -59,40 +59,71 @@ pub fn survey<K: Disk>(alloc: Global, disk: &mut K) -> Result<Surveyed, RecoverF
     ensures works { IfOk result (λ surveyed. IsSettled (K.state disk.old) → Works surveyed.store (K.state disk.new)) }
     ensures looks { Looks (K.state disk.old) (K.state disk.new) result }
 {
-    let identity = identity_on(disk)?;
-    let ruler = ruler_on(disk)?;
-    check_slot(identity.bank, ruler.at, &ruler.slot)?;
-    let manifest = manifest_of_slot(alloc, disk, identity.bank, &ruler.slot)?;
-    let store = store_of(alloc, identity.bank, &ruler);
+    let found = active_on(alloc, disk)?;
+    let store = Store::new(
+        alloc,
+        found.identity.bank,
+        found.active,
+        found.other_is_open,
+    );
     an_outline_is_filled();
     a_settled_disk_works::<K>();
     a_store_goes_on_fitting::<K>();
     Ok(Surveyed {
-        identity,
-        manifest,
+        identity: found.identity,
+        manifest: found.manifest,
         store,
     })
 }
 
-// The store for a disk on which this rules, with banks of so many bytes.
-fn store_of(alloc: Global, bank_size: u32, ruler: &Ruler) -> Store
-    requires size { IsBankSize bank_size }
-    requires slot { IsSlot ruler.now.at }
-    requires bank { ruler.now.slot.bank < 2 }
-    ensures idle { IsIdle result }
-    ensures size { bank_size_of result ≡ bank_size }
-    ensures slot { ruling_slot_of result ≡ ruler.now.at }
-    ensures bank { bank_of result ≡ ruler.now.slot.bank }
-    ensures sequence { sequence_of result ≡ ruler.now.slot.sequence }
-    ensures other { is_other_open result ≡ ruler.now.other_is_open }
+// What is active on a disk, without the contents of its files, and whether the other slot is open.
+#[derive(Drop)]
+pub(crate) struct Found {
+    pub(crate) identity: Identity,
+    pub(crate) manifest: Manifest,
+    pub(crate) active: Active,
+    pub(crate) other_is_open: bool,
+}
+
+// Finds what is active on a disk.
+pub(crate) fn active_on<K: Disk>(alloc: Global, disk: &mut K) -> Result<Found, RecoverFault>
+    requires { IsRunning (K.state disk.old) }
+    ensures found { IfOk result (λ found. ForSome (K.state disk.old).reads
+        (λ image. FindsActive image found.identity found.manifest found.active found.other_is_open)) }
+    ensures refused { IfErr result (λ fault. ForSome (K.state disk.old).reads (λ image. Refuses image fault)) }
+    ensures in_range { IfOk result (λ found. IsFoundInRange found.identity found.manifest found.active) }
+    ensures looks { Looks (K.state disk.old) (K.state disk.new) result }
 {
-    let ruling = Ruling {
-        slot: ruler.at,
-        bank: ruler.slot.bank,
-        sequence: ruler.slot.sequence,
+    let identity = identity_on(disk)?;
+    let ruler = ruler_on(disk)?;
+    check_slot(identity.bank, ruler.slot, &ruler.says)?;
+    let manifest = manifest_of_slot(alloc, disk, identity.bank, &ruler.says)?;
+    Ok(Found {
+        identity,
+        manifest,
+        active: active_by(&ruler),
         other_is_open: ruler.other_is_open,
-    };
-    Store::new(alloc, bank_size, ruling)
+    })
+}
+
+// What is active where this slot is.
+fn active_by(ruler: &Ruler) -> Active
+    requires { ruler.now.says.bank < 2 }
+    ensures slot { result.slot ≡ ruler.now.slot }
+    ensures bank { bank_number result.bank ≡ ruler.now.says.bank }
+    ensures sequence { result.sequence ≡ ruler.now.says.sequence }
+    ensures offset { result.manifest.offset ≡ ruler.now.says.place }
+    ensures length { result.manifest.length ≡ ruler.now.says.length }
+{
+    Active {
+        slot: ruler.slot,
+        bank: Bank::numbered(ruler.says.bank),
+        sequence: ruler.says.sequence,
+        manifest: ManifestRange {
+            offset: ruler.says.place,
+            length: ruler.says.length,
+        },
+    }
 }
 
 fn identity_on<K: Disk>(disk: &mut K) -> Result<Identity, RecoverFault>
@@ -110,7 +141,7 @@ fn identity_on<K: Disk>(disk: &mut K) -> Result<Identity, RecoverFault>
     }
 }
 
-fn slot_on<K: Disk>(disk: &mut K, at: u32) -> Result<Slot, RecoverFault>
+fn slot_on<K: Disk>(disk: &mut K, at: u32) -> Result<SlotFields, RecoverFault>
     requires running { (K.state disk.old).stopped ≡ false }
     requires within { at ≤ SLOT_B }
     ensures found { IfOk result (λ slot. (image : Image) → (K.state disk.old).reads ≡ Some image → IsSlotAt image at slot) }
@@ -122,18 +153,17 @@ fn slot_on<K: Disk>(disk: &mut K, at: u32) -> Result<Slot, RecoverFault>
     Ok(slot_of(&bytes))
 }
 
-// The slot that rules, its place, and whether the other is open too.
+// The active slot, what it says, and whether the other is open too.
 #[derive(Clone, Copy)]
 struct Ruler {
-    at: u32,
     slot: Slot,
+    says: SlotFields,
     other_is_open: bool,
 }
 
 fn ruler_on<K: Disk>(disk: &mut K) -> Result<Ruler, RecoverFault>
     requires { (K.state disk.old).stopped ≡ false }
     ensures found { IfOk result (λ ruler. (image : Image) → (K.state disk.old).reads ≡ Some image → IsRulerOn image ruler) }
-    ensures place { IfOk result (λ ruler. IsSlot ruler.at) }
     ensures refused { IfErr result (λ fault. (image : Image) → (K.state disk.old).reads ≡ Some image → RefusesSlots image fault) }
     ensures looks { Looks (K.state disk.old) (K.state disk.new) result }
 {
@@ -141,14 +171,14 @@ fn ruler_on<K: Disk>(disk: &mut K) -> Result<Ruler, RecoverFault>
     let b = slot_on(disk, SLOT_B)?;
     if rules_over(&a, &b) {
         Ok(Ruler {
-            at: SLOT_A,
-            slot: a,
+            slot: Slot::A,
+            says: a,
             other_is_open: b.gate == OPEN,
         })
     } else if b.gate == OPEN {
         Ok(Ruler {
-            at: SLOT_B,
-            slot: b,
+            slot: Slot::B,
+            says: b,
             other_is_open: a.gate == OPEN,
         })
     } else {
@@ -156,17 +186,17 @@ fn ruler_on<K: Disk>(disk: &mut K) -> Result<Ruler, RecoverFault>
     }
 }
 
-// What the slot at this place says can be on a disk with banks of this size.
-fn check_slot(bank_size: u32, at: u32, slot: &Slot) -> Result<(), RecoverFault>
-    ensures ok { OnOk result (IsSoundAt bank_size slot.now) }
-    ensures refused { IfErr result (λ fault. RefusesSlot bank_size at slot.now fault) }
+// What a slot says can be on a disk with banks of this size.
+fn check_slot(bank_size: u32, slot: Slot, says: &SlotFields) -> Result<(), RecoverFault>
+    ensures ok { OnOk result (IsSoundAt bank_size says.now) }
+    ensures refused { IfErr result (λ fault. RefusesSlot bank_size (slot_offset slot) says.now fault) }
 {
-    let at = u64::from(at);
-    let end = u64::from(slot.place) + u64::from(slot.length);
-    if slot.bank > 1 {
+    let at = u64::from(slot.offset());
+    let end = u64::from(says.place) + u64::from(says.length);
+    if says.bank > 1 {
         return Err(RecoverFault::BadSlot(at + u64::from(BANK_IN_SLOT)));
     }
-    if slot.length > LONGEST_MANIFEST {
+    if says.length > LONGEST_MANIFEST {
         return Err(RecoverFault::BadSlot(at + u64::from(LENGTH_IN_SLOT)));
     }
     if end > u64::from(bank_size) {
@@ -180,7 +210,7 @@ fn manifest_of_slot<K: Disk>(
     alloc: Global,
     disk: &mut K,
     bank_size: u32,
-    slot: &Slot,
+    slot: &SlotFields,
 ) -> Result<Manifest, RecoverFault>
     requires running { (K.state disk.old).stopped ≡ false }
     requires size { IsBankSize bank_size }
@@ -193,7 +223,7 @@ fn manifest_of_slot<K: Disk>(
         → RefusesManifest image (bank_at bank_size slot.now.bank + slot.now.place) slot.now.length slot.now.place fault) }
     ensures looks { Looks (K.state disk.old) (K.state disk.new) result }
 {
-    let start = BANKS + bank_size * u32::from(slot.bank) + slot.place;
+    let start = Bank::numbered(slot.bank).offset(bank_size) + slot.place;
     let manifest = manifest_on(alloc, disk, start, slot.length)?;
     if adds_up(&manifest, slot.place) {
         Ok(manifest)

@@ -42,6 +42,6 @@ returns-clause-any_moment g c s loads can =
 
 pub returns-clause-activates : goal.returns-clause-activates
 returns-clause-activates g c =
-    activated c.args.self.now c.forget.new.self _ (g.K.Disk.state c.args.disk.now) _ c.other-slot.result c.forget.ensures.active c.other-slot.ensures refl refl refl refl refl
-    (search rules) c.requires.sealed (c.sync.ensures.elapses.tells ∙ c.write.ensures.elapses.tells) (λ image told. c.in_ok-sync.ensures.kept ∙ c.in_ok-write.ensures.bytes image told)
-    c.in_ok-sync.ensures.settled (search rules)
+    activated c.args.self.now c.forget.new.self _ (g.K.Disk.state c.args.disk.now) _ c.other-slot.result c.in-Sealed.manifest c.forget.ensures.active c.other-slot.ensures refl c.other.ensures
+    c.other-2.ensures refl refl refl (search rules) c.in-Sealed.is (c.sync.ensures.elapses.tells ∙ c.write.ensures.elapses.tells)
+    (λ image told. c.in_ok-sync.ensures.kept ∙ c.in_ok-write.ensures.bytes image told) c.in_ok-sync.ensures.settled (search rules)
