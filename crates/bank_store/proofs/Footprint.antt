@@ -92,7 +92,7 @@ standing_kept slot s a b was agrees =
           identity = subst (λ (bytes : List ℕ). SpelledAtFront identity bytes s.identity) (sym fronts) o.ruled.identity;
           rules = rules_same slot size s.bank a b agrees o.ruled.rules;
         };
-        can_be = record { bank = omega (arith, o.can_be.bank, bank); short = omega (arith, o.can_be.short, long); within = omega (arith, o.can_be.within, place, long) };
+        can_be = record { is_bank = omega (arith, o.can_be.is_bank, bank); short = omega (arith, o.can_be.short, long); within = omega (arith, o.can_be.within, place, long) };
         bank = o.bank ∙ sym bank;
         sequence = o.sequence ∙ sym (number_same a b slot agrees.slot_same 16 (omega arith));
         manifest = subst (λ (bytes : List ℕ). Spelled manifest bytes (outline_of s).loads) (sym manifests) o.manifest;

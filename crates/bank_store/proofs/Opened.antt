@@ -1,18 +1,18 @@
 -- What is sealed stands for what was given, once the gate is open.
-use Rattle.std.proofs.Common.{◌≡◌, ◌⊎◌, inl, inr, ℕ, ◌+◌, ◌<◌, ◌≤◌, ◌^◌, List, [], ◌∷◌, ◌++◌, length, take, drop, get_or, map, refl, sym, ◌∙◌, ap, ap₂, subst, arith, append_assoc, length-append}
+use Rattle.std.proofs.Common.{◌≡◌, ◌⊎◌, inl, inr, ℕ, ◌+◌, ◌<◌, ◌≤◌, ◌^◌, List, [], ◌∷◌, ◌++◌, length, map, sym, ◌∙◌, ap, ap₂, subst, arith, length-append}
 use Rattle.std.specs.List.{All, concat, flat_map}
-use Rattle.std.proofs.Math.Seq.{get_or-append_seam}
-use Rattle.std.proofs.lemmas.List.{append-nil, nil_from_length, take_at, drop_at}
+use Rattle.std.proofs.lemmas.List.{append-nil, nil_from_length}
 use Rattle.byteorder.specs.Endian.{big_number}
 use Rattle.field_grammar.specs.Grammar.{SpelledAtFront}
-use Rattle.field_grammar.specs.Fields.{number_bytes, number_in}
-use Rattle.field_grammar.specs.NumberLaws.{length_number_bytes, wide4}
+use Rattle.field_grammar.specs.Fields.{number_bytes}
+use Rattle.field_grammar.specs.NumberLaws.{length_number_bytes}
 use Rattle.disk_model.specs.Image.{Image, range, overlay}
-use Rattle.disk_model.specs.RangeLaws.{same_range, byte_of_range}
+use Rattle.disk_model.specs.RangeLaws.{same_range}
 use Rattle.disk_model.specs.OverlayLaws.{overlay_inside, overlay_outside, overlay_joined, range_of_overlay, range_beside_overlay}
 use Rattle.disk_layout.specs.Places.{slot_b, bank_at, number_at, longest_manifest}
 use Rattle.disk_layout.specs.Slots.{IsOpen, IsSlot, Rules, sequence_of, bank_of, manifest_place_of, manifest_length_of}
 use Rattle.disk_layout.specs.SlotLaws.{offset_is_slot, number_below}
+use Rattle.disk_layout.specs.SlotBodyLaws.{body_length, says_sequence, says_bank, says_offset, says_length}
 use Rattle.disk_layout.specs.Identity.{identity}
 use Rattle.disk_layout.specs.Manifest.{manifest_fields}
 use Rattle.disk_layout.specs.ManifestSpelling.{manifest_spelling}
@@ -30,24 +30,8 @@ use Rattle.bank_store.specs.declared.stage.Stage.TheVariants as stages
 use Rattle.bank_store.specs.declared.stage.Filling.{Filling}
 use Rattle.bank_store.proofs.Footprint.{which_slot}
 use Rattle.bank_store.proofs.Giving.{same_filling}
-use Rattle.bank_store.proofs.Layouts.{part_is}
 use Rattle.bank_store.proofs.Near.{other_low, slot_low, slots_apart}
 use Rattle.bank_store.proofs.Sealing.{all_whole, same_contents, same_total, given_fit, manifest_bytes, headers_first}
-
--- a number among other bytes
-pub number_part : (image : Image) (at n k value : ℕ) (front rest bytes : List ℕ) → range image at n ≡ bytes → bytes ≡ front ++ (number_bytes 4 value ++ rest) → length front ≡ k → k + 4 ≤ n → value < 2 ^ 32
-    → number_at 4 image (at + k) ≡ value
-unfolding number_at number_in
-number_part image at n k value front rest bytes is parts long within small =
-    let four = number_bytes 4 value in
-    let dropped : drop k bytes ≡ four ++ rest = ap (drop k) parts ∙ drop_at front (four ++ rest) k long in
-    let taken : take 4 (four ++ rest) ≡ four = take_at four rest 4 (length_number_bytes 4 value) in
-    ap (big_number 4) (part_is image at n k 4 bytes is within ∙ ap (take 4) dropped ∙ taken) ∙ wide4.again value small
-
--- a byte among other bytes
-pub byte_part : (image : Image) (at n k value : ℕ) (front rest bytes : List ℕ) → range image at n ≡ bytes → bytes ≡ front ++ value ∷ rest → length front ≡ k → k < n → image (at + k) ≡ value
-byte_part image at n k value front rest bytes is parts long within =
-    sym (byte_of_range image at n k within) ∙ ap (λ (l : List ℕ). get_or l k 0) (is ∙ parts) ∙ ap (λ (m : ℕ). get_or (front ++ value ∷ rest) m 0) (sym long) ∙ get_or-append_seam front value rest 0
 
 other_is_slot : (slot : ℕ) → IsSlot slot → IsSlot (other_slot slot)
 other_is_slot slot (inl e) = inr (omega (arith, e))
@@ -61,16 +45,7 @@ abbrev pub opened : Store → Filling → Image → Image
 opened store progress image = overlay (with_slot store progress.end (manifest_length store) (with_manifest store progress image)) (other_slot (active_slot store)) (0xA5 ∷ [])
 
 pub slot_body_length : (store : Store) (place size : ℕ) → length (slot_body store place size) ≡ 13
-slot_body_length store place size =
-    omega (
-      arith,
-      length-append ((number_bytes 4 ((active_sequence store) + 1) ++ (other_bank (active_bank store) ∷ [])) ++ number_bytes 4 place) (number_bytes 4 size),
-      length-append (number_bytes 4 ((active_sequence store) + 1) ++ (other_bank (active_bank store) ∷ [])) (number_bytes 4 place),
-      length-append (number_bytes 4 ((active_sequence store) + 1)) (other_bank (active_bank store) ∷ []),
-      length_number_bytes 4 ((active_sequence store) + 1),
-      length_number_bytes 4 place,
-      length_number_bytes 4 size,
-    )
+slot_body_length store place size = body_length (active_sequence store + 1) (other_bank (active_bank store)) (record { offset = place; length = size })
 
 -- where they lie
 pub record Lies (store : Store) (progress : Filling) : Type 0 where
@@ -95,8 +70,8 @@ module _ (store : Store) (progress : Filling) (image : Image) (lies : Lies store
   text_length : length text ≡ manifest_length store
   text_length = omega (arith, length-append (number_bytes 2 progress.loads) store.body.items, length_number_bytes 2 progress.loads)
 
-  body_length : length body ≡ 13
-  body_length = slot_body_length store progress.end (manifest_length store)
+  body_size : length body ≡ 13
+  body_size = slot_body_length store progress.end (manifest_length store)
 
   joined : with_manifest store progress image ≡ overlay image (work + progress.end) text
   joined = overlay_joined image (work + progress.end) (work + progress.end + 2) (number_bytes 2 progress.loads) store.body.items (omega (arith, length_number_bytes 2 progress.loads))
@@ -105,7 +80,7 @@ module _ (store : Store) (progress : Filling) (image : Image) (lies : Lies store
   far_off : (at n : ℕ) → 8192 ≤ at → range (opened store progress image) at n ≡ range (overlay image (work + progress.end) text) at n
   far_off at n beyond =
       range_beside_overlay (with_slot store progress.end (manifest_length store) (with_manifest store progress image)) other (0xA5 ∷ []) at n (inr (omega (arith, lies.high, beyond)))
-      ∙ range_beside_overlay (with_manifest store progress image) (other + 16) body at n (inr (omega (arith, lies.high, beyond, body_length)))
+      ∙ range_beside_overlay (with_manifest store progress image) (other + 16) body at n (inr (omega (arith, lies.high, beyond, body_size)))
       ∙ ap (λ (i : Image). range i at n) joined
 
   pub contents_kept : range (opened store progress image) work progress.end ≡ range image work progress.end
@@ -119,7 +94,7 @@ module _ (store : Store) (progress : Filling) (image : Image) (lies : Lies store
   pub slot_there : range (opened store progress image) (other + 16) 13 ≡ body
   slot_there =
       range_beside_overlay (with_slot store progress.end (manifest_length store) (with_manifest store progress image)) other (0xA5 ∷ []) (other + 16) 13 (inr (omega arith))
-      ∙ range_of_overlay (with_manifest store progress image) (other + 16) 13 body (sym body_length)
+      ∙ range_of_overlay (with_manifest store progress image) (other + 16) 13 body (sym body_size)
 
   pub gate_there : IsOpen (opened store progress image) other
   gate_there =
@@ -130,40 +105,24 @@ module _ (store : Store) (progress : Filling) (image : Image) (lies : Lies store
   pub before_kept : (place : ℕ) → place < 8192 → (place < other) ⊎ (other + 29 ≤ place) → opened store progress image place ≡ image place
   before_kept place early out =
       overlay_outside (with_slot store progress.end (manifest_length store) (with_manifest store progress image)) other (0xA5 ∷ []) place (elim out [ inl b ↦ inl b | inr a ↦ inr (omega (arith, a)) ])
-      ∙ overlay_outside (with_manifest store progress image) (other + 16) body place (elim out [ inl b ↦ inl (omega (arith, b)) | inr a ↦ inr (omega (arith, a, body_length)) ])
+      ∙ overlay_outside (with_manifest store progress image) (other + 16) body place (elim out [ inl b ↦ inl (omega (arith, b)) | inr a ↦ inr (omega (arith, a, body_size)) ])
       ∙ ap (λ (i : Image). i place) joined
       ∙ overlay_outside image (work + progress.end) text place (inl (omega (arith, early, lies.work)))
 
-  abbrev one : List ℕ
-  one = number_bytes 4 ((active_sequence store) + 1)
-
-  abbrev two : List ℕ
-  two = number_bytes 4 progress.end
-
-  abbrev three : List ℕ
-  three = number_bytes 4 (manifest_length store)
-
   pub sequence_there : (active_sequence store) < 4294967295 → sequence_of (opened store progress image) other ≡ (active_sequence store) + 1
   sequence_there goes_on =
-      ap (λ (at : ℕ). number_at 4 (opened store progress image) at) (omega arith)
-      ∙ number_part (opened store progress image) (other + 16) 13 0 ((active_sequence store) + 1) [] ((other_bank (active_bank store) ∷ []) ++ (two ++ three)) body slot_there (simp append_assoc) refl (omega arith) (omega (arith, goes_on))
+      says_sequence (opened store progress image) other (active_sequence store + 1) (other_bank (active_bank store)) (record { offset = progress.end; length = manifest_length store }) slot_there (omega (arith, goes_on))
 
   pub bank_there : bank_of (opened store progress image) other ≡ other_bank (active_bank store)
-  bank_there =
-      ap (opened store progress image) (omega arith)
-      ∙ byte_part (opened store progress image) (other + 16) 13 4 (other_bank (active_bank store)) one (two ++ three) body slot_there (simp append_assoc) (length_number_bytes 4 ((active_sequence store) + 1)) (omega arith)
+  bank_there = says_bank (opened store progress image) other (active_sequence store + 1) (other_bank (active_bank store)) (record { offset = progress.end; length = manifest_length store }) slot_there
 
   pub place_there : progress.end < 2 ^ 32 → manifest_place_of (opened store progress image) other ≡ progress.end
   place_there small =
-      ap (λ (at : ℕ). number_at 4 (opened store progress image) at) (omega arith)
-      ∙ number_part (opened store progress image) (other + 16) 13 5 progress.end (one ++ (other_bank (active_bank store) ∷ [])) three body slot_there (simp append_assoc)
-      (omega (arith, length-append one (other_bank (active_bank store) ∷ []), length_number_bytes 4 ((active_sequence store) + 1))) (omega arith) small
+      says_offset (opened store progress image) other (active_sequence store + 1) (other_bank (active_bank store)) (record { offset = progress.end; length = manifest_length store }) slot_there small
 
   pub length_there : manifest_length store < 2 ^ 32 → manifest_length_of (opened store progress image) other ≡ manifest_length store
   length_there small =
-      ap (λ (at : ℕ). number_at 4 (opened store progress image) at) (omega arith)
-      ∙ number_part (opened store progress image) (other + 16) 13 9 (manifest_length store) ((one ++ (other_bank (active_bank store) ∷ [])) ++ two) [] body slot_there (ap (λ (l : List ℕ). ((one ++ (other_bank (active_bank store) ∷ [])) ++ two) ++ l) (sym (append-nil three)))
-      (omega (arith, length-append (one ++ (other_bank (active_bank store) ∷ [])) two, length-append one (other_bank (active_bank store) ∷ []), length_number_bytes 4 ((active_sequence store) + 1), length_number_bytes 4 progress.end)) (omega arith) small
+      says_length (opened store progress image) other (active_sequence store + 1) (other_bank (active_bank store)) (record { offset = progress.end; length = manifest_length store }) slot_there small
 
 -- ---- and so it stands
 
@@ -283,7 +242,7 @@ module _ (store : Store) (progress : Filling) (image : Image) (s : StandingView)
         rules = new_rules;
       };
       can_be = record {
-        bank = omega (arith, bank_is, other_bank_less (active_bank store) (number_below store.active.bank));
+        is_bank = omega (arith, bank_is, other_bank_less (active_bank store) (number_below store.active.bank));
         short = omega (arith, length_is, long_enough store progress in_range none);
         within = omega (arith, place_is, length_is, fits, was.size);
       };

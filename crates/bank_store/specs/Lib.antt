@@ -3,7 +3,6 @@ pub mod Bounds
 pub mod Faults
 pub mod Fits
 pub mod Formatting
-pub mod Front
 pub mod Given
 pub mod Keeps
 pub mod Store

@@ -1,10 +1,10 @@
 -- What a store keeps of the disk that it installs on (docs/DISK.md).
-use Rattle.std.specs.Prelude.{◌≡◌, ℕ, ◌+◌, ◌-◌, ◌<◌, ◌≤◌, Bool, true, if◌then◌else◌, List, [], ◌∷◌, ◌++◌, length}
+use Rattle.std.specs.Prelude.{◌≡◌, ℕ, ◌+◌, ◌-◌, ◌<◌, ◌≤◌, Bool, true, if◌then◌else◌, List, [], ◌∷◌, length}
 use Rattle.load_base.specs.Host.{longest_file}
 use Rattle.field_grammar.specs.Fields.{number_bytes}
 use Rattle.disk_model.specs.Image.{Image, overlay}
 use Rattle.disk_layout.specs.Places.{bank_at, longest_manifest, most_loads}
-use Rattle.disk_layout.specs.Slots.{slot_offset, other_slot, bank_number, other_bank}
+use Rattle.disk_layout.specs.Slots.{slot_offset, other_slot, bank_number, other_bank, slot_body_bytes}
 use Rattle.disk_layout.specs.declared.active.Active.{Active}
 use Rattle.disk_layout.specs.declared.active.ManifestRange.{ManifestRange}
 use Rattle.bank_store.specs.declared.store.Store.{Store}
@@ -130,7 +130,7 @@ manifest_length store = length store.body.items + 2
 -- sequence number, the other bank, and the manifest's place and length
 abbrev pub slot_body : Store → (place length : ℕ) → List ℕ
 slot_body store place size =
-    number_bytes 4 ((active_sequence store) + 1) ++ (other_bank (active_bank store) ∷ []) ++ number_bytes 4 place ++ number_bytes 4 size
+    slot_body_bytes (active_sequence store + 1) (other_bank (active_bank store)) (record { offset = place; length = size })
 
 -- the image with 0 in the other slot's gate, where that is open
 abbrev pub with_gate_shut : Store → Image → Image

@@ -13,10 +13,10 @@ ghost use Rattle.disk_layout.specs.Slots.{IsManifestRange};
 ghost use Rattle.bank_store.specs.Bounds.{IsStore};
 
 use crate::fault::StoreFault;
-use crate::front::{u8_bytes, u16_bytes, u32_bytes};
 use crate::stage::{Filling, Stage};
+use disk_layout::numbers::{u8_bytes, u16_bytes, u32_bytes};
 use disk_layout::places::{LONGEST_MANIFEST, OPEN, SEQUENCE_IN_SLOT};
-use disk_layout::{Active, ManifestRange};
+use disk_layout::{Active, ManifestRange, SlotFields};
 use disk_model::{Disk, DiskFault};
 use load_base::{Bytes, Name, PartText};
 use std::alloc::Global;
@@ -293,17 +293,19 @@ impl Store {
         disk.write(at, &self.slot_bytes(place, length))
     }
 
-    // What the other slot is to say behind its gate, from its sequence number on.
-    #[tactic(auto, unfolding(field_grammar::specs::Fields::number_bytes))]
-    fn slot_bytes(&self, place: u32, length: u32) -> [u8; 13]
+    // The body of the other slot: the next sequence number, the other bank, and the manifest's range in it.
+    fn slot_bytes(&self, offset: u32, length: u32) -> [u8; 13]
         requires { active_sequence self.now < 4294967295 }
-        ensures { result ≡ slot_body self.now place length }
+        ensures { result ≡ slot_body self.now offset length }
     {
-        let [s0, s1, s2, s3] = u32_bytes(self.active.sequence + 1);
-        let [p0, p1, p2, p3] = u32_bytes(place);
-        let [l0, l1, l2, l3] = u32_bytes(length);
-        let bank = self.active.bank.other().number();
-        [s0, s1, s2, s3, bank, p0, p1, p2, p3, l0, l1, l2, l3]
+        let sequence = self.active.sequence + 1;
+        let says = SlotFields {
+            gate: SHUT,
+            sequence,
+            bank: self.active.bank.other().number(),
+            manifest: ManifestRange { offset, length },
+        };
+        says.encode_body()
     }
 
     /// Opens the gate of the other slot and syncs. With Ok the new configuration rules, and the store is that

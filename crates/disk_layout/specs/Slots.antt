@@ -1,12 +1,14 @@
 -- The two slots of a disk, which say what its banks hold (docs/DISK.md).
-use Rattle.std.specs.Prelude.{◌≡◌, ◌⊎◌, ℕ, ◌+◌, ◌-◌, ◌<◌, ◌≤◌}
-use Rattle.disk_model.specs.Image.{Image}
+use Rattle.std.specs.Prelude.{◌≡◌, ◌⊎◌, ℕ, ◌+◌, ◌-◌, ◌<◌, ◌≤◌, List, [], ◌∷◌, ◌++◌}
+use Rattle.field_grammar.specs.Fields.{number_bytes}
+use Rattle.disk_model.specs.Image.{Image, range}
 use Rattle.disk_layout.specs.Places.{slot_a, slot_b, longest_manifest, number_at}
 use Rattle.disk_layout.specs.declared.active.Slot.{Slot}
 use Rattle.disk_layout.specs.declared.active.Slot.TheVariants as slots
 use Rattle.disk_layout.specs.declared.active.Bank.{Bank}
 use Rattle.disk_layout.specs.declared.active.Bank.TheVariants as banks
 use Rattle.disk_layout.specs.declared.active.ManifestRange.{ManifestRange}
+use Rattle.disk_layout.specs.declared.slot.SlotFields.{SlotFields}
 
 -- where a slot begins
 abbrev pub slot_offset : Slot → ℕ
@@ -59,3 +61,26 @@ pub record Rules (image : Image) (slot : ℕ) : Type 0 where
   pub gate : IsOpen image slot
   pub greatest : (other : ℕ) → IsSlot other → IsOpen image other → sequence_of image other ≤ sequence_of image slot
   pub tie : slot ≡ slot_b → IsOpen image slot_a → sequence_of image slot_a < sequence_of image slot_b
+
+-- what the slot at this offset says
+pub record IsSlotAt (image : Image) (at : ℕ) (slot : SlotFields) : Type 0 where
+  pub gate : slot.gate ≡ image at
+  pub sequence : slot.sequence ≡ sequence_of image at
+  pub bank : slot.bank ≡ bank_of image at
+  pub offset : slot.manifest.offset ≡ manifest_place_of image at
+  pub length : slot.manifest.length ≡ manifest_length_of image at
+
+-- What a slot says can be on a disk with banks of this size: its bank is one of the two, and its manifest isn't too
+-- long and lies in the bank.
+pub record IsSound (size bank offset length : ℕ) : Type 0 where
+  pub is_bank : bank < 2
+  pub short : length ≤ longest_manifest
+  pub within : offset + length ≤ size
+
+-- the body of a slot that says this, from its sequence number on
+abbrev pub slot_body_bytes : (sequence bank : ℕ) → ManifestRange → List ℕ
+slot_body_bytes sequence bank manifest = number_bytes 4 sequence ++ (bank ∷ []) ++ number_bytes 4 manifest.offset ++ number_bytes 4 manifest.length
+
+-- such a body stands in the slot at this offset
+abbrev pub HasBody : Image → (at sequence bank : ℕ) → ManifestRange → Type 0
+HasBody image at sequence bank manifest = range image (at + 16) 13 ≡ slot_body_bytes sequence bank manifest

@@ -3,11 +3,11 @@ use Rattle.std.proofs.Common.{◌≡◌, ◌≢◌, ℕ, ◌<◌, ◌≤◌, ◌
 use Rattle.std.proofs.lemmas.Bool.{cases_lt, eqb-true, eq-eqb}
 use Rattle.disk_model.specs.Image.{Image}
 use Rattle.disk_layout.specs.Places.{slot_a, slot_b}
-use Rattle.disk_layout.specs.Slots.{IsOpen, IsSlot, Rules}
+use Rattle.disk_layout.specs.Slots.{IsOpen, IsSlot, Rules, IsSlotAt}
 use Rattle.disk_layout.specs.SlotLaws.{a_rules, b_rules}
 use Rattle.disk_layout.specs.declared.active.Slot.TheVariants as slots
-use Rattle.recovery.specs.declared.slot.SlotFields.{SlotFields}
-use Rattle.recovery.specs.Parts.{IsSlotAt, TellsOther, IsRulerOn}
+use Rattle.disk_layout.specs.declared.slot.SlotFields.{SlotFields}
+use Rattle.recovery.specs.Parts.{TellsOther, IsRulerOn}
 
 -- slot A is open, and slot B isn't both open and of a greater sequence
 abbrev pub RulesOver : SlotFields → SlotFields → Type 0

@@ -1,16 +1,17 @@
 -- What was found, as what a store keeps of the disk.
 use Rattle.std.proofs.Common.{◌≡◌, ◌≢◌, ℕ, List, Bool, true, false, inl, inr, sym, ap, ◌∙◌, subst, arith}
 use Rattle.disk_model.specs.Image.{Image}
-use Rattle.disk_layout.specs.Slots.{IsSlot, slot_offset, bank_number, other_slot, manifest_place_of, manifest_length_of}
+use Rattle.disk_layout.specs.Slots.{IsSlot, IsSlotAt, slot_offset, bank_number, other_slot, manifest_place_of, manifest_length_of}
 use Rattle.disk_layout.specs.Manifest.{LoadEntry, manifest_view}
 use Rattle.disk_layout.specs.Stands.{Outline, StandingView, HasOutline, StandsBy, outline_of}
 use Rattle.disk_layout.specs.declared.active.Active.{Active}
+use Rattle.disk_layout.specs.declared.active.ManifestRange.{ManifestRange}
 use Rattle.disk_layout.specs.declared.identity.Identity.{Identity}
 use Rattle.disk_layout.specs.declared.manifest.Manifest.{Manifest}
 use Rattle.bank_store.specs.Store.{active_slot, bank_size, active_of, is_other_open}
 use Rattle.bank_store.specs.Fits.{HoldsFor}
 use Rattle.bank_store.specs.declared.store.Store.{Store}
-use Rattle.recovery.specs.Parts.{IsSlotAt, TellsOther}
+use Rattle.recovery.specs.Parts.{TellsOther}
 use Rattle.recovery.specs.Surveys.{FindsActive, IsSurveyed, outline_of_survey}
 use Rattle.recovery.specs.declared.surveying.Ruler.{Ruler}
 use Rattle.recovery.specs.declared.surveying.Surveyed.{Surveyed}
@@ -47,15 +48,15 @@ same_outline image id loads slot at bank names sequence says here same next outl
 
 -- What the slot says is what is active.
 pub finds : (image : Image) (id : Identity) (m : Manifest) (active : Active) (ruler : Ruler) → active.slot ≡ ruler.slot → bank_number active.bank ≡ ruler.says.bank
-    → active.sequence ≡ ruler.says.sequence → active.manifest.offset ≡ ruler.says.place → active.manifest.length ≡ ruler.says.length
+    → active.sequence ≡ ruler.says.sequence → active.manifest ≡ ruler.says.manifest
     → HasOutline image (slot_offset ruler.slot) (record { identity = id; bank = ruler.says.bank; sequence = ruler.says.sequence; loads = manifest_view m })
     → IsSlotAt image (slot_offset ruler.slot) ruler.says → TellsOther image (slot_offset ruler.slot) ruler.other_is_open → FindsActive image id m active ruler.other_is_open
-finds image id m active ruler slot bank sequence offset length outline says other =
+finds image id m active ruler slot bank sequence manifest outline says other =
     let at : slot_offset active.slot ≡ slot_offset ruler.slot = ap slot_offset slot in
     record {
       outline = same_outline image id (manifest_view m) (slot_offset active.slot) (slot_offset ruler.slot) (bank_number active.bank) ruler.says.bank active.sequence ruler.says.sequence at bank sequence outline;
-      offset = ap (λ (n : ℕ). manifest_place_of image n) at ∙ sym says.place ∙ sym offset;
-      length = ap (λ (n : ℕ). manifest_length_of image n) at ∙ sym says.length ∙ sym length;
+      offset = ap (λ (n : ℕ). manifest_place_of image n) at ∙ sym says.offset ∙ sym (ap (λ (r : ManifestRange). r.offset) manifest);
+      length = ap (λ (n : ℕ). manifest_length_of image n) at ∙ sym says.length ∙ sym (ap (λ (r : ManifestRange). r.length) manifest);
       other = subst (λ (n : ℕ). TellsOther image n ruler.other_is_open) (sym at) other;
     }
 

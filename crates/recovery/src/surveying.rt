@@ -7,28 +7,25 @@ ghost use Rattle.disk_model.specs.State.{IsSettled};
 ghost use Rattle.field_grammar.specs.Grammar.{Spelled};
 ghost use Rattle.disk_layout.specs.Places.{IsBankSize, bank_at};
 ghost use Rattle.disk_layout.specs.Identity.{HasIdentity};
-ghost use Rattle.disk_layout.specs.Slots.{slot_offset, bank_number};
+ghost use Rattle.disk_layout.specs.Slots.{slot_offset, bank_number, IsSlotAt};
 ghost use Rattle.disk_layout.specs.Manifest.{ManifestFits, manifest, manifest_view, entry_view, total_length, size_of};
 ghost use Rattle.disk_layout.specs.Stands.{StandingView, outline_of, Refuses};
 ghost use Rattle.disk_layout.specs.Looks.{IsOfDisk, Looks};
 ghost use Rattle.bank_store.specs.Store.{IsIdle};
 ghost use Rattle.bank_store.specs.Acts.{IsRunning};
 ghost use Rattle.bank_store.specs.Fits.{HoldsFor, Fits, Works};
-ghost use Rattle.recovery.specs.Parts.{IsSlotAt, IsRulerOn, RefusesSlots, IsSoundAt, RefusesSlot, RefusesBytes, RefusesManifest};
+ghost use Rattle.recovery.specs.Parts.{IsRulerOn, RefusesSlots, IsSoundAt, RefusesSlot, RefusesBytes, RefusesManifest};
 ghost use Rattle.recovery.specs.Surveys.{IsSurveyed, IsInRange, FindsActive, IsFoundInRange, outline_of_survey};
 
-use crate::identity::identity_of;
 use crate::looking::{bytes_on, read_from};
-use crate::manifest::manifest_in;
-use crate::slot::{SlotFields, rules_over, slot_of};
 use bank_store::{Store, a_settled_disk_works, a_store_goes_on_fitting};
 use disk_layout::places::{
     BANK_IN_SLOT, LENGTH_IN_SLOT, LONGEST_IDENTITY, LONGEST_MANIFEST, OPEN, PLACE_IN_SLOT, SLOT_A,
     SLOT_B, SLOT_LENGTH,
 };
 use disk_layout::{
-    Active, Bank, Identity, Manifest, ManifestFault, ManifestFile, ManifestLoad, ManifestRange,
-    RecoverFault, Slot, an_outline_is_filled,
+    Active, Bank, Identity, Manifest, ManifestFault, ManifestFile, ManifestLoad, RecoverFault,
+    Slot, SlotFields, an_outline_is_filled,
 };
 use disk_model::{Disk, SIZE};
 use std::alloc::Global;
@@ -112,17 +109,13 @@ fn active_by(ruler: &Ruler) -> Active
     ensures slot { result.slot ≡ ruler.now.slot }
     ensures bank { bank_number result.bank ≡ ruler.now.says.bank }
     ensures sequence { result.sequence ≡ ruler.now.says.sequence }
-    ensures offset { result.manifest.offset ≡ ruler.now.says.place }
-    ensures length { result.manifest.length ≡ ruler.now.says.length }
+    ensures manifest { result.manifest ≡ ruler.now.says.manifest }
 {
     Active {
         slot: ruler.slot,
         bank: Bank::numbered(ruler.says.bank),
         sequence: ruler.says.sequence,
-        manifest: ManifestRange {
-            offset: ruler.says.place,
-            length: ruler.says.length,
-        },
+        manifest: ruler.says.manifest,
     }
 }
 
@@ -135,7 +128,7 @@ fn identity_on<K: Disk>(disk: &mut K) -> Result<Identity, RecoverFault>
 {
     let mut front = [0; LONGEST_IDENTITY];
     read_from(disk, 0, &mut front)?;
-    match identity_of(&front) {
+    match Identity::decode(&front) {
         Ok(identity) => Ok(identity),
         Err(place) => Err(RecoverFault::NotFormatted(place)),
     }
@@ -150,7 +143,7 @@ fn slot_on<K: Disk>(disk: &mut K, at: u32) -> Result<SlotFields, RecoverFault>
 {
     let mut bytes = [0; SLOT_LENGTH];
     read_from(disk, at, &mut bytes)?;
-    Ok(slot_of(&bytes))
+    Ok(SlotFields::decode(&bytes))
 }
 
 // The active slot, what it says, and whether the other is open too.
@@ -169,7 +162,7 @@ fn ruler_on<K: Disk>(disk: &mut K) -> Result<Ruler, RecoverFault>
 {
     let a = slot_on(disk, SLOT_A)?;
     let b = slot_on(disk, SLOT_B)?;
-    if rules_over(&a, &b) {
+    if is_active_over(&a, &b) {
         Ok(Ruler {
             slot: Slot::A,
             says: a,
@@ -186,17 +179,24 @@ fn ruler_on<K: Disk>(disk: &mut K) -> Result<Ruler, RecoverFault>
     }
 }
 
+// Slot A is open, and slot B isn't both open and of a greater sequence.
+fn is_active_over(a: &SlotFields, b: &SlotFields) -> bool
+    ensures { IsTrue result ↔ ((a.now.gate ≡ OPEN) × (b.now.gate ≡ OPEN → b.now.sequence ≤ a.now.sequence)) }
+{
+    a.gate == OPEN && (b.gate != OPEN || b.sequence <= a.sequence)
+}
+
 // What a slot says can be on a disk with banks of this size.
 fn check_slot(bank_size: u32, slot: Slot, says: &SlotFields) -> Result<(), RecoverFault>
     ensures ok { OnOk result (IsSoundAt bank_size says.now) }
     ensures refused { IfErr result (λ fault. RefusesSlot bank_size (slot_offset slot) says.now fault) }
 {
     let at = u64::from(slot.offset());
-    let end = u64::from(says.place) + u64::from(says.length);
+    let end = u64::from(says.manifest.offset) + u64::from(says.manifest.length);
     if says.bank > 1 {
         return Err(RecoverFault::BadSlot(at + u64::from(BANK_IN_SLOT)));
     }
-    if says.length > LONGEST_MANIFEST {
+    if says.manifest.length > LONGEST_MANIFEST {
         return Err(RecoverFault::BadSlot(at + u64::from(LENGTH_IN_SLOT)));
     }
     if end > u64::from(bank_size) {
@@ -216,16 +216,16 @@ fn manifest_of_slot<K: Disk>(
     requires size { IsBankSize bank_size }
     requires can_be { IsSoundAt bank_size slot.now }
     ensures found { IfOk result (λ m. (image : Image) → (K.state disk.old).reads ≡ Some image
-        → Spelled manifest (range image (bank_at bank_size slot.now.bank + slot.now.place) slot.now.length) (manifest_view m)) }
+        → Spelled manifest (range image (bank_at bank_size slot.now.bank + slot.now.manifest.offset) slot.now.manifest.length) (manifest_view m)) }
     ensures fits { IfOk result (λ m. ManifestFits (manifest_view m)) }
-    ensures lengths { IfOk result (λ m. total_length (manifest_view m) ≡ slot.now.place) }
+    ensures lengths { IfOk result (λ m. total_length (manifest_view m) ≡ slot.now.manifest.offset) }
     ensures refused { IfErr result (λ fault. (image : Image) → (K.state disk.old).reads ≡ Some image
-        → RefusesManifest image (bank_at bank_size slot.now.bank + slot.now.place) slot.now.length slot.now.place fault) }
+        → RefusesManifest image (bank_at bank_size slot.now.bank + slot.now.manifest.offset) slot.now.manifest.length slot.now.manifest.offset fault) }
     ensures looks { Looks (K.state disk.old) (K.state disk.new) result }
 {
-    let start = Bank::numbered(slot.bank).offset(bank_size) + slot.place;
-    let manifest = manifest_on(alloc, disk, start, slot.length)?;
-    if adds_up(&manifest, slot.place) {
+    let start = Bank::numbered(slot.bank).offset(bank_size) + slot.manifest.offset;
+    let manifest = manifest_on(alloc, disk, start, slot.manifest.length)?;
+    if adds_up(&manifest, slot.manifest.offset) {
         Ok(manifest)
     } else {
         Err(RecoverFault::BadManifest(u64::from(start)))
@@ -247,7 +247,7 @@ fn manifest_on<K: Disk>(
     ensures looks { Looks (K.state disk.old) (K.state disk.new) result }
 {
     let bytes = bytes_on(alloc, disk, start, length)?;
-    match manifest_in(alloc, bytes.as_slice()) {
+    match Manifest::decode(alloc, bytes.as_slice()) {
         Ok(manifest) => Ok(manifest),
         Err(ManifestFault::Wrong(place)) => {
             Err(RecoverFault::BadManifest(u64::from(start) + place))

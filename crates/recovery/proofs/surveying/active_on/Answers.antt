@@ -39,4 +39,4 @@ returns-clause-found g c image told =
     let outline = has_outline image c.in_ok-identity.identity (slot_offset ruler.slot) ruler.says (manifest_view c.in_ok-manifest.manifest)
     (record { identity = c.in_ok-identity.ensures.found image told; rules = found.rules }) c.in_ok-check_slot.ensures.ok found.says
     (c.in_ok-manifest.ensures.found image (c.in_ok-ruler.ensures.looks.ok.reads ∙ told_ruler)) c.in_ok-manifest.ensures.lengths in
-    finds image c.in_ok-identity.identity c.in_ok-manifest.manifest c.active_by.result ruler active.slot active.bank active.sequence active.offset active.length outline found.says found.other
+    finds image c.in_ok-identity.identity c.in_ok-manifest.manifest c.active_by.result ruler active.slot active.bank active.sequence active.manifest outline found.says found.other

@@ -9,7 +9,7 @@ use Rattle.disk_layout.specs.ManifestSpelling.{manifest_spelling}
 use Rattle.disk_layout.specs.declared.manifest.Manifest.{Manifest}
 use Rattle.disk_layout.specs.declared.manifest.ManifestFault.{ManifestFault}
 use Rattle.disk_layout.specs.declared.manifest.ManifestFault.TheVariants.{Wrong, Memory}
-use Rattle.recovery.specs.Parts.{RefusesManifestBytes}
+use Rattle.disk_layout.specs.Manifest.{RefusesManifestBytes}
 
 abbrev GivesManifest : List ℕ → Result Manifest ManifestFault → Type 0
 GivesManifest bytes result = Gives Memory manifest_view result (answer manifest bytes)

@@ -1,6 +1,6 @@
 use Rattle.std.proofs.Common.{◌≡◌, ◌≤◌, length, ap, arith}
-use Rattle.bank_store.proofs.Sizes.{number_more, short_more}
-use Rattle.bank_store.proofs.front.Front.before_sum.Goals as goal
+use Rattle.disk_layout.proofs.Sizes.{number_more, short_more}
+use Rattle.disk_layout.proofs.identity_bytes.IdentityBytes.before_sum.Goals as goal
 
 pub put_short-requires-2-clause-room : goal.put_short-requires-2-clause-room
 put_short-requires-2-clause-room c =

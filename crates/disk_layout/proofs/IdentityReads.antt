@@ -7,7 +7,7 @@ use Rattle.field_grammar.specs.Answers.{answer}
 use Rattle.field_grammar.specs.ExactLaws.{answer_is_spelled, answer_is_fault}
 use Rattle.disk_layout.specs.Identity.{identity}
 use Rattle.disk_layout.specs.declared.identity.Identity.{Identity}
-use Rattle.recovery.specs.Reading.{Parses}
+use Rattle.disk_layout.specs.Reading.{Parses}
 
 abbrev ParsesFront : List ℕ → Cursor → Result Identity ℕ → Cursor → Type 0
 ParsesFront front from result to = Parses (λ id. id) identity from result to

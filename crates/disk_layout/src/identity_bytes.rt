@@ -1,56 +1,56 @@
-//! The bytes of an identity.
+//! The bytes of an identity, as they are written.
 ghost use Rattle.std.specs.Prelude.{◌≡◌, ◌+◌, ◌≤◌, [], ◌++◌, length};
-ghost use Rattle.field_grammar.specs.Fields.{number_bytes, short_text};
+ghost use Rattle.field_grammar.specs.Fields.{short_text};
 ghost use Rattle.disk_layout.specs.Identity.{IsIdentity, identity_front, identity_text};
 ghost use Rattle.disk_layout.specs.Places.{IsBankSize, longest_identity};
 
-use byteorder::{BigEndian, ByteOrder};
+use crate::Identity;
+use crate::numbers::{u8_bytes, u16_bytes, u32_bytes};
+use crate::places::LONGEST_IDENTITY;
 use crc_fields::crc16;
-use disk_layout::Identity;
-use disk_layout::places::LONGEST_IDENTITY;
 use std::marker::Model;
 
-/// The front of a disk, which takes no memory. A contract sees the bytes that were put into it.
+/// The bytes of an identity, at most 75. They take no memory; a contract sees those that were put into it.
 #[derive(Drop)]
-pub(crate) struct Front {
+pub struct IdentityBytes {
     cells: [u8; LONGEST_IDENTITY],
     len: usize,
 }
 
-impl Model for Front {
+impl Model for IdentityBytes {
     ghost use Rattle.std.specs.Prelude.{List, ℕ, take, ◌≤◌};
-    ghost use Rattle.bank_store.specs.Front.{IsFront};
+    ghost use Rattle.disk_layout.specs.IdentityBytes.{IsWritten};
 
     ghost Value = { List ℕ };
 
     ghost view = { λ f. take f.len f.cells };
 
-    ghost invariant = { λ f. IsFront f.len };
+    ghost invariant = { λ f. IsWritten f.len };
 }
 
-impl Front {
-    /// The bytes of this identity, as they stand at the front of a disk.
-    #[tactic(auto, unfolding(disk_layout::specs::Identity::identity_text))]
-    pub(crate) fn of(identity: &Identity) -> Front
+impl IdentityBytes {
+    // The bytes of this identity, as they stand at the front of a disk.
+    #[tactic(auto, unfolding(crate::specs::Identity::identity_text))]
+    pub(crate) fn of(identity: &Identity) -> IdentityBytes
         requires { IsBankSize identity.now.bank }
         ensures text { result ≡ identity_text identity.now }
         ensures fits { IsIdentity identity.now }
         ensures short { length result ≤ longest_identity }
     {
-        let mut front = Front::before_sum(identity);
+        let mut front = IdentityBytes::before_sum(identity);
         let sum = crc16(front.as_slice());
         front.put(&u16_bytes(sum));
         front
     }
 
-    #[tactic(auto, unfolding(disk_layout::specs::Identity::identity_front))]
-    fn before_sum(identity: &Identity) -> Front
+    #[tactic(auto, unfolding(crate::specs::Identity::identity_front))]
+    fn before_sum(identity: &Identity) -> IdentityBytes
         requires { IsBankSize identity.now.bank }
         ensures front { result ≡ identity_front identity.now }
         ensures short { length result + 2 ≤ longest_identity }
         ensures fits { IsIdentity identity.now }
     {
-        let mut front = Front {
+        let mut front = IdentityBytes {
             cells: [0; LONGEST_IDENTITY],
             len: 0,
         };
@@ -80,34 +80,9 @@ impl Front {
         self.len = end;
     }
 
-    pub(crate) fn as_slice(&self) -> &[u8]
+    pub fn as_slice(&self) -> &[u8]
         ensures { result.now ≡ self.now }
     {
         &self.cells[..self.len]
     }
-}
-
-#[tactic(auto, unfolding(field_grammar::specs::Fields::number_bytes))]
-pub(crate) fn u8_bytes(value: u8) -> [u8; 1]
-    ensures { result ≡ number_bytes 1 value }
-{
-    [value]
-}
-
-#[tactic(auto, unfolding(field_grammar::specs::Fields::number_bytes))]
-pub(crate) fn u16_bytes(value: u16) -> [u8; 2]
-    ensures { result ≡ number_bytes 2 value }
-{
-    let mut bytes = [0; 2];
-    BigEndian::write_u16(&mut bytes, value);
-    bytes
-}
-
-#[tactic(auto, unfolding(field_grammar::specs::Fields::number_bytes))]
-pub(crate) fn u32_bytes(value: u32) -> [u8; 4]
-    ensures { result ≡ number_bytes 4 value }
-{
-    let mut bytes = [0; 4];
-    BigEndian::write_u32(&mut bytes, value);
-    bytes
 }

@@ -1,6 +1,6 @@
 use Rattle.std.proofs.Common.{arith}
-use Rattle.recovery.proofs.ManifestReads.{is_spelled, is_fitting, is_refused}
-use Rattle.recovery.proofs.manifest.manifest_in.Goals as goal
+use Rattle.disk_layout.proofs.ManifestReads.{is_spelled, is_fitting, is_refused}
+use Rattle.disk_layout.proofs.manifest.Manifest.decode.Goals as goal
 
 pub returns-clause-found : goal.returns-clause-found
 returns-clause-found c = is_spelled c.args.bytes.now c.read_manifest.result (λ i. omega (arith, c.type_inv.bytes i)) c.read_manifest.ensures

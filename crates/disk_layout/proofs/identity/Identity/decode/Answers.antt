@@ -1,6 +1,6 @@
 use Rattle.std.proofs.Common.{arith}
-use Rattle.recovery.proofs.IdentityReads.{found_at_front, refused_at_front}
-use Rattle.recovery.proofs.identity.identity_of.Goals as goal
+use Rattle.disk_layout.proofs.IdentityReads.{found_at_front, refused_at_front}
+use Rattle.disk_layout.proofs.identity.Identity.decode.Goals as goal
 
 pub returns-clause-found : goal.returns-clause-found
 returns-clause-found c =
