@@ -1,18 +1,39 @@
 -- A store that keeps what ruled.
-use Rattle.std.proofs.Common.{◌≡◌, inl, inr, ℕ, ◌+◌, ◌<◌, ◌≤◌, sym, ◌∙◌, ap₂, subst}
+use Rattle.std.proofs.Common.{◌≡◌, inl, inr, ℕ, ◌+◌, ◌<◌, ◌≤◌, sym, ◌∙◌, ap, ap₂, subst}
 use Rattle.disk_model.specs.Image.{Image}
 use Rattle.disk_layout.specs.Places.{bank_at}
-use Rattle.disk_layout.specs.Slots.{IsOpen}
+use Rattle.disk_layout.specs.Slots.{IsOpen, slot_offset, bank_number, manifest_place_of, manifest_length_of}
+use Rattle.disk_layout.specs.declared.active.Active.{Active}
 use Rattle.disk_layout.specs.Stands.{StandingView, StandsBy}
-use Rattle.bank_store.specs.Bounds.{other_slot}
-use Rattle.bank_store.specs.Store.{work_at, other_bank, RulesAs}
-use Rattle.bank_store.specs.Safe.{StandsFor, MayChange, SameButForWork}
+use Rattle.disk_layout.specs.Slots.{other_slot}
+use Rattle.disk_layout.specs.Slots.{other_bank}
+use Rattle.bank_store.specs.Store.{active_slot, active_bank, active_sequence, work_at, SameActive}
+use Rattle.bank_store.specs.Fits.{HoldsFor, MayChange, SameButForWork}
 use Rattle.bank_store.specs.declared.store.Store.{Store}
 
-pub work_carried : (old new : Store) → RulesAs old new → work_at new ≡ work_at old
-work_carried old new rules = ap₂ (λ (s : ℕ) (b : ℕ). bank_at s (other_bank b)) rules.size rules.bank
+-- the parts of what is active
+pub same_slot : {old new : Store} → SameActive old new → (active_slot new) ≡ (active_slot old)
+same_slot same = ap (λ (a : Active). slot_offset a.slot) same.active
 
-module _ (old new : Store) (rules : RulesAs old new) (gate : new.other_is_open ≡ old.other_is_open) where
+pub same_bank : {old new : Store} → SameActive old new → (active_bank new) ≡ (active_bank old)
+same_bank same = ap (λ (a : Active). bank_number a.bank) same.active
+
+pub same_sequence : {old new : Store} → SameActive old new → (active_sequence new) ≡ (active_sequence old)
+same_sequence same = ap (λ (a : Active). a.sequence) same.active
+
+-- the numbers of its manifest
+pub offset_carried : (old new : Store) (image : Image) → SameActive old new → manifest_place_of image (active_slot old) ≡ old.active.manifest.offset
+    → manifest_place_of image (active_slot new) ≡ new.active.manifest.offset
+offset_carried old new image same was = subst (λ (a : Active). manifest_place_of image (slot_offset a.slot) ≡ a.manifest.offset) (sym same.active) was
+
+pub length_carried : (old new : Store) (image : Image) → SameActive old new → manifest_length_of image (active_slot old) ≡ old.active.manifest.length
+    → manifest_length_of image (active_slot new) ≡ new.active.manifest.length
+length_carried old new image same was = subst (λ (a : Active). manifest_length_of image (slot_offset a.slot) ≡ a.manifest.length) (sym same.active) was
+
+pub work_carried : (old new : Store) → SameActive old new → work_at new ≡ work_at old
+work_carried old new rules = ap₂ (λ (s : ℕ) (b : ℕ). bank_at s (other_bank b)) rules.size (same_bank rules)
+
+module _ (old new : Store) (rules : SameActive old new) (gate : new.other_is_open ≡ old.other_is_open) where
   may_carried : (place : ℕ) → MayChange old place → MayChange new place
   may_carried place (inl bank) = inl (
     subst (λ (w : ℕ). w ≤ place) (sym (work_carried old new rules)) bank.0,
@@ -20,21 +41,23 @@ module _ (old new : Store) (rules : RulesAs old new) (gate : new.other_is_open �
   )
   may_carried place (inr body) = inr (
     gate ∙ body.0,
-    subst (λ (s : ℕ). other_slot s < place) (sym rules.slot) body.1,
-    subst (λ (s : ℕ). place < other_slot s + 29) (sym rules.slot) body.2,
+    subst (λ (s : ℕ). other_slot s < place) (sym (same_slot rules)) body.1,
+    subst (λ (s : ℕ). place < other_slot s + 29) (sym (same_slot rules)) body.2,
   )
 
   pub near_carried : (one other : Image) → SameButForWork old one other → SameButForWork new one other
   near_carried one other same place out = same place (λ may. out (may_carried place may))
 
-  pub stands_carried : (image : Image) (s : StandingView) → StandsFor old image s → StandsFor new image s
+  pub stands_carried : (image : Image) (s : StandingView) → HoldsFor old image s → HoldsFor new image s
   stands_carried image s was = record {
-    by = subst (λ (n : ℕ). StandsBy image n s) (sym rules.slot) was.by;
-    bank = was.bank ∙ sym rules.bank;
-    sequence = was.sequence ∙ sym rules.sequence;
+    by = subst (λ (n : ℕ). StandsBy image n s) (sym (same_slot rules)) was.by;
+    bank = was.bank ∙ sym (same_bank rules);
+    sequence = was.sequence ∙ sym (same_sequence rules);
     size = was.size ∙ sym rules.size;
+    offset = offset_carried old new image rules was.offset;
+    length = length_carried old new image rules was.length;
     gate = record {
-      open_there = λ is. subst (λ (n : ℕ). IsOpen image (other_slot n)) (sym rules.slot) (was.gate.open_there (sym gate ∙ is));
-      shut_there = λ is there. was.gate.shut_there (sym gate ∙ is) (subst (λ (n : ℕ). IsOpen image (other_slot n)) rules.slot there);
+      open_there = λ is. subst (λ (n : ℕ). IsOpen image (other_slot n)) (sym (same_slot rules)) (was.gate.open_there (sym gate ∙ is));
+      shut_there = λ is there. was.gate.shut_there (sym gate ∙ is) (subst (λ (n : ℕ). IsOpen image (other_slot n)) (same_slot rules) there);
     };
   }

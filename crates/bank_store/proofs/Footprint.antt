@@ -10,7 +10,7 @@ use Rattle.disk_layout.specs.Slots.{IsOpen, IsSlot, Rules, sequence_of, bank_of,
 use Rattle.disk_layout.specs.Identity.{identity}
 use Rattle.disk_layout.specs.Manifest.{manifest}
 use Rattle.disk_layout.specs.Stands.{StandingView, StandsBy, outline_of, manifest_at, manifest_of}
-use Rattle.bank_store.specs.Bounds.{other_slot}
+use Rattle.disk_layout.specs.Slots.{other_slot}
 
 -- b has what a has of the identity, of the slot and of the bank, and of the other slot too, unless that is shut
 pub record Agrees (slot size bank : ℕ) (a b : Image) : Type 0 where
@@ -27,7 +27,7 @@ which_slot slot other (inr e) (inl d) = inr (omega (arith, e, d))
 which_slot slot other (inr e) (inr d) = inl (omega (arith, e, d))
 
 -- numbers in a slot whose bytes are the same
-number_same : (a b : Image) (slot : ℕ) → ((k : ℕ) → k < 29 → b (slot + k) ≡ a (slot + k)) → (i : ℕ) → i + 4 ≤ 29 → number_at 4 b (slot + i) ≡ number_at 4 a (slot + i)
+pub number_same : (a b : Image) (slot : ℕ) → ((k : ℕ) → k < 29 → b (slot + k) ≡ a (slot + k)) → (i : ℕ) → i + 4 ≤ 29 → number_at 4 b (slot + i) ≡ number_at 4 a (slot + i)
 unfolding number_at
 number_same a b slot same i within =
     ap (big_number 4) (same_range b a (slot + i) 4 (λ k below.
@@ -92,7 +92,7 @@ standing_kept slot s a b was agrees =
           identity = subst (λ (bytes : List ℕ). SpelledAtFront identity bytes s.identity) (sym fronts) o.ruled.identity;
           rules = rules_same slot size s.bank a b agrees o.ruled.rules;
         };
-        can_be = record { bank = omega (arith, o.can_be.bank, bank); short = omega (arith, o.can_be.short, long); within = omega (arith, o.can_be.within, place, long) };
+        can_be = record { is_bank = omega (arith, o.can_be.is_bank, bank); short = omega (arith, o.can_be.short, long); within = omega (arith, o.can_be.within, place, long) };
         bank = o.bank ∙ sym bank;
         sequence = o.sequence ∙ sym (number_same a b slot agrees.slot_same 16 (omega arith));
         manifest = subst (λ (bytes : List ℕ). Spelled manifest bytes (outline_of s).loads) (sym manifests) o.manifest;

@@ -81,7 +81,7 @@ opened_stands before after id size laid same gate =
             identity = subst (λ (front : List ℕ). SpelledAtFront identity front id) (sym (apart before after slot_a 1 0 longest_identity same (inl (omega arith)))) laid.identity;
             rules = a_rules after gate (λ opened. absurd (shut opened));
           };
-          can_be = record { bank = omega (arith, bank); short = omega (arith, long); within = omega (arith, place, long, size.0) };
+          can_be = record { is_bank = omega (arith, bank); short = omega (arith, long); within = omega (arith, place, long, size.0) };
           bank = sym bank;
           sequence = sym sequence;
           manifest = subst (λ (m : List ℕ). Spelled manifest m []) (sym bytes) no_loads;

@@ -17,7 +17,7 @@ use Rattle.disk_layout.specs.Places.{most_loads, most_files}
 use Rattle.disk_layout.specs.Manifest.{file_entry_fields}
 use Rattle.disk_layout.specs.Contents.{file_entry_of, bytes_of}
 use Rattle.disk_layout.specs.RangeLaws.{ranges_joined}
-use Rattle.bank_store.specs.Store.{IsFilling, work_at, RulesAs}
+use Rattle.bank_store.specs.Store.{IsFilling, work_at, SameActive}
 use Rattle.bank_store.specs.Given.{Given, GivenLoad, nothing_given, with_load, with_bytes, with_file, file_to_last, Misses, bytes_given, given_fields, IsFile, IsLoad, HasGiven}
 use Rattle.bank_store.specs.declared.store.Store.{Store}
 use Rattle.bank_store.specs.declared.stage.Stage.{Stage}
@@ -50,15 +50,15 @@ bytes_with_load : (part : List ℕ) (announced : ℕ) (g : Given) → bytes_give
 bytes_with_load part announced g =
     ap (λ (l : List FileView). bytes_of l ++ g.bytes) (flat_map-append files_of g.loads (record { part = part; announced = announced; files = [] } ∷ []) ∙ append-nil (flat_map files_of g.loads))
 
-pub given_load : (old new : Store) (image : Image) (part : List ℕ) (files : ℕ) (far : Filling) (g : Given) → RulesAs old new → IsFilling old far → far.missing ≡ 0 → far.loads < most_loads
-    → IsFilling new (record { loads = far.loads + 1; missing = files; end = far.end; start = far.start }) → new.body.items ≡ (old.body.items ++ part) ++ number_bytes 2 files
+pub given_load : (old new : Store) (image : Image) (part : List ℕ) (files : ℕ) (progress : Filling) (g : Given) → SameActive old new → IsFilling old progress → progress.missing ≡ 0 → progress.loads < most_loads
+    → IsFilling new (record { loads = progress.loads + 1; missing = files; end = progress.end; start = progress.start }) → new.body.items ≡ (old.body.items ++ part) ++ number_bytes 2 files
     → IsPartText part → 1 ≤ files → files ≤ most_files → HasGiven old image g → HasGiven new image (with_load part files g)
-given_load old new image part files far g rules filling none few stage body is_part some most was =
-    let same : was.far ≡ far = same_filling was.far far (sym was.stage ∙ filling) in
+given_load old new image part files progress g rules filling none few stage body is_part some most was =
+    let same : was.progress ≡ progress = same_filling was.progress progress (sym was.stage ∙ filling) in
     let load : GivenLoad = record { part = part; announced = files; files = [] } in
     let bytes = bytes_with_load part files g in
     record {
-      far = record { loads = far.loads + 1; missing = files; end = far.end; start = far.start };
+      progress = record { loads = progress.loads + 1; missing = files; end = progress.end; start = progress.start };
       stage = stage;
       loads = length-append g.loads (load ∷ []) ∙ ap (λ (n : ℕ). n + 1) (was.loads ∙ ap (λ (f : Filling). f.loads) same);
       few = omega (arith, few);
@@ -68,7 +68,7 @@ given_load old new image part files far g rules filling none few stage body is_p
           ∙ sym (fields_more g.loads load ∙ ap (λ (l : List ℕ). concat (flat_map given_fields g.loads) ++ l) (new_fields part files));
       end = ap length bytes ∙ was.end ∙ ap (λ (f : Filling). f.end) same;
       start = ap (λ (f : Filling). f.start + length g.bytes) (sym same) ∙ was.start ∙ ap (λ (f : Filling). f.end) same;
-      written = ap (λ (n : ℕ). range image n far.end) (work_carried old new rules) ∙ ap (λ (f : Filling). range image (work_at old) f.end) (sym same) ∙ was.written ∙ sym bytes;
+      written = ap (λ (n : ℕ). range image n progress.end) (work_carried old new rules) ∙ ap (λ (f : Filling). range image (work_at old) f.end) (sym same) ∙ was.written ∙ sym bytes;
     }
 
 -- ---- a file ends
@@ -133,38 +133,38 @@ no_loads_missing : (loads : List GivenLoad) (missing : ℕ) → 1 ≤ missing �
 no_loads_missing [] missing some was e = absurd (omega (arith, some, was))
 no_loads_missing (load ∷ loads) missing some was e = cc
 
-pub given_file : (old new : Store) (image : Image) (name : List ℕ) (far : Filling) (g : Given) → RulesAs old new → IsFilling old far → 1 ≤ far.missing → far.end ≤ far.start + longest_file
-    → IsFilling new (record { loads = far.loads; missing = far.missing - 1; end = far.end; start = far.end })
-    → new.body.items ≡ ((old.body.items ++ number_bytes 1 (length name)) ++ name) ++ number_bytes 4 (far.end - far.start)
+pub given_file : (old new : Store) (image : Image) (name : List ℕ) (progress : Filling) (g : Given) → SameActive old new → IsFilling old progress → 1 ≤ progress.missing → progress.end ≤ progress.start + longest_file
+    → IsFilling new (record { loads = progress.loads; missing = progress.missing - 1; end = progress.end; start = progress.end })
+    → new.body.items ≡ ((old.body.items ++ number_bytes 1 (length name)) ++ name) ++ number_bytes 4 (progress.end - progress.start)
     → IsName name → HasGiven old image g → HasGiven new image (with_file name g)
-given_file old new image name far g rules filling left short stage body is_name was =
-    let same : was.far ≡ far = same_filling was.far far (sym was.stage ∙ filling) in
+given_file old new image name progress g rules filling left short stage body is_name was =
+    let same : was.progress ≡ progress = same_filling was.progress progress (sym was.stage ∙ filling) in
     let file : FileView = record { name = name; bytes = g.bytes } in
-    let misses : Misses far.missing g.loads = subst (λ (n : ℕ). Misses n g.loads) (ap (λ (f : Filling). f.missing) same) was.missing in
-    let some : g.loads ≢ [] = no_loads_missing g.loads far.missing left misses in
+    let misses : Misses progress.missing g.loads = subst (λ (n : ℕ). Misses n g.loads) (ap (λ (f : Filling). f.missing) same) was.missing in
+    let some : g.loads ≢ [] = no_loads_missing g.loads progress.missing left misses in
     let bytes = bytes_with_file name g some in
-    let start : far.start + length g.bytes ≡ far.end = ap (λ (f : Filling). f.start + length g.bytes) (sym same) ∙ was.start ∙ ap (λ (f : Filling). f.end) same in
-    let size : far.end - far.start ≡ length g.bytes = omega (arith, start) in
+    let start : progress.start + length g.bytes ≡ progress.end = ap (λ (f : Filling). f.start + length g.bytes) (sym same) ∙ was.start ∙ ap (λ (f : Filling). f.end) same in
+    let size : progress.end - progress.start ≡ length g.bytes = omega (arith, start) in
     record {
-      far = record { loads = far.loads; missing = far.missing - 1; end = far.end; start = far.end };
+      progress = record { loads = progress.loads; missing = progress.missing - 1; end = progress.end; start = progress.end };
       stage = stage;
       loads = length_last file g.loads ∙ was.loads ∙ ap (λ (f : Filling). f.loads) same;
       few = subst (λ (f : Filling). f.loads ≤ most_loads) same was.few;
-      missing = misses_less file g.loads far.missing left misses;
+      missing = misses_less file g.loads progress.missing left misses;
       each = loads_last file (record { name = is_name; short = omega (arith, start, short) }) g.loads was.each;
       body = body ∙ ap (λ (n : ℕ). ((old.body.items ++ number_bytes 1 (length name)) ++ name) ++ number_bytes 4 n) size
           ∙ ap (λ (l : List ℕ). ((l ++ number_bytes 1 (length name)) ++ name) ++ number_bytes 4 (length g.bytes)) was.body
           ∙ sym (entry_bytes name (length g.bytes) (concat (flat_map given_fields g.loads))) ∙ sym (fields_last file g.loads some);
       end = ap length bytes ∙ was.end ∙ ap (λ (f : Filling). f.end) same;
       start = omega arith;
-      written = ap (λ (n : ℕ). range image n far.end) (work_carried old new rules) ∙ ap (λ (f : Filling). range image (work_at old) f.end) (sym same) ∙ was.written ∙ sym bytes;
+      written = ap (λ (n : ℕ). range image n progress.end) (work_carried old new rules) ∙ ap (λ (f : Filling). range image (work_at old) f.end) (sym same) ∙ was.written ∙ sym bytes;
     }
 
 -- ---- nothing, and more bytes
 
 pub given_nothing : (store : Store) (image : Image) → IsFilling store (record { loads = 0; missing = 0; end = 0; start = 0 }) → store.body.items ≡ [] → HasGiven store image nothing_given
 given_nothing store image stage body = record {
-  far = record { loads = 0; missing = 0; end = 0; start = 0 };
+  progress = record { loads = 0; missing = 0; end = 0; start = 0 };
   stage = stage;
   loads = refl;
   few = omega arith;
@@ -176,19 +176,19 @@ given_nothing store image stage body = record {
   written = nil_from_length (range image (work_at store) 0) (length_range image (work_at store) 0);
 }
 
-pub given_bytes : (old new : Store) (image now : Image) (more : List ℕ) (far : Filling) (g : Given) → RulesAs old new → IsFilling old far
-    → IsFilling new (record { loads = far.loads; missing = far.missing; end = far.end + length more; start = far.start }) → new.body.items ≡ old.body.items
-    → now ≡ overlay image (work_at old + far.end) more → HasGiven old image g → HasGiven new now (with_bytes more g)
-given_bytes old new image now more far g rules filling stage body is was =
-    let same : was.far ≡ far = same_filling was.far far (sym was.stage ∙ filling) in
+pub given_bytes : (old new : Store) (image now : Image) (more : List ℕ) (progress : Filling) (g : Given) → SameActive old new → IsFilling old progress
+    → IsFilling new (record { loads = progress.loads; missing = progress.missing; end = progress.end + length more; start = progress.start }) → new.body.items ≡ old.body.items
+    → now ≡ overlay image (work_at old + progress.end) more → HasGiven old image g → HasGiven new now (with_bytes more g)
+given_bytes old new image now more progress g rules filling stage body is was =
+    let same : was.progress ≡ progress = same_filling was.progress progress (sym was.stage ∙ filling) in
     let files = bytes_of (flat_map files_of g.loads) in
     let bytes : bytes_given (with_bytes more g) ≡ bytes_given g ++ more = sym (append_assoc files g.bytes more) in
     let at = work_at old in
-    let front : range (overlay image (at + far.end) more) at far.end ≡ bytes_given g =
-    range_beside_overlay image (at + far.end) more at far.end (inl (omega arith)) ∙ ap (λ (f : Filling). range image at f.end) (sym same) ∙ was.written in
-    let behind : range (overlay image (at + far.end) more) (at + far.end) (length more) ≡ more = range_of_overlay image (at + far.end) (length more) more refl in
+    let front : range (overlay image (at + progress.end) more) at progress.end ≡ bytes_given g =
+    range_beside_overlay image (at + progress.end) more at progress.end (inl (omega arith)) ∙ ap (λ (f : Filling). range image at f.end) (sym same) ∙ was.written in
+    let behind : range (overlay image (at + progress.end) more) (at + progress.end) (length more) ≡ more = range_of_overlay image (at + progress.end) (length more) more refl in
     record {
-      far = record { loads = far.loads; missing = far.missing; end = far.end + length more; start = far.start };
+      progress = record { loads = progress.loads; missing = progress.missing; end = progress.end + length more; start = progress.start };
       stage = stage;
       loads = was.loads ∙ ap (λ (f : Filling). f.loads) same;
       few = subst (λ (f : Filling). f.loads ≤ most_loads) same was.few;
@@ -197,8 +197,16 @@ given_bytes old new image now more far g rules filling stage body is was =
       body = body ∙ was.body;
       end = ap length bytes ∙ length-append (bytes_given g) more ∙ ap (λ (n : ℕ). n + length more) (was.end ∙ ap (λ (f : Filling). f.end) same);
       start =
-          let start : far.start + length g.bytes ≡ far.end = ap (λ (f : Filling). f.start + length g.bytes) (sym same) ∙ was.start ∙ ap (λ (f : Filling). f.end) same in
+          let start : progress.start + length g.bytes ≡ progress.end = ap (λ (f : Filling). f.start + length g.bytes) (sym same) ∙ was.start ∙ ap (λ (f : Filling). f.end) same in
           omega (arith, start, length-append g.bytes more);
-      written = ap (λ (n : ℕ). range now n (far.end + length more)) (work_carried old new rules) ∙ ap (λ (i : Image). range i at (far.end + length more)) is
-          ∙ sym (ranges_joined (overlay image (at + far.end) more) at far.end (at + far.end) (length more) refl) ∙ ap₂ (λ (a : List ℕ) (b : List ℕ). a ++ b) front behind ∙ sym bytes;
+      written = ap (λ (n : ℕ). range now n (progress.end + length more)) (work_carried old new rules) ∙ ap (λ (i : Image). range i at (progress.end + length more)) is
+          ∙ sym (ranges_joined (overlay image (at + progress.end) more) at progress.end (at + progress.end) (length more) refl) ∙ ap₂ (λ (a : List ℕ) (b : List ℕ). a ++ b) front behind ∙ sym bytes;
     }
+
+pub given_none : (store : Store) (image now : Image) (bytes : List ℕ) (g : Given) → length bytes ≡ 0 → image ≡ now → HasGiven store image g → HasGiven store now (with_bytes bytes g)
+given_none store image now bytes g none same was =
+    let is : g ≡ with_bytes bytes g = sym (ap (λ (l : List ℕ). with_bytes l g) (nil_from_length bytes none) ∙ ap (λ (l : List ℕ). given_by g l) (append-nil g.bytes)) in
+    subst (λ (h : Given). HasGiven store now h) is (subst (λ (i : Image). HasGiven store i g) same was)
+  where
+    given_by : Given → List ℕ → Given
+    given_by h l = record { loads = h.loads; bytes = l }

@@ -1,12 +1,13 @@
 -- What was laid out stands there.
-use Rattle.std.proofs.Common.{◌≡◌, ℕ, ◌+◌, ◌<◌, ◌≤◌, ◌⊎◌, List, [], ◌∷◌, length, take, drop, get_or, refl, sym, ap, subst, inl, inr, ◌∙◌, arith}
+use Rattle.std.proofs.Common.{◌≡◌, ℕ, ◌+◌, ◌<◌, ◌≤◌, ◌⊎◌, List, [], ◌∷◌, length, get_or, refl, sym, ap, subst, inl, inr, ◌∙◌, arith}
 use Rattle.byteorder.specs.Endian.{big_number}
 use Rattle.disk_model.specs.Image.{Image, range, overlay}
 use Rattle.disk_model.specs.OverlayLaws.{overlay_outside}
-use Rattle.disk_model.specs.RangeLaws.{take_range, drop_range, byte_of_range}
+use Rattle.disk_model.specs.RangeLaws.{byte_of_range}
 use Rattle.disk_layout.specs.Places.{slot_a, slot_b, longest_identity, number_at}
 use Rattle.disk_layout.specs.Identity.{HasIdentity, identity_text}
 use Rattle.disk_layout.specs.declared.identity.Identity.{Identity}
+use Rattle.disk_layout.specs.SlotBodyLaws.{part_is}
 use Rattle.bank_store.specs.Formatting.{IsShut, IsLaidOut, IsUntouched, gates_shut, laid_out, a_opened}
 use Rattle.bank_store.proofs.Gates.{other_place}
 use Rattle.bank_store.proofs.Images.{written, apart}
@@ -26,11 +27,6 @@ body_is : (image : Image) (front : List ℕ) → length front ≤ longest_identi
 body_is image front short =
     apart (overlay (overlay image 8192 no_loads) 4112 first_slot) (laid image front) 0 (length front) 4112 13 (overlay_outside (overlay (overlay image 8192 no_loads) 4112 first_slot) 0 front) (inr (omega (arith, short)))
     ∙ written (overlay image 8192 no_loads) 4112 first_slot
-
--- a part of what stands there
-pub part_is : (image : Image) (at n k m : ℕ) (bytes : List ℕ) → range image at n ≡ bytes → k + m ≤ n → range image (at + k) m ≡ take m (drop k bytes)
-part_is image at n k m bytes is within =
-    sym (ap (λ (l : List ℕ). take m (drop k l)) (sym is) ∙ ap (take m) (drop_range image at n k) ∙ take_range image (at + k) _ m (omega (arith, within)))
 
 pub number_is : (image : Image) (n place : ℕ) (bytes : List ℕ) → range image place n ≡ bytes → number_at n image place ≡ big_number n bytes
 unfolding number_at

@@ -5,9 +5,8 @@ pub mod Continuing
 pub mod Footprint
 pub mod Gates
 pub mod Giving
-pub mod Going
 pub mod Images
-pub mod Installed
+pub mod Keeping
 pub mod Layouts
 pub mod Moments
 pub mod Near
@@ -17,6 +16,5 @@ pub mod Ready
 pub mod Rests
 pub mod Sealing
 pub mod Sizes
-pub mod Wholes
 pub mod Working
 pub mod Written

@@ -1,19 +1,16 @@
 -- Images that differ only where an installation writes stand for the same.
 use Rattle.std.proofs.Common.{◌≡◌, ◌⊎◌, inl, inr, ℕ, zero, suc, ◌+◌, ◌-◌, ◌<◌, ◌≤◌, Bool, true, false, refl, sym, ◌∙◌, ap, arith}
 use Rattle.std.proofs.lemmas.Bool.{cases_eq, cases_lt}
-use Rattle.std.proofs.lemmas.Bool.Decides.{nat_tests}
 use Rattle.disk_model.specs.Image.{Image, SameOutside}
 use Rattle.disk_layout.specs.Places.{bank_at}
-use Rattle.disk_layout.specs.Slots.{IsOpen, IsSlot}
+use Rattle.disk_layout.specs.Slots.{IsOpen, IsSlot, manifest_place_of, manifest_length_of}
+use Rattle.disk_layout.specs.SlotLaws.{offset_is_slot, number_below}
 use Rattle.disk_layout.specs.Stands.{StandingView, StandsBy, Stands}
-use Rattle.bank_store.specs.Bounds.{other_slot, is_slot_place}
-use Rattle.bank_store.specs.Store.{work_at}
-use Rattle.bank_store.specs.Safe.{StandsFor, GateIsAsKept, MayChange, SameButForWork}
+use Rattle.disk_layout.specs.Slots.{other_slot}
+use Rattle.bank_store.specs.Store.{active_slot, active_bank, work_at}
+use Rattle.bank_store.specs.Fits.{HoldsFor, GateIsAsKept, MayChange, SameButForWork}
 use Rattle.bank_store.specs.declared.store.Store.{Store}
-use Rattle.bank_store.proofs.Footprint.{standing_kept}
-
-pub slot_from : (place : ℕ) → is_slot_place place ≡ true → IsSlot place
-slot_from place is = grind (arith, nat_tests, is)
+use Rattle.bank_store.proofs.Footprint.{standing_kept, number_same}
 
 banks_apart : (size bank k : ℕ) → bank < 2 → k < size → (bank_at size bank + k < bank_at size (1 - bank)) ⊎ (bank_at size (1 - bank) + size ≤ bank_at size bank + k)
 banks_apart size zero k one below = inl (omega (arith, below))
@@ -33,7 +30,7 @@ slot_low slot (inl e) = (omega (arith, e), omega (arith, e))
 slot_low slot (inr e) = (omega (arith, e), omega (arith, e))
 
 -- a place outside the other bank and the other slot's body doesn't change
-stays : (store : Store) (place : ℕ) → (place < work_at store) ⊎ (work_at store + store.size ≤ place) → (place ≤ other_slot store.slot) ⊎ (other_slot store.slot + 29 ≤ place) → ¬ MayChange store place
+stays : (store : Store) (place : ℕ) → (place < work_at store) ⊎ (work_at store + store.size ≤ place) → (place ≤ other_slot (active_slot store)) ⊎ (other_slot (active_slot store) + 29 ≤ place) → ¬ MayChange store place
 stays store place (inl low) slot (inl bank) = omega (arith, low, bank.0)
 stays store place (inr high) slot (inl bank) = omega (arith, high, bank.1)
 stays store place bank (inl low) (inr body) = omega (arith, low, body.1)
@@ -44,52 +41,65 @@ open_stays : (store : Store) (place : ℕ) → store.other_is_open ≡ true → 
 open_stays store place is low (inl bank) = omega (arith, low, bank.0)
 open_stays store place is low (inr body) = let e : true ≡ false = sym is ∙ body.0 in cc
 
-gate_same : (store : Store) (one other : Image) → SameButForWork store one other → other (other_slot store.slot) ≡ one (other_slot store.slot)
+gate_same : (store : Store) (one other : Image) → SameButForWork store one other → other (other_slot (active_slot store)) ≡ one (other_slot (active_slot store))
 gate_same store one other same =
-    same (other_slot store.slot) (stays store (other_slot store.slot) (inl (omega (arith, (other_low store.slot (slot_from store.slot store.keeps.slot_is)).1))) (inl (omega arith)))
+    same (other_slot (active_slot store)) (stays store (other_slot (active_slot store)) (inl (omega (arith, (other_low (active_slot store) (offset_is_slot store.active.slot)).1))) (inl (omega arith)))
 
 -- the other slot is shut in both, or the same in both
 others_same : (store : Store) (one other : Image) (is_open : Bool) → store.other_is_open ≡ is_open → GateIsAsKept store one → SameButForWork store one other
-    → ¬ IsOpen other (other_slot store.slot) ⊎ ((k : ℕ) → k < 29 → other (other_slot store.slot + k) ≡ one (other_slot store.slot + k))
+    → ¬ IsOpen other (other_slot (active_slot store)) ⊎ ((k : ℕ) → k < 29 → other (other_slot (active_slot store) + k) ≡ one (other_slot (active_slot store) + k))
 others_same store one other true is gate same =
-    inr (λ k below. same (other_slot store.slot + k) (open_stays store (other_slot store.slot + k) is (omega (arith, below, (other_low store.slot (slot_from store.slot store.keeps.slot_is)).1))))
+    inr (λ k below. same (other_slot (active_slot store) + k) (open_stays store (other_slot (active_slot store) + k) is (omega (arith, below, (other_low (active_slot store) (offset_is_slot store.active.slot)).1))))
 others_same store one other false is gate same = inl (λ there. gate.shut_there is (sym (gate_same store one other same) ∙ there))
 
 -- two images differ only where an installation writes, and perhaps in the other slot's gate
 abbrev pub SameButForGate : Store → Image → Image → Type 0
-SameButForGate store one other = (place : ℕ) → ¬ MayChange store place → (place < other_slot store.slot) ⊎ (other_slot store.slot + 1 ≤ place) → other place ≡ one place
+SameButForGate store one other = (place : ℕ) → ¬ MayChange store place → (place < other_slot (active_slot store)) ⊎ (other_slot (active_slot store) + 1 ≤ place) → other place ≡ one place
+
+-- so they have the same active slot
+slot_same : (store : Store) (one other : Image) → SameButForGate store one other → (k : ℕ) → k < 29 → other (active_slot store + k) ≡ one (active_slot store + k)
+slot_same store one other same k below =
+    let is_slot = offset_is_slot store.active.slot in
+    let ends = (slot_low (active_slot store) is_slot).1 in
+    let out = slots_apart (active_slot store) k is_slot below in
+    same (active_slot store + k) (stays store (active_slot store + k) (inl (omega (arith, below, ends))) (elim out [ inl before ↦ inl (omega (arith, before)) | inr behind ↦ inr behind ]))
+    (elim out [ inl before ↦ inl before | inr behind ↦ inr (omega (arith, behind)) ])
+
+pub offset_same : (store : Store) (one other : Image) (s : StandingView) → HoldsFor store one s → SameButForGate store one other → manifest_place_of other (active_slot store) ≡ store.active.manifest.offset
+offset_same store one other s was same = number_same one other (active_slot store) (slot_same store one other same) 21 (omega arith) ∙ was.offset
+
+pub length_same : (store : Store) (one other : Image) (s : StandingView) → HoldsFor store one s → SameButForGate store one other → manifest_length_of other (active_slot store) ≡ store.active.manifest.length
+length_same store one other s was same = number_same one other (active_slot store) (slot_same store one other same) 25 (omega arith) ∙ was.length
 
 -- so they stand for the same, where the other slot is the same or shut
-stands_by : (store : Store) (one other : Image) (s : StandingView) → StandsFor store one s → SameButForGate store one other
-    → ¬ IsOpen other (other_slot store.slot) ⊎ ((k : ℕ) → k < 29 → other (other_slot store.slot + k) ≡ one (other_slot store.slot + k)) → StandsBy other store.slot s
+stands_by : (store : Store) (one other : Image) (s : StandingView) → HoldsFor store one s → SameButForGate store one other
+    → ¬ IsOpen other (other_slot (active_slot store)) ⊎ ((k : ℕ) → k < 29 → other (other_slot (active_slot store) + k) ≡ one (other_slot (active_slot store) + k)) → StandsBy other (active_slot store) s
 stands_by store one other s was same others =
-    let is_slot = slot_from store.slot store.keeps.slot_is in
-    let high = (other_low store.slot is_slot).1 in
-    let low = (other_low store.slot is_slot).0 in
-    let ends = (slot_low store.slot is_slot).1 in
-    standing_kept store.slot s one other was.by (record {
+    let is_slot = offset_is_slot store.active.slot in
+    let high = (other_low (active_slot store) is_slot).1 in
+    let low = (other_low (active_slot store) is_slot).0 in
+    standing_kept (active_slot store) s one other was.by (record {
       front = λ place below. same place (stays store place (inl (omega (arith, below))) (inl (omega (arith, below, low)))) (inl (omega (arith, below, low)));
-      slot_same = λ k below.
-          let out = slots_apart store.slot k is_slot below in
-          same (store.slot + k) (stays store (store.slot + k) (inl (omega (arith, below, ends))) (elim out [ inl before ↦ inl (omega (arith, before)) | inr behind ↦ inr behind ]))
-          (elim out [ inl before ↦ inl before | inr behind ↦ inr (omega (arith, behind)) ]);
+      slot_same = slot_same store one other same;
       bank_same = λ k below.
-          let there : bank_at s.identity.bank s.bank + k ≡ bank_at store.size store.bank + k =
+          let there : bank_at s.identity.bank s.bank + k ≡ bank_at store.size (active_bank store) + k =
           ap (λ (n : ℕ). bank_at n s.bank + k) was.size ∙ ap (λ (n : ℕ). bank_at store.size n + k) was.bank in
           let within : k < store.size = omega (arith, below, was.size) in
-          ap other there ∙ same (bank_at store.size store.bank + k)
-          (stays store (bank_at store.size store.bank + k) (banks_apart store.size store.bank k store.keeps.is_bank within) (inr (omega (arith, high)))) (inr (omega (arith, high)))
+          ap other there ∙ same (bank_at store.size (active_bank store) + k)
+          (stays store (bank_at store.size (active_bank store) + k) (banks_apart store.size (active_bank store) k (number_below store.active.bank) within) (inr (omega (arith, high)))) (inr (omega (arith, high)))
           ∙ ap one (sym there);
       others = others;
     })
 
 -- images that differ only where an installation writes stand for the same
-pub near_stands : (store : Store) (one other : Image) (s : StandingView) → StandsFor store one s → SameButForWork store one other → StandsFor store other s
+pub near_stands : (store : Store) (one other : Image) (s : StandingView) → HoldsFor store one s → SameButForWork store one other → HoldsFor store other s
 near_stands store one other s was same = record {
   by = stands_by store one other s was (λ place out apart. same place out) (others_same store one other store.other_is_open refl was.gate same);
   bank = was.bank;
   sequence = was.sequence;
   size = was.size;
+  offset = offset_same store one other s was (λ place out apart. same place out);
+  length = length_same store one other s was (λ place out apart. same place out);
   gate = record {
     open_there = λ is. gate_same store one other same ∙ was.gate.open_there is;
     shut_there = λ is there. was.gate.shut_there is (sym (gate_same store one other same) ∙ there);
@@ -97,19 +107,19 @@ near_stands store one other s was same = record {
 }
 
 -- with the other slot shut the image stands for the same
-pub shut_stands : (store : Store) (one other : Image) (s : StandingView) → StandsFor store one s → SameButForGate store one other → ¬ IsOpen other (other_slot store.slot) → StandsBy other store.slot s
+pub shut_stands : (store : Store) (one other : Image) (s : StandingView) → HoldsFor store one s → SameButForGate store one other → ¬ IsOpen other (other_slot (active_slot store)) → StandsBy other (active_slot store) s
 shut_stands store one other s was same shut = stands_by store one other s was same (inl shut)
 
 -- whatever the gate of a slot that was open, the image stands for the same
-pub torn_gate_stands : (store : Store) (one other : Image) (s : StandingView) → store.other_is_open ≡ true → StandsFor store one s → SameButForGate store one other → Stands other s
-torn_gate_stands store one other s is was same = elim (cases_eq (other (other_slot store.slot)) 0xA5) [
+pub torn_gate_stands : (store : Store) (one other : Image) (s : StandingView) → store.other_is_open ≡ true → HoldsFor store one s → SameButForGate store one other → Stands other s
+torn_gate_stands store one other s is was same = elim (cases_eq (other (other_slot (active_slot store))) 0xA5) [
   | inl opened ↦
-      let near : SameButForWork store one other = λ place out. elim (cases_eq place (other_slot store.slot)) [
+      let near : SameButForWork store one other = λ place out. elim (cases_eq place (other_slot (active_slot store))) [
         | inl here ↦ ap other here ∙ opened ∙ sym (was.gate.open_there is) ∙ ap one (sym here)
-        | inr there ↦ same place out (beside (other_slot store.slot) place there)
+        | inr there ↦ same place out (beside (other_slot (active_slot store)) place there)
       ] in
-      record { slot = store.slot; by = (near_stands store one other s was near).by }
-  | inr shut ↦ record { slot = store.slot; by = shut_stands store one other s was same shut }
+      record { slot = (active_slot store); by = (near_stands store one other s was near).by }
+  | inr shut ↦ record { slot = (active_slot store); by = shut_stands store one other s was same shut }
 ]
   where
     beside : (at place : ℕ) → ¬ (place ≡ at) → (place < at) ⊎ (at + 1 ≤ place)
@@ -119,9 +129,6 @@ torn_gate_stands store one other s is was same = elim (cases_eq (other (other_sl
     ]
 
 -- ---- images that a write may leave
-
-pub near_self : (store : Store) (one : Image) → SameButForWork store one one
-near_self store one place out = refl
 
 pub near_back : (store : Store) (one other : Image) → SameButForWork store one other → SameButForWork store other one
 near_back store one other same place out = sym (same place out)

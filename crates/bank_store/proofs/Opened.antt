@@ -1,50 +1,37 @@
 -- What is sealed stands for what was given, once the gate is open.
-use Rattle.std.proofs.Common.{◌≡◌, ◌⊎◌, inl, inr, ℕ, ◌+◌, ◌<◌, ◌≤◌, ◌^◌, List, [], ◌∷◌, ◌++◌, length, take, drop, get_or, map, refl, sym, ◌∙◌, ap, ap₂, subst, arith, append_assoc, length-append}
+use Rattle.std.proofs.Common.{◌≡◌, ◌⊎◌, inl, inr, ℕ, ◌+◌, ◌<◌, ◌≤◌, ◌^◌, List, [], ◌∷◌, ◌++◌, length, map, sym, ◌∙◌, ap, ap₂, subst, arith, length-append}
 use Rattle.std.specs.List.{All, concat, flat_map}
-use Rattle.std.proofs.Math.Seq.{get_or-append_seam}
-use Rattle.std.proofs.lemmas.List.{append-nil, nil_from_length, take_at, drop_at}
+use Rattle.std.proofs.lemmas.List.{append-nil, nil_from_length}
 use Rattle.byteorder.specs.Endian.{big_number}
 use Rattle.field_grammar.specs.Grammar.{SpelledAtFront}
-use Rattle.field_grammar.specs.Fields.{number_bytes, number_in}
-use Rattle.field_grammar.specs.NumberLaws.{length_number_bytes, wide4}
+use Rattle.field_grammar.specs.Fields.{number_bytes}
+use Rattle.field_grammar.specs.NumberLaws.{length_number_bytes}
 use Rattle.disk_model.specs.Image.{Image, range, overlay}
-use Rattle.disk_model.specs.RangeLaws.{same_range, byte_of_range}
+use Rattle.disk_model.specs.RangeLaws.{same_range}
 use Rattle.disk_model.specs.OverlayLaws.{overlay_inside, overlay_outside, overlay_joined, range_of_overlay, range_beside_overlay}
 use Rattle.disk_layout.specs.Places.{slot_b, bank_at, number_at, longest_manifest}
 use Rattle.disk_layout.specs.Slots.{IsOpen, IsSlot, Rules, sequence_of, bank_of, manifest_place_of, manifest_length_of}
+use Rattle.disk_layout.specs.SlotLaws.{offset_is_slot, number_below}
+use Rattle.disk_layout.specs.SlotBodyLaws.{body_length, says_sequence, says_bank, says_offset, says_length}
 use Rattle.disk_layout.specs.Identity.{identity}
 use Rattle.disk_layout.specs.Manifest.{manifest_fields}
 use Rattle.disk_layout.specs.ManifestSpelling.{manifest_spelling}
 use Rattle.disk_layout.specs.Contents.{entries_of, bytes_of}
 use Rattle.disk_layout.specs.Stands.{StandingView, StandsBy, manifest_at, manifest_of}
-use Rattle.bank_store.specs.Bounds.{other_slot, IsInRange}
-use Rattle.bank_store.specs.Store.{IsFilling, work_at, other_bank, manifest_length, slot_body, with_manifest, with_slot}
-use Rattle.bank_store.specs.Given.{Given, GivenLoad, HasGiven, IsWhole, Misses, bytes_given, installed, load_of}
-use Rattle.bank_store.specs.Safe.{StandsFor}
+use Rattle.disk_layout.specs.Slots.{other_slot}
+use Rattle.bank_store.specs.Bounds.{IsInRange}
+use Rattle.disk_layout.specs.Slots.{other_bank}
+use Rattle.bank_store.specs.Store.{active_slot, active_bank, active_sequence, IsFilling, work_at, manifest_length, slot_body, with_manifest, with_slot}
+use Rattle.bank_store.specs.Given.{Given, GivenLoad, HasGiven, IsWhole, Misses, bytes_given, configured, loads_of, load_of}
+use Rattle.bank_store.specs.Fits.{HoldsFor}
 use Rattle.bank_store.specs.declared.store.Store.{Store}
 use Rattle.bank_store.specs.declared.stage.Stage.{Stage}
 use Rattle.bank_store.specs.declared.stage.Stage.TheVariants as stages
 use Rattle.bank_store.specs.declared.stage.Filling.{Filling}
 use Rattle.bank_store.proofs.Footprint.{which_slot}
 use Rattle.bank_store.proofs.Giving.{same_filling}
-use Rattle.bank_store.proofs.Layouts.{part_is}
-use Rattle.bank_store.proofs.Near.{slot_from, other_low, slot_low, slots_apart}
+use Rattle.bank_store.proofs.Near.{other_low, slot_low, slots_apart}
 use Rattle.bank_store.proofs.Sealing.{all_whole, same_contents, same_total, given_fit, manifest_bytes, headers_first}
-
--- a number among other bytes
-pub number_part : (image : Image) (at n k value : ℕ) (front rest bytes : List ℕ) → range image at n ≡ bytes → bytes ≡ front ++ (number_bytes 4 value ++ rest) → length front ≡ k → k + 4 ≤ n → value < 2 ^ 32
-    → number_at 4 image (at + k) ≡ value
-unfolding number_at number_in
-number_part image at n k value front rest bytes is parts long within small =
-    let four = number_bytes 4 value in
-    let dropped : drop k bytes ≡ four ++ rest = ap (drop k) parts ∙ drop_at front (four ++ rest) k long in
-    let taken : take 4 (four ++ rest) ≡ four = take_at four rest 4 (length_number_bytes 4 value) in
-    ap (big_number 4) (part_is image at n k 4 bytes is within ∙ ap (take 4) dropped ∙ taken) ∙ wide4.again value small
-
--- a byte among other bytes
-pub byte_part : (image : Image) (at n k value : ℕ) (front rest bytes : List ℕ) → range image at n ≡ bytes → bytes ≡ front ++ value ∷ rest → length front ≡ k → k < n → image (at + k) ≡ value
-byte_part image at n k value front rest bytes is parts long within =
-    sym (byte_of_range image at n k within) ∙ ap (λ (l : List ℕ). get_or l k 0) (is ∙ parts) ∙ ap (λ (m : ℕ). get_or (front ++ value ∷ rest) m 0) (sym long) ∙ get_or-append_seam front value rest 0
 
 other_is_slot : (slot : ℕ) → IsSlot slot → IsSlot (other_slot slot)
 other_is_slot slot (inl e) = inr (omega (arith, e))
@@ -55,184 +42,159 @@ other_bank_less bank less = omega (arith, less)
 
 -- the manifest, the other slot's body and its gate, laid over an image
 abbrev pub opened : Store → Filling → Image → Image
-opened store far image = overlay (with_slot store far.end (manifest_length store) (with_manifest store far image)) (other_slot store.slot) (0xA5 ∷ [])
+opened store progress image = overlay (with_slot store progress.end (manifest_length store) (with_manifest store progress image)) (other_slot (active_slot store)) (0xA5 ∷ [])
 
 pub slot_body_length : (store : Store) (place size : ℕ) → length (slot_body store place size) ≡ 13
-slot_body_length store place size =
-    omega (
-      arith,
-      length-append ((number_bytes 4 (store.sequence + 1) ++ (other_bank store.bank ∷ [])) ++ number_bytes 4 place) (number_bytes 4 size),
-      length-append (number_bytes 4 (store.sequence + 1) ++ (other_bank store.bank ∷ [])) (number_bytes 4 place),
-      length-append (number_bytes 4 (store.sequence + 1)) (other_bank store.bank ∷ []),
-      length_number_bytes 4 (store.sequence + 1),
-      length_number_bytes 4 place,
-      length_number_bytes 4 size,
-    )
+slot_body_length store place size = body_length (active_sequence store + 1) (other_bank (active_bank store)) (record { offset = place; length = size })
 
 -- where they lie
-pub record Lies (store : Store) (far : Filling) : Type 0 where
-  pub low : 4096 ≤ other_slot store.slot
-  pub high : other_slot store.slot + 29 ≤ 8192
+pub record Lies (store : Store) (progress : Filling) : Type 0 where
+  pub low : 4096 ≤ other_slot (active_slot store)
+  pub high : other_slot (active_slot store) + 29 ≤ 8192
   pub work : 8192 ≤ work_at store
-  pub fits : far.end + manifest_length store ≤ store.size
+  pub fits : progress.end + manifest_length store ≤ store.size
 
-module _ (store : Store) (far : Filling) (image : Image) (lies : Lies store far) where
+module _ (store : Store) (progress : Filling) (image : Image) (lies : Lies store progress) where
   abbrev work : ℕ
   work = work_at store
 
   abbrev other : ℕ
-  other = other_slot store.slot
+  other = other_slot (active_slot store)
 
   abbrev text : List ℕ
-  text = number_bytes 2 far.loads ++ store.body.items
+  text = number_bytes 2 progress.loads ++ store.body.items
 
   abbrev body : List ℕ
-  body = slot_body store far.end (manifest_length store)
+  body = slot_body store progress.end (manifest_length store)
 
   text_length : length text ≡ manifest_length store
-  text_length = omega (arith, length-append (number_bytes 2 far.loads) store.body.items, length_number_bytes 2 far.loads)
+  text_length = omega (arith, length-append (number_bytes 2 progress.loads) store.body.items, length_number_bytes 2 progress.loads)
 
-  body_length : length body ≡ 13
-  body_length = slot_body_length store far.end (manifest_length store)
+  body_size : length body ≡ 13
+  body_size = slot_body_length store progress.end (manifest_length store)
 
-  joined : with_manifest store far image ≡ overlay image (work + far.end) text
-  joined = overlay_joined image (work + far.end) (work + far.end + 2) (number_bytes 2 far.loads) store.body.items (omega (arith, length_number_bytes 2 far.loads))
+  joined : with_manifest store progress image ≡ overlay image (work + progress.end) text
+  joined = overlay_joined image (work + progress.end) (work + progress.end + 2) (number_bytes 2 progress.loads) store.body.items (omega (arith, length_number_bytes 2 progress.loads))
 
   -- behind the slots nothing but the manifest
-  far_off : (at n : ℕ) → 8192 ≤ at → range (opened store far image) at n ≡ range (overlay image (work + far.end) text) at n
+  far_off : (at n : ℕ) → 8192 ≤ at → range (opened store progress image) at n ≡ range (overlay image (work + progress.end) text) at n
   far_off at n beyond =
-      range_beside_overlay (with_slot store far.end (manifest_length store) (with_manifest store far image)) other (0xA5 ∷ []) at n (inr (omega (arith, lies.high, beyond)))
-      ∙ range_beside_overlay (with_manifest store far image) (other + 16) body at n (inr (omega (arith, lies.high, beyond, body_length)))
+      range_beside_overlay (with_slot store progress.end (manifest_length store) (with_manifest store progress image)) other (0xA5 ∷ []) at n (inr (omega (arith, lies.high, beyond)))
+      ∙ range_beside_overlay (with_manifest store progress image) (other + 16) body at n (inr (omega (arith, lies.high, beyond, body_size)))
       ∙ ap (λ (i : Image). range i at n) joined
 
-  pub contents_kept : range (opened store far image) work far.end ≡ range image work far.end
-  contents_kept = far_off work far.end lies.work ∙ range_beside_overlay image (work + far.end) text work far.end (inl (omega arith))
+  pub contents_kept : range (opened store progress image) work progress.end ≡ range image work progress.end
+  contents_kept = far_off work progress.end lies.work ∙ range_beside_overlay image (work + progress.end) text work progress.end (inl (omega arith))
 
-  pub manifest_there : range (opened store far image) (work + far.end) (manifest_length store) ≡ text
+  pub manifest_there : range (opened store progress image) (work + progress.end) (manifest_length store) ≡ text
   manifest_there =
-      far_off (work + far.end) (manifest_length store) (omega (arith, lies.work))
-      ∙ range_of_overlay image (work + far.end) (manifest_length store) text (sym text_length)
+      far_off (work + progress.end) (manifest_length store) (omega (arith, lies.work))
+      ∙ range_of_overlay image (work + progress.end) (manifest_length store) text (sym text_length)
 
-  pub slot_there : range (opened store far image) (other + 16) 13 ≡ body
+  pub slot_there : range (opened store progress image) (other + 16) 13 ≡ body
   slot_there =
-      range_beside_overlay (with_slot store far.end (manifest_length store) (with_manifest store far image)) other (0xA5 ∷ []) (other + 16) 13 (inr (omega arith))
-      ∙ range_of_overlay (with_manifest store far image) (other + 16) 13 body (sym body_length)
+      range_beside_overlay (with_slot store progress.end (manifest_length store) (with_manifest store progress image)) other (0xA5 ∷ []) (other + 16) 13 (inr (omega arith))
+      ∙ range_of_overlay (with_manifest store progress image) (other + 16) 13 body (sym body_size)
 
-  pub gate_there : IsOpen (opened store far image) other
+  pub gate_there : IsOpen (opened store progress image) other
   gate_there =
       let here : other ≡ other + 0 = omega arith in
-      ap (opened store far image) here ∙ overlay_inside (with_slot store far.end (manifest_length store) (with_manifest store far image)) other (0xA5 ∷ []) 0 (omega arith)
+      ap (opened store progress image) here ∙ overlay_inside (with_slot store progress.end (manifest_length store) (with_manifest store progress image)) other (0xA5 ∷ []) 0 (omega arith)
 
   -- what lies before the banks and outside the other slot stays
-  pub before_kept : (place : ℕ) → place < 8192 → (place < other) ⊎ (other + 29 ≤ place) → opened store far image place ≡ image place
+  pub before_kept : (place : ℕ) → place < 8192 → (place < other) ⊎ (other + 29 ≤ place) → opened store progress image place ≡ image place
   before_kept place early out =
-      overlay_outside (with_slot store far.end (manifest_length store) (with_manifest store far image)) other (0xA5 ∷ []) place (elim out [ inl b ↦ inl b | inr a ↦ inr (omega (arith, a)) ])
-      ∙ overlay_outside (with_manifest store far image) (other + 16) body place (elim out [ inl b ↦ inl (omega (arith, b)) | inr a ↦ inr (omega (arith, a, body_length)) ])
+      overlay_outside (with_slot store progress.end (manifest_length store) (with_manifest store progress image)) other (0xA5 ∷ []) place (elim out [ inl b ↦ inl b | inr a ↦ inr (omega (arith, a)) ])
+      ∙ overlay_outside (with_manifest store progress image) (other + 16) body place (elim out [ inl b ↦ inl (omega (arith, b)) | inr a ↦ inr (omega (arith, a, body_size)) ])
       ∙ ap (λ (i : Image). i place) joined
-      ∙ overlay_outside image (work + far.end) text place (inl (omega (arith, early, lies.work)))
+      ∙ overlay_outside image (work + progress.end) text place (inl (omega (arith, early, lies.work)))
 
-  abbrev one : List ℕ
-  one = number_bytes 4 (store.sequence + 1)
-
-  abbrev two : List ℕ
-  two = number_bytes 4 far.end
-
-  abbrev three : List ℕ
-  three = number_bytes 4 (manifest_length store)
-
-  pub sequence_there : store.sequence < 4294967295 → sequence_of (opened store far image) other ≡ store.sequence + 1
+  pub sequence_there : (active_sequence store) < 4294967295 → sequence_of (opened store progress image) other ≡ (active_sequence store) + 1
   sequence_there goes_on =
-      ap (λ (at : ℕ). number_at 4 (opened store far image) at) (omega arith)
-      ∙ number_part (opened store far image) (other + 16) 13 0 (store.sequence + 1) [] ((other_bank store.bank ∷ []) ++ (two ++ three)) body slot_there (simp append_assoc) refl (omega arith) (omega (arith, goes_on))
+      says_sequence (opened store progress image) other (active_sequence store + 1) (other_bank (active_bank store)) (record { offset = progress.end; length = manifest_length store }) slot_there (omega (arith, goes_on))
 
-  pub bank_there : bank_of (opened store far image) other ≡ other_bank store.bank
-  bank_there =
-      ap (opened store far image) (omega arith)
-      ∙ byte_part (opened store far image) (other + 16) 13 4 (other_bank store.bank) one (two ++ three) body slot_there (simp append_assoc) (length_number_bytes 4 (store.sequence + 1)) (omega arith)
+  pub bank_there : bank_of (opened store progress image) other ≡ other_bank (active_bank store)
+  bank_there = says_bank (opened store progress image) other (active_sequence store + 1) (other_bank (active_bank store)) (record { offset = progress.end; length = manifest_length store }) slot_there
 
-  pub place_there : far.end < 2 ^ 32 → manifest_place_of (opened store far image) other ≡ far.end
+  pub place_there : progress.end < 2 ^ 32 → manifest_place_of (opened store progress image) other ≡ progress.end
   place_there small =
-      ap (λ (at : ℕ). number_at 4 (opened store far image) at) (omega arith)
-      ∙ number_part (opened store far image) (other + 16) 13 5 far.end (one ++ (other_bank store.bank ∷ [])) three body slot_there (simp append_assoc)
-      (omega (arith, length-append one (other_bank store.bank ∷ []), length_number_bytes 4 (store.sequence + 1))) (omega arith) small
+      says_offset (opened store progress image) other (active_sequence store + 1) (other_bank (active_bank store)) (record { offset = progress.end; length = manifest_length store }) slot_there small
 
-  pub length_there : manifest_length store < 2 ^ 32 → manifest_length_of (opened store far image) other ≡ manifest_length store
+  pub length_there : manifest_length store < 2 ^ 32 → manifest_length_of (opened store progress image) other ≡ manifest_length store
   length_there small =
-      ap (λ (at : ℕ). number_at 4 (opened store far image) at) (omega arith)
-      ∙ number_part (opened store far image) (other + 16) 13 9 (manifest_length store) ((one ++ (other_bank store.bank ∷ [])) ++ two) [] body slot_there (ap (λ (l : List ℕ). ((one ++ (other_bank store.bank ∷ [])) ++ two) ++ l) (sym (append-nil three)))
-      (omega (arith, length-append (one ++ (other_bank store.bank ∷ [])) two, length-append one (other_bank store.bank ∷ []), length_number_bytes 4 (store.sequence + 1), length_number_bytes 4 far.end)) (omega arith) small
+      says_length (opened store progress image) other (active_sequence store + 1) (other_bank (active_bank store)) (record { offset = progress.end; length = manifest_length store }) slot_there small
 
 -- ---- and so it stands
 
-long_enough : (store : Store) (far : Filling) → IsInRange store.size store.body far → far.missing ≡ 0 → manifest_length store ≤ longest_manifest
-long_enough store far is none = omega (arith, is.few, is.taken, none)
+long_enough : (store : Store) (progress : Filling) → IsInRange store.size store.body progress → progress.missing ≡ 0 → manifest_length store ≤ longest_manifest
+long_enough store progress is none = omega (arith, is.few, is.taken, none)
 
-all_files_end : (store : Store) (image : Image) (far : Filling) (g : Given) → IsInRange store.size store.body far → far.missing ≡ 0 → IsFilling store far → HasGiven store image g
+all_files_end : (store : Store) (image : Image) (progress : Filling) (g : Given) → IsInRange store.size store.body progress → progress.missing ≡ 0 → IsFilling store progress → HasGiven store image g
     → bytes_given g ≡ bytes_of (flat_map (λ (l : GivenLoad). l.files) g.loads)
-all_files_end store image far g is none filling has =
-    let same : has.far ≡ far = same_filling has.far far (sym has.stage ∙ filling) in
-    let start : far.start + length g.bytes ≡ far.end = subst (λ (f : Filling). f.start + length g.bytes ≡ f.end) same has.start in
-    let whole : far.start ≡ far.end = is.whole none in
+all_files_end store image progress g is none filling has =
+    let same : has.progress ≡ progress = same_filling has.progress progress (sym has.stage ∙ filling) in
+    let start : progress.start + length g.bytes ≡ progress.end = subst (λ (f : Filling). f.start + length g.bytes ≡ f.end) same has.start in
+    let whole : progress.start ≡ progress.end = is.whole none in
     let nothing : length g.bytes ≡ 0 = omega (arith, start, whole) in
     ap (λ (l : List ℕ). bytes_of (flat_map (λ (l : GivenLoad). l.files) g.loads) ++ l) (nil_from_length g.bytes nothing) ∙ append-nil (bytes_of (flat_map (λ (l : GivenLoad). l.files) g.loads))
 
-pub lies_of : (store : Store) (far : Filling) → far.end + manifest_length store ≤ store.size → Lies store far
-lies_of store far fits =
-    let is_slot = slot_from store.slot store.keeps.slot_is in
-    record { low = (other_low store.slot is_slot).0; high = (other_low store.slot is_slot).1; work = omega arith; fits = fits }
+pub lies_of : (store : Store) (progress : Filling) → progress.end + manifest_length store ≤ store.size → Lies store progress
+lies_of store progress fits =
+    let is_slot = offset_is_slot store.active.slot in
+    record { low = (other_low (active_slot store) is_slot).0; high = (other_low (active_slot store) is_slot).1; work = omega arith; fits = fits }
 
-filling_not_idle : (far : Filling) → ◌≡◌ {A = Stage} (stages.Filling far) stages.Idle → ⊥
-filling_not_idle far e = cc
+filling_not_idle : (progress : Filling) → ◌≡◌ {A = Stage} (stages.Filling progress) stages.Idle → ⊥
+filling_not_idle progress e = cc
 
-module _ (store : Store) (far : Filling) (image : Image) (s : StandingView) (g : Given) (was : StandsFor store image s) (has : HasGiven store image g)
-    (filling : IsFilling store far) (none : far.missing ≡ 0) (fits : far.end + manifest_length store ≤ store.size) where
+module _ (store : Store) (progress : Filling) (image : Image) (s : StandingView) (g : Given) (was : HoldsFor store image s) (has : HasGiven store image g)
+    (filling : IsFilling store progress) (none : progress.missing ≡ 0) (fits : progress.end + manifest_length store ≤ store.size) where
   abbrev now : Image
-  now = opened store far image
+  now = opened store progress image
 
   abbrev other_place : ℕ
-  other_place = other_slot store.slot
+  other_place = other_slot (active_slot store)
 
-  abbrev lies : Lies store far
-  lies = lies_of store far fits
+  abbrev lies : Lies store progress
+  lies = lies_of store progress fits
 
-  is_slot : IsSlot store.slot
-  is_slot = slot_from store.slot store.keeps.slot_is
+  is_slot : IsSlot (active_slot store)
+  is_slot = offset_is_slot store.active.slot
 
-  in_range : IsInRange store.size store.body far
-  in_range = store.keeps.in_range far filling
+  in_range : IsInRange store.size store.body progress
+  in_range = store.keeps.in_range progress filling
 
-  same_far : has.far ≡ far
-  same_far = same_filling has.far far (sym has.stage ∙ filling)
+  same_far : has.progress ≡ progress
+  same_far = same_filling has.progress progress (sym has.stage ∙ filling)
 
-  goes_on : store.sequence < 4294967295
-  goes_on = (store.keeps.begun (λ idle. filling_not_idle far (sym filling ∙ idle))).goes_on
+  goes_on : (active_sequence store) < 4294967295
+  goes_on = (store.keeps.begun (λ idle. filling_not_idle progress (sym filling ∙ idle))).goes_on
 
-  ruling_apart : (k : ℕ) → k < 29 → (store.slot + k < other_place) ⊎ (other_place + 29 ≤ store.slot + k)
-  ruling_apart k below = slots_apart store.slot k is_slot below
+  ruling_apart : (k : ℕ) → k < 29 → ((active_slot store) + k < other_place) ⊎ (other_place + 29 ≤ (active_slot store) + k)
+  ruling_apart k below = slots_apart (active_slot store) k is_slot below
 
-  ruling_kept : (k : ℕ) → k < 29 → now (store.slot + k) ≡ image (store.slot + k)
-  ruling_kept k below = before_kept store far image lies (store.slot + k) (omega (arith, below, (slot_low store.slot is_slot).1)) (ruling_apart k below)
+  ruling_kept : (k : ℕ) → k < 29 → now ((active_slot store) + k) ≡ image ((active_slot store) + k)
+  ruling_kept k below = before_kept store progress image lies ((active_slot store) + k) (omega (arith, below, (slot_low (active_slot store) is_slot).1)) (ruling_apart k below)
 
-  ruling_sequence : sequence_of now store.slot ≡ store.sequence
+  ruling_sequence : sequence_of now (active_slot store) ≡ (active_sequence store)
   unfolding number_at
   ruling_sequence =
-      ap (big_number 4) (same_range now image (store.slot + 16) 4 (λ k below.
-      let there : store.slot + 16 + k ≡ store.slot + (16 + k) = omega arith in
+      ap (big_number 4) (same_range now image ((active_slot store) + 16) 4 (λ k below.
+      let there : (active_slot store) + 16 + k ≡ (active_slot store) + (16 + k) = omega arith in
       ap now there ∙ ruling_kept (16 + k) (omega (arith, below)) ∙ ap image (sym there))) ∙ sym was.by.outline.sequence ∙ was.sequence
 
-  new_sequence : sequence_of now other_place ≡ store.sequence + 1
-  new_sequence = sequence_there store far image lies goes_on
+  new_sequence : sequence_of now other_place ≡ (active_sequence store) + 1
+  new_sequence = sequence_there store progress image lies goes_on
 
   new_rules : Rules now other_place
   new_rules = record {
-    is_slot = other_is_slot store.slot is_slot;
-    gate = gate_there store far image lies;
-    greatest = λ slot is is_open. elim (which_slot store.slot slot is_slot is) [
+    is_slot = other_is_slot (active_slot store) is_slot;
+    gate = gate_there store progress image lies;
+    greatest = λ slot is is_open. elim (which_slot (active_slot store) slot is_slot is) [
       | inl e ↦ subst (λ (n : ℕ). sequence_of now n ≤ sequence_of now other_place) (sym e) (omega (arith, ruling_sequence, new_sequence))
       | inr e ↦ subst (λ (n : ℕ). sequence_of now n ≤ sequence_of now other_place) (sym e) (omega arith)
     ];
     tie = λ e a_open. elim is_slot [
-      | inl a ↦ subst (λ (n : ℕ). sequence_of now n < sequence_of now slot_b) a (subst (λ (n : ℕ). sequence_of now store.slot < sequence_of now n) e (omega (arith, ruling_sequence, new_sequence)))
+      | inl a ↦ subst (λ (n : ℕ). sequence_of now n < sequence_of now slot_b) a (subst (λ (n : ℕ). sequence_of now (active_slot store) < sequence_of now n) e (omega (arith, ruling_sequence, new_sequence)))
       | inr b ↦ absurd (omega (arith, e, b))
     ];
   }
@@ -240,14 +202,14 @@ module _ (store : Store) (far : Filling) (image : Image) (s : StandingView) (g :
   size_small : store.size ≤ 67108864
   size_small = store.keeps.is_size.1
 
-  place_is : manifest_place_of now other_place ≡ far.end
-  place_is = place_there store far image lies (omega (arith, fits, size_small))
+  pub place_is : manifest_place_of now other_place ≡ progress.end
+  place_is = place_there store progress image lies (omega (arith, fits, size_small))
 
-  length_is : manifest_length_of now other_place ≡ manifest_length store
-  length_is = length_there store far image lies (omega (arith, fits, size_small))
+  pub length_is : manifest_length_of now other_place ≡ manifest_length store
+  length_is = length_there store progress image lies (omega (arith, fits, size_small))
 
-  bank_is : bank_of now other_place ≡ other_bank store.bank
-  bank_is = bank_there store far image lies
+  bank_is : bank_of now other_place ≡ other_bank (active_bank store)
+  bank_is = bank_there store progress image lies
 
   bank_at_work : bank_at s.identity.bank (other_bank s.bank) ≡ work_at store
   bank_at_work = ap₂ (λ (n : ℕ) (b : ℕ). bank_at n (other_bank b)) was.size was.bank
@@ -256,32 +218,32 @@ module _ (store : Store) (far : Filling) (image : Image) (s : StandingView) (g :
   whole = all_whole g.loads (subst (λ (n : ℕ). Misses n g.loads) (ap (λ (f : Filling). f.missing) same_far ∙ none) has.missing)
 
   given : bytes_given g ≡ bytes_of (flat_map (λ (l : GivenLoad). l.files) g.loads)
-  given = all_files_end store image far g in_range none filling has
+  given = all_files_end store image progress g in_range none filling has
 
-  ends : length (bytes_given g) ≡ far.end
+  ends : length (bytes_given g) ≡ progress.end
   ends = has.end ∙ ap (λ (f : Filling). f.end) same_far
 
-  manifest_place : manifest_at now s.identity other_place ≡ work_at store + far.end
+  manifest_place : manifest_at now s.identity other_place ≡ work_at store + progress.end
   manifest_place =
-      ap₂ (λ (b : ℕ) (p : ℕ). bank_at s.identity.bank b + p) bank_is place_is ∙ ap (λ (n : ℕ). bank_at n (other_bank store.bank) + far.end) was.size
+      ap₂ (λ (b : ℕ) (p : ℕ). bank_at s.identity.bank b + p) bank_is place_is ∙ ap (λ (n : ℕ). bank_at n (other_bank (active_bank store)) + progress.end) was.size
 
   manifest_is : manifest_of now s.identity other_place ≡ concat (manifest_fields (entries_of (map load_of g.loads)))
   manifest_is =
-      ap₂ (λ (p : ℕ) (n : ℕ). range now p n) manifest_place length_is ∙ manifest_there store far image lies
-      ∙ manifest_bytes g.loads far.loads store.body.items whole (has.loads ∙ ap (λ (f : Filling). f.loads) same_far) has.body
+      ap₂ (λ (p : ℕ) (n : ℕ). range now p n) manifest_place length_is ∙ manifest_there store progress image lies
+      ∙ manifest_bytes g.loads progress.loads store.body.items whole (has.loads ∙ ap (λ (f : Filling). f.loads) same_far) has.body
 
   -- with its gate open the other slot stands for what was given
-  pub opened_stands : StandsBy now other_place (installed s g.loads)
+  pub opened_stands : StandsBy now other_place (configured s (loads_of g))
   opened_stands = record {
     outline = record {
       ruled = record {
         identity = subst (λ (bytes : List ℕ). SpelledAtFront identity bytes s.identity)
-            (sym (same_range now image 0 75 (λ k below. before_kept store far image lies (0 + k) (omega (arith, below)) (inl (omega (arith, below, lies.low)))))) was.by.outline.ruled.identity;
+            (sym (same_range now image 0 75 (λ k below. before_kept store progress image lies (0 + k) (omega (arith, below)) (inl (omega (arith, below, lies.low)))))) was.by.outline.ruled.identity;
         rules = new_rules;
       };
       can_be = record {
-        bank = omega (arith, bank_is, other_bank_less store.bank store.keeps.is_bank);
-        short = omega (arith, length_is, long_enough store far in_range none);
+        is_bank = omega (arith, bank_is, other_bank_less (active_bank store) (number_below store.active.bank));
+        short = omega (arith, length_is, long_enough store progress in_range none);
         within = omega (arith, place_is, length_is, fits, was.size);
       };
       bank = ap other_bank was.bank ∙ sym bank_is;
@@ -291,6 +253,6 @@ module _ (store : Store) (far : Filling) (image : Image) (s : StandingView) (g :
       lengths = same_total g.loads ∙ ap length (sym given) ∙ ends ∙ sym place_is;
     };
     headers = headers_first g.loads;
-    contents = same_contents g.loads ∙ sym given ∙ sym has.written ∙ ap (λ (f : Filling). range image (work_at store) f.end) same_far ∙ sym (contents_kept store far image lies)
+    contents = same_contents g.loads ∙ sym given ∙ sym has.written ∙ ap (λ (f : Filling). range image (work_at store) f.end) same_far ∙ sym (contents_kept store progress image lies)
         ∙ ap₂ (λ (p : ℕ) (n : ℕ). range now p n) (sym bank_at_work) (sym place_is);
   }

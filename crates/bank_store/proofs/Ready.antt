@@ -1,50 +1,61 @@
 -- What sealing leaves.
-use Rattle.std.proofs.Common.{◌≡◌, ℕ, ◌+◌, ◌≤◌, [], ◌∷◌, length, false, sym, subst, arith}
+use Rattle.std.proofs.Common.{◌≡◌, ℕ, ◌+◌, ◌≤◌, [], ◌∷◌, length, false, sym, ap₂, ◌∙◌, subst, arith}
 use Rattle.field_grammar.specs.Fields.{number_bytes}
 use Rattle.field_grammar.specs.NumberLaws.{length_number_bytes}
 use Rattle.disk_model.specs.Image.{Image, overlay}
 use Rattle.disk_layout.specs.Stands.{StandingView, StandsBy}
-use Rattle.bank_store.specs.Bounds.{other_slot}
-use Rattle.bank_store.specs.Store.{IsFilling, IsSealed, RulesAs, work_at, manifest_length, with_manifest, with_slot}
-use Rattle.bank_store.specs.Given.{Given, HasGiven, installed}
-use Rattle.bank_store.specs.Safe.{StandsFor, SameButForWork, IsReady, HoldsAt, HasWork}
+use Rattle.disk_layout.specs.Slots.{other_slot, manifest_place_of, manifest_length_of}
+use Rattle.disk_layout.specs.declared.active.ManifestRange.{ManifestRange}
+use Rattle.bank_store.specs.Store.{active_slot, IsFilling, IsSealedAt, with_gate_open, SameActive, work_at, manifest_length, with_manifest, with_slot}
+use Rattle.bank_store.specs.Given.{Given, HasGiven, configured, loads_of}
+use Rattle.bank_store.specs.Fits.{HoldsFor, SameButForWork, IsReady, HoldsAt, HasWork}
 use Rattle.bank_store.specs.declared.store.Store.{Store}
 use Rattle.bank_store.specs.declared.stage.Stage.{Stage}
 use Rattle.bank_store.specs.declared.stage.Filling.{Filling}
-use Rattle.bank_store.proofs.Carried.{stands_carried}
+use Rattle.bank_store.proofs.Carried.{same_slot, stands_carried}
 use Rattle.bank_store.proofs.Near.{near_on, near_stands}
-use Rattle.bank_store.proofs.Opened.{slot_body_length, opened_stands}
+use Rattle.bank_store.proofs.Opened.{slot_body_length, opened_stands, place_is, length_is}
 use Rattle.bank_store.proofs.Working.{bank_is_work, slot_is_work, near_overlay}
 
 -- the image as it is sealed
 abbrev pub sealed_image : Store → Filling → Image → Image
-sealed_image store far image = with_slot store far.end (manifest_length store) (with_manifest store far image)
+sealed_image store progress image = with_slot store progress.end (manifest_length store) (with_manifest store progress image)
 
-pub near_sealed : (store : Store) (far : Filling) (image : Image) → store.other_is_open ≡ false → far.end + manifest_length store ≤ store.size → SameButForWork store image (sealed_image store far image)
-near_sealed store far image shut fits =
-    let at = work_at store + far.end in
-    let first : Image = overlay image at (number_bytes 2 far.loads) in
-    let second : Image = with_manifest store far image in
-    let count : length (number_bytes 2 far.loads) ≡ 2 = length_number_bytes 2 far.loads in
-    let slot = slot_body_length store far.end (manifest_length store) in
-    near_on store image second (sealed_image store far image)
+pub near_sealed : (store : Store) (progress : Filling) (image : Image) → store.other_is_open ≡ false → progress.end + manifest_length store ≤ store.size → SameButForWork store image (sealed_image store progress image)
+near_sealed store progress image shut fits =
+    let at = work_at store + progress.end in
+    let first : Image = overlay image at (number_bytes 2 progress.loads) in
+    let second : Image = with_manifest store progress image in
+    let count : length (number_bytes 2 progress.loads) ≡ 2 = length_number_bytes 2 progress.loads in
+    let slot = slot_body_length store progress.end (manifest_length store) in
+    near_on store image second (sealed_image store progress image)
     (near_on store image first second
-    (near_overlay store image at (number_bytes 2 far.loads) (bank_is_work store at _ (omega arith) (omega (arith, count, fits))))
+    (near_overlay store image at (number_bytes 2 progress.loads) (bank_is_work store at _ (omega arith) (omega (arith, count, fits))))
     (near_overlay store first (at + 2) store.body.items (bank_is_work store (at + 2) _ (omega arith) (omega (arith, fits)))))
-    (near_overlay store second (other_slot store.slot + 16) _ (slot_is_work store (other_slot store.slot + 16) _ shut (omega arith) (omega (arith, slot))))
+    (near_overlay store second (other_slot (active_slot store) + 16) _ (slot_is_work store (other_slot (active_slot store) + 16) _ shut (omega arith) (omega (arith, slot))))
 
-pub stands_sealed : (old new : Store) (far : Filling) (image now : Image) (s : StandingView) → RulesAs old new → new.other_is_open ≡ old.other_is_open → old.other_is_open ≡ false
-    → far.end + manifest_length old ≤ old.size → now ≡ sealed_image old far image → StandsFor old image s → StandsFor new now s
-stands_sealed old new far image now s rules gate shut fits is was =
-    stands_carried old new rules gate now s (near_stands old image now s was (subst (λ (i : Image). SameButForWork old image i) (sym is) (near_sealed old far image shut fits)))
+pub stands_sealed : (old new : Store) (progress : Filling) (image now : Image) (s : StandingView) → SameActive old new → new.other_is_open ≡ old.other_is_open → old.other_is_open ≡ false
+    → progress.end + manifest_length old ≤ old.size → now ≡ sealed_image old progress image → HoldsFor old image s → HoldsFor new now s
+stands_sealed old new progress image now s rules gate shut fits is was =
+    stands_carried old new rules gate now s (near_stands old image now s was (subst (λ (i : Image). SameButForWork old image i) (sym is) (near_sealed old progress image shut fits)))
 
-pub is_ready : (old new : Store) (far : Filling) (image now : Image) (s : StandingView) (g : Given) → RulesAs old new → IsSealed new → IsFilling old far → far.missing ≡ 0
-    → far.end + manifest_length old ≤ old.size → now ≡ sealed_image old far image → StandsFor old image s → HasGiven old image g → IsReady new now s g.loads
-is_ready old new far image now s g rules sealed filling none fits is was has = record {
-  stage = sealed;
-  opens = subst (λ (n : ℕ). StandsBy (overlay now (other_slot n) (0xA5 ∷ [])) (other_slot n) (installed s g.loads)) (sym rules.slot)
-      (subst (λ (i : Image). StandsBy (overlay i (other_slot old.slot) (0xA5 ∷ [])) (other_slot old.slot) (installed s g.loads)) (sym is) (opened_stands old far image s g was has filling none fits));
-}
+pub is_ready : (old new : Store) (progress : Filling) (image now : Image) (s : StandingView) (g : Given) (manifest : ManifestRange) → SameActive old new → IsSealedAt new manifest → manifest.offset ≡ progress.end
+    → manifest.length ≡ manifest_length old → IsFilling old progress
+    → progress.missing ≡ 0 → progress.end + manifest_length old ≤ old.size → now ≡ sealed_image old progress image → HoldsFor old image s → HasGiven old image g → IsReady new now s (loads_of g)
+is_ready old new progress image now s g manifest rules sealed offset length filling none fits is was has =
+    let opened = opens_by old new (sealed_image old progress image) now rules is in
+    let slot = sym (same_slot rules) in
+    record {
+      manifest = manifest;
+      stage = sealed;
+      opens = subst (λ (i : Image). StandsBy i (other_slot (active_slot new)) (configured s (loads_of g))) opened
+          (subst (λ (n : ℕ). StandsBy (with_gate_open old (sealed_image old progress image)) (other_slot n) (configured s (loads_of g))) slot (opened_stands old progress image s g was has filling none fits));
+      offset = ap₂ (λ (i : Image) (n : ℕ). manifest_place_of i (other_slot n)) (sym opened) (sym slot) ∙ place_is old progress image s g was has filling none fits ∙ sym offset;
+      length = ap₂ (λ (i : Image) (n : ℕ). manifest_length_of i (other_slot n)) (sym opened) (sym slot) ∙ length_is old progress image s g was has filling none fits ∙ sym length;
+    }
+  where
+    opens_by : (old new : Store) (image now : Image) → SameActive old new → now ≡ image → with_gate_open old image ≡ with_gate_open new now
+    opens_by old new image now same is = ap₂ (λ (i : Image) (slot : ℕ). overlay i (other_slot slot) (0xA5 ∷ [])) (sym is) (sym (same_slot same))
 
-pub sealed_work : (store : Store) (image : Image) (s : StandingView) (g : Given) → IsSealed store → StandsFor store image s → IsReady store image s g.loads → HasWork store image
-sealed_work store image s g sealed was ready = subst (λ (stage : Stage). HoldsAt store image stage) (sym sealed) (s, g.loads, was, ready)
+pub sealed_work : (store : Store) (image : Image) (manifest : ManifestRange) (s : StandingView) (g : Given) → IsSealedAt store manifest → HoldsFor store image s → IsReady store image s (loads_of g) → HasWork store image
+sealed_work store image manifest s g sealed was ready = subst (λ (stage : Stage). HoldsAt store image stage) (sym sealed) (s, loads_of g, was, ready)

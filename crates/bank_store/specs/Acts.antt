@@ -24,6 +24,10 @@ IsOfDisk DiskFailed = Unit {0}
 IsOfDisk Memory = Unit {0}
 IsOfDisk fault = ⊥
 
+-- the disk takes calls
+abbrev pub IsRunning : DiskState → Type 0
+IsRunning disk = disk.stopped ≡ false
+
 -- Time goes on; the disk runs on unless it refused a call, and each of its refusals has its cause.
 pub record Acts {T : Type 0} (old new : DiskState) (result : Result T StoreFault) : Type 0 where
   pub goes_on : GoesOn old new

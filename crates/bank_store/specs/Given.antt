@@ -11,7 +11,8 @@ use Rattle.disk_layout.specs.Places.{most_loads, most_files}
 use Rattle.disk_layout.specs.Manifest.{file_entry_fields}
 use Rattle.disk_layout.specs.Contents.{file_entry_of, bytes_of, first_name}
 use Rattle.disk_layout.specs.Stands.{StandingView}
-use Rattle.bank_store.specs.Store.{IsFilling, work_at, other_bank}
+use Rattle.disk_layout.specs.Slots.{other_bank}
+use Rattle.bank_store.specs.Store.{IsFilling, work_at}
 use Rattle.bank_store.specs.declared.store.Store.{Store}
 use Rattle.bank_store.specs.declared.stage.Filling.{Filling}
 
@@ -89,21 +90,21 @@ pub record IsLoad (load : GivenLoad) : Type 0 where
 
 -- the other bank begins with the bytes that were given, and the manifest has their loads
 pub record HasGiven (store : Store) (image : Image) (g : Given) : Type 0 where
-  pub far : Filling
-  pub stage : IsFilling store far
-  pub loads : length g.loads ≡ far.loads
-  pub few : far.loads ≤ most_loads
-  pub missing : Misses far.missing g.loads
+  pub progress : Filling
+  pub stage : IsFilling store progress
+  pub loads : length g.loads ≡ progress.loads
+  pub few : progress.loads ≤ most_loads
+  pub missing : Misses progress.missing g.loads
   pub each : All (λ (l : GivenLoad). IsLoad l) g.loads
   pub body : store.body.items ≡ concat (flat_map given_fields g.loads)
-  pub end : length (bytes_given g) ≡ far.end
-  pub start : far.start + length g.bytes ≡ far.end
-  pub written : range image (work_at store) far.end ≡ bytes_given g
+  pub end : length (bytes_given g) ≡ progress.end
+  pub start : progress.start + length g.bytes ≡ progress.end
+  pub written : range image (work_at store) progress.end ≡ bytes_given g
 
 -- the configuration with these loads that follows one on its target: in the other bank, with the next sequence number
 abbrev pub configured : StandingView → List LoadView → StandingView
 configured s loads = record { identity = s.identity; bank = other_bank s.bank; sequence = s.sequence + 1; loads = loads }
 
--- the configuration of the loads that were given
-abbrev pub installed : StandingView → List GivenLoad → StandingView
-installed s loads = configured s (map load_of loads)
+-- the loads that were given
+abbrev pub loads_of : Given → List LoadView
+loads_of g = map load_of g.loads

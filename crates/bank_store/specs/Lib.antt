@@ -1,9 +1,8 @@
 pub mod Acts
 pub mod Bounds
 pub mod Faults
+pub mod Fits
 pub mod Formatting
-pub mod Front
 pub mod Given
-pub mod Safe
+pub mod Keeps
 pub mod Store
-pub mod Whole

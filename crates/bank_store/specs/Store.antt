@@ -1,26 +1,33 @@
 -- What a store keeps of the disk that it installs on (docs/DISK.md).
-use Rattle.std.specs.Prelude.{◌≡◌, ℕ, ◌+◌, ◌-◌, ◌≤◌, Bool, true, if◌then◌else◌, List, [], ◌∷◌, ◌++◌, length}
+use Rattle.std.specs.Prelude.{◌≡◌, ℕ, ◌+◌, ◌-◌, ◌<◌, ◌≤◌, Bool, true, if◌then◌else◌, List, [], ◌∷◌, length}
+use Rattle.load_base.specs.Host.{longest_file}
 use Rattle.field_grammar.specs.Fields.{number_bytes}
 use Rattle.disk_model.specs.Image.{Image, overlay}
-use Rattle.disk_layout.specs.Places.{bank_at, longest_manifest}
-use Rattle.bank_store.specs.Bounds.{other_slot}
+use Rattle.disk_layout.specs.Places.{bank_at, longest_manifest, most_loads}
+use Rattle.disk_layout.specs.Slots.{slot_offset, other_slot, bank_number, other_bank, slot_body_bytes}
+use Rattle.disk_layout.specs.declared.active.Active.{Active}
+use Rattle.disk_layout.specs.declared.active.ManifestRange.{ManifestRange}
 use Rattle.bank_store.specs.declared.store.Store.{Store}
 use Rattle.bank_store.specs.declared.stage.Stage.{Stage}
 use Rattle.bank_store.specs.declared.stage.Stage.TheVariants as stages
 use Rattle.bank_store.specs.declared.stage.Filling.{Filling}
 
--- the bytes of a bank, the slot that rules, and its bank and sequence number
-abbrev pub size_of : Store → ℕ
-size_of store = store.size
+-- the bank size, and what is active
+abbrev pub bank_size : Store → ℕ
+bank_size store = store.size
 
-abbrev pub slot_of : Store → ℕ
-slot_of store = store.slot
+abbrev pub active_of : Store → Active
+active_of store = store.active
 
-abbrev pub bank_of : Store → ℕ
-bank_of store = store.bank
+-- where the active slot begins, the number of its bank, and its sequence number
+abbrev pub active_slot : Store → ℕ
+active_slot store = slot_offset store.active.slot
 
-abbrev pub sequence_of : Store → ℕ
-sequence_of store = store.sequence
+abbrev pub active_bank : Store → ℕ
+active_bank store = bank_number store.active.bank
+
+abbrev pub active_sequence : Store → ℕ
+active_sequence store = store.active.sequence
 
 -- whether the other slot is open
 abbrev pub is_other_open : Store → Bool
@@ -30,13 +37,9 @@ is_other_open store = store.other_is_open
 abbrev pub stage_of : Store → Stage
 stage_of store = store.stage
 
--- the bank that isn't this one
-abbrev pub other_bank : ℕ → ℕ
-other_bank bank = 1 - bank
-
 -- where the other bank begins
 abbrev pub work_at : Store → ℕ
-work_at store = bank_at store.size (other_bank store.bank)
+work_at store = bank_at store.size (other_bank (active_bank store))
 
 -- no installation has begun, or it has ended
 abbrev pub IsIdle : Store → Type 0
@@ -44,44 +47,76 @@ IsIdle store = store.stage ≡ stages.Idle
 
 -- an installation has begun whose contents are coming
 abbrev pub IsFilling : Store → Filling → Type 0
-IsFilling store far = store.stage ≡ stages.Filling far
+IsFilling store progress = store.stage ≡ stages.Filling progress
 
--- all of an installation is written but the gate
+-- all of an installation is written but the gate, with its manifest at this range of the other bank
+abbrev pub IsSealedAt : Store → ManifestRange → Type 0
+IsSealedAt store manifest = store.stage ≡ stages.Sealed manifest
+
 abbrev pub IsSealed : Store → Type 0
-IsSealed store = store.stage ≡ stages.Sealed
+IsSealed store = (manifest : ManifestRange) × IsSealedAt store manifest
 
 -- no installation has begun, and the room for the longest manifest is there
 pub record IsPrepared (store : Store) : Type 0 where
   pub idle : IsIdle store
   pub room : longest_manifest ≤ store.body.room
 
--- the same bank rules, with the same sequence number, by the same slot
-pub record RulesAs (old new : Store) : Type 0 where
+-- the same is active, on banks of the same size
+pub record SameActive (old new : Store) : Type 0 where
   pub size : new.size ≡ old.size
-  pub slot : new.slot ≡ old.slot
-  pub bank : new.bank ≡ old.bank
-  pub sequence : new.sequence ≡ old.sequence
+  pub active : new.active ≡ old.active
 
--- the other bank rules, with the next sequence number, by the other slot, and no installation is begun
+-- the other slot is active, with the other bank, the next sequence number and the manifest that was sealed, and no
+-- installation is begun
 pub record Switches (old new : Store) : Type 0 where
   pub size : new.size ≡ old.size
-  pub slot : new.slot ≡ other_slot old.slot
-  pub bank : new.bank ≡ other_bank old.bank
-  pub sequence : new.sequence ≡ old.sequence + 1
+  pub slot : active_slot new ≡ other_slot (active_slot old)
+  pub bank : active_bank new ≡ other_bank (active_bank old)
+  pub sequence : active_sequence new ≡ active_sequence old + 1
+  pub manifest : IsSealedAt old new.active.manifest
   pub opened : new.other_is_open ≡ true
   pub idle : IsIdle new
 
+-- an installation has begun, and nothing is given yet
+abbrev pub nothing_filled : Filling
+nothing_filled = record { loads = 0; missing = 0; end = 0; start = 0 }
+
+-- the loads that were announced have all their files
+abbrev pub IsBetweenLoads : Store → Type 0
+IsBetweenLoads store = (progress : Filling) × IsFilling store progress × (progress.missing ≡ 0)
+
+-- and there may be one load more
+abbrev pub AwaitsLoad : Store → Type 0
+AwaitsLoad store = (progress : Filling) × IsFilling store progress × (progress.loads < most_loads) × (progress.missing ≡ 0)
+
+-- a file of the last load is still to end
+abbrev pub AwaitsFile : Store → Type 0
+AwaitsFile store = (progress : Filling) × IsFilling store progress × (1 ≤ progress.missing)
+
+-- a file of the last load is still to end, and what came of it isn't too long
+abbrev pub AwaitsEnd : Store → Type 0
+AwaitsEnd store = (progress : Filling) × IsFilling store progress × (1 ≤ progress.missing) × (progress.end ≤ progress.start + longest_file)
+
+-- with n bytes after the contents the other bank would need so many bytes, more than it has
+abbrev pub PassesBank : Store → (n need have : ℕ) → Type 0
+PassesBank store n need have =
+    (progress : Filling) × IsFilling store progress × (need ≡ progress.end + n) × (have ≡ store.size) × (have < need)
+
+-- the active configuration has the last sequence number
+abbrev pub IsSpent : Store → Type 0
+IsSpent store = (active_sequence store) ≡ 4294967295
+
 -- a load more was announced, of so many files
 abbrev pub load_announced : ℕ → Filling → Filling
-load_announced files far = record { loads = far.loads + 1; missing = files; end = far.end; start = far.start }
+load_announced files progress = record { loads = progress.loads + 1; missing = files; end = progress.end; start = progress.start }
 
 -- so many bytes more stand in the bank
 abbrev pub bytes_appended : ℕ → Filling → Filling
-bytes_appended n far = record { loads = far.loads; missing = far.missing; end = far.end + n; start = far.start }
+bytes_appended n progress = record { loads = progress.loads; missing = progress.missing; end = progress.end + n; start = progress.start }
 
 -- the file in progress has ended
 abbrev pub file_ended : Filling → Filling
-file_ended far = record { loads = far.loads; missing = far.missing - 1; end = far.end; start = far.end }
+file_ended progress = record { loads = progress.loads; missing = progress.missing - 1; end = progress.end; start = progress.end }
 
 -- how many more bytes of a manifest surely take no memory
 abbrev pub room_of : Store → ℕ
@@ -95,24 +130,24 @@ manifest_length store = length store.body.items + 2
 -- sequence number, the other bank, and the manifest's place and length
 abbrev pub slot_body : Store → (place length : ℕ) → List ℕ
 slot_body store place size =
-    number_bytes 4 (store.sequence + 1) ++ (other_bank store.bank ∷ []) ++ number_bytes 4 place ++ number_bytes 4 size
+    slot_body_bytes (active_sequence store + 1) (other_bank (active_bank store)) (record { offset = place; length = size })
 
 -- the image with 0 in the other slot's gate, where that is open
 abbrev pub with_gate_shut : Store → Image → Image
-with_gate_shut store image = if store.other_is_open then overlay image (other_slot store.slot) (0 ∷ []) else image
+with_gate_shut store image = if store.other_is_open then overlay image (other_slot (active_slot store)) (0 ∷ []) else image
 
 -- the image with a piece of the contents behind those that came
 abbrev pub with_piece : Store → Filling → List ℕ → Image → Image
-with_piece store far bytes image = overlay image (work_at store + far.end) bytes
+with_piece store progress bytes image = overlay image (work_at store + progress.end) bytes
 
 -- the image with the manifest behind the contents
 abbrev pub with_manifest : Store → Filling → Image → Image
-with_manifest store far image = overlay (overlay image (work_at store + far.end) (number_bytes 2 far.loads)) (work_at store + far.end + 2) store.body.items
+with_manifest store progress image = overlay (overlay image (work_at store + progress.end) (number_bytes 2 progress.loads)) (work_at store + progress.end + 2) store.body.items
 
 -- the image with the other slot's body
 abbrev pub with_slot : Store → (place length : ℕ) → Image → Image
-with_slot store place size image = overlay image (other_slot store.slot + 16) (slot_body store place size)
+with_slot store place size image = overlay image (other_slot (active_slot store) + 16) (slot_body store place size)
 
 -- the image with the other slot's gate open
 abbrev pub with_gate_open : Store → Image → Image
-with_gate_open store image = overlay image (other_slot store.slot) (0xA5 ∷ [])
+with_gate_open store image = overlay image (other_slot (active_slot store)) (0xA5 ∷ [])

@@ -9,7 +9,6 @@ ghost use Rattle.bank_store.specs.Acts.{Acts, AddsOnly, IsOfDisk};
 ghost use Rattle.bank_store.specs.Formatting.{formatted, IsShut, GatesTorn, WhileFormatting, IsLaidOut, IsOpened, gates_shut, laid_out, a_opened, KeepsRest};
 
 use crate::StoreFault;
-use crate::front::Front;
 use disk_layout::places::{BANKS, OPEN, SEQUENCE_IN_SLOT, SLOT_A, SLOT_B};
 use disk_layout::{Identity, an_identity_is_read_again};
 use disk_model::Disk;
@@ -71,7 +70,7 @@ fn lay_out<K: Disk>(disk: &mut K, identity: &Identity) -> Result<(), StoreFault>
     ensures acts { Acts (K.state disk.old) (K.state disk.new) result }
 {
     an_identity_is_read_again();
-    let front = Front::of(identity);
+    let front = identity.encode();
     disk.write(BANKS, &NO_LOADS)?;
     disk.write(SLOT_A + SEQUENCE_IN_SLOT, &FIRST_SLOT)?;
     disk.write(0, front.as_slice())?;

@@ -1,26 +1,48 @@
-//! Laws of the store's premise.
-ghost use Rattle.std.specs.Prelude.{◌≡◌, Some};
+//! Laws of the premises of a store's calls.
+ghost use Rattle.std.specs.Option.{ForSome};
 ghost use Rattle.disk_model.specs.Image.{Image};
 ghost use Rattle.disk_model.specs.Moments.{LeavesOnly};
-ghost use Rattle.disk_model.specs.State.{IsSettled, OnlyReads};
+ghost use Rattle.disk_model.specs.State.{IsSettled};
+ghost use Rattle.disk_layout.specs.Looks.{RunsOn};
 ghost use Rattle.disk_layout.specs.Stands.{StandingView, Stands};
-ghost use Rattle.bank_store.specs.Acts.{AddsOnly};
+ghost use Rattle.bank_store.specs.Acts.{AddsOnly, IsRunning};
 ghost use Rattle.bank_store.specs.Store.{IsIdle};
-ghost use Rattle.bank_store.specs.Safe.{StandsFor, Works};
+ghost use Rattle.bank_store.specs.Fits.{HoldsFor, Fits, Works, InstallsBeside};
+ghost use Rattle.bank_store.specs.Keeps.{Continues, IsOldOrNew};
 ghost use Rattle.bank_store.specs.declared.store.Store.{Store};
 
 use disk_model::Disk;
 
-/// What each call of a store asks of its disk holds where no installation has begun and what is read, which
-/// stands for a configuration as the store keeps it, is all that a power loss may leave. A read that is
-/// answered keeps it. Where it holds, each image that a power loss may leave now stands for that configuration.
-/// And a call that adds only what stands for it leaves only that since its start.
+/// A store in which no installation has begun fits a disk that runs and holds a configuration as the store
+/// keeps it, and works on it where a power loss can leave nothing but what is read. Where a store works beside
+/// a configuration, each image that a power loss may leave now holds it; and calls that add only what holds
+/// it, or what holds it or another, leave only that since their start.
 pub fn a_settled_disk_works<K: Disk>()
-    ensures settled { (store : Store) (disk : K) → IsIdle store → IsSettled (K.state disk) → ((image : Image) → (K.state disk).reads ≡ Some image → (s : StandingView) × StandsFor store image s)
-        → Works store (K.state disk) }
-    ensures ruled { (store : Store) (disk : K) (image left : Image) (s : StandingView) → Works store (K.state disk) → (K.state disk).reads ≡ Some image → StandsFor store image s
-        → (K.state disk).now left → StandsFor store left s }
-    ensures read { (store : Store) (old new : K) → OnlyReads (K.state old) (K.state new) → (K.state new).reads ≡ (K.state old).reads → Works store (K.state old) → Works store (K.state new) }
-    ensures since { (store : Store) (old new : K) (image : Image) (s : StandingView) → Works store (K.state old) → (K.state old).reads ≡ Some image → StandsFor store image s
-        → AddsOnly (K.state old) (K.state new) (λ left. Stands left s) → LeavesOnly (K.state old).clock (λ left. Stands left s) (K.state new) }
+    ensures fits { (store : Store) (disk : K) → IsIdle store → IsRunning (K.state disk)
+        → ForSome (K.state disk).reads (λ image. (s : StandingView) × HoldsFor store image s) → Fits store (K.state disk) }
+    ensures works { (store : Store) (disk : K) → IsIdle store → IsSettled (K.state disk)
+        → Fits store (K.state disk) → Works store (K.state disk) }
+    ensures now { (store : Store) (disk : K) (s : StandingView) (left : Image) → InstallsBeside store (K.state disk) s
+        → (K.state disk).now left → HoldsFor store left s }
+    ensures since { (store : Store) (old new : K) (s : StandingView) → InstallsBeside store (K.state old) s
+        → AddsOnly (K.state old) (K.state new) (λ left. Stands left s)
+        → LeavesOnly (K.state old).clock (λ left. Stands left s) (K.state new) }
+    ensures since_either { (store : Store) (old new : K) (s next : StandingView) → InstallsBeside store (K.state old) s
+        → AddsOnly (K.state old) (K.state new) (IsOldOrNew s next)
+        → LeavesOnly (K.state old).clock (IsOldOrNew s next) (K.state new) }
+{}
+
+/// A store goes on to fit a disk, and to work on it, over a call of the disk after which it reads the same and
+/// runs, as a read does, where a power loss can leave nothing new; and over the store's own calls that make
+/// none of the disk: `prepare`, `start_load`, `end_file` and `abandon`.
+pub fn a_store_goes_on_fitting<K: Disk>()
+    ensures read_fits { (store : Store) (old new : K) → RunsOn (K.state old) (K.state new)
+        → Fits store (K.state old) → Fits store (K.state new) }
+    ensures read_works { (store : Store) (old new : K) → RunsOn (K.state old) (K.state new)
+        → ((image : Image) → (K.state new).now image → (K.state old).now image)
+        → Works store (K.state old) → Works store (K.state new) }
+    ensures continued_fits { (before after : Store) (disk : K) → Continues before after
+        → Fits before (K.state disk) → Fits after (K.state disk) }
+    ensures continued_works { (before after : Store) (disk : K) → Continues before after
+        → Works before (K.state disk) → Works after (K.state disk) }
 {}

@@ -3,16 +3,14 @@
 
 mod fault;
 mod formatting;
-mod front;
-mod install;
 mod laws;
 mod stage;
 mod store;
 
-pub use disk_layout::Identity;
+pub use disk_layout::{Identity, Manifest, ManifestFile, ManifestLoad};
 pub use fault::{StoreFault, store_fault_text};
 pub use formatting::format;
-pub use laws::a_settled_disk_works;
+pub use laws::{a_settled_disk_works, a_store_goes_on_fitting};
 pub use store::Store;
 
 #[cfg(test)]

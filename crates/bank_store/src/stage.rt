@@ -1,5 +1,7 @@
 //! How far an installation is.
 
+use disk_layout::ManifestRange;
+
 /// An installation whose contents are coming.
 #[derive(Clone, Copy)]
 pub struct Filling {
@@ -20,6 +22,6 @@ pub enum Stage {
     Idle,
     /// Its contents are coming.
     Filling(Filling),
-    /// All is written but the gate.
-    Sealed,
+    /// All is written but the gate. The range of the new manifest in its bank.
+    Sealed(ManifestRange),
 }

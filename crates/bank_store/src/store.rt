@@ -1,19 +1,22 @@
 //! Installs a configuration into the bank that doesn't rule.
-ghost use Rattle.std.specs.Prelude.{◌≡◌, ◌⊎◌, ◌↔◌, ℕ, ◌+◌, ◌-◌, ◌*◌, ◌<◌, ◌≤◌, List, [], true, false, Some, length, IsOk, IfErr, OnOk, IsErrOf};
-ghost use Rattle.load_base.specs.Host.{longest_file};
+ghost use Rattle.std.specs.Prelude.{◌≡◌, ◌⊎◌, ℕ, ◌+◌, ◌-◌, ◌<◌, ◌≤◌, ◌↔◌, List, [], false, true, Some, length, IsOk, IfErr, OnOk, IsErrOf};
+ghost use Rattle.std.specs.Option.{ForSome};
+ghost use Rattle.load_base.specs.Config.{LoadView};
 ghost use Rattle.disk_model.specs.Image.{Image};
-ghost use Rattle.disk_model.specs.State.{DiskState, IsSettled, HasCause};
-ghost use Rattle.disk_layout.specs.Places.{IsBankSize, most_loads, most_files};
-ghost use Rattle.disk_layout.specs.Stands.{StandingView, Stands};
+ghost use Rattle.disk_model.specs.Moments.{LeavesOnly};
+ghost use Rattle.disk_model.specs.State.{HasCause};
+ghost use Rattle.disk_layout.specs.Places.{IsBankSize, most_files};
+ghost use Rattle.disk_layout.specs.Stands.{StandingView};
 ghost use Rattle.bank_store.specs.declared.fault.StoreFault.TheVariants.{BankFull, SequenceSpent, Memory};
 ghost use Rattle.bank_store.specs.declared.stage.Filling.{Filling};
-ghost use Rattle.bank_store.specs.Bounds.{IsStore, is_slot_place};
+ghost use Rattle.disk_layout.specs.Slots.{IsManifestRange};
+ghost use Rattle.bank_store.specs.Bounds.{IsStore};
 
 use crate::fault::StoreFault;
-use crate::front::{u8_bytes, u16_bytes, u32_bytes};
 use crate::stage::{Filling, Stage};
-use disk_layout::Ruling;
-use disk_layout::places::{BANKS, LONGEST_MANIFEST, OPEN, SEQUENCE_IN_SLOT, SLOT_A, SLOT_B};
+use disk_layout::numbers::{u8_bytes, u16_bytes, u32_bytes};
+use disk_layout::places::{LONGEST_MANIFEST, OPEN, SEQUENCE_IN_SLOT};
+use disk_layout::{Active, ManifestRange, SlotFields};
 use disk_model::{Disk, DiskFault};
 use load_base::{Bytes, Name, PartText};
 use std::alloc::Global;
@@ -30,53 +33,46 @@ const SHUT: u8 = 0;
 #[derive(Drop)]
 pub struct Store {
     size: u32,
-    slot: u32,
-    bank: u8,
-    sequence: u32,
+    active: Active,
     other_is_open: bool,
     body: Bytes,
     stage: Stage,
-    ghost keeps: { IsStore size slot bank sequence other_is_open body stage },
+    ghost keeps: { IsStore size active other_is_open body stage },
 }
 
 impl Store {
-    ghost use Rattle.bank_store.specs.Store.{size_of, slot_of, bank_of, sequence_of, is_other_open, stage_of, work_at, RulesAs, Switches, IsIdle, IsFilling, IsSealed, IsPrepared, room_of, load_announced, bytes_appended, file_ended, manifest_length, slot_body, with_gate_shut, with_piece, with_manifest, with_slot, with_gate_open};
-    ghost use Rattle.bank_store.specs.Given.{Given, GivenLoad, HasGiven, nothing_given, with_load, with_bytes, with_file, installed};
-    ghost use Rattle.bank_store.specs.Safe.{StandsFor, Works, KeepsRuling, IsReady, IsShutFor, KeepsNear, Continues, StillStands, LeavesRest};
-    ghost use Rattle.bank_store.specs.Acts.{Acts, AddsOnly, GoesOn, IsAnswered};
-    ghost use Rattle.bank_store.specs.Bounds.{other_slot};
+    ghost use Rattle.bank_store.specs.Store.{bank_size, active_of, active_slot, active_bank, active_sequence, is_other_open, stage_of, work_at, SameActive, IsIdle, IsFilling, IsSealed, IsPrepared, IsSpent, IsBetweenLoads, AwaitsLoad, AwaitsFile, AwaitsEnd, PassesBank, room_of, load_announced, file_ended, manifest_length, slot_body, with_gate_shut, with_manifest, with_slot};
+    ghost use Rattle.bank_store.specs.Given.{Given, HasGiven, with_load, with_file, configured};
+    ghost use Rattle.bank_store.specs.Fits.{HoldsFor, CanActivate};
+    ghost use Rattle.bank_store.specs.Keeps.{Keeps, Continues, Begins, Appends, Seals, Activates, LeavesActive, LeavesRest, IsShutFor, KeepsNear, IsOldOrNew};
+    ghost use Rattle.bank_store.specs.Acts.{Acts, AddsOnly, GoesOn, IsAnswered, IsRunning};
+    ghost use Rattle.disk_layout.specs.Slots.{other_slot};
 
-    /// A store for a disk on which this slot rules, with banks of so many bytes. It takes no memory yet.
-    pub fn new(alloc: Global, size: u32, ruling: Ruling) -> Store
+    /// A store for a disk with banks of `size` bytes on which this is active, with a manifest that lies in its
+    /// bank, and whose other slot is open or not. It takes no memory yet.
+    pub fn new(alloc: Global, size: u32, active: Active, other_is_open: bool) -> Store
         requires size { IsBankSize size }
-        requires slot { is_slot_place ruling.slot ≡ true }
-        requires bank { ruling.bank < 2 }
+        requires manifest { IsManifestRange size active.manifest }
         ensures idle { IsIdle result }
-        ensures size { size_of result ≡ size }
-        ensures slot { slot_of result ≡ ruling.slot }
-        ensures bank { bank_of result ≡ ruling.bank }
-        ensures sequence { sequence_of result ≡ ruling.sequence }
-        ensures other { is_other_open result ≡ ruling.other_is_open }
+        ensures size { bank_size result ≡ size }
+        ensures active { active_of result ≡ active }
+        ensures other { is_other_open result ≡ other_is_open }
     {
         Store {
             size,
-            slot: ruling.slot,
-            bank: ruling.bank,
-            sequence: ruling.sequence,
-            other_is_open: ruling.other_is_open,
+            active,
+            other_is_open,
             body: Bytes::new(alloc),
             stage: Stage::Idle,
         }
     }
 
     /// Reserves the memory that an installation takes, the 565,794 bytes of the longest manifest.
-    #[tactic(auto, using(crate::proofs::Continuing::continues_idle))]
     pub fn prepare(&mut self) -> Result<(), StoreFault>
-        requires { IsIdle self.old }
-        ensures prepared { OnOk result (IsPrepared self.new) }
-        ensures same_stage { IsIdle self.new }
+        ensures prepared { OnOk result (IsIdle self.old → IsPrepared self.new) }
         ensures again { IsPrepared self.old → IsOk result }
         ensures only_memory { IfErr result (λ fault. fault ≡ Memory) }
+        ensures stage { stage_of self.new ≡ stage_of self.old }
         ensures continues { Continues self.old self.new }
     {
         self.body.reserve(LONGEST_MANIFEST as usize)?;
@@ -88,26 +84,20 @@ impl Store {
     /// SequenceSpent where the ruling sequence number is 4,294,967,295; then nothing was done.
     pub fn begin<K: Disk>(&mut self, disk: &mut K) -> Result<(), StoreFault>
         requires prepared { IsPrepared self.old }
-        requires running { (K.state disk.old).stopped ≡ false }
-        ensures begun { OnOk result (IsFilling self.new (record { loads = 0; missing = 0; end = 0; start = 0 })) }
-        ensures spent { IsErrOf result SequenceSpent ↔ (sequence_of self.old ≡ 4294967295) }
-        ensures refused { IfErr result (λ fault. self.new ≡ self.old) }
+        requires running { IsRunning (K.state disk.old) }
+        // With Ok.
+        ensures begins { OnOk result (Begins self.old self.new (K.state disk.old) (K.state disk.new)) }
+        // Refusals.
+        ensures spent { IsErrOf result SequenceSpent ↔ IsSpent self.old }
         ensures untouched { IsErrOf result SequenceSpent → disk.new ≡ disk.old }
         ensures not_full { (need have : ℕ) → ¬ IsErrOf result (BankFull need have) }
-        ensures rules { RulesAs self.old self.new }
-        ensures acts { Acts (K.state disk.old) (K.state disk.new) result }
-        ensures running { IsAnswered result → (K.state disk.new).stopped ≡ false }
-        ensures safe { KeepsRuling self.old (K.state disk.old) (K.state disk.new) }
-        ensures works { Works self.old (K.state disk.old) → IsAnswered result → Works self.new (K.state disk.new) }
-        ensures written { OnOk result ((image : Image) → (K.state disk.old).reads ≡ Some image → (K.state disk.new).reads ≡ Some (with_gate_shut self.old image)) }
-        ensures rest { IsAnswered result → LeavesRest self.old (K.state disk.old) (K.state disk.new) }
-        ensures stands { IsAnswered result → StillStands self.old self.new (K.state disk.old) (K.state disk.new) }
-        ensures given { OnOk result ((image : Image) → (K.state disk.new).reads ≡ Some image → HasGiven self.new image nothing_given) }
-        ensures manifest { OnOk result (manifest_length self.new ≡ 2) }
-        ensures settled { OnOk result (IsSettled (K.state disk.new)) }
+        ensures refused { IfErr result (λ fault. self.new ≡ self.old) }
+        // Whatever it answers.
         ensures clock { OnOk result ((K.state disk.old).clock < (K.state disk.new).clock) }
+        ensures acts { Acts (K.state disk.old) (K.state disk.new) result }
+        ensures keeps { Keeps self.old self.new (K.state disk.old) (K.state disk.new) result }
     {
-        if self.sequence == u32::MAX {
+        if self.active.sequence == u32::MAX {
             return Err(StoreFault::SequenceSpent);
         }
         self.shut_other(disk)?;
@@ -124,14 +114,15 @@ impl Store {
 
     // Shuts the other slot where it is open.
     fn shut_other<K: Disk>(&self, disk: &mut K) -> Result<(), DiskFault>
-        requires running { (K.state disk.old).stopped ≡ false }
+        requires running { IsRunning (K.state disk.old) }
         ensures goes_on { GoesOn (K.state disk.old) (K.state disk.new) }
         ensures cause { HasCause (K.state disk.old) (K.state disk.new) result }
-        ensures safe { KeepsRuling self.now (K.state disk.old) (K.state disk.new) }
-        ensures written { OnOk result ((image : Image) → (K.state disk.old).reads ≡ Some image → (K.state disk.new).reads ≡ Some (with_gate_shut self.now image)) }
+        ensures leaves { LeavesActive self.now (K.state disk.old) (K.state disk.new) }
+        ensures written { OnOk result (ForSome (K.state disk.old).reads
+            (λ image. (K.state disk.new).reads ≡ Some (with_gate_shut self.now image))) }
         ensures rest { OnOk result (LeavesRest self.now (K.state disk.old) (K.state disk.new)) }
-        ensures shut { OnOk result ((image now : Image) (s : StandingView) → (K.state disk.old).reads ≡ Some image → (K.state disk.new).reads ≡ Some now
-            → StandsFor self.now image s → IsShutFor self.now now s) }
+        ensures shut { OnOk result (ForSome (K.state disk.old).reads (λ image.
+            ForSome (K.state disk.new).reads (λ now. (s : StandingView) → HoldsFor self.now image s → IsShutFor self.now now s))) }
     {
         if !self.other_is_open {
             return Ok(());
@@ -143,23 +134,24 @@ impl Store {
     /// answers Ok, and takes no memory.
     #[tactic(auto, using(crate::proofs::Giving::given_load, crate::proofs::Sizes::load_more))]
     pub fn start_load(&mut self, part: PartText, files: u16) -> Result<(), StoreFault>
-        requires filling { (far : Filling) × IsFilling self.old far × (far.loads < most_loads) × (far.missing ≡ 0) }
+        requires filling { AwaitsLoad self.old }
         requires files { (1 ≤ files) × (files ≤ most_files) }
         ensures done { IsOk result }
-        ensures goes_on { (far : Filling) → IsFilling self.old far → IsFilling self.new (load_announced files far) }
+        ensures filling { (progress : Filling) → IsFilling self.old progress → IsFilling self.new (load_announced files progress) }
         ensures manifest { manifest_length self.new ≡ manifest_length self.old + 17 }
-        ensures given { (image : Image) (g : Given) → HasGiven self.old image g → HasGiven self.new image (with_load part files g) }
+        ensures given { (image : Image) (g : Given) → HasGiven self.old image g
+            → HasGiven self.new image (with_load part files g) }
         ensures continues { Continues self.old self.new }
     {
-        let Stage::Filling(far) = self.stage else {
+        let Stage::Filling(progress) = self.stage else {
             unreachable!()
         };
         self.body.extend(part.as_slice())?;
         self.body.extend(&u16_bytes(files))?;
         self.stage = Stage::Filling(Filling {
-            loads: far.loads + 1,
+            loads: progress.loads + 1,
             missing: files,
-            ..far
+            ..progress
         });
         Ok(())
     }
@@ -168,32 +160,24 @@ impl Store {
     ///
     /// BankFull where the contents would pass the bank; then nothing was written.
     pub fn append<K: Disk>(&mut self, disk: &mut K, bytes: &[u8]) -> Result<(), StoreFault>
-        requires filling { (far : Filling) × IsFilling self.old far × (1 ≤ far.missing) }
-        requires running { (K.state disk.old).stopped ≡ false }
-        ensures full { (need have : ℕ) → IsErrOf result (BankFull need have) ↔
-            ((far : Filling) × IsFilling self.old far × (need ≡ far.end + length bytes.now) × (have ≡ size_of self.old) × (have < need)) }
-        ensures untouched { (need have : ℕ) → IsErrOf result (BankFull need have) → disk.new ≡ disk.old }
+        requires filling { AwaitsFile self.old }
+        requires running { IsRunning (K.state disk.old) }
+        // With Ok.
+        ensures appends { OnOk result (Appends self.old self.new (K.state disk.old) (K.state disk.new) bytes.now) }
         ensures nothing { bytes.now ≡ [] → disk.new ≡ disk.old }
-        ensures refused { IfErr result (λ fault. self.new ≡ self.old) }
-        ensures goes_on { OnOk result ((far : Filling) → IsFilling self.old far → IsFilling self.new (bytes_appended (length bytes.now) far)) }
-        ensures manifest { manifest_length self.new ≡ manifest_length self.old }
+        // Refusals.
+        ensures full { (need have : ℕ) → IsErrOf result (BankFull need have) ↔ PassesBank self.old (length bytes.now) need have }
+        ensures untouched { (need have : ℕ) → IsErrOf result (BankFull need have) → disk.new ≡ disk.old }
         ensures not_spent { ¬ IsErrOf result SequenceSpent }
-        ensures rules { RulesAs self.old self.new }
+        ensures refused { IfErr result (λ fault. self.new ≡ self.old) }
+        // Whatever it answers.
         ensures acts { Acts (K.state disk.old) (K.state disk.new) result }
-        ensures running { IsAnswered result → (K.state disk.new).stopped ≡ false }
-        ensures safe { KeepsRuling self.old (K.state disk.old) (K.state disk.new) }
-        ensures works { Works self.old (K.state disk.old) → IsAnswered result → Works self.new (K.state disk.new) }
-        ensures written { OnOk result ((image : Image) (far : Filling) → (K.state disk.old).reads ≡ Some image → IsFilling self.old far
-            → (K.state disk.new).reads ≡ Some (with_piece self.old far bytes.now image)) }
-        ensures rest { IsAnswered result → LeavesRest self.old (K.state disk.old) (K.state disk.new) }
-        ensures stands { IsAnswered result → StillStands self.old self.new (K.state disk.old) (K.state disk.new) }
-        ensures given { OnOk result ((image now : Image) (g : Given) → (K.state disk.old).reads ≡ Some image → (K.state disk.new).reads ≡ Some now
-            → HasGiven self.old image g → HasGiven self.new now (with_bytes bytes.now g)) }
+        ensures keeps { Keeps self.old self.new (K.state disk.old) (K.state disk.new) result }
     {
-        let Stage::Filling(far) = self.stage else {
+        let Stage::Filling(progress) = self.stage else {
             unreachable!()
         };
-        let need = u64::from(far.end) + bytes.len() as u64;
+        let need = u64::from(progress.end) + bytes.len() as u64;
         if need > u64::from(self.size) {
             return Err(StoreFault::BankFull {
                 need,
@@ -203,10 +187,10 @@ impl Store {
         if bytes.is_empty() {
             return Ok(());
         }
-        disk.write(self.work() + far.end, bytes)?;
+        disk.write(self.work() + progress.end, bytes)?;
         self.stage = Stage::Filling(Filling {
-            end: far.end + bytes.len() as u32,
-            ..far
+            end: progress.end + bytes.len() as u32,
+            ..progress
         });
         Ok(())
     }
@@ -215,24 +199,25 @@ impl Store {
     /// Ok, and takes no memory.
     #[tactic(auto, using(crate::proofs::Giving::given_file, crate::proofs::Sizes::file_more))]
     pub fn end_file(&mut self, name: Name) -> Result<(), StoreFault>
-        requires filling { (far : Filling) × IsFilling self.old far × (1 ≤ far.missing) × (far.end ≤ far.start + longest_file) }
+        requires filling { AwaitsEnd self.old }
         ensures done { IsOk result }
-        ensures goes_on { (far : Filling) → IsFilling self.old far → IsFilling self.new (file_ended far) }
+        ensures filling { (progress : Filling) → IsFilling self.old progress → IsFilling self.new (file_ended progress) }
         ensures manifest { manifest_length self.new ≡ manifest_length self.old + (5 + length name) }
-        ensures given { (image : Image) (g : Given) → HasGiven self.old image g → HasGiven self.new image (with_file name g) }
+        ensures given { (image : Image) (g : Given) → HasGiven self.old image g
+            → HasGiven self.new image (with_file name g) }
         ensures continues { Continues self.old self.new }
     {
-        let Stage::Filling(far) = self.stage else {
+        let Stage::Filling(progress) = self.stage else {
             unreachable!()
         };
         let name = name.as_slice();
         self.body.extend(&u8_bytes(name.len() as u8))?;
         self.body.extend(name)?;
-        self.body.extend(&u32_bytes(far.end - far.start))?;
+        self.body.extend(&u32_bytes(progress.end - progress.start))?;
         self.stage = Stage::Filling(Filling {
-            missing: far.missing - 1,
-            start: far.end,
-            ..far
+            missing: progress.missing - 1,
+            start: progress.end,
+            ..progress
         });
         Ok(())
     }
@@ -241,59 +226,54 @@ impl Store {
     ///
     /// BankFull where contents and manifest together pass the bank; then nothing was written.
     pub fn seal<K: Disk>(&mut self, disk: &mut K) -> Result<(), StoreFault>
-        requires filling { (far : Filling) × IsFilling self.old far × (far.missing ≡ 0) }
-        requires running { (K.state disk.old).stopped ≡ false }
-        ensures sealed { OnOk result (IsSealed self.new) }
-        ensures full { (need have : ℕ) → IsErrOf result (BankFull need have) ↔
-            ((far : Filling) × IsFilling self.old far × (need ≡ far.end + manifest_length self.old) × (have ≡ size_of self.old) × (have < need)) }
+        requires filling { IsBetweenLoads self.old }
+        requires running { IsRunning (K.state disk.old) }
+        // With Ok.
+        ensures seals { OnOk result (Seals self.old self.new (K.state disk.old) (K.state disk.new)) }
+        // Refusals.
+        ensures full { (need have : ℕ) → IsErrOf result (BankFull need have) ↔ PassesBank self.old (manifest_length self.old) need have }
         ensures untouched { (need have : ℕ) → IsErrOf result (BankFull need have) → disk.new ≡ disk.old }
-        ensures refused { IfErr result (λ fault. self.new ≡ self.old) }
         ensures not_spent { ¬ IsErrOf result SequenceSpent }
-        ensures rules { RulesAs self.old self.new }
-        ensures acts { Acts (K.state disk.old) (K.state disk.new) result }
-        ensures running { IsAnswered result → (K.state disk.new).stopped ≡ false }
-        ensures safe { KeepsRuling self.old (K.state disk.old) (K.state disk.new) }
-        ensures works { Works self.old (K.state disk.old) → IsAnswered result → Works self.new (K.state disk.new) }
-        ensures written { OnOk result ((image : Image) (far : Filling) → (K.state disk.old).reads ≡ Some image → IsFilling self.old far
-            → (K.state disk.new).reads ≡ Some (with_slot self.old far.end (manifest_length self.old) (with_manifest self.old far image))) }
-        ensures rest { IsAnswered result → LeavesRest self.old (K.state disk.old) (K.state disk.new) }
-        ensures stands { IsAnswered result → StillStands self.old self.new (K.state disk.old) (K.state disk.new) }
-        ensures settled { OnOk result (IsSettled (K.state disk.new)) }
+        ensures refused { IfErr result (λ fault. self.new ≡ self.old) }
+        // Whatever it answers.
         ensures clock { OnOk result ((K.state disk.old).clock < (K.state disk.new).clock) }
-        ensures ready { OnOk result ((image now : Image) (s : StandingView) (g : Given) → (K.state disk.old).reads ≡ Some image → (K.state disk.new).reads ≡ Some now
-            → StandsFor self.old image s → HasGiven self.old image g → IsReady self.new now s g.loads) }
+        ensures acts { Acts (K.state disk.old) (K.state disk.new) result }
+        ensures keeps { Keeps self.old self.new (K.state disk.old) (K.state disk.new) result }
     {
-        let Stage::Filling(far) = self.stage else {
+        let Stage::Filling(progress) = self.stage else {
             unreachable!()
         };
         let length = self.body.len() + 2;
-        let need = u64::from(far.end) + length as u64;
+        let need = u64::from(progress.end) + length as u64;
         if need > u64::from(self.size) {
             return Err(StoreFault::BankFull {
                 need,
                 have: self.size,
             });
         }
-        self.write_manifest(disk, far)?;
-        self.write_slot(disk, far.end, length as u32)?;
+        self.write_manifest(disk, progress)?;
+        self.write_slot(disk, progress.end, length as u32)?;
         disk.sync()?;
-        self.stage = Stage::Sealed;
+        self.stage = Stage::Sealed(ManifestRange {
+            offset: progress.end,
+            length: length as u32,
+        });
         Ok(())
     }
 
     // Writes the manifest behind the contents: how many loads there are, and what the body says of each.
-    fn write_manifest<K: Disk>(&self, disk: &mut K, far: Filling) -> Result<(), DiskFault>
-        requires filling { IsFilling self.now far }
-        requires within { far.end + manifest_length self.now ≤ size_of self.now }
-        requires running { (K.state disk.old).stopped ≡ false }
+    fn write_manifest<K: Disk>(&self, disk: &mut K, progress: Filling) -> Result<(), DiskFault>
+        requires filling { IsFilling self.now progress }
+        requires within { progress.end + manifest_length self.now ≤ bank_size self.now }
+        requires running { IsRunning (K.state disk.old) }
         ensures goes_on { GoesOn (K.state disk.old) (K.state disk.new) }
         ensures cause { HasCause (K.state disk.old) (K.state disk.new) result }
         ensures near { KeepsNear self.now (K.state disk.old) (K.state disk.new) }
-        ensures written { OnOk result ((image : Image) → (K.state disk.old).reads ≡ Some image
-            → (K.state disk.new).reads ≡ Some (with_manifest self.now far image)) }
+        ensures written { OnOk result (ForSome (K.state disk.old).reads
+            (λ image. (K.state disk.new).reads ≡ Some (with_manifest self.now progress image))) }
     {
-        let at = self.work() + far.end;
-        disk.write(at, &u16_bytes(far.loads))?;
+        let at = self.work() + progress.end;
+        disk.write(at, &u16_bytes(progress.loads))?;
         disk.write(at + 2, self.body.as_slice())
     }
 
@@ -301,63 +281,64 @@ impl Store {
     // in it the manifest begins and how many bytes it has.
     fn write_slot<K: Disk>(&self, disk: &mut K, place: u32, length: u32) -> Result<(), DiskFault>
         requires shut { is_other_open self.now ≡ false }
-        requires goes_on { sequence_of self.now < 4294967295 }
-        requires running { (K.state disk.old).stopped ≡ false }
+        requires goes_on { active_sequence self.now < 4294967295 }
+        requires running { IsRunning (K.state disk.old) }
         ensures goes_on { GoesOn (K.state disk.old) (K.state disk.new) }
         ensures cause { HasCause (K.state disk.old) (K.state disk.new) result }
         ensures near { KeepsNear self.now (K.state disk.old) (K.state disk.new) }
-        ensures written { OnOk result ((image : Image) → (K.state disk.old).reads ≡ Some image
-            → (K.state disk.new).reads ≡ Some (with_slot self.now place length image)) }
+        ensures written { OnOk result (ForSome (K.state disk.old).reads
+            (λ image. (K.state disk.new).reads ≡ Some (with_slot self.now place length image))) }
     {
         let at = self.other() + SEQUENCE_IN_SLOT;
         disk.write(at, &self.slot_bytes(place, length))
     }
 
-    // What the other slot is to say behind its gate, from its sequence number on.
-    #[tactic(auto, unfolding(field_grammar::specs::Fields::number_bytes))]
-    fn slot_bytes(&self, place: u32, length: u32) -> [u8; 13]
-        requires { sequence_of self.now < 4294967295 }
-        ensures { result ≡ slot_body self.now place length }
+    // The body of the other slot: the next sequence number, the other bank, and the manifest's range in it.
+    fn slot_bytes(&self, offset: u32, length: u32) -> [u8; 13]
+        requires { active_sequence self.now < 4294967295 }
+        ensures { result ≡ slot_body self.now offset length }
     {
-        let [s0, s1, s2, s3] = u32_bytes(self.sequence + 1);
-        let [p0, p1, p2, p3] = u32_bytes(place);
-        let [l0, l1, l2, l3] = u32_bytes(length);
-        let bank = 1 - self.bank;
-        [s0, s1, s2, s3, bank, p0, p1, p2, p3, l0, l1, l2, l3]
+        let sequence = self.active.sequence + 1;
+        let says = SlotFields {
+            gate: SHUT,
+            sequence,
+            bank: self.active.bank.other().number(),
+            manifest: ManifestRange { offset, length },
+        };
+        says.encode_body()
     }
 
     /// Opens the gate of the other slot and syncs. With Ok the new configuration rules, and the store is that
     /// of the disk on which it does.
     pub fn activate<K: Disk>(&mut self, disk: &mut K) -> Result<(), StoreFault>
         requires sealed { IsSealed self.old }
-        requires running { (K.state disk.old).stopped ≡ false }
-        ensures switches { OnOk result (Switches self.old self.new) }
-        ensures prepared { OnOk result (IsPrepared self.new) }
-        ensures refused { IfErr result (λ fault. self.new ≡ self.old) }
+        requires running { IsRunning (K.state disk.old) }
+        // With Ok.
+        ensures activates { OnOk result (Activates self.old self.new (K.state disk.old) (K.state disk.new)) }
+        // Refusals.
         ensures only_failures { IsOk result ⊎ ¬ IsAnswered result }
-        ensures acts { Acts (K.state disk.old) (K.state disk.new) result }
-        ensures running { OnOk result ((K.state disk.new).stopped ≡ false) }
-        ensures safe { Works self.old (K.state disk.old) → (image : Image) (s : StandingView) (loads : List GivenLoad) → (K.state disk.old).reads ≡ Some image
-            → StandsFor self.old image s → IsReady self.old image s loads
-            → AddsOnly (K.state disk.old) (K.state disk.new) (λ left. Stands left s ⊎ Stands left (installed s loads)) }
-        ensures settled { OnOk result (IsSettled (K.state disk.new)) }
+        ensures refused { IfErr result (λ fault. self.new ≡ self.old) }
+        // Whatever it answers.
+        ensures any_moment { (s : StandingView) (loads : List LoadView) → CanActivate self.old (K.state disk.old) s loads
+            → LeavesOnly (K.state disk.old).clock (IsOldOrNew s (configured s loads)) (K.state disk.new) }
+        ensures adds { (s : StandingView) (loads : List LoadView) → CanActivate self.old (K.state disk.old) s loads
+            → AddsOnly (K.state disk.old) (K.state disk.new) (IsOldOrNew s (configured s loads)) }
         ensures clock { OnOk result ((K.state disk.old).clock < (K.state disk.new).clock) }
-        ensures rules { OnOk result (Works self.old (K.state disk.old) → (image : Image) (s : StandingView) (loads : List GivenLoad) → (K.state disk.old).reads ≡ Some image
-            → StandsFor self.old image s → IsReady self.old image s loads
-            → (left : Image) → (K.state disk.new).now left → Stands left (installed s loads)) }
-        ensures works { OnOk result (Works self.old (K.state disk.old) → Works self.new (K.state disk.new)) }
-        ensures written { OnOk result ((image : Image) → (K.state disk.old).reads ≡ Some image → (K.state disk.new).reads ≡ Some (with_gate_open self.old image)) }
-        ensures rest { OnOk result (LeavesRest self.old (K.state disk.old) (K.state disk.new)) }
-        ensures stands { OnOk result ((image now : Image) (s : StandingView) (loads : List GivenLoad) → (K.state disk.old).reads ≡ Some image → (K.state disk.new).reads ≡ Some now
-            → StandsFor self.old image s → IsReady self.old image s loads → StandsFor self.new now (installed s loads)) }
+        ensures acts { Acts (K.state disk.old) (K.state disk.new) result }
     {
+        let Stage::Sealed(manifest) = self.stage else {
+            unreachable!()
+        };
         let slot = self.other();
         disk.write(slot, &[OPEN])?;
         disk.sync()?;
         self.forget();
-        self.slot = slot;
-        self.bank = 1 - self.bank;
-        self.sequence += 1;
+        self.active = Active {
+            slot: self.active.slot.other(),
+            bank: self.active.bank.other(),
+            sequence: self.active.sequence + 1,
+            manifest,
+        };
         self.other_is_open = true;
         Ok(())
     }
@@ -379,7 +360,7 @@ impl Store {
     // No installation is begun.
     fn forget(&mut self)
         ensures idle { IsIdle self.new }
-        ensures rules { RulesAs self.old self.new }
+        ensures active { SameActive self.old self.new }
         ensures gate { is_other_open self.new ≡ is_other_open self.old }
         ensures room { room_of self.new ≡ room_of self.old + (manifest_length self.old - 2) }
     {
@@ -387,32 +368,32 @@ impl Store {
         self.stage = Stage::Idle;
     }
 
-    /// The sequence number that rules.
+    /// The active sequence number.
     pub fn sequence(&self) -> u32
-        ensures { result ≡ sequence_of self.now }
+        ensures { result ≡ active_sequence self.now }
     {
-        self.sequence
+        self.active.sequence
     }
 
-    /// The bank that rules, 0 or 1.
+    /// The number of the active bank, 0 or 1.
     pub fn bank(&self) -> u8
-        ensures { result ≡ bank_of self.now }
+        ensures { result ≡ active_bank self.now }
     {
-        self.bank
+        self.active.bank.number()
     }
 
-    // Where the slot begins that doesn't rule.
+    // The offset of the other slot.
     fn other(&self) -> u32
-        ensures { result ≡ other_slot (slot_of self.now) }
+        ensures { result ≡ other_slot (active_slot self.now) }
     {
-        SLOT_A + SLOT_B - self.slot
+        self.active.slot.other().offset()
     }
 
-    // Where the bank begins that doesn't rule.
+    // The offset of the other bank.
     fn work(&self) -> u32
         ensures place { result ≡ work_at self.now }
-        ensures within { result + size_of self.now ≤ 134225920 }
+        ensures within { result + bank_size self.now ≤ 134225920 }
     {
-        BANKS + self.size * u32::from(1 - self.bank)
+        self.active.bank.other().offset(self.size)
     }
 }

@@ -1,13 +1,9 @@
-ghost use Rattle.std.specs.Prelude.{◌≡◌, ◌≤◌, IfOk, length};
-ghost use Rattle.load_base.specs.Config.{load_view};
-ghost use Rattle.load_base.specs.Host.{longest_file};
-ghost use Rattle.bank_store.specs.Whole.{IsInstallable};
+ghost use Rattle.std.specs.Prelude.{◌≡◌, IfOk};
 
 use crate::{Identity, Store, StoreFault, format, store_fault_text};
-use disk_layout::Ruling;
+use disk_layout::{Active, Bank, ManifestRange, Slot};
 use disk_model::{Call, Disk, FileDisk, MemDisk, Note};
-use load_base::{Bytes, Ident, List, Load, Name, PartText, StoredFile};
-use std::alloc::Global;
+use load_base::{Ident, Name, PartText};
 use std::fs;
 use std::test::Fail;
 
@@ -112,13 +108,16 @@ fn a_file_is_formatted(rt: HostRuntime) -> Result<(), Fail> {
 fn a_load_is_installed_beside_what_rules(rt: HostRuntime) -> Result<(), Fail> {
     let mut disk = MemDisk::new(rt.alloc(), &[])?;
     format(&mut disk, &target(4096)?)?;
-    let ruling = Ruling {
-        slot: 4096,
-        bank: 0,
+    let active = Active {
+        slot: Slot::A,
+        bank: Bank::Zero,
         sequence: 1,
-        other_is_open: false,
+        manifest: ManifestRange {
+            offset: 0,
+            length: 2,
+        },
     };
-    let mut store = Store::new(rt.alloc(), 4096, ruling);
+    let mut store = Store::new(rt.alloc(), 4096, active, false);
     store.prepare()?;
     store.begin(&mut disk)?;
     store.start_load(PartText::read(b"MMM12-0001-ABCD")?, 1)?;
@@ -143,59 +142,6 @@ fn a_load_is_installed_beside_what_rules(rt: HostRuntime) -> Result<(), Fail> {
         assert!(rt; held.starts_with(bytes), "at {at}");
     }
     assert_eq!(rt; disk.as_slice().len(), 12320);
-    Ok(())
-}
-
-// A load of one file, its header.
-fn load(alloc: Global, part: &[u8], name: &[u8], bytes: &[u8]) -> Result<Load, Fail>
-    requires { length bytes.now ≤ longest_file }
-    ensures { IfOk result (λ load. IsInstallable (load_view load)) }
-{
-    let header_name = Name::read(name)?;
-    let mut contents = Bytes::new(alloc);
-    contents.extend(bytes)?;
-    let mut files = List::new(alloc);
-    files.push(StoredFile {
-        name: header_name,
-        bytes: contents,
-    })?;
-    Ok(Load {
-        part: PartText::read(part)?,
-        header_name,
-        files,
-    })
-}
-
-#[test]
-fn loads_are_installed_by_one_call(rt: HostRuntime) -> Result<(), Fail> {
-    let mut disk = MemDisk::new(rt.alloc(), &[])?;
-    format(&mut disk, &target(4096)?)?;
-    let ruling = Ruling {
-        slot: 4096,
-        bank: 0,
-        sequence: 1,
-        other_is_open: false,
-    };
-    let mut store = Store::new(rt.alloc(), 4096, ruling);
-    let loads = [
-        load(rt.alloc(), b"MMM12-0001-ABCD", b"H.LUH", b"abc")?,
-        load(rt.alloc(), b"MMM12-0001-ABCD", b"G.LUH", b"")?,
-    ];
-    store.install(&mut disk, &loads)?;
-    assert_eq!(rt; (store.sequence(), store.bank()), (2, 1));
-    let bank = b"abc\x00\x02MMM12-0001-ABCD\x00\x01\x05H.LUH\x00\x00\x00\x03\
-        MMM12-0001-ABCD\x00\x01\x05G.LUH\x00\x00\x00\x00";
-    assert!(rt; disk.as_slice().get(12288..).unwrap_or(&[]) == bank.as_slice());
-    assert_eq!(rt; disk.notes().len(), 17);
-    let large = [load(rt.alloc(), b"MMM12-0001-ABCD", b"H.LUH", &[7; 4068])?];
-    assert_eq!(rt;
-        store.install(&mut disk, &large),
-        Err(StoreFault::BankFull {
-            need: 4097,
-            have: 4096
-        })
-    );
-    assert_eq!(rt; (store.sequence(), store.bank()), (2, 1));
     Ok(())
 }
 

@@ -73,7 +73,7 @@ verdict image = of_answer image (answer identity (range image 0 longest_identity
 sound_is_none : (image : Image) (id : Identity) (slot : ℕ) → IsSoundSlot image id slot → slot_fault image id slot ≡ None
 sound_is_none image id slot can =
     rw (
-      lt-leb 2 (bank_of image slot) can.bank,
+      lt-leb 2 (bank_of image slot) can.is_bank,
       le-ltb longest_manifest (manifest_length_of image slot) can.short,
       le-ltb id.bank (manifest_place_of image slot + manifest_length_of image slot) can.within,
     ) refl
@@ -164,7 +164,7 @@ slot_cases image id slot =
     by_bounds (inr bank) _ _ = inr (slot + 20, no_such_bank bank refl)
     by_bounds (inl bank) (inl long) _ = inr (slot + 25, too_long bank long refl)
     by_bounds (inl bank) (inr short) (inl past) = inr (slot + 21, past_the_bank bank short past refl)
-    by_bounds (inl bank) (inr short) (inr within) = inl (record { bank = bank; short = short; within = within })
+    by_bounds (inl bank) (inr short) (inr within) = inl (record { is_bank = bank; short = short; within = within })
 
 range_fits : (image : Image) (at n : ℕ) → IsOfBytes image → IsBytes (range image at n)
 range_fits image at n fits k = elim (cases_lt k n) [

@@ -3,6 +3,7 @@ pub mod Faults
 pub mod FieldLaws
 pub mod Fields
 pub mod Identity
+pub mod IdentityBytes
 pub mod IdentityLaws
 pub mod Looks
 pub mod Manifest
@@ -10,6 +11,8 @@ pub mod ManifestLaws
 pub mod ManifestSpelling
 pub mod Places
 pub mod RangeLaws
+pub mod Reading
+pub mod SlotBodyLaws
 pub mod SlotLaws
 pub mod Slots
 pub mod Stands

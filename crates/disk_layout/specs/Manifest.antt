@@ -5,13 +5,13 @@ use Rattle.load_base.specs.Host.{longest_file}
 use Rattle.load_base.specs.Name.{IsName}
 use Rattle.load_base.specs.PartText.{IsPartText}
 use Rattle.load_base.specs.Verdicts.{name_fault_of, part_text_fault_of}
-use Rattle.field_grammar.specs.Grammar.{Grammar, give, pair, mapped, ended, times, ◌>>=◌, ◌>>◌}
+use Rattle.field_grammar.specs.Grammar.{Grammar, Fault, give, pair, mapped, ended, times, ◌>>=◌, ◌>>◌}
 use Rattle.field_grammar.specs.Fields.{number, raw, short, number_fields, short_fields}
 use Rattle.disk_layout.specs.Places.{most_loads, most_files}
 use Rattle.disk_layout.specs.Fields.{sound}
 use Rattle.disk_layout.specs.declared.manifest.Manifest.{Manifest}
 use Rattle.disk_layout.specs.declared.manifest.ManifestFault.{ManifestFault}
-use Rattle.disk_layout.specs.declared.manifest.ManifestFault.TheVariants.{Wrong}
+use Rattle.disk_layout.specs.declared.manifest.ManifestFault.TheVariants.{Wrong, Memory}
 use Rattle.disk_layout.specs.declared.manifest.ManifestFile.{ManifestFile}
 use Rattle.disk_layout.specs.declared.manifest.ManifestLoad.{ManifestLoad}
 
@@ -116,3 +116,8 @@ pub record LoadFits (l : LoadEntry) : Type 0 where
 pub record ManifestFits (loads : List LoadEntry) : Type 0 where
   pub count : length loads ≤ most_loads
   pub each : All (λ (l : LoadEntry). LoadFits l) loads
+
+-- the bytes are no manifest from this offset on, or out of memory
+abbrev pub RefusesManifestBytes : List ℕ → ManifestFault → Type 0
+RefusesManifestBytes bytes (Wrong place) = Fault manifest bytes (Wrong place) × (place ≤ length bytes)
+RefusesManifestBytes bytes Memory = Unit {0}

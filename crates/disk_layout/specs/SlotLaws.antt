@@ -3,7 +3,11 @@ use Rattle.std.proofs.Common.{◌≡◌, ℕ, ◌<◌, ◌≤◌, ◌⊎◌, inl
 use Rattle.std.proofs.lemmas.Bool.{cases_lt, cases_eq}
 use Rattle.disk_model.specs.Image.{Image}
 use Rattle.disk_layout.specs.Places.{slot_a, slot_b}
-use Rattle.disk_layout.specs.Slots.{IsOpen, IsSlot, Rules, sequence_of}
+use Rattle.disk_layout.specs.Slots.{IsOpen, IsSlot, Rules, sequence_of, slot_offset, bank_number}
+use Rattle.disk_layout.specs.declared.active.Slot.{Slot}
+use Rattle.disk_layout.specs.declared.active.Slot.TheVariants as slots
+use Rattle.disk_layout.specs.declared.active.Bank.{Bank}
+use Rattle.disk_layout.specs.declared.active.Bank.TheVariants as banks
 
 -- slot A rules where it is open, and slot B is shut or older or as old
 pub a_rules : (image : Image) → IsOpen image slot_a → (IsOpen image slot_b → sequence_of image slot_b ≤ sequence_of image slot_a) → Rules image slot_a
@@ -66,3 +70,12 @@ some_slot image = by_gates (cases_eq (image slot_a) 0xA5) (cases_eq (image slot_
     by_gates (inl a) (inr b) _ = inl (slot_a, a_rules image a (λ is_open. absurd (b is_open)))
     by_gates (inr a) (inl b) _ = inl (slot_b, b_rules image b (λ is_open. absurd (a is_open)))
     by_gates (inr a) (inr b) _ = inr (a, b)
+
+-- the offset of a slot is that of one, and the number of a bank is 0 or 1
+pub offset_is_slot : (slot : Slot) → IsSlot (slot_offset slot)
+offset_is_slot slots.A = inl refl
+offset_is_slot slots.B = inr refl
+
+pub number_below : (bank : Bank) → bank_number bank < 2
+number_below banks.Zero = omega arith
+number_below banks.One = omega arith

@@ -5,7 +5,7 @@ use Rattle.disk_model.specs.Image.{Image, range}
 use Rattle.field_grammar.specs.Grammar.{Spelled, Fault}
 use Rattle.disk_layout.specs.Places.{slot_a, slot_b, bank_at, longest_manifest}
 use Rattle.disk_layout.specs.Identity.{HasIdentity, HasNoIdentity}
-use Rattle.disk_layout.specs.Slots.{IsOpen, Rules, sequence_of, bank_of, manifest_place_of, manifest_length_of}
+use Rattle.disk_layout.specs.Slots.{IsOpen, IsSound, Rules, sequence_of, bank_of, manifest_place_of, manifest_length_of}
 use Rattle.disk_layout.specs.Manifest.{LoadEntry, manifest, total_length}
 use Rattle.disk_layout.specs.Contents.{entries_of, contents_of, HeadersAreFirst}
 use Rattle.disk_layout.specs.declared.identity.Identity.{Identity}
@@ -37,11 +37,9 @@ outline_of s = record { identity = s.identity; bank = s.bank; sequence = s.seque
 
 -- ---- the slot that rules
 
--- what a slot says can be: its bank is one of the two, and its manifest is not too long and lies in the bank
-pub record IsSoundSlot (image : Image) (id : Identity) (slot : ℕ) : Type 0 where
-  pub bank : bank_of image slot < 2
-  pub short : manifest_length_of image slot ≤ longest_manifest
-  pub within : manifest_place_of image slot + manifest_length_of image slot ≤ id.bank
+-- what the slot at this offset says can be on the disk
+abbrev pub IsSoundSlot : Image → Identity → (slot : ℕ) → Type 0
+IsSoundSlot image id slot = IsSound id.bank (bank_of image slot) (manifest_place_of image slot) (manifest_length_of image slot)
 
 -- the first of these that can't be, and the place on the disk of what says so: the bank, the length, and the place
 pub data IsBadSlot (image : Image) (id : Identity) (slot place : ℕ) : Type 0 where

@@ -1,13 +1,14 @@
 //! Laws of what a disk stands for.
-ghost use Rattle.std.specs.Prelude.{◌≡◌, ◌⊎◌, ◌↔◌, ◌≤◌, ◌+◌, ℕ, List, length};
+ghost use Rattle.std.specs.Prelude.{◌≡◌, ◌⊎◌, ◌↔◌, ◌<◌, ◌≤◌, ◌+◌, ◌^◌, ℕ, List, length};
 ghost use Rattle.std.specs.List.{concat};
 ghost use Rattle.disk_model.specs.Image.{Image, IsOfBytes, range};
 ghost use Rattle.field_grammar.specs.Grammar.{IsBytes, IsDecided, Spelled, Fault};
 ghost use Rattle.disk_layout.specs.Places.{IsBankSize, longest_identity, longest_manifest, most_loads, most_files, slot_a, slot_b, bank_at, number_at};
 ghost use Rattle.disk_layout.specs.Identity.{IsIdentity, identity_text, HasIdentity};
-ghost use Rattle.disk_layout.specs.Slots.{IsOpen, sequence_of, bank_of, manifest_place_of, manifest_length_of};
+ghost use Rattle.disk_layout.specs.Slots.{IsOpen, HasBody, sequence_of, bank_of, manifest_place_of, manifest_length_of};
 ghost use Rattle.disk_layout.specs.Manifest.{LoadEntry, ManifestFits, manifest, manifest_fields};
 ghost use Rattle.disk_layout.specs.Stands.{StandingView, Outline, outline_of, HasOutline, StandsBy, Stands, StandsNot};
+ghost use Rattle.disk_layout.specs.declared.active.ManifestRange.{ManifestRange};
 ghost use Rattle.disk_layout.specs.declared.fault.RecoverFault.{RecoverFault};
 ghost use Rattle.disk_layout.specs.declared.identity.Identity.{Identity};
 ghost use Rattle.disk_layout.specs.declared.manifest.ManifestFault.{ManifestFault};
@@ -36,6 +37,16 @@ pub fn an_identity_is_read_again()
 {
     check_sum_laws();
 }
+
+/// Where the body of a slot stands that was written, the slot says this again.
+pub fn a_slot_is_read_again()
+    ensures sequence { (image : Image) (at sequence bank : ℕ) (manifest : ManifestRange) → HasBody image at sequence bank manifest → sequence < 2 ^ 32 → sequence_of image at ≡ sequence }
+    ensures bank { (image : Image) (at sequence bank : ℕ) (manifest : ManifestRange) → HasBody image at sequence bank manifest → bank_of image at ≡ bank }
+    ensures offset { (image : Image) (at sequence bank : ℕ) (manifest : ManifestRange) → HasBody image at sequence bank manifest → manifest.offset < 2 ^ 32
+        → manifest_place_of image at ≡ manifest.offset }
+    ensures length { (image : Image) (at sequence bank : ℕ) (manifest : ManifestRange) → HasBody image at sequence bank manifest → manifest.length < 2 ^ 32
+        → manifest_length_of image at ≡ manifest.length }
+{}
 
 /// An image that has an outline stands for a configuration of that outline: its files are what stands
 /// before the manifest.

@@ -1,20 +1,25 @@
 //! What stands where on a disk, what a disk stands for, and why it may stand for nothing.
 #![tactic(auto)]
 
+mod active;
 mod fault;
 mod identity;
+mod identity_bytes;
 mod laws;
 mod manifest;
+pub mod numbers;
 pub mod places;
-mod ruling;
+mod slot;
 mod standing;
 
+pub use active::{Active, Bank, ManifestRange, Slot};
 pub use fault::RecoverFault;
 pub use identity::Identity;
+pub use identity_bytes::IdentityBytes;
 pub use laws::{
-    a_manifest_is_decided, an_identity_is_read_again, an_outline_is_filled,
+    a_manifest_is_decided, a_slot_is_read_again, an_identity_is_read_again, an_outline_is_filled,
     constants_are_those_of_the_layout, stands_for_one_thing,
 };
 pub use manifest::{Manifest, ManifestFault, ManifestFile, ManifestLoad};
-pub use ruling::Ruling;
+pub use slot::SlotFields;
 pub use standing::Standing;

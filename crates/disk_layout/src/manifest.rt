@@ -1,8 +1,14 @@
 //! What a manifest says of the contents of its bank.
-ghost use Rattle.std.specs.Prelude.{◌≡◌};
-ghost use Rattle.disk_layout.specs.declared.manifest.ManifestFault.TheVariants.{Memory};
+ghost use Rattle.std.specs.Prelude.{◌≡◌, map, IfOk, IfErr};
+ghost use Rattle.field_grammar.specs.Grammar.{Spelled, times, ended};
+ghost use Rattle.field_grammar.specs.Answers.{answer, Decodes, Gives};
+ghost use Rattle.disk_layout.specs.Manifest.{ManifestFits, RefusesManifestBytes, entry_view, manifest_view, load_count, part, file_count, file_name, file_length, file_entry, load_entry, manifest};
+ghost use Rattle.disk_layout.specs.declared.manifest.ManifestFault.TheVariants.{Wrong, Memory};
 
-use load_base::{List, Name, NoMemory, PartText};
+use crate::places::{MOST_FILES, MOST_LOADS};
+use field_codec::Reader;
+use load_base::{LONGEST_FILE, List, Name, NoMemory, PartText};
+use std::alloc::Global;
 
 /// A file of a load: its name, and how many bytes it has, at most 16,777,215.
 #[derive(Clone, Copy)]
@@ -25,6 +31,17 @@ pub struct Manifest {
     pub loads: List<ManifestLoad>,
 }
 
+impl Manifest {
+    /// The manifest that the bytes spell, or the first byte offset at which they can't go on.
+    pub fn decode(alloc: Global, bytes: &[u8]) -> Result<Manifest, ManifestFault>
+        ensures found { IfOk result (λ m. Spelled manifest bytes.now (manifest_view m)) }
+        ensures fits { IfOk result (λ m. ManifestFits (manifest_view m)) }
+        ensures refused { IfErr result (λ fault. RefusesManifestBytes bytes.now fault) }
+    {
+        read_manifest(alloc, bytes)
+    }
+}
+
 /// Why bytes are no manifest.
 #[derive(Clone, Copy, Debug, PartialEq, Eq)]
 pub enum ManifestFault {
@@ -41,4 +58,134 @@ impl From<NoMemory> for ManifestFault {
     fn from(_: NoMemory) -> ManifestFault {
         ManifestFault::Memory
     }
+}
+
+#[tactic(auto, unfolding(crate::specs::Manifest::manifest))]
+fn read_manifest(alloc: Global, bytes: &[u8]) -> Result<Manifest, ManifestFault>
+    ensures { Gives Memory manifest_view result (answer manifest bytes.now) }
+{
+    let mut reader = Reader::new(bytes);
+    let count = read_load_count(&mut reader)?;
+    let loads = read_loads(alloc, count, &mut reader)?;
+    read_end(&mut reader)?;
+    Ok(Manifest { loads })
+}
+
+#[tactic(auto, using(field_grammar::specs::LoopLaws::goes_on_seen, field_grammar::specs::LoopLaws::ends, field_grammar::specs::LoopLaws::is_done, field_grammar::specs::LoopLaws::begins))]
+fn read_loads(
+    alloc: Global,
+    count: u16,
+    reader: &mut Reader,
+) -> Result<List<ManifestLoad>, ManifestFault>
+    ensures { Decodes Memory (λ loads. map entry_view loads.items) (times count load_entry) reader.old result reader.new }
+{
+    let mut loads = List::new(alloc);
+    for _ in 0..count {
+        loads.push(read_load(alloc, reader)?)?;
+    }
+    Ok(loads)
+}
+
+#[tactic(auto, unfolding(crate::specs::Manifest::load_entry))]
+fn read_load(alloc: Global, reader: &mut Reader) -> Result<ManifestLoad, ManifestFault>
+    ensures { Decodes Memory entry_view load_entry reader.old result reader.new }
+{
+    let part = read_part(reader)?;
+    let count = read_file_count(reader)?;
+    let files = read_files(alloc, count, reader)?;
+    Ok(ManifestLoad { part, files })
+}
+
+#[tactic(auto, using(field_grammar::specs::LoopLaws::goes_on, field_grammar::specs::LoopLaws::ends, field_grammar::specs::LoopLaws::is_done, field_grammar::specs::LoopLaws::begins))]
+fn read_files(
+    alloc: Global,
+    count: u16,
+    reader: &mut Reader,
+) -> Result<List<ManifestFile>, ManifestFault>
+    ensures { Decodes Memory (λ files. files.items) (times count file_entry) reader.old result reader.new }
+{
+    let mut files = List::new(alloc);
+    for _ in 0..count {
+        files.push(read_file(reader)?)?;
+    }
+    Ok(files)
+}
+
+#[tactic(auto, unfolding(crate::specs::Manifest::file_entry))]
+fn read_file(reader: &mut Reader) -> Result<ManifestFile, ManifestFault>
+    ensures { Decodes Memory (λ file. file) file_entry reader.old result reader.new }
+{
+    let name = read_name(reader)?;
+    let length = read_length(reader)?;
+    Ok(ManifestFile { name, length })
+}
+
+#[tactic(auto, unfolding(crate::specs::Manifest::load_count))]
+fn read_load_count(reader: &mut Reader) -> Result<u16, ManifestFault>
+    ensures { Decodes Memory (λ count. count) load_count reader.old result reader.new }
+{
+    let wrong = ManifestFault::Wrong(reader.place() as u64);
+    match reader.take_u16() {
+        Ok(count) if count <= MOST_LOADS => Ok(count),
+        _ => Err(wrong),
+    }
+}
+
+#[tactic(auto, unfolding(crate::specs::Manifest::part))]
+fn read_part(reader: &mut Reader) -> Result<PartText, ManifestFault>
+    ensures { Decodes Memory (λ text. text) part reader.old result reader.new }
+{
+    let wrong = ManifestFault::Wrong(reader.place() as u64);
+    let Ok(bytes) = reader.take_raw(15) else {
+        return Err(wrong);
+    };
+    match PartText::read(bytes) {
+        Ok(part) => Ok(part),
+        Err(_) => Err(wrong),
+    }
+}
+
+#[tactic(auto, unfolding(crate::specs::Manifest::file_count))]
+fn read_file_count(reader: &mut Reader) -> Result<u16, ManifestFault>
+    ensures { Decodes Memory (λ count. count) file_count reader.old result reader.new }
+{
+    let wrong = ManifestFault::Wrong(reader.place() as u64);
+    match reader.take_u16() {
+        Ok(count) if 1 <= count && count <= MOST_FILES => Ok(count),
+        _ => Err(wrong),
+    }
+}
+
+#[tactic(auto, unfolding(crate::specs::Manifest::file_name))]
+fn read_name(reader: &mut Reader) -> Result<Name, ManifestFault>
+    ensures { Decodes Memory (λ name. name) file_name reader.old result reader.new }
+{
+    let wrong = ManifestFault::Wrong(reader.place() as u64);
+    let Ok(bytes) = reader.take_short() else {
+        return Err(wrong);
+    };
+    match Name::read(bytes) {
+        Ok(name) => Ok(name),
+        Err(_) => Err(wrong),
+    }
+}
+
+#[tactic(auto, unfolding(crate::specs::Manifest::file_length))]
+fn read_length(reader: &mut Reader) -> Result<u32, ManifestFault>
+    ensures { Decodes Memory (λ length. length) file_length reader.old result reader.new }
+{
+    let wrong = ManifestFault::Wrong(reader.place() as u64);
+    match reader.take_u32() {
+        Ok(length) if length as usize <= LONGEST_FILE => Ok(length),
+        _ => Err(wrong),
+    }
+}
+
+fn read_end(reader: &mut Reader) -> Result<(), ManifestFault>
+    ensures { Decodes Memory (λ unit. unit) (ended Wrong) reader.old result reader.new }
+{
+    if reader.left() != 0 {
+        return Err(ManifestFault::Wrong(reader.place() as u64));
+    }
+    Ok(())
 }

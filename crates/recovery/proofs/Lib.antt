@@ -1,11 +1,8 @@
 pub mod Files
-pub mod IdentityReads
 pub mod Loads
 pub mod Looks
-pub mod ManifestReads
 pub mod Pieces
 pub mod Refusals
 pub mod Rulings
-pub mod SlotReads
 pub mod Standings
 pub mod Stores

@@ -4,7 +4,7 @@ use Rattle.disk_model.specs.Image.{Image, range}
 use Rattle.field_grammar.specs.Grammar.{Spelled}
 use Rattle.disk_layout.specs.Places.{bank_at}
 use Rattle.disk_layout.specs.Identity.{HasIdentity}
-use Rattle.disk_layout.specs.Slots.{bank_of}
+use Rattle.disk_layout.specs.Slots.{bank_of, IsSlotAt}
 use Rattle.disk_layout.specs.Manifest.{LoadEntry, manifest, total_length}
 use Rattle.disk_layout.specs.Looks.{IsOfDisk}
 use Rattle.disk_layout.specs.Stands.{IsSoundSlot, IsBadSlot, IsRuledBy, manifest_at, manifest_of, HasOutline, Refuses}
@@ -13,8 +13,8 @@ use Rattle.disk_layout.specs.Stands.StandsNot.{no_open_slot, bad_slot, bad_manif
 use Rattle.disk_layout.specs.declared.identity.Identity.{Identity}
 use Rattle.disk_layout.specs.declared.fault.RecoverFault.{RecoverFault}
 use Rattle.disk_layout.specs.declared.fault.RecoverFault.TheVariants.{NotFormatted, NoOpenSlot, BadSlot, BadManifest, DiskFailed, Memory}
-use Rattle.recovery.specs.declared.slot.Slot.{Slot}
-use Rattle.recovery.specs.Parts.{IsSlotAt, RefusesSlots, IsSoundAt, RefusesSlot, RefusesManifest}
+use Rattle.disk_layout.specs.declared.slot.SlotFields.{SlotFields}
+use Rattle.recovery.specs.Parts.{RefusesSlots, IsSoundAt, RefusesSlot, RefusesManifest}
 use Rattle.recovery.specs.Parts.RefusesSlot.{other_bank, long, past}
 
 -- a fault of the disk says nothing of the image
@@ -34,53 +34,53 @@ slots_refuse image id fault has (inr none) = rw none.2 (no_open_slot id has none
 
 -- ---- the slot that rules can be or not
 
-pub can_be : (image : Image) (id : Identity) (at : ℕ) (slot : Slot) → IsSlotAt image at slot → IsSoundAt id.bank slot → IsSoundSlot image id at
+pub can_be : (image : Image) (id : Identity) (at : ℕ) (slot : SlotFields) → IsSlotAt image at slot → IsSoundAt id.bank slot → IsSoundSlot image id at
 can_be image id at slot is can = record {
-  bank = rw (← is.bank) can.bank;
+  is_bank = rw (← is.bank) can.is_bank;
   short = rw (← is.length) can.short;
-  within = rw (← is.place, ← is.length) can.within;
+  within = rw (← is.offset, ← is.length) can.within;
 }
 
 refuses_bad : (image : Image) (id : Identity) (at place : ℕ) (fault : RecoverFault) → IsRuledBy image id at → IsBadSlot image id at place → fault ≡ BadSlot place → Refuses image fault
 refuses_bad image id at place fault ruled bad is = rw is (bad_slot id at place ruled bad refl)
 
-pub slot_refuses : (image : Image) (id : Identity) (at : ℕ) (slot : Slot) (fault : RecoverFault) → IsRuledBy image id at → IsSlotAt image at slot
+pub slot_refuses : (image : Image) (id : Identity) (at : ℕ) (slot : SlotFields) (fault : RecoverFault) → IsRuledBy image id at → IsSlotAt image at slot
     → RefusesSlot id.bank at slot fault → Refuses image fault
 slot_refuses image id at slot fault ruled says (other_bank bank is) = refuses_bad image id at (at + 20) fault ruled (no_such_bank (rw (← says.bank) bank) refl) is
 slot_refuses image id at slot fault ruled says (long bank size is) =
     refuses_bad image id at (at + 25) fault ruled (too_long (rw (← says.bank) bank) (rw (← says.length) size) refl) is
 slot_refuses image id at slot fault ruled says (past bank size end is) =
-    refuses_bad image id at (at + 21) fault ruled (past_the_bank (rw (← says.bank) bank) (rw (← says.length) size) (rw (← says.place, ← says.length) end) refl) is
+    refuses_bad image id at (at + 21) fault ruled (past_the_bank (rw (← says.bank) bank) (rw (← says.length) size) (rw (← says.offset, ← says.length) end) refl) is
 
 -- ---- the manifest that it names
 
 -- where the slot says that the manifest begins
-start_is : (image : Image) (id : Identity) (at : ℕ) (slot : Slot) → IsSlotAt image at slot → bank_at id.bank slot.bank + slot.place ≡ manifest_at image id at
+start_is : (image : Image) (id : Identity) (at : ℕ) (slot : SlotFields) → IsSlotAt image at slot → bank_at id.bank slot.bank + slot.manifest.offset ≡ manifest_at image id at
 start_is image id at slot is =
-    ap (λ (b : ℕ). bank_at id.bank b + slot.place) is.bank ∙ ap (λ (p : ℕ). bank_at id.bank (bank_of image at) + p) is.place
+    ap (λ (b : ℕ). bank_at id.bank b + slot.manifest.offset) is.bank ∙ ap (λ (p : ℕ). bank_at id.bank (bank_of image at) + p) is.offset
 
 -- the bytes that it names
-bytes_are : (image : Image) (id : Identity) (at : ℕ) (slot : Slot) → IsSlotAt image at slot
-    → range image (bank_at id.bank slot.bank + slot.place) slot.length ≡ manifest_of image id at
+bytes_are : (image : Image) (id : Identity) (at : ℕ) (slot : SlotFields) → IsSlotAt image at slot
+    → range image (bank_at id.bank slot.bank + slot.manifest.offset) slot.manifest.length ≡ manifest_of image id at
 bytes_are image id at slot is =
-    ap (λ (p : ℕ). range image p slot.length) (start_is image id at slot is) ∙ ap (λ (n : ℕ). range image (manifest_at image id at) n) is.length
+    ap (λ (p : ℕ). range image p slot.manifest.length) (start_is image id at slot is) ∙ ap (λ (n : ℕ). range image (manifest_at image id at) n) is.length
 
-pub manifest_refuses : (image : Image) (id : Identity) (at : ℕ) (slot : Slot) (fault : RecoverFault) → IsRuledBy image id at → IsSoundSlot image id at → IsSlotAt image at slot
-    → RefusesManifest image (bank_at id.bank slot.bank + slot.place) slot.length slot.place fault → Refuses image fault
+pub manifest_refuses : (image : Image) (id : Identity) (at : ℕ) (slot : SlotFields) (fault : RecoverFault) → IsRuledBy image id at → IsSoundSlot image id at → IsSlotAt image at slot
+    → RefusesManifest image (bank_at id.bank slot.bank + slot.manifest.offset) slot.manifest.length slot.manifest.offset fault → Refuses image fault
 manifest_refuses image id at slot fault ruled can says (inl (inl is)) = of_disk image fault is
 manifest_refuses image id at slot fault ruled can says (inl (inr wrong)) =
     let (place, faulty, is) = wrong in
     rw is (bad_manifest id at place ruled can (rw (bytes_are image id at slot says) at faulty) (ap (λ (p : ℕ). BadManifest (p + place)) (start_is image id at slot says)))
 manifest_refuses image id at slot fault ruled can says (inr other) =
     rw other.is (
-    other_lengths id at other.loads ruled can (rw (bytes_are image id at slot says) at other.spelled) (λ same. other.differ (same ∙ sym says.place))
+    other_lengths id at other.loads ruled can (rw (bytes_are image id at slot says) at other.spelled) (λ same. other.differ (same ∙ sym says.offset))
     (ap (λ (p : ℕ). BadManifest p) (start_is image id at slot says))
     )
 
 -- ---- all of it
 
-pub has_outline : (image : Image) (id : Identity) (at : ℕ) (slot : Slot) (loads : List LoadEntry) → IsRuledBy image id at → IsSoundAt id.bank slot → IsSlotAt image at slot
-    → Spelled manifest (range image (bank_at id.bank slot.bank + slot.place) slot.length) loads → total_length loads ≡ slot.place
+pub has_outline : (image : Image) (id : Identity) (at : ℕ) (slot : SlotFields) (loads : List LoadEntry) → IsRuledBy image id at → IsSoundAt id.bank slot → IsSlotAt image at slot
+    → Spelled manifest (range image (bank_at id.bank slot.bank + slot.manifest.offset) slot.manifest.length) loads → total_length loads ≡ slot.manifest.offset
     → HasOutline image at (record { identity = id; bank = slot.bank; sequence = slot.sequence; loads = loads })
 has_outline image id at slot loads ruled can says spelled lengths = record {
   ruled = ruled;
@@ -88,5 +88,5 @@ has_outline image id at slot loads ruled can says spelled lengths = record {
   bank = says.bank;
   sequence = says.sequence;
   manifest = rw (bytes_are image id at slot says) at spelled;
-  lengths = lengths ∙ says.place;
+  lengths = lengths ∙ says.offset;
 }

@@ -1,28 +1,29 @@
 -- What was surveyed and its contents, as what the disk stands for.
-use Rattle.std.proofs.Common.{◌≡◌, ℕ, List, ap, ◌∙◌}
+use Rattle.std.proofs.Common.{◌≡◌, ℕ, List, Bool, ap, ◌∙◌}
 use Rattle.load_base.specs.Config.{LoadView}
 use Rattle.disk_model.specs.Image.{Image, range}
 use Rattle.disk_layout.specs.Places.{bank_at}
+use Rattle.disk_layout.specs.Slots.{slot_offset, bank_number}
 use Rattle.disk_layout.specs.Manifest.{LoadEntry, manifest_view, total_length}
 use Rattle.disk_layout.specs.Contents.{entries_of, contents_of, HeadersAreFirst}
 use Rattle.disk_layout.specs.Stands.{Outline, Stands}
 use Rattle.disk_layout.specs.declared.identity.Identity.{Identity}
-use Rattle.bank_store.specs.Store.{slot_of, bank_of, sequence_of}
-use Rattle.recovery.specs.Surveys.{IsSurveyed}
-use Rattle.recovery.specs.declared.surveying.Surveyed.{Surveyed}
+use Rattle.disk_layout.specs.declared.active.Active.{Active}
+use Rattle.disk_layout.specs.declared.manifest.Manifest.{Manifest}
+use Rattle.recovery.specs.Surveys.{FindsActive}
 
 outlined : Identity → ℕ → ℕ → List LoadEntry → Outline
 outlined id bank sequence loads = record { identity = id; bank = bank; sequence = sequence; loads = loads }
 
-pub stands_for : (image : Image) (s : Surveyed) (bank sequence : ℕ) (loads : List LoadView) → bank ≡ bank_of s.store → sequence ≡ sequence_of s.store → IsSurveyed image s
-    → entries_of loads ≡ manifest_view s.manifest → HeadersAreFirst loads → contents_of loads ≡ range image (bank_at s.identity.bank bank) (total_length (manifest_view s.manifest))
-    → Stands image (record { identity = s.identity; bank = bank; sequence = sequence; loads = loads })
+pub stands_for : (image : Image) (id : Identity) (m : Manifest) (active : Active) (other_is_open : Bool) (bank : ℕ) (loads : List LoadView) → bank ≡ bank_number active.bank
+    → FindsActive image id m active other_is_open → entries_of loads ≡ manifest_view m → HeadersAreFirst loads
+    → contents_of loads ≡ range image (bank_at id.bank bank) (total_length (manifest_view m)) → Stands image (record { identity = id; bank = bank; sequence = active.sequence; loads = loads })
 unfolding outlined
-stands_for image s bank sequence loads is_bank is_sequence surveyed entries headers contents = record {
-  slot = slot_of s.store;
+stands_for image id m active other_is_open bank loads is_bank found entries headers contents = record {
+  slot = slot_offset active.slot;
   by = record {
-    outline = rw (is_bank, is_sequence, ap (outlined s.identity (bank_of s.store) (sequence_of s.store)) entries) surveyed.outline;
+    outline = rw (is_bank, ap (outlined id (bank_number active.bank) active.sequence) entries) found.outline;
     headers = headers;
-    contents = contents ∙ ap (λ (n : ℕ). range image (bank_at s.identity.bank bank) n) surveyed.outline.lengths;
+    contents = contents ∙ ap (λ (n : ℕ). range image (bank_at id.bank bank) n) found.outline.lengths;
   };
 }

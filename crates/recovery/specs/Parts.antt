@@ -3,25 +3,16 @@ use Rattle.std.specs.Prelude.{◌≡◌, ◌≢◌, ◌⊎◌, ◌↔◌, ℕ, �
 use Rattle.disk_model.specs.Image.{Image, range}
 use Rattle.field_grammar.specs.Grammar.{Spelled, Fault}
 use Rattle.disk_layout.specs.Places.{slot_a, slot_b, longest_manifest}
-use Rattle.disk_layout.specs.Slots.{IsOpen, IsSlot, Rules, sequence_of, bank_of, manifest_place_of, manifest_length_of}
+use Rattle.disk_layout.specs.Slots.{slot_offset, IsOpen, IsSlot, Rules, IsSlotAt, IsSound}
 use Rattle.disk_layout.specs.Manifest.{LoadEntry, manifest, total_length}
 use Rattle.disk_layout.specs.Looks.{IsOfDisk}
 use Rattle.disk_layout.specs.declared.fault.RecoverFault.{RecoverFault}
 use Rattle.disk_layout.specs.declared.fault.RecoverFault.TheVariants.{NoOpenSlot, BadSlot, BadManifest}
-use Rattle.disk_layout.specs.declared.manifest.ManifestFault.{ManifestFault}
-use Rattle.disk_layout.specs.declared.manifest.ManifestFault.TheVariants.{Wrong, Memory}
-use Rattle.recovery.specs.declared.slot.Slot.{Slot}
+use Rattle.disk_layout.specs.declared.manifest.ManifestFault.TheVariants.{Wrong}
+use Rattle.disk_layout.specs.declared.slot.SlotFields.{SlotFields}
 use Rattle.recovery.specs.declared.surveying.Ruler.{Ruler}
 
 -- ---- the slots
-
--- what the slot at this place says
-pub record IsSlotAt (image : Image) (at : ℕ) (slot : Slot) : Type 0 where
-  pub gate : slot.gate ≡ image at
-  pub sequence : slot.sequence ≡ sequence_of image at
-  pub bank : slot.bank ≡ bank_of image at
-  pub place : slot.place ≡ manifest_place_of image at
-  pub length : slot.length ≡ manifest_length_of image at
 
 -- whether another slot than this one is open
 abbrev pub TellsOther : Image → ℕ → Bool → Type 0
@@ -29,36 +20,29 @@ TellsOther image at open_too = (other : ℕ) → IsSlot other → other ≢ at �
 
 -- this slot rules, and says this
 pub record IsRulerOn (image : Image) (ruler : Ruler) : Type 0 where
-  pub rules : Rules image ruler.at
-  pub says : IsSlotAt image ruler.at ruler.slot
-  pub other : TellsOther image ruler.at ruler.other_is_open
+  pub rules : Rules image (slot_offset ruler.slot)
+  pub says : IsSlotAt image (slot_offset ruler.slot) ruler.says
+  pub other : TellsOther image (slot_offset ruler.slot) ruler.other_is_open
 
 -- neither slot is open, or the disk or memory failed
 abbrev pub RefusesSlots : Image → RecoverFault → Type 0
 RefusesSlots image fault = IsOfDisk fault ⊎ (¬ IsOpen image slot_a × ¬ IsOpen image slot_b × (fault ≡ NoOpenSlot))
 
 -- what the slot says can be on a disk with banks of this size
-pub record IsSoundAt (size : ℕ) (slot : Slot) : Type 0 where
-  pub bank : slot.bank < 2
-  pub short : slot.length ≤ longest_manifest
-  pub within : slot.place + slot.length ≤ size
+abbrev pub IsSoundAt : (size : ℕ) → SlotFields → Type 0
+IsSoundAt size slot = IsSound size slot.bank slot.manifest.offset slot.manifest.length
 
 -- the first that can't be in what the slot at this place says
-pub data RefusesSlot (size at : ℕ) (slot : Slot) (fault : RecoverFault) : Type 0 where
+pub data RefusesSlot (size at : ℕ) (slot : SlotFields) (fault : RecoverFault) : Type 0 where
   other_bank : 2 ≤ slot.bank → fault ≡ BadSlot (at + 20) → RefusesSlot size at slot fault
-  long : slot.bank < 2 → longest_manifest < slot.length → fault ≡ BadSlot (at + 25) → RefusesSlot size at slot fault
-  past : slot.bank < 2 → slot.length ≤ longest_manifest → size < slot.place + slot.length → fault ≡ BadSlot (at + 21) → RefusesSlot size at slot fault
+  long : slot.bank < 2 → longest_manifest < slot.manifest.length → fault ≡ BadSlot (at + 25) → RefusesSlot size at slot fault
+  past : slot.bank < 2 → slot.manifest.length ≤ longest_manifest → size < slot.manifest.offset + slot.manifest.length → fault ≡ BadSlot (at + 21) → RefusesSlot size at slot fault
 
 -- ---- the manifest
 
 -- a load has a file at least, its header
 abbrev pub HasFiles : LoadEntry → Type 0
 HasFiles entry = 1 ≤ length entry.files
-
--- the bytes are no manifest from this place on, or memory was wanting
-abbrev pub RefusesManifestBytes : List ℕ → ManifestFault → Type 0
-RefusesManifestBytes bytes (Wrong place) = Fault manifest bytes (Wrong place) × (place ≤ length bytes)
-RefusesManifestBytes bytes Memory = Unit {0}
 
 -- these bytes are no manifest from one place on, or the disk or memory failed
 abbrev pub RefusesBytes : Image → (start size : ℕ) → RecoverFault → Type 0

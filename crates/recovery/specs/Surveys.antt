@@ -1,28 +1,41 @@
 -- What a survey of a disk finds.
-use Rattle.std.specs.Prelude.{◌≡◌, ◌<◌, ◌≤◌}
+use Rattle.std.specs.Prelude.{◌≡◌, ◌≤◌, Bool}
 use Rattle.disk_model.specs.Image.{Image}
 use Rattle.disk_layout.specs.Places.{IsBankSize}
-use Rattle.disk_layout.specs.Slots.{IsSlot}
+use Rattle.disk_layout.specs.Slots.{slot_offset, bank_number, manifest_place_of, manifest_length_of, IsManifestRange}
 use Rattle.disk_layout.specs.Manifest.{ManifestFits, manifest_view, total_length}
 use Rattle.disk_layout.specs.Stands.{Outline, HasOutline}
-use Rattle.bank_store.specs.Store.{size_of, slot_of, bank_of, sequence_of, is_other_open}
+use Rattle.disk_layout.specs.declared.active.Active.{Active}
+use Rattle.disk_layout.specs.declared.identity.Identity.{Identity}
+use Rattle.disk_layout.specs.declared.manifest.Manifest.{Manifest}
+use Rattle.bank_store.specs.Store.{bank_size, active_of, is_other_open}
 use Rattle.recovery.specs.Parts.{TellsOther}
 use Rattle.recovery.specs.declared.surveying.Surveyed.{Surveyed}
 
+-- what is known of a configuration without its contents
+abbrev pub outline_by : Identity → Manifest → Active → Outline
+outline_by id m active = record { identity = id; bank = bank_number active.bank; sequence = active.sequence; loads = manifest_view m }
+
+-- The image has this outline by the active slot, so that it holds a configuration of it; there the slot names the
+-- manifest; and this is told of the other slot.
+pub record FindsActive (image : Image) (id : Identity) (m : Manifest) (active : Active) (other_is_open : Bool) : Type 0 where
+  pub outline : HasOutline image (slot_offset active.slot) (outline_by id m active)
+  pub offset : manifest_place_of image (slot_offset active.slot) ≡ active.manifest.offset
+  pub length : manifest_length_of image (slot_offset active.slot) ≡ active.manifest.length
+  pub other : TellsOther image (slot_offset active.slot) other_is_open
+
+-- the bounds of what is found, also on a disk that tells no content
+pub record IsFoundInRange (id : Identity) (m : Manifest) (active : Active) : Type 0 where
+  pub size : IsBankSize id.bank
+  pub range : IsManifestRange id.bank active.manifest
+  pub manifest : ManifestFits (manifest_view m)
+  pub within : total_length (manifest_view m) ≤ id.bank
+
 abbrev pub outline_of_survey : Surveyed → Outline
-outline_of_survey s = record { identity = s.identity; bank = bank_of s.store; sequence = sequence_of s.store; loads = manifest_view s.manifest }
+outline_of_survey s = outline_by s.identity s.manifest (active_of s.store)
 
--- The image has this outline by the slot that rules, so that it stands for a configuration of it; and this is told of
--- the other slot.
-pub record IsSurveyed (image : Image) (s : Surveyed) : Type 0 where
-  pub outline : HasOutline image (slot_of s.store) (outline_of_survey s)
-  pub other : TellsOther image (slot_of s.store) (is_other_open s.store)
+abbrev pub IsSurveyed : Image → Surveyed → Type 0
+IsSurveyed image s = FindsActive image s.identity s.manifest (active_of s.store) (is_other_open s.store)
 
--- the bounds of a survey, also of a disk that tells no content
-pub record IsInRange (s : Surveyed) : Type 0 where
-  pub size : IsBankSize s.identity.bank
-  pub same_size : size_of s.store ≡ s.identity.bank
-  pub slot : IsSlot (slot_of s.store)
-  pub bank : bank_of s.store < 2
-  pub manifest : ManifestFits (manifest_view s.manifest)
-  pub within : total_length (manifest_view s.manifest) ≤ s.identity.bank
+abbrev pub IsInRange : Surveyed → Type 0
+IsInRange s = IsFoundInRange s.identity s.manifest (active_of s.store) × (bank_size s.store ≡ s.identity.bank)

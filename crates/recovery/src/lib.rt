@@ -2,11 +2,8 @@
 #![tactic(auto)]
 
 mod contents;
-mod identity;
 mod looking;
-mod manifest;
 mod recovering;
-mod slot;
 mod surveying;
 
 pub use bank_store::Store;

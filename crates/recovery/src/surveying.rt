@@ -1,32 +1,31 @@
 //! What rules on a disk: the identity, the slot, and the manifest that it names.
 ghost use Rattle.std.specs.Prelude.{◌≡◌, ◌+◌, ◌≤◌, ◌<◌, ◌↔◌, IsTrue, IfSome, IfNone, Some, false, map, OnOk, IfOk, IfErr};
 ghost use Rattle.std.specs.List.{sum_by};
+ghost use Rattle.std.specs.Option.{ForSome};
 ghost use Rattle.disk_model.specs.Image.{Image, range};
 ghost use Rattle.disk_model.specs.State.{IsSettled};
 ghost use Rattle.field_grammar.specs.Grammar.{Spelled};
 ghost use Rattle.disk_layout.specs.Places.{IsBankSize, bank_at};
 ghost use Rattle.disk_layout.specs.Identity.{HasIdentity};
-ghost use Rattle.disk_layout.specs.Slots.{IsSlot};
+ghost use Rattle.disk_layout.specs.Slots.{slot_offset, bank_number, IsSlotAt};
 ghost use Rattle.disk_layout.specs.Manifest.{ManifestFits, manifest, manifest_view, entry_view, total_length, size_of};
 ghost use Rattle.disk_layout.specs.Stands.{StandingView, outline_of, Refuses};
 ghost use Rattle.disk_layout.specs.Looks.{IsOfDisk, Looks};
-ghost use Rattle.bank_store.specs.Store.{size_of as bank_size_of, slot_of as ruling_slot_of, bank_of, sequence_of, is_other_open, IsIdle};
-ghost use Rattle.bank_store.specs.Safe.{StandsFor, Works};
-ghost use Rattle.recovery.specs.Parts.{IsSlotAt, IsRulerOn, RefusesSlots, IsSoundAt, RefusesSlot, RefusesBytes, RefusesManifest};
-ghost use Rattle.recovery.specs.Surveys.{IsSurveyed, IsInRange, outline_of_survey};
+ghost use Rattle.bank_store.specs.Store.{IsIdle};
+ghost use Rattle.bank_store.specs.Acts.{IsRunning};
+ghost use Rattle.bank_store.specs.Fits.{HoldsFor, Fits, Works};
+ghost use Rattle.recovery.specs.Parts.{IsRulerOn, RefusesSlots, IsSoundAt, RefusesSlot, RefusesBytes, RefusesManifest};
+ghost use Rattle.recovery.specs.Surveys.{IsSurveyed, IsInRange, FindsActive, IsFoundInRange, outline_of_survey};
 
-use crate::identity::identity_of;
 use crate::looking::{bytes_on, read_from};
-use crate::manifest::manifest_in;
-use crate::slot::{Slot, rules_over, slot_of};
-use bank_store::{Store, a_settled_disk_works};
+use bank_store::{Store, a_settled_disk_works, a_store_goes_on_fitting};
 use disk_layout::places::{
-    BANK_IN_SLOT, BANKS, LENGTH_IN_SLOT, LONGEST_IDENTITY, LONGEST_MANIFEST, OPEN, PLACE_IN_SLOT,
-    SLOT_A, SLOT_B, SLOT_LENGTH,
+    BANK_IN_SLOT, LENGTH_IN_SLOT, LONGEST_IDENTITY, LONGEST_MANIFEST, OPEN, PLACE_IN_SLOT, SLOT_A,
+    SLOT_B, SLOT_LENGTH,
 };
 use disk_layout::{
-    Identity, Manifest, ManifestFault, ManifestFile, ManifestLoad, RecoverFault, Ruling,
-    an_outline_is_filled,
+    Active, Bank, Identity, Manifest, ManifestFault, ManifestFile, ManifestLoad, RecoverFault,
+    Slot, SlotFields, an_outline_is_filled,
 };
 use disk_model::{Disk, SIZE};
 use std::alloc::Global;
@@ -46,49 +45,78 @@ pub struct Surveyed {
 /// The store that it gives installs on this disk, beside what rules there. What its calls promise of a power
 /// loss they promise where the disk was settled, as it is behind a sync or a restart.
 pub fn survey<K: Disk>(alloc: Global, disk: &mut K) -> Result<Surveyed, RecoverFault>
-    requires { (K.state disk.old).stopped ≡ false }
-    ensures found { IfOk result (λ surveyed. (image : Image) → (K.state disk.old).reads ≡ Some image → IsSurveyed image surveyed) }
-    ensures refused { IfErr result (λ fault. (image : Image) → (K.state disk.old).reads ≡ Some image → Refuses image fault) }
+    requires { IsRunning (K.state disk.old) }
+    ensures found { IfOk result (λ surveyed. ForSome (K.state disk.old).reads (λ image. IsSurveyed image surveyed)) }
+    ensures refused { IfErr result (λ fault. ForSome (K.state disk.old).reads (λ image. Refuses image fault)) }
     ensures in_range { IfOk result (λ surveyed. IsInRange surveyed) }
     ensures idle { IfOk result (λ surveyed. IsIdle surveyed.store) }
-    ensures stands { IfOk result (λ surveyed. (image : Image) → (K.state disk.old).reads ≡ Some image
-        → (s : StandingView) × StandsFor surveyed.store image s × (outline_of s ≡ outline_of_survey surveyed)) }
+    ensures holds { IfOk result (λ surveyed. ForSome (K.state disk.old).reads
+        (λ image. (s : StandingView) × HoldsFor surveyed.store image s × (outline_of s ≡ outline_of_survey surveyed))) }
+    ensures fits { IfOk result (λ surveyed. Fits surveyed.store (K.state disk.new)) }
     ensures works { IfOk result (λ surveyed. IsSettled (K.state disk.old) → Works surveyed.store (K.state disk.new)) }
     ensures looks { Looks (K.state disk.old) (K.state disk.new) result }
 {
-    let identity = identity_on(disk)?;
-    let ruler = ruler_on(disk)?;
-    check_slot(identity.bank, ruler.at, &ruler.slot)?;
-    let manifest = manifest_of_slot(alloc, disk, identity.bank, &ruler.slot)?;
-    let store = store_of(alloc, identity.bank, &ruler);
+    let found = active_on(alloc, disk)?;
+    let store = Store::new(
+        alloc,
+        found.identity.bank,
+        found.active,
+        found.other_is_open,
+    );
     an_outline_is_filled();
     a_settled_disk_works::<K>();
+    a_store_goes_on_fitting::<K>();
     Ok(Surveyed {
-        identity,
-        manifest,
+        identity: found.identity,
+        manifest: found.manifest,
         store,
     })
 }
 
-// The store for a disk on which this rules, with banks of so many bytes.
-fn store_of(alloc: Global, bank_size: u32, ruler: &Ruler) -> Store
-    requires size { IsBankSize bank_size }
-    requires slot { IsSlot ruler.now.at }
-    requires bank { ruler.now.slot.bank < 2 }
-    ensures idle { IsIdle result }
-    ensures size { bank_size_of result ≡ bank_size }
-    ensures slot { ruling_slot_of result ≡ ruler.now.at }
-    ensures bank { bank_of result ≡ ruler.now.slot.bank }
-    ensures sequence { sequence_of result ≡ ruler.now.slot.sequence }
-    ensures other { is_other_open result ≡ ruler.now.other_is_open }
+// What is active on a disk, without the contents of its files, and whether the other slot is open.
+#[derive(Drop)]
+pub(crate) struct Found {
+    pub(crate) identity: Identity,
+    pub(crate) manifest: Manifest,
+    pub(crate) active: Active,
+    pub(crate) other_is_open: bool,
+}
+
+// Finds what is active on a disk.
+pub(crate) fn active_on<K: Disk>(alloc: Global, disk: &mut K) -> Result<Found, RecoverFault>
+    requires { IsRunning (K.state disk.old) }
+    ensures found { IfOk result (λ found. ForSome (K.state disk.old).reads
+        (λ image. FindsActive image found.identity found.manifest found.active found.other_is_open)) }
+    ensures refused { IfErr result (λ fault. ForSome (K.state disk.old).reads (λ image. Refuses image fault)) }
+    ensures in_range { IfOk result (λ found. IsFoundInRange found.identity found.manifest found.active) }
+    ensures looks { Looks (K.state disk.old) (K.state disk.new) result }
 {
-    let ruling = Ruling {
-        slot: ruler.at,
-        bank: ruler.slot.bank,
-        sequence: ruler.slot.sequence,
+    let identity = identity_on(disk)?;
+    let ruler = ruler_on(disk)?;
+    check_slot(identity.bank, ruler.slot, &ruler.says)?;
+    let manifest = manifest_of_slot(alloc, disk, identity.bank, &ruler.says)?;
+    Ok(Found {
+        identity,
+        manifest,
+        active: active_by(&ruler),
         other_is_open: ruler.other_is_open,
-    };
-    Store::new(alloc, bank_size, ruling)
+    })
+}
+
+// What is active where this slot is.
+fn active_by(ruler: &Ruler) -> Active
+    requires { ruler.now.says.bank < 2 }
+    ensures slot { result.slot ≡ ruler.now.slot }
+    ensures bank { bank_number result.bank ≡ ruler.now.says.bank }
+    ensures sequence { result.sequence ≡ ruler.now.says.sequence }
+    ensures manifest { result.manifest ≡ ruler.now.says.manifest }
+{
+    Active {
+        slot: ruler.slot,
+        bank: Bank::numbered(ruler.says.bank),
+        sequence: ruler.says.sequence,
+        manifest: ruler.says.manifest,
+    }
 }
 
 fn identity_on<K: Disk>(disk: &mut K) -> Result<Identity, RecoverFault>
@@ -100,13 +128,13 @@ fn identity_on<K: Disk>(disk: &mut K) -> Result<Identity, RecoverFault>
 {
     let mut front = [0; LONGEST_IDENTITY];
     read_from(disk, 0, &mut front)?;
-    match identity_of(&front) {
+    match Identity::decode(&front) {
         Ok(identity) => Ok(identity),
         Err(place) => Err(RecoverFault::NotFormatted(place)),
     }
 }
 
-fn slot_on<K: Disk>(disk: &mut K, at: u32) -> Result<Slot, RecoverFault>
+fn slot_on<K: Disk>(disk: &mut K, at: u32) -> Result<SlotFields, RecoverFault>
     requires running { (K.state disk.old).stopped ≡ false }
     requires within { at ≤ SLOT_B }
     ensures found { IfOk result (λ slot. (image : Image) → (K.state disk.old).reads ≡ Some image → IsSlotAt image at slot) }
@@ -115,36 +143,35 @@ fn slot_on<K: Disk>(disk: &mut K, at: u32) -> Result<Slot, RecoverFault>
 {
     let mut bytes = [0; SLOT_LENGTH];
     read_from(disk, at, &mut bytes)?;
-    Ok(slot_of(&bytes))
+    Ok(SlotFields::decode(&bytes))
 }
 
-// The slot that rules, its place, and whether the other is open too.
+// The active slot, what it says, and whether the other is open too.
 #[derive(Clone, Copy)]
 struct Ruler {
-    at: u32,
     slot: Slot,
+    says: SlotFields,
     other_is_open: bool,
 }
 
 fn ruler_on<K: Disk>(disk: &mut K) -> Result<Ruler, RecoverFault>
     requires { (K.state disk.old).stopped ≡ false }
     ensures found { IfOk result (λ ruler. (image : Image) → (K.state disk.old).reads ≡ Some image → IsRulerOn image ruler) }
-    ensures place { IfOk result (λ ruler. IsSlot ruler.at) }
     ensures refused { IfErr result (λ fault. (image : Image) → (K.state disk.old).reads ≡ Some image → RefusesSlots image fault) }
     ensures looks { Looks (K.state disk.old) (K.state disk.new) result }
 {
     let a = slot_on(disk, SLOT_A)?;
     let b = slot_on(disk, SLOT_B)?;
-    if rules_over(&a, &b) {
+    if is_active_over(&a, &b) {
         Ok(Ruler {
-            at: SLOT_A,
-            slot: a,
+            slot: Slot::A,
+            says: a,
             other_is_open: b.gate == OPEN,
         })
     } else if b.gate == OPEN {
         Ok(Ruler {
-            at: SLOT_B,
-            slot: b,
+            slot: Slot::B,
+            says: b,
             other_is_open: a.gate == OPEN,
         })
     } else {
@@ -152,17 +179,24 @@ fn ruler_on<K: Disk>(disk: &mut K) -> Result<Ruler, RecoverFault>
     }
 }
 
-// What the slot at this place says can be on a disk with banks of this size.
-fn check_slot(bank_size: u32, at: u32, slot: &Slot) -> Result<(), RecoverFault>
-    ensures ok { OnOk result (IsSoundAt bank_size slot.now) }
-    ensures refused { IfErr result (λ fault. RefusesSlot bank_size at slot.now fault) }
+// Slot A is open, and slot B isn't both open and of a greater sequence.
+fn is_active_over(a: &SlotFields, b: &SlotFields) -> bool
+    ensures { IsTrue result ↔ ((a.now.gate ≡ OPEN) × (b.now.gate ≡ OPEN → b.now.sequence ≤ a.now.sequence)) }
 {
-    let at = u64::from(at);
-    let end = u64::from(slot.place) + u64::from(slot.length);
-    if slot.bank > 1 {
+    a.gate == OPEN && (b.gate != OPEN || b.sequence <= a.sequence)
+}
+
+// What a slot says can be on a disk with banks of this size.
+fn check_slot(bank_size: u32, slot: Slot, says: &SlotFields) -> Result<(), RecoverFault>
+    ensures ok { OnOk result (IsSoundAt bank_size says.now) }
+    ensures refused { IfErr result (λ fault. RefusesSlot bank_size (slot_offset slot) says.now fault) }
+{
+    let at = u64::from(slot.offset());
+    let end = u64::from(says.manifest.offset) + u64::from(says.manifest.length);
+    if says.bank > 1 {
         return Err(RecoverFault::BadSlot(at + u64::from(BANK_IN_SLOT)));
     }
-    if slot.length > LONGEST_MANIFEST {
+    if says.manifest.length > LONGEST_MANIFEST {
         return Err(RecoverFault::BadSlot(at + u64::from(LENGTH_IN_SLOT)));
     }
     if end > u64::from(bank_size) {
@@ -176,22 +210,22 @@ fn manifest_of_slot<K: Disk>(
     alloc: Global,
     disk: &mut K,
     bank_size: u32,
-    slot: &Slot,
+    slot: &SlotFields,
 ) -> Result<Manifest, RecoverFault>
     requires running { (K.state disk.old).stopped ≡ false }
     requires size { IsBankSize bank_size }
     requires can_be { IsSoundAt bank_size slot.now }
     ensures found { IfOk result (λ m. (image : Image) → (K.state disk.old).reads ≡ Some image
-        → Spelled manifest (range image (bank_at bank_size slot.now.bank + slot.now.place) slot.now.length) (manifest_view m)) }
+        → Spelled manifest (range image (bank_at bank_size slot.now.bank + slot.now.manifest.offset) slot.now.manifest.length) (manifest_view m)) }
     ensures fits { IfOk result (λ m. ManifestFits (manifest_view m)) }
-    ensures lengths { IfOk result (λ m. total_length (manifest_view m) ≡ slot.now.place) }
+    ensures lengths { IfOk result (λ m. total_length (manifest_view m) ≡ slot.now.manifest.offset) }
     ensures refused { IfErr result (λ fault. (image : Image) → (K.state disk.old).reads ≡ Some image
-        → RefusesManifest image (bank_at bank_size slot.now.bank + slot.now.place) slot.now.length slot.now.place fault) }
+        → RefusesManifest image (bank_at bank_size slot.now.bank + slot.now.manifest.offset) slot.now.manifest.length slot.now.manifest.offset fault) }
     ensures looks { Looks (K.state disk.old) (K.state disk.new) result }
 {
-    let start = BANKS + bank_size * u32::from(slot.bank) + slot.place;
-    let manifest = manifest_on(alloc, disk, start, slot.length)?;
-    if adds_up(&manifest, slot.place) {
+    let start = Bank::numbered(slot.bank).offset(bank_size) + slot.manifest.offset;
+    let manifest = manifest_on(alloc, disk, start, slot.manifest.length)?;
+    if adds_up(&manifest, slot.manifest.offset) {
         Ok(manifest)
     } else {
         Err(RecoverFault::BadManifest(u64::from(start)))
@@ -213,7 +247,7 @@ fn manifest_on<K: Disk>(
     ensures looks { Looks (K.state disk.old) (K.state disk.new) result }
 {
     let bytes = bytes_on(alloc, disk, start, length)?;
-    match manifest_in(alloc, bytes.as_slice()) {
+    match Manifest::decode(alloc, bytes.as_slice()) {
         Ok(manifest) => Ok(manifest),
         Err(ManifestFault::Wrong(place)) => {
             Err(RecoverFault::BadManifest(u64::from(start) + place))

@@ -1,16 +1,13 @@
-ghost use Rattle.std.specs.Prelude.{◌≡◌, ◌+◌, ◌≤◌, false, length, map, IfOk, OnOk};
-ghost use Rattle.std.specs.List.{All};
-ghost use Rattle.load_base.specs.Config.{file_view, load_view};
+ghost use Rattle.std.specs.Prelude.{◌≡◌, ◌+◌, ◌≤◌, false, length, OnOk};
 ghost use Rattle.load_base.specs.Host.{longest_file};
 ghost use Rattle.disk_model.specs.MemDisk.{state_of};
 ghost use Rattle.bank_store.specs.Store.{IsIdle, IsFilling, bytes_appended, file_ended};
-ghost use Rattle.bank_store.specs.Whole.{IsInstallable};
 ghost use Rattle.bank_store.specs.declared.stage.Filling.{Filling};
 
 use crate::{RecoverFault, Standing, Store, recover, survey};
 use bank_store::StoreFault;
 use disk_model::{Call, Disk, FileDisk, MemDisk, Note};
-use load_base::{Bytes, List, Load, Name, PartText, StoredFile};
+use load_base::{Load, Name, PartText, StoredFile};
 use std::alloc::Global;
 use std::fs;
 use std::test::Fail;
@@ -206,11 +203,11 @@ fn put_file(
     first: &[u8],
     second: &[u8],
 ) -> Result<(), StoreFault>
-    requires filling { (far : Filling) × IsFilling store.old far × (1 ≤ far.missing) × (far.start ≡ far.end) }
+    requires filling { (progress : Filling) × IsFilling store.old progress × (1 ≤ progress.missing) × (progress.start ≡ progress.end) }
     requires short { length first.now + length second.now ≤ longest_file }
     requires running { (state_of disk.old).stopped ≡ false }
-    ensures goes_on { OnOk result ((far : Filling) → IsFilling store.old far
-        → IsFilling store.new (file_ended (bytes_appended (length second.now) (bytes_appended (length first.now) far)))) }
+    ensures goes_on { OnOk result ((progress : Filling) → IsFilling store.old progress
+        → IsFilling store.new (file_ended (bytes_appended (length second.now) (bytes_appended (length first.now) progress)))) }
     ensures running { OnOk result ((state_of disk.new).stopped ≡ false) }
 {
     store.append(disk, first)?;
@@ -282,82 +279,6 @@ fn an_installation_that_fails_leaves_the_old_configuration(rt: HostRuntime) -> R
         let kept = restarts_as_promised(alloc, &mut disk, call > 10)?;
         assert!(rt; kept, "at call {call}");
     }
-    Ok(())
-}
-
-// A file of these bytes, where they aren't too many.
-fn file_of(alloc: Global, name: &[u8], bytes: &[u8]) -> Result<StoredFile, Fail>
-    requires { length bytes.now ≤ longest_file }
-    ensures { IfOk result (λ file. length file.bytes.items ≤ longest_file) }
-{
-    let mut contents = Bytes::new(alloc);
-    contents.extend(bytes)?;
-    Ok(StoredFile {
-        name: Name::read(name)?,
-        bytes: contents,
-    })
-}
-
-// A load of these files, of which the first is its header.
-fn load_of(part: &[u8], files: List<StoredFile>) -> Result<Load, Fail>
-    requires some { 1 ≤ length files.items }
-    requires few { length files.items ≤ 256 }
-    requires short { All (λ file. length file.bytes ≤ longest_file) (map file_view files.items) }
-    ensures { IfOk result (λ load. IsInstallable (load_view load)) }
-{
-    Ok(Load {
-        part: PartText::read(part)?,
-        header_name: files.as_slice()[0].name,
-        files,
-    })
-}
-
-// The first load of the new configuration, and the second.
-fn first_new_load(alloc: Global) -> Result<Load, Fail>
-    ensures { IfOk result (λ load. IsInstallable (load_view load)) }
-{
-    let mut files = List::new(alloc);
-    files.push(file_of(alloc, b"A.LUH", b"header")?)?;
-    files.push(file_of(alloc, b"A.BIN", b"")?)?;
-    load_of(b"ABC41-0000-0001", files)
-}
-
-fn second_new_load(alloc: Global) -> Result<Load, Fail>
-    ensures { IfOk result (λ load. IsInstallable (load_view load)) }
-{
-    let mut files = List::new(alloc);
-    files.push(file_of(alloc, b"B.LUH", b"two")?)?;
-    files.push(file_of(alloc, b"B.BIN", b"data")?)?;
-    files.push(file_of(alloc, b"B.TXT", b"")?)?;
-    load_of(b"ABC42-0000-0002", files)
-}
-
-// The same by one call, which writes each file in one piece.
-#[test]
-fn one_call_that_fails_leaves_the_old_configuration(rt: HostRuntime) -> Result<(), Fail> {
-    let alloc = rt.alloc();
-    let old = old_disk();
-    let loads = [first_new_load(alloc)?, second_new_load(alloc)?];
-    for call in 1..=11u32 {
-        let mut disk = MemDisk::new(alloc, &old)?;
-        let mut store = survey(alloc, &mut disk)?.store;
-        disk.fail_at(4 + call)?;
-        let installed = store.install(&mut disk, &loads);
-        assert_eq!(rt; installed, Err(StoreFault::DiskFailed), "at call {call}");
-        let kept = restarts_as_promised(alloc, &mut disk, call > 9)?;
-        assert!(rt; kept, "at call {call}");
-    }
-    Ok(())
-}
-
-#[test]
-fn one_call_installs_the_new_configuration(rt: HostRuntime) -> Result<(), Fail> {
-    let alloc = rt.alloc();
-    let loads = [first_new_load(alloc)?, second_new_load(alloc)?];
-    let mut disk = MemDisk::new(alloc, &old_disk())?;
-    let mut store = survey(alloc, &mut disk)?.store;
-    store.install(&mut disk, &loads)?;
-    assert!(rt; disk.notes().len() == 11 && is_new(&recover(alloc, &mut disk)?));
     Ok(())
 }
 

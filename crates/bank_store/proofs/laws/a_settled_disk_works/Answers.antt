@@ -1,19 +1,23 @@
+use Rattle.std.proofs.Common.{inl}
 use Rattle.disk_layout.specs.Stands.{Stands}
+use Rattle.bank_store.specs.Keeps.{IsOldOrNew}
 use Rattle.bank_store.proofs.Moments.{leaves_only}
-use Rattle.bank_store.proofs.Near.{near_stands}
-use Rattle.bank_store.proofs.Premises.{settled_works, reads_keep}
+use Rattle.bank_store.proofs.Premises.{idle_fits, settled_works, holds_now, stands_now}
 use Rattle.bank_store.proofs.laws.a_settled_disk_works.Goals as goal
 
-pub returns-clause-settled : goal.returns-clause-settled
-returns-clause-settled g c store disk idle settled stands = settled_works store (g.K.Disk.state disk) idle settled stands
+pub returns-clause-fits : goal.returns-clause-fits
+returns-clause-fits g c store disk idle running holds = idle_fits store (g.K.Disk.state disk) idle running holds
 
-pub returns-clause-read : goal.returns-clause-read
-returns-clause-read g c store old new reads kept works = reads_keep store (g.K.Disk.state old) (g.K.Disk.state new) reads kept works
+pub returns-clause-works : goal.returns-clause-works
+returns-clause-works g c store disk idle settled fits = settled_works store (g.K.Disk.state disk) idle settled fits
 
-pub returns-clause-ruled : goal.returns-clause-ruled
-returns-clause-ruled g c store disk image left s works told was may = near_stands store image left s was (works.near image left told may)
+pub returns-clause-now : goal.returns-clause-now
+returns-clause-now g c store disk s left beside may = holds_now store (g.K.Disk.state disk) s beside left may
 
 pub returns-clause-since : goal.returns-clause-since
-returns-clause-since g c store old new image s works told was adds =
-    leaves_only (g.K.Disk.state old) (g.K.Disk.state new) (λ left. Stands left s) (g.met.K.Disk.only_now old)
-    (λ left may. record { slot = store.slot; by = (near_stands store image left s was (works.near image left told may)).by }) adds
+returns-clause-since g c store old new s beside adds =
+    leaves_only (g.K.Disk.state old) (g.K.Disk.state new) (λ left. Stands left s) (g.met.K.Disk.only_now old) (stands_now store (g.K.Disk.state old) s beside) adds
+
+pub returns-clause-since_either : goal.returns-clause-since_either
+returns-clause-since_either g c store old new s next beside adds =
+    leaves_only (g.K.Disk.state old) (g.K.Disk.state new) (IsOldOrNew s next) (g.met.K.Disk.only_now old) (λ left may. inl (stands_now store (g.K.Disk.state old) s beside left may)) adds

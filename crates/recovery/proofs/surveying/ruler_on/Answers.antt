@@ -2,21 +2,21 @@ use Rattle.std.proofs.Common.{refl, inr, ◌∙◌}
 use Rattle.recovery.proofs.Rulings.{a_is_ruler, b_is_ruler, none_rules, not_over}
 use Rattle.recovery.proofs.surveying.ruler_on.Goals as goal
 
-pub returns-then-rules_over-clause-found : goal.returns-then-rules_over-clause-found
-returns-then-rules_over-clause-found g c image told =
+pub returns-then-is_active_over-clause-found : goal.returns-then-is_active_over-clause-found
+returns-then-is_active_over-clause-found g c image told =
     let a = c.in_ok-a.ensures.found image told in
     let b = c.in_ok-b.ensures.found image (c.in_ok-a.ensures.looks.ok.reads ∙ told) in
-    a_is_ruler image c.in_ok-a.a c.in_ok-b.b a b (c.rules_over.ensures.0 c.if-rules_over.true)
+    a_is_ruler image c.in_ok-a.a c.in_ok-b.b a b (c.is_active_over.ensures.0 c.if-is_active_over.true)
 
 pub returns-then-b-clause-found : goal.returns-then-b-clause-found
 returns-then-b-clause-found g c image told =
     let a = c.in_ok-a.ensures.found image told in
     let b = c.in_ok-b.ensures.found image (c.in_ok-a.ensures.looks.ok.reads ∙ told) in
-    b_is_ruler image c.in_ok-a.a c.in_ok-b.b a b (not_over c.in_ok-a.a c.in_ok-b.b c.rules_over.result c.rules_over.ensures.1 c.if-rules_over.false) c.if-b.true
+    b_is_ruler image c.in_ok-a.a c.in_ok-b.b a b (not_over c.in_ok-a.a c.in_ok-b.b c.is_active_over.result c.is_active_over.ensures.1 c.if-is_active_over.false) c.if-b.true
 
 pub returns-else-b-clause-refused : goal.returns-else-b-clause-refused
 returns-else-b-clause-refused g c image told =
     let a = c.in_ok-a.ensures.found image told in
     let b = c.in_ok-b.ensures.found image (c.in_ok-a.ensures.looks.ok.reads ∙ told) in
-    let none = none_rules image c.in_ok-a.a c.in_ok-b.b a b (not_over c.in_ok-a.a c.in_ok-b.b c.rules_over.result c.rules_over.ensures.1 c.if-rules_over.false) c.if-b.false in
+    let none = none_rules image c.in_ok-a.a c.in_ok-b.b a b (not_over c.in_ok-a.a c.in_ok-b.b c.is_active_over.result c.is_active_over.ensures.1 c.if-is_active_over.false) c.if-b.false in
     inr (none.0, none.1, refl)

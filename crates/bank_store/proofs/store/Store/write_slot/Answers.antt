@@ -1,5 +1,5 @@
 use Rattle.std.proofs.Common.{◌≡◌, ◌+◌, length, ap, ◌∙◌, arith}
-use Rattle.bank_store.specs.Safe.{SameButForWork}
+use Rattle.bank_store.specs.Fits.{SameButForWork}
 use Rattle.bank_store.proofs.Moments.{adds_none}
 use Rattle.bank_store.proofs.Near.{IsWork}
 use Rattle.bank_store.proofs.Opened.{slot_body_length}

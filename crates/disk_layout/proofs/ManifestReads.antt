@@ -1,0 +1,40 @@
+-- A manifest, as the reader of its bytes found it.
+use Rattle.std.proofs.Common.{◌≡◌, ℕ, ◌≤◌, List, length, Result, Ok, Err, IfOk, inl, inr}
+use Rattle.std.specs.Prelude.{IfErr}
+use Rattle.field_grammar.specs.Grammar.{IsBytes, Spelled}
+use Rattle.field_grammar.specs.Answers.{answer, Gives}
+use Rattle.disk_layout.specs.Manifest.{ManifestFits, manifest, manifest_view}
+use Rattle.disk_layout.specs.ManifestLaws.{manifest_found, manifest_faulty, fault_has_place}
+use Rattle.disk_layout.specs.ManifestSpelling.{manifest_spelling}
+use Rattle.disk_layout.specs.declared.manifest.Manifest.{Manifest}
+use Rattle.disk_layout.specs.declared.manifest.ManifestFault.{ManifestFault}
+use Rattle.disk_layout.specs.declared.manifest.ManifestFault.TheVariants.{Wrong, Memory}
+use Rattle.disk_layout.specs.Manifest.{RefusesManifestBytes}
+
+abbrev GivesManifest : List ℕ → Result Manifest ManifestFault → Type 0
+GivesManifest bytes result = Gives Memory manifest_view result (answer manifest bytes)
+
+-- what was read is spelled
+pub is_spelled : (bytes : List ℕ) (result : Result Manifest ManifestFault) → IsBytes bytes → GivesManifest bytes result → IfOk result (λ m. Spelled manifest bytes (manifest_view m))
+is_spelled bytes (Ok m) fit gives = manifest_found bytes (manifest_view m) fit gives
+is_spelled bytes (Err fault) fit gives = tt
+
+pub is_fitting : (bytes : List ℕ) (result : Result Manifest ManifestFault) → IsBytes bytes → GivesManifest bytes result → IfOk result (λ m. ManifestFits (manifest_view m))
+is_fitting bytes (Ok m) fit gives = ((manifest_spelling bytes (manifest_view m)).0 (manifest_found bytes (manifest_view m) fit gives)).0
+is_fitting bytes (Err fault) fit gives = tt
+
+wrong_or_memory : (place : ℕ) → Wrong place ≡ Memory → ⊥
+wrong_or_memory place e = cc
+
+-- what was refused is a fault, or memory was wanting
+pub is_refused : (bytes : List ℕ) (result : Result Manifest ManifestFault) → IsBytes bytes → GivesManifest bytes result → IfErr result (λ fault. RefusesManifestBytes bytes fault)
+is_refused bytes (Ok m) fit gives = tt
+is_refused bytes (Err Memory) fit gives = tt
+is_refused bytes (Err (Wrong place)) fit (inl wants) = absurd (wrong_or_memory place wants)
+is_refused bytes (Err (Wrong place)) fit (inr refused) =
+    let faulty = manifest_faulty bytes place fit refused in
+    let (other, is, within) = fault_has_place bytes (Wrong place) faulty in
+    (faulty, same place other is within)
+  where
+    same : (p q : ℕ) → Wrong p ≡ Wrong q → q ≤ length bytes → p ≤ length bytes
+    same p q e within = let here : p ≡ q = cc in rw here within
