@@ -4,7 +4,7 @@ use Rattle.fault_texts.specs.FaultTexts.{coded, with_nested, name_fault_text, te
 use Rattle.load_header.specs.declared.fault.HeaderFault.{HeaderFault}
 use Rattle.load_header.specs.declared.fault.HeaderFault.TheVariants.{Short, Length, Version, Pointer, Pad, Part, CheckValuePresent, Distance, Sizes, HeaderCrc, TooLong, Name, Text, TooMany, Rest, Memory}
 
--- the code H1 to H15 with its fields; want of memory has none
+-- the code H1 to H15 with its fields; out of memory has none
 abbrev pub header_fault_text : HeaderFault → List ℕ
 header_fault_text (Short place) = coded (codes "H1") (place ∷ [])
 header_fault_text (Length said found) = coded (codes "H2") (said ∷ found ∷ [])

@@ -19,7 +19,7 @@ word_fault_text (words.Part fault) = part_fault_text fault
 word_fault_text (words.Text fault) = text_fault_text fault
 word_fault_text (words.Path fault) = path_fault_text fault
 
--- the code L1 to L13 with its fields; want of memory has none
+-- the code L1 to L13 with its fields; out of memory has none
 abbrev pub list_fault_text : ListFault → List ℕ
 list_fault_text (Short place) = coded (codes "L1") (place ∷ [])
 list_fault_text (Length said found) = coded (codes "L2") (said ∷ found ∷ [])

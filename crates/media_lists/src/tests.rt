@@ -23,14 +23,14 @@ fn loads_outcome(alloc: Global, bytes: &[u8]) -> Result<Bytes, NoMemory> {
     }
 }
 
-/// Puts a byte at a place.
+/// Puts a byte at an offset.
 fn change(bytes: &mut [u8], place: usize, byte: u8) {
     if place < bytes.len() {
         bytes[place] = byte;
     }
 }
 
-/// So many bytes at the front.
+/// The first N bytes.
 fn front(bytes: &[u8], size: usize) -> &[u8] {
     if size <= bytes.len() {
         &bytes[..size]
@@ -55,7 +55,7 @@ fn the_formats_keep_their_laws() {
     path_laws();
 }
 
-/// Each place and byte that is put there, whether the check sum is made right again, and what the list of
+/// Each offset and byte that is put there, whether the check sum is made right again, and what the list of
 /// files is refused with.
 #[test]
 fn each_changed_byte_of_the_files_has_its_refusal(rt: HostRuntime) -> Result<(), NoMemory> {
