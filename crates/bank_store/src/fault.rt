@@ -16,13 +16,13 @@ pub enum StoreFault {
     /// K1: the contents and their manifest pass the bank. How many bytes they need, and how many it has.
     #[error("{need} bytes are needed in a bank of {have}")]
     BankFull { need: u64, have: u32 },
-    /// K2: the sequence number that rules is the last one.
+    /// K2: the sequence number that is active is the last one.
     #[error("the sequence numbers are spent")]
     SequenceSpent,
     /// K3: the disk failed, and its count of faults rose.
     #[error("the disk failed")]
     DiskFailed,
-    /// Memory is wanting.
+    /// Out of memory.
     #[error("memory is wanting")]
     Memory,
 }
@@ -46,7 +46,7 @@ impl From<NoMemory> for StoreFault {
     }
 }
 
-/// The text of a fault of the store: `K1 NEED HAVE`, `K2` or `K3`. Want of memory is no fault of what was
+/// The text of a fault of the store: `K1 NEED HAVE`, `K2` or `K3`. Out of memory is no fault of what was
 /// asked, and has no text of its own.
 pub fn store_fault_text(alloc: Global, fault: &StoreFault) -> Result<Bytes, NoMemory>
     ensures { IfOk result (λ text. text.items ≡ text_of_store_fault fault.now) }

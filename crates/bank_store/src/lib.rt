@@ -1,4 +1,4 @@
-//! Writes to a disk what it is to stand for.
+//! Writes to a disk the configuration that it is to hold.
 #![tactic(auto)]
 
 mod fault;

@@ -10,8 +10,8 @@ use Rattle.disk_model.specs.State.{DiskState, IsSettled}
 use Rattle.bank_store.specs.Formatting.{formatted, KeepsRest}
 use Rattle.disk_layout.specs.declared.identity.Identity.{Identity}
 use Rattle.disk_layout.specs.Places.{IsBankSize}
-use Rattle.disk_layout.specs.Looks.{IsOfDisk, RunsOn}
-use Rattle.disk_layout.specs.Stands.{StandingView, Stands, StandsNot}
+use Rattle.disk_layout.specs.DiskReads.{IsOfDisk, RunsOn}
+use Rattle.disk_layout.specs.Holds.{StandingView, HoldsConfig, HasDiskFault}
 use Rattle.disk_layout.specs.declared.fault.RecoverFault.{RecoverFault}
 use Rattle.loader_cli.specs.Words.{Form, IsForm}
 use Rattle.loader_cli.specs.Words.Form.{list, format, show}
@@ -22,12 +22,12 @@ use Rattle.loader_cli.specs.Texts.{listing, formatted_line, refused_words, refus
 -- the status, the text, and what it says of the disk, where the disk tells its content
 pub data Lists (old new : DiskState) (status : ℕ) (text : List ℕ) : Type 0 where
   -- 0: the disk stands for this, and runs on
-  listed : (s : StandingView) → ((image : Image) → old.reads ≡ Some image → Stands image s) → IsBankSize s.identity.bank → s.bank < 2 → RunsOn old new
+  listed : (s : StandingView) → ((image : Image) → old.reads ≡ Some image → HoldsConfig image s) → IsBankSize s.identity.bank → s.bank < 2 → RunsOn old new
       → status ≡ 0 → text ≡ listing s → Lists old new status text
   -- 5: the disk failed in this call
   failed : Rose old.faults new.faults → new.stopped ≡ true → status ≡ 5 → text ≡ disk_fault → Lists old new status text
   -- 8: the disk stands for nothing, at this fault, and runs on
-  no_listing : (fault : RecoverFault) → ((image : Image) → old.reads ≡ Some image → StandsNot image fault) → ¬ IsOfDisk fault → RunsOn old new
+  no_listing : (fault : RecoverFault) → ((image : Image) → old.reads ≡ Some image → HasDiskFault image fault) → ¬ IsOfDisk fault → RunsOn old new
       → status ≡ 8 → text ≡ no_configuration fault → Lists old new status text
 
 -- ---- `format HW POS SERIAL BANK`
@@ -36,7 +36,7 @@ pub data Lists (old new : DiskState) (status : ℕ) (text : List ℕ) : Type 0 w
 pub data Formats (old new : DiskState) (id : Identity) (status : ℕ) (text : List ℕ) : Type 0 where
   -- 0: a power loss leaves nothing but the disk as it reads, it stands for this target without loads and has all other bytes
   -- that it had, and it runs on
-  formatted_it : ((image : Image) → new.reads ≡ Some image → Stands image (formatted id))
+  formatted_it : ((image : Image) → new.reads ≡ Some image → HoldsConfig image (formatted id))
       → ((before after : Image) → old.reads ≡ Some before → new.reads ≡ Some after → KeepsRest id before after) → IsSettled new → new.stopped ≡ false
       → status ≡ 0 → text ≡ formatted_line id → Formats old new id status text
   -- 5: the disk failed in this call

@@ -3,7 +3,7 @@ ghost use Rattle.std.specs.Prelude.{◌≡◌, [], ◌∷◌, ◌++◌, length, 
 ghost use Rattle.std.specs.Fmt.{decimal};
 ghost use Rattle.std.specs.List.{flat_map};
 ghost use Rattle.load_base.specs.Config.{file_view, load_view};
-ghost use Rattle.disk_layout.specs.Stands.{standing_view};
+ghost use Rattle.disk_layout.specs.Holds.{standing_view};
 ghost use Rattle.shown_files.specs.Lines.{line, hex_16};
 ghost use Rattle.loader_cli.specs.Texts.{file_line, load_line, load_lines, target_line, bank_line, loads_line, listing, formatted_line, placed, recover_fault_text, no_configuration};
 

@@ -1,5 +1,5 @@
 use Rattle.disk_layout.proofs.OneThing.{one_or_other, not_both, one_standing, one_fault}
-use Rattle.disk_layout.proofs.laws.stands_for_one_thing.Goals as goal
+use Rattle.disk_layout.proofs.laws.an_image_holds_one_configuration.Goals as goal
 
 pub returns-clause-one_or_other : goal.returns-clause-one_or_other
 returns-clause-one_or_other c = one_or_other

@@ -4,7 +4,7 @@ use Rattle.std.specs.Prelude.{IfErr, IsErrOf}
 use Rattle.load_base.specs.Counts.{Rose}
 use Rattle.disk_model.specs.State.{DiskState, OnlyReads}
 use Rattle.disk_model.specs.MomentLaws.{reads_joined}
-use Rattle.disk_layout.specs.Looks.{RunsOn, RunsOnAfter, IsOfDisk, Looks}
+use Rattle.disk_layout.specs.DiskReads.{RunsOn, RunsOnAfter, IsOfDisk, ReadsDisk}
 use Rattle.disk_layout.specs.declared.fault.RecoverFault.{RecoverFault}
 use Rattle.disk_layout.specs.declared.fault.RecoverFault.TheVariants.{DiskFailed}
 
@@ -34,7 +34,7 @@ runs_joined : (a b c : DiskState) → RunsOn a b → RunsOn b c → RunsOn a c
 runs_joined a b c first second = record { reads = second.reads ∙ first.reads; running = second.running }
 
 -- one more look
-pub look_more : {T : Type 0} (a b c : DiskState) (x : T) → Looked a b → Looks b c (Ok x) → Looked a c
+pub look_more : {T : Type 0} (a b c : DiskState) (x : T) → Looked a b → ReadsDisk b c (Ok x) → Looked a c
 look_more a b c x so_far look = record { only_reads = reads_joined a b c so_far.only_reads look.only_reads; runs = runs_joined a b c so_far.runs look.ok }
 
 runs_after : (a b c : DiskState) (fault : RecoverFault) → RunsOn a b → RunsOnAfter b c fault → RunsOnAfter a c fault
@@ -46,7 +46,7 @@ runs_after a b c (RecoverFault.BadSlot place) first after = runs_joined a b c fi
 runs_after a b c (RecoverFault.BadManifest place) first after = runs_joined a b c first after
 
 -- after the last look
-pub looked_on : {T : Type 0} (a b : DiskState) (result : Result T RecoverFault) → Looked a b → OnOk result (RunsOn a b) → IfErr result (λ fault. IsOfDisk fault) → ¬ IsErrOf result DiskFailed → Looks a b result
+pub looked_on : {T : Type 0} (a b : DiskState) (result : Result T RecoverFault) → Looked a b → OnOk result (RunsOn a b) → IfErr result (λ fault. IsOfDisk fault) → ¬ IsErrOf result DiskFailed → ReadsDisk a b result
 looked_on a b (Ok x) so_far ok err failed = record { only_reads = so_far.only_reads; ok = so_far.runs; err = tt; cause = record { failed = λ e. absurd (failed e) } }
 looked_on a b (Err RecoverFault.DiskFailed) so_far ok err failed = absurd (failed refl)
 looked_on a b (Err RecoverFault.Memory) so_far ok err failed = record { only_reads = so_far.only_reads; ok = tt; err = tt; cause = record { failed = λ e. absurd (failed e) } }
@@ -60,9 +60,9 @@ rose_since a b c earlier rose = omega (arith, earlier, rose)
 
 -- the last look is a fault of the disk
 pub look_ends : {S T : Type 0} (a b c : DiskState) (fault : RecoverFault) (last : Result S RecoverFault) (result : Result T RecoverFault) → last ≡ Err fault → result ≡ Err fault
-    → Looked a b → Looks b c last → Looks a c result
+    → Looked a b → ReadsDisk b c last → ReadsDisk a c result
 look_ends {T = T} a b c fault last result is told so_far look =
-    subst (λ (r : Result T RecoverFault). Looks a c r) (sym told) (
+    subst (λ (r : Result T RecoverFault). ReadsDisk a c r) (sym told) (
     record {
       only_reads = reads_joined a b c so_far.only_reads look.only_reads;
       ok = tt;

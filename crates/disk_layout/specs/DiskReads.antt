@@ -27,7 +27,7 @@ RunsOnAfter old new Memory = Unit {0}
 RunsOnAfter old new fault = RunsOn old new
 
 -- Nothing is written. The disk runs on unless it or memory failed, and its failure has its cause.
-pub record Looks {T : Type 0} (old new : DiskState) (result : Result T RecoverFault) : Type 0 where
+pub record ReadsDisk {T : Type 0} (old new : DiskState) (result : Result T RecoverFault) : Type 0 where
   pub only_reads : OnlyReads old new
   pub ok : OnOk result (RunsOn old new)
   pub err : IfErr result (λ fault. RunsOnAfter old new fault)
