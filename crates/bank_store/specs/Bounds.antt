@@ -29,7 +29,7 @@ pub record IsInRange (size : ℕ) (body : Listed ℕ) (far : Filling) : Type 0 w
 pub record HasBegun (sequence : ℕ) (other_is_open : Bool) (body : Listed ℕ) : Type 0 where
   pub shut : other_is_open ≡ false
   pub goes_on : sequence < 4294967295
-  pub room : longest_manifest ≤ body.room + length body.items
+  pub room : longest_manifest ≤ body.spare + length body.items
 
 -- the place is that of a slot
 abbrev pub is_slot_place : ℕ → Bool

@@ -53,7 +53,7 @@ IsSealed store = store.stage ≡ stages.Sealed
 -- no installation has begun, and the room for the longest manifest is there
 pub record IsPrepared (store : Store) : Type 0 where
   pub idle : IsIdle store
-  pub room : longest_manifest ≤ store.body.room
+  pub room : longest_manifest ≤ store.body.spare
 
 -- the same bank rules, with the same sequence number, by the same slot
 pub record RulesAs (old new : Store) : Type 0 where
@@ -85,7 +85,7 @@ file_ended far = record { loads = far.loads; missing = far.missing - 1; end = fa
 
 -- how many more bytes of a manifest surely take no memory
 abbrev pub room_of : Store → ℕ
-room_of store = store.body.room
+room_of store = store.body.spare
 
 -- how many bytes the manifest has of what was given so far
 abbrev pub manifest_length : Store → ℕ

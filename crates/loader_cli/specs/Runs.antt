@@ -2,7 +2,7 @@
 use Rattle.std.specs.Prelude.{◌≡◌, ℕ, ◌<◌, ◌≤◌, List, length, true, false, Option, Some, None, take, codes}
 use Rattle.load_base.specs.Counts.{Rose}
 use Rattle.load_base.specs.Host.{Files, longest_file}
-use Rattle.load_base.specs.Sink.{GoesOn}
+use Rattle.load_base.specs.Sink.{IsExtended}
 use Rattle.shown_files.specs.Shown.{HasFields, HasFault}
 use Rattle.shown_files.specs.declared.kind.FileKind.{FileKind}
 use Rattle.disk_model.specs.Image.{Image}
@@ -103,9 +103,9 @@ SaysIn run status text = Says run.words run.disk run.disk_after run.files run.ho
 -- how a run ends with a status
 pub data Ends (run : Run) (status : ℕ) : Type 0 where
   -- exactly the text goes out
-  told : (text : List ℕ) → SaysIn run status text → GoesOn run.output run.output_after text → Ends run status
+  told : (text : List ℕ) → SaysIn run status text → IsExtended run.output run.output_after text → Ends run status
   -- 7: the sink failed in this call, and a front of the text went out
-  sink_failed : (said : ℕ) (text : List ℕ) (n : ℕ) → SaysIn run said text → GoesOn run.output run.output_after (take n text)
+  sink_failed : (said : ℕ) (text : List ℕ) (n : ℕ) → SaysIn run said text → IsExtended run.output run.output_after (take n text)
       → Rose run.sink_faults run.sink_faults_after → status ≡ 7 → Ends run status
   -- 6: memory was wanting
   no_memory : status ≡ 6 → Ends run status

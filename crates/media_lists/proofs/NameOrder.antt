@@ -12,7 +12,7 @@ use Rattle.std.proofs.lemmas.List.{get_or_append_left, length-map, map-append}
 use Rattle.std.proofs.lemmas.List.Edits.{length-insert, get_or-insert_below, get_or-insert_at, get_or-insert_above}
 use Rattle.std.proofs.lemmas.List.Elements.{All-cons, All-tail}
 use Rattle.std.proofs.lemmas.List.Sorted.{searchable_from_sorted, IsPermutation-refl, list_any-IsPermutation, IsPermutation-trans, IsPermutation-insert, IsPermutation-to_front, IsPermutation-cons, IsPermutation-map, All-permutation, length_permutation}
-use Rattle.load_base.specs.Written.{same_bytes}
+use Rattle.load_base.specs.Bytes.{same_bytes}
 use Rattle.media_lists.specs.NameOrder.{name_at, by_bytes, IsOrder}
 
 -- ---- what a search finds

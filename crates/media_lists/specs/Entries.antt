@@ -2,7 +2,7 @@
 -- and each entry has the name of a file.
 use Rattle.std.specs.Prelude.{ℕ, ◌+◌, ◌/◌, List, [], length, ◌==◌, Bool, not, if◌then◌else◌}
 use Rattle.std.specs.List.{list_any}
-use Rattle.load_base.specs.Written.{same_bytes}
+use Rattle.load_base.specs.Bytes.{same_bytes}
 use Rattle.field_grammar.specs.Grammar.{Grammar, give, check, listed, measured, ◌>>=◌, ◌>>◌}
 use Rattle.media_lists.specs.Lists.{u16, counted, section_at}
 use Rattle.media_lists.specs.declared.fault.ListFault.{ListFault}

@@ -2,7 +2,7 @@
 ghost use Rattle.std.specs.Prelude.{◌≡◌, ◌++◌, ◌<◌, ◌≤◌, ◌∷◌, [], length, map, true, not, IsTrue, IfOk, IfErr};
 ghost use Rattle.std.specs.List.{list_any, AllWithin};
 ghost use Rattle.std.specs.List.Sorted.{IsPartitionPoint};
-ghost use Rattle.load_base.specs.Written.{same_bytes};
+ghost use Rattle.load_base.specs.Bytes.{same_bytes};
 ghost use Rattle.media_lists.specs.Entries.{is_listed};
 ghost use Rattle.media_lists.specs.Loads.{load_view, load_name};
 ghost use Rattle.media_lists.specs.NameOrder.{name_at, by_bytes, IsOrder};
