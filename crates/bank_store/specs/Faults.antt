@@ -1,6 +1,6 @@
 -- The faults of the store, and how they are printed (docs/FORMATS.md).
 use Rattle.std.specs.Prelude.{ℕ, List, [], ◌∷◌, codes}
-use Rattle.fault_texts.specs.FaultTexts.{coded}
+use Rattle.printed_text.specs.FaultTexts.{coded}
 use Rattle.disk_model.specs.declared.disk.DiskFault.{DiskFault}
 use Rattle.disk_model.specs.declared.disk.DiskFault.TheVariants as disk
 use Rattle.bank_store.specs.declared.fault.StoreFault.{StoreFault}

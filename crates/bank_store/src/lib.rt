@@ -10,7 +10,7 @@ mod stage;
 mod store;
 
 pub use disk_layout::Identity;
-pub use fault::{StoreFault, store_fault_text};
+pub use fault::StoreFault;
 pub use formatting::format;
 pub use laws::a_settled_disk_works;
 pub use store::Store;

@@ -3,10 +3,11 @@ ghost use Rattle.load_base.specs.Config.{load_view};
 ghost use Rattle.load_base.specs.Host.{longest_file};
 ghost use Rattle.bank_store.specs.Whole.{IsInstallable};
 
-use crate::{Identity, Store, StoreFault, format, store_fault_text};
+use crate::{Identity, Store, StoreFault, format};
 use disk_layout::Ruling;
 use disk_model::{Call, Disk, FileDisk, MemDisk, Note};
 use load_base::{Bytes, Ident, List, Load, Name, PartText, StoredFile};
+use printed_text::Printed;
 use std::alloc::Global;
 use std::fs;
 use std::test::Fail;
@@ -212,7 +213,7 @@ fn each_fault_has_its_text(rt: HostRuntime) -> Result<(), Fail> {
         (StoreFault::Memory, b""),
     ];
     for (fault, text) in texts {
-        let printed = store_fault_text(rt.alloc(), &fault)?;
+        let printed = fault.text(rt.alloc())?;
         assert_eq!(rt; printed.as_slice(), text);
     }
     Ok(())

@@ -1,5 +1,5 @@
 //! Texts that people read.
-ghost use Rattle.std.specs.Prelude.{◌≡◌, ◌⊎◌, ◌<◌, IsOk, IfOk, IfErr, IfSome, IfNone, IsErrOf};
+ghost use Rattle.std.specs.Prelude.{◌≡◌, ◌⊎◌, ◌<◌, [], IsOk, IfOk, IfErr, IfSome, IfNone, IsErrOf};
 ghost use Rattle.load_base.specs.Bytes.{AllGood, IsFirstBad};
 ghost use Rattle.load_base.specs.Text.{IsText, IsTextFault, is_printable as is_good};
 ghost use Rattle.load_base.specs.Verdicts.{judged, text_fault_of};
@@ -87,6 +87,23 @@ impl Text {
         copy_of(alloc, part.as_slice())
     }
 
+    /// The text of no bytes. It takes no memory yet.
+    pub fn empty(alloc: Global) -> Text
+        ensures { result ≡ [] }
+    {
+        Text {
+            bytes: Bytes::new(alloc),
+        }
+    }
+
+    /// The text of these bytes, which are known to be one. It takes no memory.
+    pub fn of_printable(bytes: Bytes) -> Text
+        requires { IsText bytes.items }
+        ensures { result ≡ bytes.items }
+    {
+        Text { bytes }
+    }
+
     /// Its bytes.
     pub fn as_slice(&self) -> &[u8]
         ensures bytes { result.now ≡ self.now }
@@ -122,7 +139,7 @@ fn copy_of(alloc: Global, bytes: &[u8]) -> Result<Text, NoMemory>
 {
     let mut copy = Bytes::new(alloc);
     copy.extend(bytes)?;
-    Ok(Text { bytes: copy })
+    Ok(Text::of_printable(copy))
 }
 
 // The offset of the first byte that no Text has.

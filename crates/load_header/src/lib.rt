@@ -19,4 +19,3 @@ pub use fault::HeaderFault;
 pub use header::{FileEntry, HardwareAt, LoadHeader};
 pub use laws::header_laws;
 pub use load_crc::LoadCrc;
-pub use printing::fault_text;

@@ -1,6 +1,7 @@
-use crate::{FileEntry, HeaderFault, LoadCrc, LoadHeader, fault_text, header_laws};
+use crate::{FileEntry, HeaderFault, LoadCrc, LoadHeader, header_laws};
 use crc_fields::{Crc32, crc16};
 use load_base::{Bytes, List, Name, NoMemory, Text};
+use printed_text::Printed;
 use std::alloc::Global;
 
 /// The header of a load with one file, `APP.BIN`, whose bytes are `123456789`, but its two check sums.
@@ -46,10 +47,10 @@ fn app_header() -> [u8; 122] {
 }
 
 /// What these bytes are refused with, or nothing.
-fn outcome(alloc: Global, bytes: &[u8]) -> Result<Bytes, NoMemory> {
+fn outcome(alloc: Global, bytes: &[u8]) -> Result<Text, NoMemory> {
     match LoadHeader::decode(alloc, bytes) {
-        Ok(_) => Ok(Bytes::new(alloc)),
-        Err(fault) => fault_text(alloc, &fault),
+        Ok(_) => Ok(Text::empty(alloc)),
+        Err(fault) => fault.text(alloc),
     }
 }
 

@@ -1,7 +1,8 @@
 //! The files of docs/FORMATS.md, and files with one byte changed.
 
 use crate::{FileFault, Lci, Lcl, Lcs, Lui, Lur, Lus, each_file_has_one_spelling};
-use load_base::{Bytes, NoMemory};
+use load_base::{Bytes, NoMemory, Text};
+use printed_text::Printed;
 use std::alloc::Global;
 
 const LUI: [u8; 9] = *b"\x00\x00\x00\x09\x41\x33\x00\x01\x00";
@@ -116,9 +117,9 @@ fn lcl_again(alloc: Global, bytes: &[u8]) -> Result<Bytes, FileFault> {
 }
 
 // The text of a refusal, and else no bytes.
-fn told<T: Drop>(alloc: Global, read: Result<T, FileFault>) -> Result<Bytes, NoMemory> {
+fn told<T: Drop>(alloc: Global, read: Result<T, FileFault>) -> Result<Text, NoMemory> {
     match read {
-        Ok(_) => Ok(Bytes::new(alloc)),
+        Ok(_) => Ok(Text::empty(alloc)),
         Err(fault) => fault.text(alloc),
     }
 }

@@ -5,7 +5,7 @@ ghost use Rattle.loader_cli.specs.Texts.{refused_input};
 
 use crate::text::text_of;
 use load_base::{Bytes, Host, NoMemory, ReadFault};
-use shown_files::{FileKind, Shown};
+use shown_files::{Shown, FileKind};
 use std::alloc::Global;
 
 /// The status and the text for a file of this kind.

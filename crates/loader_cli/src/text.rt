@@ -4,13 +4,13 @@ ghost use Rattle.std.specs.Fmt.{decimal};
 ghost use Rattle.std.specs.List.{flat_map};
 ghost use Rattle.load_base.specs.Config.{file_view, load_view};
 ghost use Rattle.disk_layout.specs.Stands.{standing_view};
-ghost use Rattle.shown_files.specs.Lines.{line, hex_16};
+ghost use Rattle.printed_text.specs.Lines.{line, hex_16};
 ghost use Rattle.loader_cli.specs.Texts.{file_line, load_line, load_lines, target_line, bank_line, loads_line, listing, formatted_line, placed, recover_fault_text, no_configuration};
 
 use crc_fields::crc16;
 use disk_layout::{Identity, RecoverFault, Standing};
 use load_base::{Bytes, Load, NoMemory, StoredFile};
-use shown_files::lines::{put_hex_16, put_number};
+use printed_text::{put_hex_16, put_number};
 use std::alloc::Global;
 
 /// The listing of what a disk stands for: its target, the bank that rules with its sequence, and each load

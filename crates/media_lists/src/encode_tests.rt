@@ -1,8 +1,9 @@
 //! What is written, and the limits of the format, with as much memory as it takes.
 use crate::vectors::{DEEP_FILE, EIGHT_FILES, FILES, LOADS, THREE_LOADS};
-use crate::{FilesList, ListFault, ListedFile, LoadEntry, LoadsList, WordFault, fault_text};
+use crate::{FilesList, ListFault, ListedFile, LoadEntry, LoadsList, WordFault};
 use load_base::{Bytes, List, Name, NoMemory, Text};
 use part_number::PartNumber;
+use printed_text::Printed;
 use std::alloc::Global;
 
 /// A word of a list, which has no fault.
@@ -356,14 +357,14 @@ fn names_stand_once(rt: HostRuntime) -> Result<(), ListFault> {
 }
 
 /// What so many zeros are refused with as a list of files.
-fn zeros_refused(alloc: Global, size: usize) -> Result<Bytes, NoMemory> {
+fn zeros_refused(alloc: Global, size: usize) -> Result<Text, NoMemory> {
     let mut zeros = Bytes::new(alloc);
     for _ in 0..size {
         zeros.push(0)?;
     }
     match FilesList::decode(alloc, zeros.as_slice()) {
-        Ok(_) => Ok(Bytes::new(alloc)),
-        Err(fault) => fault_text(alloc, &fault),
+        Ok(_) => Ok(Text::empty(alloc)),
+        Err(fault) => fault.text(alloc),
     }
 }
 

@@ -1,25 +1,24 @@
 //! What bytes are refused with, each byte changed and each list from outside of this project.
 use crate::vectors::{DEEP_FILE, EIGHT_FILES, FILES, LOADS, THREE_LOADS};
-use crate::{
-    FilesList, ListFault, LoadsList, fault_text, files_list_laws, loads_list_laws, path_laws,
-};
+use crate::{FilesList, ListFault, LoadsList, files_list_laws, loads_list_laws, path_laws};
 use crc_fields::crc16;
-use load_base::{Bytes, NoMemory};
+use load_base::{Bytes, NoMemory, Text};
+use printed_text::Printed;
 use std::alloc::Global;
 
 /// What these bytes are refused with as a list of files, or nothing.
-fn files_outcome(alloc: Global, bytes: &[u8]) -> Result<Bytes, NoMemory> {
+fn files_outcome(alloc: Global, bytes: &[u8]) -> Result<Text, NoMemory> {
     match FilesList::decode(alloc, bytes) {
-        Ok(_) => Ok(Bytes::new(alloc)),
-        Err(fault) => fault_text(alloc, &fault),
+        Ok(_) => Ok(Text::empty(alloc)),
+        Err(fault) => fault.text(alloc),
     }
 }
 
 /// What these bytes are refused with as a list of loads, or nothing.
-fn loads_outcome(alloc: Global, bytes: &[u8]) -> Result<Bytes, NoMemory> {
+fn loads_outcome(alloc: Global, bytes: &[u8]) -> Result<Text, NoMemory> {
     match LoadsList::decode(alloc, bytes) {
-        Ok(_) => Ok(Bytes::new(alloc)),
-        Err(fault) => fault_text(alloc, &fault),
+        Ok(_) => Ok(Text::empty(alloc)),
+        Err(fault) => fault.text(alloc),
     }
 }
 

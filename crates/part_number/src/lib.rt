@@ -8,6 +8,8 @@ ghost use Rattle.load_base.specs.Verdicts.{judged, TellsFaults};
 ghost use Rattle.part_number.specs.PartNumber.{IsPartNumber, IsPartNumberText, IsPartFault, IsFirstBadPlace, HasGoodCharacters, part_number_text, maker_of, product_of, check_digits_of, check_of, hexadecimal, hexadecimal_digit, is_part_character, is_hexadecimal_digit, is_hyphen_place, is_good_at};
 ghost use Rattle.part_number.specs.Verdicts.{part_fault_of};
 
+mod printing;
+
 use load_base::PartText;
 use std::marker::Model;
 

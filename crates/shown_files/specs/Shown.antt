@@ -65,4 +65,4 @@ HasFault kinds.Lus bytes text = IsFileFault (Fault lus) bytes text
 -- this is shown of bytes of this kind
 abbrev pub IsShown : FileKind → (bytes : List ℕ) → Shown → Type 0
 IsShown kind bytes (texts.Fields text) = HasFields kind bytes text.items
-IsShown kind bytes (texts.Fault text) = HasFault kind bytes text.items
+IsShown kind bytes (texts.Fault text) = HasFault kind bytes text

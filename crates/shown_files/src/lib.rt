@@ -3,10 +3,10 @@
 
 mod header;
 mod kind;
-pub mod lines;
 mod lists;
 mod protocol;
 mod shown;
+mod user;
 
 pub use header::header_text;
 pub use kind::FileKind;

@@ -1,5 +1,5 @@
 use super::*;
-use load_base::Bytes;
+use load_base::{Bytes, Text};
 use std::alloc::Global;
 use std::test::Fail;
 
@@ -47,7 +47,7 @@ fn fields(text: Shown) -> Result<Bytes, Fail> {
     }
 }
 
-fn fault(text: Shown) -> Result<Bytes, Fail> {
+fn fault(text: Shown) -> Result<Text, Fail> {
     match text {
         Shown::Fault(text) => Ok(text),
         Shown::Fields(_) => Err(Fail::new("fields were shown")),

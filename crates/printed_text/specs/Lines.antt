@@ -1,6 +1,5 @@
 -- Lines of printed text (docs/FORMATS.md, "Printed text").
-use Rattle.std.specs.Prelude.{ℕ, ◌+◌, ◌-◌, ◌/◌, ◌%◌, nat_lt, if◌then◌else◌, List, [], ◌∷◌, ◌++◌, codes}
-use Rattle.std.specs.List.{flat_map}
+use Rattle.std.specs.Prelude.{ℕ, ◌+◌, ◌-◌, ◌/◌, ◌%◌, nat_lt, if◌then◌else◌, List, [], ◌∷◌, ◌++◌}
 use Rattle.std.specs.Fmt.{decimal}
 
 -- words with one space between them, and a line feed
@@ -32,8 +31,3 @@ field_line name value = line (name ∷ value ∷ [])
 -- `NAME NUMBER`
 abbrev pub number_line : (name : List ℕ) (number : ℕ) → List ℕ
 number_line name number = field_line name (decimal number)
-
--- `user HEX`, or `user -` for none
-unfoldable pub user_line : List ℕ → List ℕ
-user_line [] = line (codes "user" ∷ codes "-" ∷ [])
-user_line (byte ∷ bytes) = line (codes "user" ∷ flat_map hex_8 (byte ∷ bytes) ∷ [])
