@@ -1,6 +1,6 @@
 //! The files of docs/FORMATS.md, and files with one byte changed.
 
-use crate::{FileFault, Lci, Lcl, Lcs, Lui, Lur, Lus, each_file_has_one_spelling};
+use crate::{FileFault, Lci, Lcl, Lcs, Lui, Lur, Lus, protocol_file_laws};
 use load_base::{Bytes, NoMemory, Text};
 use printed_text::Printed;
 use std::alloc::Global;
@@ -27,7 +27,7 @@ fn an_upload_initialization_is_read_and_written(rt: HostRuntime) -> Result<(), F
     assert_eq!(rt; file.description.as_slice(), b"".as_slice());
     let bytes = file.encode(rt.alloc())?;
     assert_eq!(rt; bytes.as_slice(), LUI.as_slice());
-    each_file_has_one_spelling();
+    protocol_file_laws();
     Ok(())
 }
 

@@ -13,7 +13,7 @@ use Rattle.part_number.specs.PartNumber.{IsPartNumberText}
 use Rattle.load_protocol_files.specs.declared.lus.LoadStatus.{LoadStatus}
 use Rattle.load_protocol_files.specs.Pieces.{u16, text, name, part, ratio, counted, u16_fields, ratio_digits, ratio_fields, counted_fields}
 use Rattle.load_protocol_files.specs.Lus.{LoadParts, load_parts, to_load_status, load_status, load_status_fields, LoadStatusFits, LusView, LusParts, lus_parts, progress, to_lus, lus_body, lus_fields, counts_fields, progress_fields, LusFits}
-use Rattle.load_protocol_files.proofs.PieceSpellings.{spelled-u16, spelled-text, spelled-name, spelled-part, spelled-ratio, spelled-counted_list}
+use Rattle.load_protocol_files.specs.PieceLaws.{spelled-u16, spelled-text, spelled-name, spelled-part, spelled-ratio, spelled-counted_list}
 use Rattle.field_grammar.specs.WrittenLaws.{at_most_each}
 use Rattle.part_number.specs.VerdictLaws.{part_size}
 
@@ -74,8 +74,8 @@ load_status_size v fits =
     simp (length-append, length_number_bytes) (omega (arith, fits.header.size.1, part_size v.part fits.part, fits.description.size))
 
 -- it always fits the four bytes of its length
-pub lus_is_small : (v : LusView) (body : List ℕ) → body ≡ concat (lus_fields v) → LusFits v → 6 + length body < 2 ^ 32
+pub lus_is_small : (v : LusView) → LusFits v → 6 + length (concat (lus_fields v)) < 2 ^ 32
 unfolding counts_fields progress_fields counted_fields ratio_digits
-lus_is_small v body is fits =
+lus_is_small v fits =
     let loads : length (concat (flat_map load_status_fields v.loads)) ≤ length v.loads * 342 = at_most_each load_status_fields (λ l. LoadStatusFits l) 342 load_status_size v.loads fits.counts.progress.loads in
-    rw is (simp (length-append, length_number_bytes) (omega (arith, loads, fits.counts.progress.count, fits.description.size)))
+    simp (length-append, length_number_bytes) (omega (arith, loads, fits.counts.progress.count, fits.description.size))

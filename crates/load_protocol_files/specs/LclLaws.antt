@@ -1,6 +1,6 @@
 -- How configuration list files are spelled.
-use Rattle.std.proofs.Common.{map, ◌≤◌, arith, ℕ, ◌<◌, ◌^◌, List, length, refl}
-use Rattle.std.specs.List.{All}
+use Rattle.std.proofs.Common.{map, ◌+◌, ◌≤◌, arith, ℕ, ◌<◌, ◌^◌, List, length, refl}
+use Rattle.std.specs.List.{All, concat}
 use Rattle.std.proofs.lemmas.List.{length-map, get_or-map}
 use Rattle.std.proofs.lemmas.List.Elements.{All-map}
 use Rattle.field_grammar.specs.Grammar.{pair}
@@ -12,8 +12,8 @@ use Rattle.load_protocol_files.specs.declared.lcl.Hardware.{Hardware}
 use Rattle.load_protocol_files.specs.declared.lcl.Part.{Part}
 use Rattle.load_protocol_files.specs.declared.lcl.Lcl.{Lcl}
 use Rattle.load_protocol_files.specs.Pieces.{text, counted}
-use Rattle.load_protocol_files.specs.Lcl.{to_part, installed, installed_fields, InstalledFits, HardwareView, hardware_view, to_hardware, hardware, hardware_fields, HardwareFits, LclView, lcl_view, to_lcl, lcl_body, lcl_fields, LclFits}
-use Rattle.load_protocol_files.proofs.PieceSpellings.{spelled-text, spelled-counted_list}
+use Rattle.load_protocol_files.specs.Lcl.{to_part, installed, installed_fields, InstalledFits, HardwareView, hardware_view, to_hardware, hardware, hardware_fields, HardwareFits, LclView, lcl_view, to_lcl, lcl_body, lcl_fields, LclFits, IsWritableLcl}
+use Rattle.load_protocol_files.specs.PieceLaws.{spelled-text, spelled-counted_list}
 
 from_part : Part → List ℕ × (List ℕ × List ℕ)
 from_part v = (v.number, (v.amendment, v.designation))
@@ -62,3 +62,6 @@ counts_fit list fit k d lt =
     let here : k < length (map hardware_view list) = rw length-map lt in
     let fits = rw (get_or-map hardware_view list k d (hardware_view d) lt) at (fit k (hardware_view d) here) in
     omega (arith, fits.count)
+
+pub lcl_is_small : (it : Lcl) → IsWritableLcl it → 6 + length (concat (lcl_fields (lcl_view it))) < 2 ^ 32
+lcl_is_small it writable = omega (arith, writable.size)

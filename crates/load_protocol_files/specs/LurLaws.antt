@@ -16,7 +16,7 @@ use Rattle.part_number.specs.PartNumber.{IsPartNumberText}
 use Rattle.load_protocol_files.specs.declared.lur.Wanted.{Wanted}
 use Rattle.load_protocol_files.specs.Pieces.{name, part, counted, counted_fields}
 use Rattle.load_protocol_files.specs.Lur.{to_wanted, wanted, wanted_fields, WantedFits, LurView, to_lur, lur_body, lur_fields, LurFits}
-use Rattle.load_protocol_files.proofs.PieceSpellings.{spelled-name, spelled-part, spelled-counted_list}
+use Rattle.load_protocol_files.specs.PieceLaws.{spelled-name, spelled-part, spelled-counted_list}
 
 from_wanted : Wanted → List ℕ × List ℕ
 from_wanted v = (v.header, v.part)
@@ -46,8 +46,8 @@ wanted_size v fits =
     rw (concat-append, length-append, size_short v.header, size_short v.part) (omega (arith, fits.header.size.1, part_size v.part fits.part))
 
 -- it always fits the four bytes of its length
-pub lur_is_small : (v : LurView) (body : List ℕ) → body ≡ concat (lur_fields v) → LurFits v → 6 + length body < 2 ^ 32
+pub lur_is_small : (v : LurView) → LurFits v → 6 + length (concat (lur_fields v)) < 2 ^ 32
 unfolding counted_fields
-lur_is_small v body is fits =
+lur_is_small v fits =
     let loads : length (concat (flat_map wanted_fields v.loads)) ≤ length v.loads * 81 = at_most_each wanted_fields (λ w. WantedFits w) 81 wanted_size v.loads fits.loads in
-    rw (is, length-append, length_number_bytes) (omega (arith, loads, fits.count))
+    rw (length-append, length_number_bytes) (omega (arith, loads, fits.count))
