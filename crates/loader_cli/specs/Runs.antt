@@ -4,7 +4,7 @@ use Rattle.load_base.specs.Counts.{Rose}
 use Rattle.load_base.specs.Host.{Files, longest_file}
 use Rattle.load_base.specs.Sink.{IsExtended}
 use Rattle.shown_files.specs.Shown.{HasFields, HasFault}
-use Rattle.shown_files.specs.declared.kind.FileKind.{FileKind}
+use Rattle.shown_files.specs.declared.kind.ShownKind.{ShownKind}
 use Rattle.disk_model.specs.Image.{Image}
 use Rattle.disk_model.specs.State.{DiskState, IsSettled}
 use Rattle.bank_store.specs.Formatting.{formatted, KeepsRest}
@@ -45,7 +45,7 @@ pub data Formats (old new : DiskState) (id : Identity) (status : ℕ) (text : Li
 -- ---- `show FILE`
 
 -- the status and the text for a file of this kind, of this name and with these bytes
-pub data ShowsBytes (kind : FileKind) (name bytes : List ℕ) (status : ℕ) (text : List ℕ) : Type 0 where
+pub data ShowsBytes (kind : ShownKind) (name bytes : List ℕ) (status : ℕ) (text : List ℕ) : Type 0 where
   -- 0: the bytes spell a file with these fields
   shown : HasFields kind bytes text → status ≡ 0 → ShowsBytes kind name bytes status text
   -- 3: they fail at this fault
@@ -62,7 +62,7 @@ HasTooMany None name = Unit {0}
 HasTooMany (Some files) name = (bytes : List ℕ) × (files name ≡ Some bytes) × (longest_file < length bytes)
 
 -- the status, the text, and what it says of the host's files and of its faults before and after
-pub data Shows (kind : FileKind) (files : Option Files) (before after : ℕ) (name : List ℕ) (status : ℕ) (text : List ℕ) : Type 0 where
+pub data Shows (kind : ShownKind) (files : Option Files) (before after : ℕ) (name : List ℕ) (status : ℕ) (text : List ℕ) : Type 0 where
   -- it has these bytes, at most 16,777,215
   read : (bytes : List ℕ) → Has files name (Some bytes) → length bytes ≤ longest_file → ShowsBytes kind name bytes status text
       → Shows kind files before after name status text
@@ -81,7 +81,7 @@ pub data Says (words : List (List ℕ)) (old new : DiskState) (files : Option Fi
   refused : ((form : Form) → ¬ IsForm words form) → status ≡ 2 → text ≡ refused_words → Says words old new files before after status text
   lists : IsForm words list → Lists old new status text → Says words old new files before after status text
   formats : (id : Identity) → IsForm words (format id) → Formats old new id status text → Says words old new files before after status text
-  shows : (kind : FileKind) (file : List ℕ) → IsForm words (show kind file) → Shows kind files before after file status text → Says words old new files before after status text
+  shows : (kind : ShownKind) (file : List ℕ) → IsForm words (show kind file) → Shows kind files before after file status text → Says words old new files before after status text
 
 -- What a run is given and what it leaves: its words, the disk, the host's files and faults, and the sink's output
 -- and faults.

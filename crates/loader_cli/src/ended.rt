@@ -17,7 +17,7 @@ use disk_layout::Identity;
 use disk_model::Disk;
 use load_base::{Bytes, Host, NoMemory, Sink, WriteFault};
 use recovery::{RecoverFault, recover};
-use shown_files::FileKind;
+use shown_files::ShownKind;
 use std::alloc::Global;
 
 /// How a run ended.
@@ -38,7 +38,7 @@ pub struct Ended {
 }
 
 /// Runs the program on the words after its name: `list`, `format HW POS SERIAL BANK`, or `show FILE` with the name of a
-/// file of one of the kinds of [`FileKind`]. The output goes out in one piece at the end.
+/// file of one of the kinds of [`ShownKind`]. The output goes out in one piece at the end.
 ///
 /// Only `list` and `format` use the disk, and only `format` writes. While it does, a power loss leaves what there was
 /// but for the gates of the two slots, or a disk that stands for nothing, or the formatted one.
@@ -63,7 +63,7 @@ pub fn run<H: Host, O: Sink, K: Disk>(
       sink_faults_after = O.faults out.new;
     }) result.status }
     ensures disk_untouched { ¬ IsForm (texts_of words.now) list_form → ((id : Identity) → ¬ IsForm (texts_of words.now) (format_form id)) → disk.new ≡ disk.old }
-    ensures host_untouched { ((kind : FileKind) (file : List ℕ) → ¬ IsForm (texts_of words.now) (show_form kind file)) → host.new ≡ host.old }
+    ensures host_untouched { ((kind : ShownKind) (file : List ℕ) → ¬ IsForm (texts_of words.now) (show_form kind file)) → host.new ≡ host.old }
     ensures files_kept { H.files host.new ≡ H.files host.old }
     ensures only_reads { ((id : Identity) → ¬ IsForm (texts_of words.now) (format_form id)) → OnlyReads (K.state disk.old) (K.state disk.new) }
     ensures while_formatting { (id : Identity) → IsForm (texts_of words.now) (format_form id)
@@ -89,7 +89,7 @@ fn answer<H: Host, K: Disk>(
     requires { (K.state disk.old).stopped ≡ false }
     ensures says { IfOk result (λ said. Says (texts_of words.now) (K.state disk.old) (K.state disk.new) (H.files host.old) (H.faults host.old) (H.faults host.new) said.0 said.1.items) }
     ensures disk_untouched { ¬ IsForm (texts_of words.now) list_form → ((id : Identity) → ¬ IsForm (texts_of words.now) (format_form id)) → disk.new ≡ disk.old }
-    ensures host_untouched { ((kind : FileKind) (file : List ℕ) → ¬ IsForm (texts_of words.now) (show_form kind file)) → host.new ≡ host.old }
+    ensures host_untouched { ((kind : ShownKind) (file : List ℕ) → ¬ IsForm (texts_of words.now) (show_form kind file)) → host.new ≡ host.old }
     ensures files_kept { H.files host.new ≡ H.files host.old }
     ensures only_reads { ((id : Identity) → ¬ IsForm (texts_of words.now) (format_form id)) → OnlyReads (K.state disk.old) (K.state disk.new) }
     ensures while_formatting { (id : Identity) → IsForm (texts_of words.now) (format_form id)

@@ -5,14 +5,14 @@ ghost use Rattle.loader_cli.specs.Texts.{refused_input};
 
 use crate::text::text_of;
 use load_base::{Bytes, Host, NoMemory, ReadFault};
-use shown_files::{Shown, FileKind};
+use shown_files::{Shown, ShownKind};
 use std::alloc::Global;
 
 /// The status and the text for a file of this kind.
 pub(crate) fn show<H: Host>(
     alloc: Global,
     host: &mut H,
-    kind: FileKind,
+    kind: ShownKind,
     file: &str,
 ) -> Result<(u8, Bytes), NoMemory>
     ensures shows { IfOk result (λ said. Shows kind (H.files host.old) (H.faults host.old) (H.faults host.new) file.now said.0 said.1.items) }
@@ -29,7 +29,7 @@ pub(crate) fn show<H: Host>(
 
 fn show_bytes(
     alloc: Global,
-    kind: FileKind,
+    kind: ShownKind,
     name: &[u8],
     bytes: &[u8],
 ) -> Result<(u8, Bytes), NoMemory>

@@ -6,11 +6,11 @@ ghost use Rattle.load_header.specs.HeaderFaultText.{header_fault_text};
 ghost use Rattle.load_header.specs.declared.fault.HeaderFault.TheVariants as headers;
 ghost use Rattle.load_protocol_files.specs.FaultTexts.{file_fault_text};
 ghost use Rattle.load_protocol_files.specs.declared.fault.FileFault.TheVariants as files;
-ghost use Rattle.shown_files.specs.declared.kind.FileKind.TheVariants as kinds;
+ghost use Rattle.shown_files.specs.declared.kind.ShownKind.TheVariants as kinds;
 ghost use Rattle.shown_files.specs.Shown.{IsShown};
 
 use crate::header::header_text;
-use crate::kind::FileKind;
+use crate::kind::ShownKind;
 use crate::lists::{files_list_text, loads_list_text};
 use crate::protocol::{lci_text, lcl_text, lcs_text, lui_text, lur_text, lus_text};
 use load_base::{Bytes, NoMemory, Text};
@@ -30,19 +30,19 @@ pub enum Shown {
 }
 
 /// What is shown of these bytes as a file of this kind.
-pub fn show(alloc: Global, kind: FileKind, bytes: &[u8]) -> Result<Shown, NoMemory>
+pub fn show(alloc: Global, kind: ShownKind, bytes: &[u8]) -> Result<Shown, NoMemory>
     ensures { IfOk result (λ shown. IsShown kind bytes.now shown) }
 {
     match kind {
-        FileKind::Header => shown_header(alloc, bytes),
-        FileKind::LoadsList => shown_loads_list(alloc, bytes),
-        FileKind::FilesList => shown_files_list(alloc, bytes),
-        FileKind::Lci => shown_lci(alloc, bytes),
-        FileKind::Lcl => shown_lcl(alloc, bytes),
-        FileKind::Lcs => shown_lcs(alloc, bytes),
-        FileKind::Lui => shown_lui(alloc, bytes),
-        FileKind::Lur => shown_lur(alloc, bytes),
-        FileKind::Lus => shown_lus(alloc, bytes),
+        ShownKind::Header => shown_header(alloc, bytes),
+        ShownKind::LoadsList => shown_loads_list(alloc, bytes),
+        ShownKind::FilesList => shown_files_list(alloc, bytes),
+        ShownKind::Lci => shown_lci(alloc, bytes),
+        ShownKind::Lcl => shown_lcl(alloc, bytes),
+        ShownKind::Lcs => shown_lcs(alloc, bytes),
+        ShownKind::Lui => shown_lui(alloc, bytes),
+        ShownKind::Lur => shown_lur(alloc, bytes),
+        ShownKind::Lus => shown_lus(alloc, bytes),
     }
 }
 
