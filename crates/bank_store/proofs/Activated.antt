@@ -11,8 +11,8 @@ use Rattle.disk_model.specs.OverlayLaws.{overlay_is, overlay_outside}
 use Rattle.disk_layout.specs.Slots.{IsOpen, IsSlot, manifest_place_of, manifest_length_of}
 use Rattle.disk_layout.specs.declared.active.ManifestRange.{ManifestRange}
 use Rattle.disk_layout.specs.SlotLaws.{offset_is_slot}
-use Rattle.disk_layout.specs.Stands.{StandingView, StandsBy, Stands}
-use Rattle.bank_store.specs.Acts.{AddsOnly, IsRunning}
+use Rattle.disk_layout.specs.Holds.{StandingView, HoldsBy, HoldsConfig}
+use Rattle.bank_store.specs.DiskWrites.{AddsOnly, IsRunning}
 use Rattle.disk_layout.specs.Slots.{other_slot}
 use Rattle.disk_layout.specs.Slots.{other_bank}
 use Rattle.bank_store.specs.Store.{active_slot, active_bank, active_sequence, IsSealed, IsSealedAt, IsPrepared, SameActive, Switches}
@@ -39,13 +39,13 @@ opened_is image left at same opened = λ i place. overlay_is image left at (0xA5
         let none : k ≡ 0 = omega (arith, below) in
         ap (λ (j : ℕ). left (at + j)) none ∙ ap left (omega arith) ∙ opened ∙ ap (λ (j : ℕ). get_or (0xA5 ∷ []) j 0) (sym none)
 
--- whatever the gate's byte, the image stands for one of the two
+-- whatever the gate's byte, the image holds one of the two
 gate_torn : (store : Store) (image left : Image) (s : StandingView) (loads : List LoadView) → HoldsFor store image s → IsReady store image s loads → SameOutside (other_slot (active_slot store)) 1 image left
     → IsOldOrNew s (configured s loads) left
 gate_torn store image left s loads was ready same = elim (cases_eq (left (other_slot (active_slot store))) 0xA5) [
   | inl opened ↦ inr (record {
     slot = other_slot (active_slot store);
-    by = subst (λ (i : Image). StandsBy i (other_slot (active_slot store)) (configured s loads)) (sym (opened_is image left (other_slot (active_slot store)) same opened)) ready.opens;
+    by = subst (λ (i : Image). HoldsBy i (other_slot (active_slot store)) (configured s loads)) (sym (opened_is image left (other_slot (active_slot store)) same opened)) ready.opens;
   })
   | inr shut ↦ inl (record { slot = (active_slot store); by = shut_stands store image left s was (λ place out apart. same place apart) shut })
 ]
@@ -62,8 +62,8 @@ while_opening store old new at s loads result is can elapses =
 
 -- the image with the gate open
 pub opened_by : (store : Store) (image : Image) (s : StandingView) (loads : List LoadView) (at : ℕ) → at ≡ other_slot (active_slot store) → IsReady store image s loads
-    → StandsBy (overlay image at (0xA5 ∷ [])) (other_slot (active_slot store)) (configured s loads)
-opened_by store image s loads at is ready = subst (λ (n : ℕ). StandsBy (overlay image n (0xA5 ∷ [])) (other_slot (active_slot store)) (configured s loads)) (sym is) ready.opens
+    → HoldsBy (overlay image at (0xA5 ∷ [])) (other_slot (active_slot store)) (configured s loads)
+opened_by store image s loads at is ready = subst (λ (n : ℕ). HoldsBy (overlay image n (0xA5 ∷ [])) (other_slot (active_slot store)) (configured s loads)) (sym is) ready.opens
 
 slots_differ : (slot : ℕ) → IsSlot slot → (slot < other_slot slot) ⊎ (other_slot slot + 1 ≤ slot)
 slots_differ slot (inl e) = inl (omega (arith, e))
@@ -84,10 +84,10 @@ switched_stands old new image now s loads at switches is opened was ready =
     let same_manifest : ready.manifest ≡ new.active.manifest = one_range ready.manifest new.active.manifest (sym ready.stage ∙ switches.manifest) in
     let old_gate : IsOpen now (active_slot old) =
     ap (λ (i : Image). i (active_slot old)) opened
-    ∙ overlay_outside image at (0xA5 ∷ []) (active_slot old) (subst (λ (n : ℕ). ((active_slot old) < n) ⊎ (n + 1 ≤ (active_slot old))) (sym is) (slots_differ (active_slot old) is_slot)) ∙ was.by.outline.ruled.rules.gate in
+    ∙ overlay_outside image at (0xA5 ∷ []) (active_slot old) (subst (λ (n : ℕ). ((active_slot old) < n) ⊎ (n + 1 ≤ (active_slot old))) (sym is) (slots_differ (active_slot old) is_slot)) ∙ was.by.outline.has_active.is_active.gate in
     record {
-      by = subst (λ (n : ℕ). StandsBy now n (configured s loads)) (sym switches.slot)
-          (subst (λ (i : Image). StandsBy i (other_slot (active_slot old)) (configured s loads)) (sym opened) (opened_by old image s loads at is ready));
+      by = subst (λ (n : ℕ). HoldsBy now n (configured s loads)) (sym switches.slot)
+          (subst (λ (i : Image). HoldsBy i (other_slot (active_slot old)) (configured s loads)) (sym opened) (opened_by old image s loads at is ready));
       bank = ap (λ (b : ℕ). other_bank b) was.bank ∙ sym switches.bank;
       sequence = ap (λ (n : ℕ). n + 1) was.sequence ∙ sym switches.sequence;
       size = was.size ∙ sym switches.size;
@@ -114,10 +114,10 @@ switched_holds old new before after at switches is sealed tells opened fits now 
 
 -- where the gate is open, nothing else may be left
 pub opened_alone : (store : Store) (before after : DiskState) (s : StandingView) (loads : List LoadView) (at : ℕ) → at ≡ other_slot (active_slot store) → CanActivate store before s loads
-    → ((image now : Image) → before.reads ≡ Some image → after.reads ≡ Some now → now ≡ overlay image at (0xA5 ∷ [])) → IsSettled after → (left : Image) → after.now left → Stands left (configured s loads)
+    → ((image now : Image) → before.reads ≡ Some image → after.reads ≡ Some now → now ≡ overlay image at (0xA5 ∷ [])) → IsSettled after → (left : Image) → after.now left → HoldsConfig left (configured s loads)
 opened_alone store before after s loads at is can opened settled left may = record {
   slot = other_slot (active_slot store);
-  by = subst (λ (i : Image). StandsBy i (other_slot (active_slot store)) (configured s loads)) (sym (opened can.beside.image left can.beside.told (settled.only left may)))
+  by = subst (λ (i : Image). HoldsBy i (other_slot (active_slot store)) (configured s loads)) (sym (opened can.beside.image left can.beside.told (settled.only left may)))
       (opened_by store can.beside.image s loads at is can.ready);
 }
 

@@ -6,8 +6,8 @@ use Rattle.disk_model.specs.State.{DiskState, IsSettled, Elapses, Torn}
 use Rattle.disk_model.specs.declared.disk.DiskFault.{DiskFault}
 use Rattle.disk_model.specs.OverlayLaws.{overlay_inside, overlay_outside}
 use Rattle.disk_layout.specs.Slots.{IsOpen}
-use Rattle.disk_layout.specs.Stands.{StandingView, StandsBy, Stands}
-use Rattle.bank_store.specs.Acts.{AddsOnly, IsRunning}
+use Rattle.disk_layout.specs.Holds.{StandingView, HoldsBy, HoldsConfig}
+use Rattle.bank_store.specs.DiskWrites.{AddsOnly, IsRunning}
 use Rattle.disk_layout.specs.Slots.{other_slot}
 use Rattle.bank_store.specs.Store.{active_slot, IsFilling, SameActive, nothing_filled}
 use Rattle.bank_store.specs.Given.{nothing_given}
@@ -46,15 +46,15 @@ shut_gate store image s at is was =
     zero_not byte is opened = omega (arith, is, opened)
 
 pub while_shutting : {T : Type 0} (store : Store) (old new : DiskState) (at : ℕ) (s : StandingView) (result : Result T DiskFault) → at ≡ other_slot (active_slot store) → store.other_is_open ≡ true
-    → InstallsBeside store old s → Elapses old new (Torn at 1 old.now) result → AddsOnly old new (λ left. Stands left s)
+    → InstallsBeside store old s → Elapses old new (Torn at 1 old.now) result → AddsOnly old new (λ left. HoldsConfig left s)
 while_shutting store old new at s result is opened beside elapses =
-    adds_first old new (Torn at 1 old.now) (λ left. Stands left s) result elapses
+    adds_first old new (Torn at 1 old.now) (λ left. HoldsConfig left s) result elapses
     (λ left torn. torn_gate_stands store beside.image left s opened beside.holds
     (λ place out apart. torn.same place (subst (λ (n : ℕ). (place < n) ⊎ (n + 1 ≤ place)) (sym is) apart) ∙ beside.works.near beside.image beside.told torn.before torn.was place out))
 
 pub begun_stands : (old new : Store) (image now : Image) (s : StandingView) → SameActive old new → new.other_is_open ≡ false → HoldsFor old image s → IsShutFor old now s → HoldsFor new now s
 begun_stands old new image now s rules shut was is = record {
-  by = subst (λ (n : ℕ). StandsBy now n s) (sym (same_slot rules)) is.by;
+  by = subst (λ (n : ℕ). HoldsBy now n s) (sym (same_slot rules)) is.by;
   bank = was.bank ∙ sym (same_bank rules);
   sequence = was.sequence ∙ sym (same_sequence rules);
   size = was.size ∙ sym rules.size;

@@ -1,10 +1,10 @@
--- A store that keeps what ruled.
+-- A store that keeps what has_active.
 use Rattle.std.proofs.Common.{◌≡◌, inl, inr, ℕ, ◌+◌, ◌<◌, ◌≤◌, sym, ◌∙◌, ap, ap₂, subst}
 use Rattle.disk_model.specs.Image.{Image}
 use Rattle.disk_layout.specs.Places.{bank_at}
 use Rattle.disk_layout.specs.Slots.{IsOpen, slot_offset, bank_number, manifest_place_of, manifest_length_of}
 use Rattle.disk_layout.specs.declared.active.Active.{Active}
-use Rattle.disk_layout.specs.Stands.{StandingView, StandsBy}
+use Rattle.disk_layout.specs.Holds.{StandingView, HoldsBy}
 use Rattle.disk_layout.specs.Slots.{other_slot}
 use Rattle.disk_layout.specs.Slots.{other_bank}
 use Rattle.bank_store.specs.Store.{active_slot, active_bank, active_sequence, work_at, SameActive}
@@ -50,7 +50,7 @@ module _ (old new : Store) (rules : SameActive old new) (gate : new.other_is_ope
 
   pub stands_carried : (image : Image) (s : StandingView) → HoldsFor old image s → HoldsFor new image s
   stands_carried image s was = record {
-    by = subst (λ (n : ℕ). StandsBy image n s) (sym (same_slot rules)) was.by;
+    by = subst (λ (n : ℕ). HoldsBy image n s) (sym (same_slot rules)) was.by;
     bank = was.bank ∙ sym (same_bank rules);
     sequence = was.sequence ∙ sym (same_sequence rules);
     size = was.size ∙ sym rules.size;

@@ -2,7 +2,7 @@
 use Rattle.std.proofs.Common.{◌≡◌, ℕ, List, [], ◌∷◌, sym, ap, ap₂, ◌∙◌, subst, false}
 use Rattle.load_base.specs.Config.{LoadView}
 use Rattle.disk_model.specs.Image.{Image, range, overlay}
-use Rattle.disk_layout.specs.Stands.{StandingView, StandsBy}
+use Rattle.disk_layout.specs.Holds.{StandingView, HoldsBy}
 use Rattle.disk_layout.specs.Slots.{other_slot, manifest_place_of, manifest_length_of}
 use Rattle.disk_layout.specs.declared.active.ManifestRange.{ManifestRange}
 use Rattle.bank_store.specs.Store.{active_slot, with_gate_open, IsIdle, IsFilling, IsSealed, SameActive}
@@ -14,6 +14,7 @@ use Rattle.bank_store.specs.declared.stage.Stage.{Stage}
 use Rattle.bank_store.specs.declared.stage.Stage.TheVariants as stages
 use Rattle.bank_store.specs.declared.stage.Filling.{Filling}
 use Rattle.bank_store.proofs.Carried.{same_slot, work_carried, near_carried, stands_carried}
+use Rattle.bank_store.proofs.Giving.{same_filling}
 
 pub given_of : (store : Store) (image : Image) (progress : Filling) → IsFilling store progress → HasWork store image → (g : Given) × HasGiven store image g
 given_of store image progress filling work = subst (λ (stage : Stage). HoldsAt store image stage) filling work
@@ -60,11 +61,8 @@ filling_not_idle progress e = cc
 pub begun_shut : (store : Store) (progress : Filling) → IsFilling store progress → store.other_is_open ≡ false
 begun_shut store progress filling = (store.keeps.begun (λ idle. filling_not_idle progress (sym filling ∙ idle))).shut
 
-one_filling : (a b : Filling) → ◌≡◌ {A = Stage} (stages.Filling a) (stages.Filling b) → a ≡ b
-one_filling a b e = cc
-
 pub missing_none : (store : Store) (progress other : Filling) → IsFilling store progress → IsFilling store other → other.missing ≡ 0 → progress.missing ≡ 0
-missing_none store progress other is too none = subst (λ (f : Filling). f.missing ≡ 0) (one_filling other progress (sym too ∙ is)) none
+missing_none store progress other is too none = subst (λ (f : Filling). f.missing ≡ 0) (same_filling other progress (sym too ∙ is)) none
 
 given_same : (old new : Store) (image : Image) (g : Given) → SameActive old new → new.stage ≡ old.stage → new.body.items ≡ old.body.items → HasGiven old image g → HasGiven new image g
 given_same old new image g rules stage body was = record {
@@ -91,7 +89,7 @@ ready_same old new image s loads rules stage was =
     record {
       manifest = was.manifest;
       stage = stage ∙ was.stage;
-      opens = subst (λ (i : Image). StandsBy i (other_slot (active_slot new)) (configured s loads)) opened (subst (λ (n : ℕ). StandsBy (with_gate_open old image) (other_slot n) (configured s loads)) slot was.opens);
+      opens = subst (λ (i : Image). HoldsBy i (other_slot (active_slot new)) (configured s loads)) opened (subst (λ (n : ℕ). HoldsBy (with_gate_open old image) (other_slot n) (configured s loads)) slot was.opens);
       offset = ap₂ (λ (i : Image) (n : ℕ). manifest_place_of i (other_slot n)) (sym opened) (sym slot) ∙ was.offset;
       length = ap₂ (λ (i : Image) (n : ℕ). manifest_length_of i (other_slot n)) (sym opened) (sym slot) ∙ was.length;
     }

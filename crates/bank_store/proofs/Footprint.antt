@@ -1,4 +1,4 @@
--- What an image stands for depends on the identity, the slots and the ruling bank alone.
+-- The configuration that an image holds depends on the identity, the slots and the active bank alone.
 use Rattle.std.proofs.Common.{◌≡◌, ◌⊎◌, inl, inr, ℕ, ◌+◌, ◌<◌, ◌≤◌, sym, ◌∙◌, ap, subst, arith}
 use Rattle.std.specs.Prelude.{List}
 use Rattle.byteorder.specs.Endian.{big_number}
@@ -6,10 +6,10 @@ use Rattle.field_grammar.specs.Grammar.{Spelled, SpelledAtFront}
 use Rattle.disk_model.specs.Image.{Image, range}
 use Rattle.disk_model.specs.RangeLaws.{same_range}
 use Rattle.disk_layout.specs.Places.{slot_a, slot_b, bank_at, number_at}
-use Rattle.disk_layout.specs.Slots.{IsOpen, IsSlot, Rules, sequence_of, bank_of, manifest_place_of, manifest_length_of}
+use Rattle.disk_layout.specs.Slots.{IsOpen, IsSlot, IsActiveSlot, sequence_of, bank_of, manifest_place_of, manifest_length_of}
 use Rattle.disk_layout.specs.Identity.{identity}
 use Rattle.disk_layout.specs.Manifest.{manifest}
-use Rattle.disk_layout.specs.Stands.{StandingView, StandsBy, outline_of, manifest_at, manifest_of}
+use Rattle.disk_layout.specs.Holds.{StandingView, HoldsBy, outline_of, manifest_at, manifest_of}
 use Rattle.disk_layout.specs.Slots.{other_slot}
 
 -- b has what a has of the identity, of the slot and of the bank, and of the other slot too, unless that is shut
@@ -38,8 +38,8 @@ byte_same : (a b : Image) (slot : ℕ) → ((k : ℕ) → k < 29 → b (slot + k
 byte_same a b slot same = let here : slot ≡ slot + 0 = omega arith in ap b here ∙ same 0 (omega arith) ∙ ap a (sym here)
 
 module _ (slot size bank : ℕ) (a b : Image) (agrees : Agrees slot size bank a b) where
-  rules_same : Rules a slot → Rules b slot
-  rules_same rules = record {
+  active_same : IsActiveSlot a slot → IsActiveSlot b slot
+  active_same rules = record {
     is_slot = rules.is_slot;
     gate = byte_same a b slot agrees.slot_same ∙ rules.gate;
     greatest = λ other is is_open. elim (which_slot slot other rules.is_slot is) [
@@ -67,7 +67,7 @@ module _ (slot size bank : ℕ) (a b : Image) (agrees : Agrees slot size bank a 
   }
 
 -- so the standing stays
-pub standing_kept : (slot : ℕ) (s : StandingView) (a b : Image) → StandsBy a slot s → Agrees slot s.identity.bank s.bank a b → StandsBy b slot s
+pub standing_kept : (slot : ℕ) (s : StandingView) (a b : Image) → HoldsBy a slot s → Agrees slot s.identity.bank s.bank a b → HoldsBy b slot s
 standing_kept slot s a b was agrees =
     let o = was.outline in
     let size = s.identity.bank in
@@ -88,9 +88,9 @@ standing_kept slot s a b was agrees =
     let fronts : range b 0 75 ≡ range a 0 75 = same_range b a 0 75 (λ k below. agrees.front (0 + k) (omega (arith, below))) in
     record {
       outline = record {
-        ruled = record {
-          identity = subst (λ (bytes : List ℕ). SpelledAtFront identity bytes s.identity) (sym fronts) o.ruled.identity;
-          rules = rules_same slot size s.bank a b agrees o.ruled.rules;
+        has_active = record {
+          identity = subst (λ (bytes : List ℕ). SpelledAtFront identity bytes s.identity) (sym fronts) o.has_active.identity;
+          is_active = active_same slot size s.bank a b agrees o.has_active.is_active;
         };
         can_be = record { is_bank = omega (arith, o.can_be.is_bank, bank); short = omega (arith, o.can_be.short, long); within = omega (arith, o.can_be.within, place, long) };
         bank = o.bank ∙ sym bank;

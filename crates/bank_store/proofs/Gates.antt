@@ -14,11 +14,11 @@ use Rattle.field_grammar.specs.Fields.{number_bytes}
 use Rattle.disk_layout.specs.Places.{IsBankSize, slot_a, slot_b, bank_at, longest_identity, number_at}
 use Rattle.disk_layout.specs.Identity.{identity}
 use Rattle.disk_layout.specs.Slots.{IsOpen, sequence_of, bank_of, manifest_place_of, manifest_length_of}
-use Rattle.disk_layout.specs.SlotLaws.{a_rules}
+use Rattle.disk_layout.specs.SlotLaws.{a_is_active}
 use Rattle.disk_layout.specs.Manifest.{LoadEntry, LoadFits, manifest}
 use Rattle.disk_layout.specs.ManifestSpelling.{manifest_spelling}
 use Rattle.disk_layout.specs.Contents.{HeaderIsFirst}
-use Rattle.disk_layout.specs.Stands.{manifest_at, manifest_of, Stands}
+use Rattle.disk_layout.specs.Holds.{manifest_at, manifest_of, HoldsConfig}
 use Rattle.disk_layout.specs.declared.identity.Identity.{Identity}
 use Rattle.bank_store.specs.Formatting.{formatted, IsShut, GatesTorn, IsLaidOut, IsOpened}
 use Rattle.bank_store.proofs.Images.{apart}
@@ -63,7 +63,7 @@ no_loads : Spelled manifest (0 ∷ 0 ∷ []) []
 unfolding number_bytes
 no_loads = (manifest_spelling (0 ∷ 0 ∷ []) []).1 (record { count = omega arith; each = All-nil (λ (l : LoadEntry). LoadFits l) }, refl)
 
-opened_stands : (before after : Image) (id : Identity) → IsBankSize id.bank → IsLaidOut id before → SameOutside slot_a 1 before after → IsOpen after slot_a → Stands after (formatted id)
+opened_stands : (before after : Image) (id : Identity) → IsBankSize id.bank → IsLaidOut id before → SameOutside slot_a 1 before after → IsOpen after slot_a → HoldsConfig after (formatted id)
 opened_stands before after id size laid same gate =
     let sequence : sequence_of after slot_a ≡ 1 = number_same before after 4 (slot_a + 16) (omega arith) same ∙ laid.sequence in
     let bank : bank_of after slot_a ≡ 0 = same (slot_a + 20) (inr (omega arith)) ∙ laid.bank in
@@ -77,9 +77,9 @@ opened_stands before after id size laid same gate =
       slot = slot_a;
       by = record {
         outline = record {
-          ruled = record {
+          has_active = record {
             identity = subst (λ (front : List ℕ). SpelledAtFront identity front id) (sym (apart before after slot_a 1 0 longest_identity same (inl (omega arith)))) laid.identity;
-            rules = a_rules after gate (λ opened. absurd (shut opened));
+            is_active = a_is_active after gate (λ opened. absurd (shut opened));
           };
           can_be = record { is_bank = omega (arith, bank); short = omega (arith, long); within = omega (arith, place, long, size.0) };
           bank = sym bank;
@@ -97,13 +97,13 @@ opened_stands before after id size laid same gate =
 
 -- with the gate's byte torn, the disk is shut or formatted
 pub opened_or_shut : (id : Identity) → IsBankSize id.bank → (images : Image → Type 0) → ((i : Image) → images i → IsLaidOut id i) → (image : Image) → Torn slot_a 1 images image
-    → IsShut image ⊎ Stands image (formatted id)
+    → IsShut image ⊎ HoldsConfig image (formatted id)
 opened_or_shut id size images laid image torn = elim (cases_eq (image slot_a) 0xA5) [
   | inl opened ↦ inr (opened_stands torn.before image id size (laid torn.before torn.was) torn.same opened)
   | inr shut ↦ inl (record { a = shut; b = λ opened. (laid torn.before torn.was).shut.b (sym (torn.same slot_b (inr (omega arith))) ∙ opened) })
 ]
 
-pub opened_is : (id : Identity) → IsBankSize id.bank → (images : Image → Type 0) → ((i : Image) → images i → IsLaidOut id i) → (image : Image) → IsOpened images image → Stands image (formatted id)
+pub opened_is : (id : Identity) → IsBankSize id.bank → (images : Image → Type 0) → ((i : Image) → images i → IsLaidOut id i) → (image : Image) → IsOpened images image → HoldsConfig image (formatted id)
 opened_is id size images laid image is = opened_stands is.before image id size (laid is.before is.was) is.same is.gate
 
 -- what was there is there, whatever its gates

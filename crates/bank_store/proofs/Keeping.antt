@@ -4,8 +4,8 @@ use Rattle.disk_model.specs.Image.{Image}
 use Rattle.disk_model.specs.State.{DiskState}
 use Rattle.disk_model.specs.declared.disk.DiskFault.{DiskFault}
 use Rattle.disk_model.specs.declared.disk.DiskFault.TheVariants as disk
-use Rattle.disk_layout.specs.Stands.{Stands}
-use Rattle.bank_store.specs.Acts.{IsOfDisk, IsRunning}
+use Rattle.disk_layout.specs.Holds.{HoldsConfig}
+use Rattle.bank_store.specs.DiskWrites.{IsFailure, IsRunning}
 use Rattle.bank_store.specs.Faults.{store_fault_of}
 use Rattle.bank_store.specs.Fits.{HoldsFor}
 use Rattle.bank_store.specs.Keeps.{LeavesActive, Keeps}
@@ -21,7 +21,7 @@ pub same_active : (store : Store) → SameActive store store
 same_active store = record { size = refl; active = refl }
 
 pub leaves_same : (store : Store) (disk : DiskState) → LeavesActive store disk disk
-leaves_same store disk s beside = adds_none disk (λ left. Stands left s) (stands_now store disk s beside)
+leaves_same store disk s beside = adds_none disk (λ left. HoldsConfig left s) (stands_now store disk s beside)
 
 -- nothing was done
 pub keeps_same : {T : Type 0} (store : Store) (disk : DiskState) (result : Result T StoreFault) → IsRunning disk → Keeps store store disk disk result
@@ -37,7 +37,7 @@ keeps_same store disk result running = record {
   };
 }
 
-of_disk : (fault : DiskFault) → IsOfDisk (store_fault_of fault)
+of_disk : (fault : DiskFault) → IsFailure (store_fault_of fault)
 of_disk disk.Failed = tt
 of_disk disk.Memory = tt
 

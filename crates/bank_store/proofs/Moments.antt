@@ -5,7 +5,7 @@ use Rattle.disk_model.specs.Moments.{LeavesOnly}
 use Rattle.disk_model.specs.State.{DiskState, Elapses}
 use Rattle.disk_model.specs.declared.disk.DiskFault.{DiskFault}
 use Rattle.std.specs.Prelude.{Result}
-use Rattle.bank_store.specs.Acts.{AddsOnly}
+use Rattle.bank_store.specs.DiskWrites.{AddsOnly}
 
 -- where nothing is called
 pub adds_none : (disk : DiskState) (P : Image → Type 0) → ((image : Image) → disk.now image → P image) → AddsOnly disk disk P
@@ -26,7 +26,7 @@ adds_first old new inside P result elapses within = record {
   here = λ image may. within image (elapses.now image may);
 }
 
--- over calls behind others
+-- over calls after others
 pub adds_joined : (a b c : DiskState) (P Q R : Image → Type 0) → AddsOnly a b P → AddsOnly b c Q → ((image : Image) → P image → R image) → ((image : Image) → Q image → R image) → AddsOnly a c R
 adds_joined a b c P Q R first second in_first in_second = record {
   each = λ t u image might. elim (second.each t u image might) [

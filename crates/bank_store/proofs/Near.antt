@@ -1,11 +1,11 @@
--- Images that differ only where an installation writes stand for the same.
+-- Images that differ only where an installation writes hold the same.
 use Rattle.std.proofs.Common.{◌≡◌, ◌⊎◌, inl, inr, ℕ, zero, suc, ◌+◌, ◌-◌, ◌<◌, ◌≤◌, Bool, true, false, refl, sym, ◌∙◌, ap, arith}
 use Rattle.std.proofs.lemmas.Bool.{cases_eq, cases_lt}
 use Rattle.disk_model.specs.Image.{Image, SameOutside}
 use Rattle.disk_layout.specs.Places.{bank_at}
 use Rattle.disk_layout.specs.Slots.{IsOpen, IsSlot, manifest_place_of, manifest_length_of}
 use Rattle.disk_layout.specs.SlotLaws.{offset_is_slot, number_below}
-use Rattle.disk_layout.specs.Stands.{StandingView, StandsBy, Stands}
+use Rattle.disk_layout.specs.Holds.{StandingView, HoldsBy, HoldsConfig}
 use Rattle.disk_layout.specs.Slots.{other_slot}
 use Rattle.bank_store.specs.Store.{active_slot, active_bank, work_at}
 use Rattle.bank_store.specs.Fits.{HoldsFor, GateIsAsKept, MayChange, SameButForWork}
@@ -29,7 +29,7 @@ pub slot_low : (slot : ℕ) → IsSlot slot → (4096 ≤ slot) × (slot + 29 �
 slot_low slot (inl e) = (omega (arith, e), omega (arith, e))
 slot_low slot (inr e) = (omega (arith, e), omega (arith, e))
 
--- a place outside the other bank and the other slot's body doesn't change
+-- an offset outside the other bank and the other slot's body doesn't change
 stays : (store : Store) (place : ℕ) → (place < work_at store) ⊎ (work_at store + store.size ≤ place) → (place ≤ other_slot (active_slot store)) ⊎ (other_slot (active_slot store) + 29 ≤ place) → ¬ MayChange store place
 stays store place (inl low) slot (inl bank) = omega (arith, low, bank.0)
 stays store place (inr high) slot (inl bank) = omega (arith, high, bank.1)
@@ -71,9 +71,9 @@ offset_same store one other s was same = number_same one other (active_slot stor
 pub length_same : (store : Store) (one other : Image) (s : StandingView) → HoldsFor store one s → SameButForGate store one other → manifest_length_of other (active_slot store) ≡ store.active.manifest.length
 length_same store one other s was same = number_same one other (active_slot store) (slot_same store one other same) 25 (omega arith) ∙ was.length
 
--- so they stand for the same, where the other slot is the same or shut
+-- so they hold the same, where the other slot is the same or shut
 stands_by : (store : Store) (one other : Image) (s : StandingView) → HoldsFor store one s → SameButForGate store one other
-    → ¬ IsOpen other (other_slot (active_slot store)) ⊎ ((k : ℕ) → k < 29 → other (other_slot (active_slot store) + k) ≡ one (other_slot (active_slot store) + k)) → StandsBy other (active_slot store) s
+    → ¬ IsOpen other (other_slot (active_slot store)) ⊎ ((k : ℕ) → k < 29 → other (other_slot (active_slot store) + k) ≡ one (other_slot (active_slot store) + k)) → HoldsBy other (active_slot store) s
 stands_by store one other s was same others =
     let is_slot = offset_is_slot store.active.slot in
     let high = (other_low (active_slot store) is_slot).1 in
@@ -91,7 +91,7 @@ stands_by store one other s was same others =
       others = others;
     })
 
--- images that differ only where an installation writes stand for the same
+-- images that differ only where an installation writes hold the same
 pub near_stands : (store : Store) (one other : Image) (s : StandingView) → HoldsFor store one s → SameButForWork store one other → HoldsFor store other s
 near_stands store one other s was same = record {
   by = stands_by store one other s was (λ place out apart. same place out) (others_same store one other store.other_is_open refl was.gate same);
@@ -106,12 +106,12 @@ near_stands store one other s was same = record {
   };
 }
 
--- with the other slot shut the image stands for the same
-pub shut_stands : (store : Store) (one other : Image) (s : StandingView) → HoldsFor store one s → SameButForGate store one other → ¬ IsOpen other (other_slot (active_slot store)) → StandsBy other (active_slot store) s
+-- with the other slot shut the image holds the same
+pub shut_stands : (store : Store) (one other : Image) (s : StandingView) → HoldsFor store one s → SameButForGate store one other → ¬ IsOpen other (other_slot (active_slot store)) → HoldsBy other (active_slot store) s
 shut_stands store one other s was same shut = stands_by store one other s was same (inl shut)
 
--- whatever the gate of a slot that was open, the image stands for the same
-pub torn_gate_stands : (store : Store) (one other : Image) (s : StandingView) → store.other_is_open ≡ true → HoldsFor store one s → SameButForGate store one other → Stands other s
+-- whatever the gate of a slot that was open, the image holds the same
+pub torn_gate_stands : (store : Store) (one other : Image) (s : StandingView) → store.other_is_open ≡ true → HoldsFor store one s → SameButForGate store one other → HoldsConfig other s
 torn_gate_stands store one other s is was same = elim (cases_eq (other (other_slot (active_slot store))) 0xA5) [
   | inl opened ↦
       let near : SameButForWork store one other = λ place out. elim (cases_eq place (other_slot (active_slot store))) [

@@ -1,4 +1,4 @@
--- What is sealed stands for what was given, once the gate is open.
+-- What is sealed holds what was given, once the gate is open.
 use Rattle.std.proofs.Common.{◌≡◌, ◌⊎◌, inl, inr, ℕ, ◌+◌, ◌<◌, ◌≤◌, ◌^◌, List, [], ◌∷◌, ◌++◌, length, map, sym, ◌∙◌, ap, ap₂, subst, arith, length-append}
 use Rattle.std.specs.List.{All, concat, flat_map}
 use Rattle.std.proofs.lemmas.List.{append-nil, nil_from_length}
@@ -10,16 +10,16 @@ use Rattle.disk_model.specs.Image.{Image, range, overlay}
 use Rattle.disk_model.specs.RangeLaws.{same_range}
 use Rattle.disk_model.specs.OverlayLaws.{overlay_inside, overlay_outside, overlay_joined, range_of_overlay, range_beside_overlay}
 use Rattle.disk_layout.specs.Places.{slot_b, bank_at, number_at, longest_manifest}
-use Rattle.disk_layout.specs.Slots.{IsOpen, IsSlot, Rules, sequence_of, bank_of, manifest_place_of, manifest_length_of}
+use Rattle.disk_layout.specs.Slots.{IsOpen, IsSlot, IsActiveSlot, sequence_of, bank_of, manifest_place_of, manifest_length_of}
 use Rattle.disk_layout.specs.SlotLaws.{offset_is_slot, number_below}
 use Rattle.disk_layout.specs.SlotBodyLaws.{body_length, says_sequence, says_bank, says_offset, says_length}
 use Rattle.disk_layout.specs.Identity.{identity}
 use Rattle.disk_layout.specs.Manifest.{manifest_fields}
 use Rattle.disk_layout.specs.ManifestSpelling.{manifest_spelling}
 use Rattle.disk_layout.specs.Contents.{entries_of, bytes_of}
-use Rattle.disk_layout.specs.Stands.{StandingView, StandsBy, manifest_at, manifest_of}
+use Rattle.disk_layout.specs.Holds.{StandingView, HoldsBy, manifest_at, manifest_of}
 use Rattle.disk_layout.specs.Slots.{other_slot}
-use Rattle.bank_store.specs.Bounds.{IsInRange}
+use Rattle.bank_store.specs.Bounds.{IsFillingInRange}
 use Rattle.disk_layout.specs.Slots.{other_bank}
 use Rattle.bank_store.specs.Store.{active_slot, active_bank, active_sequence, IsFilling, work_at, manifest_length, slot_body, with_manifest, with_slot}
 use Rattle.bank_store.specs.Given.{Given, GivenLoad, HasGiven, IsWhole, Misses, bytes_given, configured, loads_of, load_of}
@@ -76,7 +76,7 @@ module _ (store : Store) (progress : Filling) (image : Image) (lies : Lies store
   joined : with_manifest store progress image ≡ overlay image (work + progress.end) text
   joined = overlay_joined image (work + progress.end) (work + progress.end + 2) (number_bytes 2 progress.loads) store.body.items (omega (arith, length_number_bytes 2 progress.loads))
 
-  -- behind the slots nothing but the manifest
+  -- after the slots nothing but the manifest
   far_off : (at n : ℕ) → 8192 ≤ at → range (opened store progress image) at n ≡ range (overlay image (work + progress.end) text) at n
   far_off at n beyond =
       range_beside_overlay (with_slot store progress.end (manifest_length store) (with_manifest store progress image)) other (0xA5 ∷ []) at n (inr (omega (arith, lies.high, beyond)))
@@ -126,10 +126,10 @@ module _ (store : Store) (progress : Filling) (image : Image) (lies : Lies store
 
 -- ---- and so it stands
 
-long_enough : (store : Store) (progress : Filling) → IsInRange store.size store.body progress → progress.missing ≡ 0 → manifest_length store ≤ longest_manifest
+long_enough : (store : Store) (progress : Filling) → IsFillingInRange store.size store.body progress → progress.missing ≡ 0 → manifest_length store ≤ longest_manifest
 long_enough store progress is none = omega (arith, is.few, is.taken, none)
 
-all_files_end : (store : Store) (image : Image) (progress : Filling) (g : Given) → IsInRange store.size store.body progress → progress.missing ≡ 0 → IsFilling store progress → HasGiven store image g
+all_files_end : (store : Store) (image : Image) (progress : Filling) (g : Given) → IsFillingInRange store.size store.body progress → progress.missing ≡ 0 → IsFilling store progress → HasGiven store image g
     → bytes_given g ≡ bytes_of (flat_map (λ (l : GivenLoad). l.files) g.loads)
 all_files_end store image progress g is none filling has =
     let same : has.progress ≡ progress = same_filling has.progress progress (sym has.stage ∙ filling) in
@@ -160,7 +160,7 @@ module _ (store : Store) (progress : Filling) (image : Image) (s : StandingView)
   is_slot : IsSlot (active_slot store)
   is_slot = offset_is_slot store.active.slot
 
-  in_range : IsInRange store.size store.body progress
+  in_range : IsFillingInRange store.size store.body progress
   in_range = store.keeps.in_range progress filling
 
   same_far : has.progress ≡ progress
@@ -169,32 +169,32 @@ module _ (store : Store) (progress : Filling) (image : Image) (s : StandingView)
   goes_on : (active_sequence store) < 4294967295
   goes_on = (store.keeps.begun (λ idle. filling_not_idle progress (sym filling ∙ idle))).goes_on
 
-  ruling_apart : (k : ℕ) → k < 29 → ((active_slot store) + k < other_place) ⊎ (other_place + 29 ≤ (active_slot store) + k)
-  ruling_apart k below = slots_apart (active_slot store) k is_slot below
+  slot_apart : (k : ℕ) → k < 29 → ((active_slot store) + k < other_place) ⊎ (other_place + 29 ≤ (active_slot store) + k)
+  slot_apart k below = slots_apart (active_slot store) k is_slot below
 
-  ruling_kept : (k : ℕ) → k < 29 → now ((active_slot store) + k) ≡ image ((active_slot store) + k)
-  ruling_kept k below = before_kept store progress image lies ((active_slot store) + k) (omega (arith, below, (slot_low (active_slot store) is_slot).1)) (ruling_apart k below)
+  slot_kept : (k : ℕ) → k < 29 → now ((active_slot store) + k) ≡ image ((active_slot store) + k)
+  slot_kept k below = before_kept store progress image lies ((active_slot store) + k) (omega (arith, below, (slot_low (active_slot store) is_slot).1)) (slot_apart k below)
 
-  ruling_sequence : sequence_of now (active_slot store) ≡ (active_sequence store)
+  kept_sequence : sequence_of now (active_slot store) ≡ (active_sequence store)
   unfolding number_at
-  ruling_sequence =
+  kept_sequence =
       ap (big_number 4) (same_range now image ((active_slot store) + 16) 4 (λ k below.
       let there : (active_slot store) + 16 + k ≡ (active_slot store) + (16 + k) = omega arith in
-      ap now there ∙ ruling_kept (16 + k) (omega (arith, below)) ∙ ap image (sym there))) ∙ sym was.by.outline.sequence ∙ was.sequence
+      ap now there ∙ slot_kept (16 + k) (omega (arith, below)) ∙ ap image (sym there))) ∙ sym was.by.outline.sequence ∙ was.sequence
 
   new_sequence : sequence_of now other_place ≡ (active_sequence store) + 1
   new_sequence = sequence_there store progress image lies goes_on
 
-  new_rules : Rules now other_place
-  new_rules = record {
+  new_is_active : IsActiveSlot now other_place
+  new_is_active = record {
     is_slot = other_is_slot (active_slot store) is_slot;
     gate = gate_there store progress image lies;
     greatest = λ slot is is_open. elim (which_slot (active_slot store) slot is_slot is) [
-      | inl e ↦ subst (λ (n : ℕ). sequence_of now n ≤ sequence_of now other_place) (sym e) (omega (arith, ruling_sequence, new_sequence))
+      | inl e ↦ subst (λ (n : ℕ). sequence_of now n ≤ sequence_of now other_place) (sym e) (omega (arith, kept_sequence, new_sequence))
       | inr e ↦ subst (λ (n : ℕ). sequence_of now n ≤ sequence_of now other_place) (sym e) (omega arith)
     ];
     tie = λ e a_open. elim is_slot [
-      | inl a ↦ subst (λ (n : ℕ). sequence_of now n < sequence_of now slot_b) a (subst (λ (n : ℕ). sequence_of now (active_slot store) < sequence_of now n) e (omega (arith, ruling_sequence, new_sequence)))
+      | inl a ↦ subst (λ (n : ℕ). sequence_of now n < sequence_of now slot_b) a (subst (λ (n : ℕ). sequence_of now (active_slot store) < sequence_of now n) e (omega (arith, kept_sequence, new_sequence)))
       | inr b ↦ absurd (omega (arith, e, b))
     ];
   }
@@ -232,14 +232,14 @@ module _ (store : Store) (progress : Filling) (image : Image) (s : StandingView)
       ap₂ (λ (p : ℕ) (n : ℕ). range now p n) manifest_place length_is ∙ manifest_there store progress image lies
       ∙ manifest_bytes g.loads progress.loads store.body.items whole (has.loads ∙ ap (λ (f : Filling). f.loads) same_far) has.body
 
-  -- with its gate open the other slot stands for what was given
-  pub opened_stands : StandsBy now other_place (configured s (loads_of g))
+  -- with its gate open the other slot holds what was given
+  pub opened_stands : HoldsBy now other_place (configured s (loads_of g))
   opened_stands = record {
     outline = record {
-      ruled = record {
+      has_active = record {
         identity = subst (λ (bytes : List ℕ). SpelledAtFront identity bytes s.identity)
-            (sym (same_range now image 0 75 (λ k below. before_kept store progress image lies (0 + k) (omega (arith, below)) (inl (omega (arith, below, lies.low)))))) was.by.outline.ruled.identity;
-        rules = new_rules;
+            (sym (same_range now image 0 75 (λ k below. before_kept store progress image lies (0 + k) (omega (arith, below)) (inl (omega (arith, below, lies.low)))))) was.by.outline.has_active.identity;
+        is_active = new_is_active;
       };
       can_be = record {
         is_bank = omega (arith, bank_is, other_bank_less (active_bank store) (number_below store.active.bank));

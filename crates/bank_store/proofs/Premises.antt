@@ -3,9 +3,9 @@ use Rattle.std.proofs.Common.{sym, ◌∙◌, ap, subst}
 use Rattle.std.specs.Option.{ForSome}
 use Rattle.disk_model.specs.Image.{Image}
 use Rattle.disk_model.specs.State.{DiskState, IsSettled}
-use Rattle.disk_layout.specs.Looks.{RunsOn}
-use Rattle.disk_layout.specs.Stands.{StandingView, Stands}
-use Rattle.bank_store.specs.Acts.{IsRunning}
+use Rattle.disk_layout.specs.DiskReads.{RunsOn}
+use Rattle.disk_layout.specs.Holds.{StandingView, HoldsConfig}
+use Rattle.bank_store.specs.DiskWrites.{IsRunning}
 use Rattle.bank_store.specs.Store.{active_slot, IsIdle}
 use Rattle.bank_store.specs.Fits.{HoldsFor, HoldsAt, Fits, Works, InstallsBeside}
 use Rattle.bank_store.specs.Keeps.{Continues}
@@ -68,5 +68,5 @@ works_continued before after disk continues works = record {
 pub holds_now : (store : Store) (disk : DiskState) (s : StandingView) → InstallsBeside store disk s → (left : Image) → disk.now left → HoldsFor store left s
 holds_now store disk s beside left may = near_stands store beside.image left s beside.holds (beside.works.near beside.image beside.told left may)
 
-pub stands_now : (store : Store) (disk : DiskState) (s : StandingView) → InstallsBeside store disk s → (left : Image) → disk.now left → Stands left s
+pub stands_now : (store : Store) (disk : DiskState) (s : StandingView) → InstallsBeside store disk s → (left : Image) → disk.now left → HoldsConfig left s
 stands_now store disk s beside left may = record { slot = (active_slot store); by = (holds_now store disk s beside left may).by }

@@ -3,7 +3,7 @@ use Rattle.std.proofs.Common.{◌≡◌, ℕ, ◌+◌, ◌≤◌, [], ◌∷◌,
 use Rattle.field_grammar.specs.Fields.{number_bytes}
 use Rattle.field_grammar.specs.NumberLaws.{length_number_bytes}
 use Rattle.disk_model.specs.Image.{Image, overlay}
-use Rattle.disk_layout.specs.Stands.{StandingView, StandsBy}
+use Rattle.disk_layout.specs.Holds.{StandingView, HoldsBy}
 use Rattle.disk_layout.specs.Slots.{other_slot, manifest_place_of, manifest_length_of}
 use Rattle.disk_layout.specs.declared.active.ManifestRange.{ManifestRange}
 use Rattle.bank_store.specs.Store.{active_slot, IsFilling, IsSealedAt, with_gate_open, SameActive, work_at, manifest_length, with_manifest, with_slot}
@@ -48,8 +48,8 @@ is_ready old new progress image now s g manifest rules sealed offset length fill
     record {
       manifest = manifest;
       stage = sealed;
-      opens = subst (λ (i : Image). StandsBy i (other_slot (active_slot new)) (configured s (loads_of g))) opened
-          (subst (λ (n : ℕ). StandsBy (with_gate_open old (sealed_image old progress image)) (other_slot n) (configured s (loads_of g))) slot (opened_stands old progress image s g was has filling none fits));
+      opens = subst (λ (i : Image). HoldsBy i (other_slot (active_slot new)) (configured s (loads_of g))) opened
+          (subst (λ (n : ℕ). HoldsBy (with_gate_open old (sealed_image old progress image)) (other_slot n) (configured s (loads_of g))) slot (opened_stands old progress image s g was has filling none fits));
       offset = ap₂ (λ (i : Image) (n : ℕ). manifest_place_of i (other_slot n)) (sym opened) (sym slot) ∙ place_is old progress image s g was has filling none fits ∙ sym offset;
       length = ap₂ (λ (i : Image) (n : ℕ). manifest_length_of i (other_slot n)) (sym opened) (sym slot) ∙ length_is old progress image s g was has filling none fits ∙ sym length;
     }

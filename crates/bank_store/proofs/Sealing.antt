@@ -10,7 +10,7 @@ use Rattle.load_base.specs.Config.{FileView, LoadView}
 use Rattle.field_grammar.specs.Fields.{number_bytes}
 use Rattle.disk_layout.specs.Places.{most_loads}
 use Rattle.disk_layout.specs.Manifest.{LoadEntry, file_entry_fields, load_entry_fields, manifest_fields, FileFits, LoadFits, ManifestFits, total_length, size_of}
-use Rattle.disk_layout.specs.Contents.{file_entry_of, entry_of, entries_of, bytes_of, contents_of, HeaderIsFirst}
+use Rattle.disk_layout.specs.Contents.{file_entry_of, entry_of, entries_of, bytes_of, contents_of_loads, HeaderIsFirst}
 use Rattle.disk_layout.specs.declared.manifest.ManifestFile.{ManifestFile}
 use Rattle.bank_store.specs.Given.{GivenLoad, IsWhole, Misses, IsFile, IsLoad, load_of, given_fields}
 
@@ -23,7 +23,7 @@ all_whole (load ∷ next ∷ loads) none = All-cons (λ (l : GivenLoad). IsWhole
 abbrev entry : GivenLoad → LoadEntry
 entry load = entry_of (load_of load)
 
-pub same_contents : (loads : List GivenLoad) → contents_of (map load_of loads) ≡ bytes_of (flat_map (λ (l : GivenLoad). l.files) loads)
+pub same_contents : (loads : List GivenLoad) → contents_of_loads (map load_of loads) ≡ bytes_of (flat_map (λ (l : GivenLoad). l.files) loads)
 same_contents loads = ap bytes_of (flat_map-map (λ (l : LoadView). l.files) load_of loads)
 
 size_of_files : (files : List FileView) → size_of (map file_entry_of files) ≡ length (bytes_of files)

@@ -6,8 +6,8 @@ use Rattle.disk_model.specs.Image.{Image, overlay}
 use Rattle.disk_model.specs.State.{DiskState, Elapses, Torn, IsSettled}
 use Rattle.disk_model.specs.OverlayLaws.{overlay_outside}
 use Rattle.disk_model.specs.declared.disk.DiskFault.{DiskFault}
-use Rattle.disk_layout.specs.Stands.{StandingView, Stands}
-use Rattle.bank_store.specs.Acts.{AddsOnly, IsRunning}
+use Rattle.disk_layout.specs.Holds.{StandingView, HoldsConfig}
+use Rattle.bank_store.specs.DiskWrites.{AddsOnly, IsRunning}
 use Rattle.disk_layout.specs.Slots.{other_slot}
 use Rattle.bank_store.specs.Store.{active_slot, work_at, SameActive, IsSealed}
 use Rattle.bank_store.specs.Fits.{HoldsFor, SameButForWork, HasWork, Fits, Works}
@@ -60,11 +60,11 @@ pub near_then : (store : Store) (first old new : DiskState) (image : Image) → 
 near_then store first old new image was keeps =
     adds_joined first old new (SameButForWork store image) (SameButForWork store image) (SameButForWork store image) was (keeps image was.here) (λ left is. is) (λ left is. is)
 
--- the same configuration rules all the time
-pub rules_still : (store : Store) (first disk : DiskState) (image : Image) (s : StandingView) → HoldsFor store image s → AddsOnly first disk (SameButForWork store image)
-    → AddsOnly first disk (λ left. Stands left s)
-rules_still store first disk image s was near =
-    adds_less first disk (SameButForWork store image) (λ left. Stands left s) (λ left same. record { slot = (active_slot store); by = (near_stands store image left s was same).by }) near
+-- the same configuration is active all the time
+pub holds_still : (store : Store) (first disk : DiskState) (image : Image) (s : StandingView) → HoldsFor store image s → AddsOnly first disk (SameButForWork store image)
+    → AddsOnly first disk (λ left. HoldsConfig left s)
+holds_still store first disk image s was near =
+    adds_less first disk (SameButForWork store image) (λ left. HoldsConfig left s) (λ left same. record { slot = (active_slot store); by = (near_stands store image left s was same).by }) near
 
 -- what an installation writes leaves the rest as it was
 pub near_overlay : (store : Store) (image : Image) (at : ℕ) (bytes : List ℕ) → IsWork store at (length bytes) → SameButForWork store image (overlay image at bytes)
@@ -114,7 +114,7 @@ keeps_written old new before after result active gate running tells here near sa
     let fits : Fits old before → Fits new after = fits_on old new before after running tells holds work in
     record {
       active = active;
-      leaves = λ s beside. rules_still old before after beside.image s beside.holds (near beside.image beside.works beside.told);
+      leaves = λ s beside. holds_still old before after beside.image s beside.holds (near beside.image beside.works beside.told);
       answered = λ _. record {
         running = running;
         fits = fits;

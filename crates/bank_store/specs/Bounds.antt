@@ -16,7 +16,7 @@ longest_load = 17681
 
 -- The bank has room for the bytes that came, and what its manifest may take is enough for the files that are still to
 -- come of the last load. Where none is, no file is in progress.
-pub record IsInRange (size : ℕ) (body : Listed ℕ) (progress : Filling) : Type 0 where
+pub record IsFillingInRange (size : ℕ) (body : Listed ℕ) (progress : Filling) : Type 0 where
   pub few : progress.loads ≤ most_loads
   pub missing : progress.missing ≤ most_files
   pub taken : length body.items + 69 * progress.missing ≤ longest_load * progress.loads
@@ -28,12 +28,12 @@ pub record IsInRange (size : ℕ) (body : Listed ℕ) (progress : Filling) : Typ
 pub record HasBegun (sequence : ℕ) (other_is_open : Bool) (body : Listed ℕ) : Type 0 where
   pub shut : other_is_open ≡ false
   pub goes_on : sequence < 4294967295
-  pub room : longest_manifest ≤ body.room + length body.items
+  pub room : longest_manifest ≤ body.spare + length body.items
 
 pub record IsStore (size : ℕ) (active : Active) (other_is_open : Bool) (body : Listed ℕ) (stage : Stage) : Type 0 where
   pub is_size : IsBankSize size
   pub manifest : IsManifestRange size active.manifest
   pub idle : stage ≡ stages.Idle → body.items ≡ []
   pub begun : stage ≢ stages.Idle → HasBegun active.sequence other_is_open body
-  pub in_range : (progress : Filling) → stage ≡ stages.Filling progress → IsInRange size body progress
+  pub in_range : (progress : Filling) → stage ≡ stages.Filling progress → IsFillingInRange size body progress
   pub sealed : (manifest : ManifestRange) → stage ≡ stages.Sealed manifest → IsManifestRange size manifest

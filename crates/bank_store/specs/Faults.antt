@@ -1,6 +1,6 @@
 -- The faults of the store, and how they are printed (docs/FORMATS.md).
 use Rattle.std.specs.Prelude.{ℕ, List, [], ◌∷◌, codes}
-use Rattle.fault_texts.specs.FaultTexts.{coded}
+use Rattle.printed_text.specs.FaultTexts.{coded}
 use Rattle.disk_model.specs.declared.disk.DiskFault.{DiskFault}
 use Rattle.disk_model.specs.declared.disk.DiskFault.TheVariants as disk
 use Rattle.bank_store.specs.declared.fault.StoreFault.{StoreFault}
@@ -11,7 +11,7 @@ abbrev pub store_fault_of : DiskFault → StoreFault
 store_fault_of disk.Failed = DiskFailed
 store_fault_of disk.Memory = Memory
 
--- the code and its numbers; want of memory is no fault of what was asked
+-- the code and its numbers; out of memory is no fault of what was asked
 abbrev pub store_fault_text : StoreFault → List ℕ
 store_fault_text (BankFull need have) = coded (codes "K1") (need ∷ have ∷ [])
 store_fault_text SequenceSpent = coded (codes "K2") []

@@ -5,9 +5,9 @@ use Rattle.load_base.specs.Config.{LoadView}
 use Rattle.disk_model.specs.Image.{Image}
 use Rattle.disk_model.specs.State.{DiskState, IsSettled}
 use Rattle.disk_layout.specs.Slots.{IsOpen, other_slot, manifest_place_of, manifest_length_of}
-use Rattle.disk_layout.specs.Stands.{StandingView, StandsBy}
+use Rattle.disk_layout.specs.Holds.{StandingView, HoldsBy}
 use Rattle.disk_layout.specs.declared.active.ManifestRange.{ManifestRange}
-use Rattle.bank_store.specs.Acts.{IsRunning}
+use Rattle.bank_store.specs.DiskWrites.{IsRunning}
 use Rattle.bank_store.specs.Store.{active_slot, active_bank, active_sequence, work_at, IsSealed, IsSealedAt, with_gate_open}
 use Rattle.bank_store.specs.Given.{Given, HasGiven, configured}
 use Rattle.bank_store.specs.declared.store.Store.{Store}
@@ -22,7 +22,7 @@ pub record GateIsAsKept (store : Store) (image : Image) : Type 0 where
 -- by the slot that the store keeps as active the image holds this configuration; its bank, sequence number, manifest and
 -- bank size are the store's, and the other slot's gate is as the store keeps it
 pub record HoldsFor (store : Store) (image : Image) (s : StandingView) : Type 0 where
-  pub by : StandsBy image (active_slot store) s
+  pub by : HoldsBy image (active_slot store) s
   pub bank : s.bank ≡ (active_bank store)
   pub sequence : s.sequence ≡ (active_sequence store)
   pub size : s.identity.bank ≡ store.size
@@ -34,7 +34,7 @@ pub record HoldsFor (store : Store) (image : Image) (s : StandingView) : Type 0 
 pub record IsReady (store : Store) (image : Image) (s : StandingView) (loads : List LoadView) : Type 0 where
   pub manifest : ManifestRange
   pub stage : IsSealedAt store manifest
-  pub opens : StandsBy (with_gate_open store image) (other_slot (active_slot store)) (configured s loads)
+  pub opens : HoldsBy (with_gate_open store image) (other_slot (active_slot store)) (configured s loads)
   pub offset : manifest_place_of (with_gate_open store image) (other_slot (active_slot store)) ≡ manifest.offset
   pub length : manifest_length_of (with_gate_open store image) (other_slot (active_slot store)) ≡ manifest.length
 

@@ -4,14 +4,14 @@ use Rattle.disk_model.specs.Image.{Image, range, overlay, SameOutside}
 use Rattle.disk_layout.specs.Places.{slot_a, slot_b, bank_at}
 use Rattle.disk_layout.specs.Identity.{HasIdentity, identity_text}
 use Rattle.disk_layout.specs.Slots.{IsOpen, sequence_of, bank_of, manifest_place_of, manifest_length_of}
-use Rattle.disk_layout.specs.Stands.{StandingView, Stands}
+use Rattle.disk_layout.specs.Holds.{StandingView, HoldsConfig}
 use Rattle.disk_layout.specs.declared.identity.Identity.{Identity}
 
 -- a target with bank 0, sequence 1 and no loads
 abbrev pub formatted : Identity → StandingView
 formatted id = record { identity = id; bank = 0; sequence = 1; loads = [] }
 
--- neither slot is open, so that the image stands for nothing
+-- neither slot is open, so that the image holds nothing
 pub record IsShut (image : Image) : Type 0 where
   pub a : ¬ IsOpen image slot_a
   pub b : ¬ IsOpen image slot_b
@@ -23,9 +23,9 @@ pub record GatesTorn (images : Image → Type 0) (image : Image) : Type 0 where
   pub same : (place : ℕ) → ¬ (place ≡ slot_a) → ¬ (place ≡ slot_b) → image place ≡ before place
 
 -- What a power loss may leave while a disk is formatted: what it might have left before, but for the gates; an image
--- that stands for nothing, since both are shut; or the formatted disk.
+-- that holds nothing, since both are shut; or the formatted disk.
 abbrev pub WhileFormatting : (Image → Type 0) → Identity → Image → Type 0
-WhileFormatting images id image = GatesTorn images image ⊎ (IsShut image ⊎ Stands image (formatted id))
+WhileFormatting images id image = GatesTorn images image ⊎ (IsShut image ⊎ HoldsConfig image (formatted id))
 
 -- ---- the parts
 
@@ -62,7 +62,7 @@ laid_out id image =
 abbrev pub a_opened : Image → Image
 a_opened image = overlay image slot_a (0xA5 ∷ [])
 
--- formatting writes nothing at this place
+-- formatting writes nothing at this offset
 pub record IsUntouched (id : Identity) (place : ℕ) : Type 0 where
   pub identity : length (identity_text id) ≤ place
   pub a : ¬ (place ≡ slot_a)

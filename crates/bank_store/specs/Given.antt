@@ -10,7 +10,7 @@ use Rattle.disk_model.specs.Image.{Image, range}
 use Rattle.disk_layout.specs.Places.{most_loads, most_files}
 use Rattle.disk_layout.specs.Manifest.{file_entry_fields}
 use Rattle.disk_layout.specs.Contents.{file_entry_of, bytes_of, first_name}
-use Rattle.disk_layout.specs.Stands.{StandingView}
+use Rattle.disk_layout.specs.Holds.{StandingView}
 use Rattle.disk_layout.specs.Slots.{other_bank}
 use Rattle.bank_store.specs.Store.{IsFilling, work_at}
 use Rattle.bank_store.specs.declared.store.Store.{Store}

@@ -5,8 +5,8 @@ use Rattle.load_base.specs.Config.{LoadView}
 use Rattle.disk_model.specs.Image.{Image}
 use Rattle.disk_model.specs.State.{DiskState, IsSettled}
 use Rattle.disk_layout.specs.Slots.{IsOpen, other_slot, manifest_place_of, manifest_length_of}
-use Rattle.disk_layout.specs.Stands.{StandingView, Stands, StandsBy}
-use Rattle.bank_store.specs.Acts.{AddsOnly, IsAnswered, IsRunning}
+use Rattle.disk_layout.specs.Holds.{StandingView, HoldsConfig, HoldsBy}
+use Rattle.bank_store.specs.DiskWrites.{AddsOnly, IsAnswered, IsRunning}
 use Rattle.bank_store.specs.Store.{active_slot, work_at, IsSealed, IsFilling, IsPrepared, SameActive, Switches, nothing_filled, bytes_appended, manifest_length, with_gate_shut, with_piece, with_manifest, with_slot, with_gate_open}
 use Rattle.bank_store.specs.Given.{Given, HasGiven, nothing_given, with_bytes, loads_of, configured}
 use Rattle.bank_store.specs.Fits.{HoldsFor, HasWork, IsReady, SameButForWork, Fits, Works, InstallsBeside, CanActivate}
@@ -16,7 +16,7 @@ use Rattle.bank_store.specs.declared.stage.Filling.{Filling}
 
 -- the image holds the one configuration or the other
 abbrev pub IsOldOrNew : StandingView → StandingView → Image → Type 0
-IsOldOrNew old new image = Stands image old ⊎ Stands image new
+IsOldOrNew old new image = HoldsConfig image old ⊎ HoldsConfig image new
 
 -- an offset in the other bank or in the other slot
 abbrev pub IsBeside : Store → ℕ → Type 0
@@ -31,7 +31,7 @@ LeavesRest store old new = ForSome old.reads (λ image. ForSome new.reads (λ no
 
 -- Inside the call and after it a power loss leaves nothing new but what holds the configuration of the call's start.
 abbrev pub LeavesActive : Store → DiskState → DiskState → Type 0
-LeavesActive store old new = (s : StandingView) → InstallsBeside store old s → AddsOnly old new (λ left. Stands left s)
+LeavesActive store old new = (s : StandingView) → InstallsBeside store old s → AddsOnly old new (λ left. HoldsConfig left s)
 
 -- what is read still holds the configuration of the call's start
 abbrev pub StillHolds : Store → Store → DiskState → DiskState → Type 0
@@ -69,7 +69,7 @@ KeepsNear store old new =
 
 -- by the active slot the image holds this configuration, and the other slot is shut
 pub record IsShutFor (store : Store) (image : Image) (s : StandingView) : Type 0 where
-  pub by : StandsBy image (active_slot store) s
+  pub by : HoldsBy image (active_slot store) s
   pub shut : ¬ IsOpen image (other_slot (active_slot store))
   pub offset : manifest_place_of image (active_slot store) ≡ store.active.manifest.offset
   pub length : manifest_length_of image (active_slot store) ≡ store.active.manifest.length
@@ -108,7 +108,7 @@ pub record Activates (before after : Store) (old new : DiskState) : Type 0 where
   pub holds : ForSome old.reads (λ image. ForSome new.reads (λ now. (s : StandingView) (loads : List LoadView) → HoldsFor before image s
       → IsReady before image s loads → HoldsFor after now (configured s loads)))
   pub alone : (s : StandingView) (loads : List LoadView) → CanActivate before old s loads
-      → (left : Image) → new.now left → Stands left (configured s loads)
+      → (left : Image) → new.now left → HoldsConfig left (configured s loads)
   pub settled : IsSettled new
   pub running : IsRunning new
   pub fits : Fits before old → Fits after new

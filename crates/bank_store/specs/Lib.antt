@@ -1,5 +1,5 @@
-pub mod Acts
 pub mod Bounds
+pub mod DiskWrites
 pub mod Faults
 pub mod Fits
 pub mod Formatting

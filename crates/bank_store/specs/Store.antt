@@ -13,8 +13,8 @@ use Rattle.bank_store.specs.declared.stage.Stage.TheVariants as stages
 use Rattle.bank_store.specs.declared.stage.Filling.{Filling}
 
 -- the bank size, and what is active
-abbrev pub bank_size : Store → ℕ
-bank_size store = store.size
+abbrev pub bank_size_of : Store → ℕ
+bank_size_of store = store.size
 
 abbrev pub active_of : Store → Active
 active_of store = store.active
@@ -59,7 +59,7 @@ IsSealed store = (manifest : ManifestRange) × IsSealedAt store manifest
 -- no installation has begun, and the room for the longest manifest is there
 pub record IsPrepared (store : Store) : Type 0 where
   pub idle : IsIdle store
-  pub room : longest_manifest ≤ store.body.room
+  pub room : longest_manifest ≤ store.body.spare
 
 -- the same is active, on banks of the same size
 pub record SameActive (old new : Store) : Type 0 where
@@ -120,14 +120,14 @@ file_ended progress = record { loads = progress.loads; missing = progress.missin
 
 -- how many more bytes of a manifest surely take no memory
 abbrev pub room_of : Store → ℕ
-room_of store = store.body.room
+room_of store = store.body.spare
 
 -- how many bytes the manifest has of what was given so far
 abbrev pub manifest_length : Store → ℕ
 manifest_length store = length store.body.items + 2
 
--- what the other slot says behind its gate, from place 16 on, once the manifest stands there with so many bytes: the next
--- sequence number, the other bank, and the manifest's place and length
+-- what the other slot says after its gate, from offset 16 on, once the manifest stands there with so many bytes: the next
+-- sequence number, the other bank, and the manifest's offset and length
 abbrev pub slot_body : Store → (place length : ℕ) → List ℕ
 slot_body store place size =
     slot_body_bytes (active_sequence store + 1) (other_bank (active_bank store)) (record { offset = place; length = size })
@@ -136,11 +136,11 @@ slot_body store place size =
 abbrev pub with_gate_shut : Store → Image → Image
 with_gate_shut store image = if store.other_is_open then overlay image (other_slot (active_slot store)) (0 ∷ []) else image
 
--- the image with a piece of the contents behind those that came
+-- the image with a piece of the contents after those that came
 abbrev pub with_piece : Store → Filling → List ℕ → Image → Image
 with_piece store progress bytes image = overlay image (work_at store + progress.end) bytes
 
--- the image with the manifest behind the contents
+-- the image with the manifest after the contents
 abbrev pub with_manifest : Store → Filling → Image → Image
 with_manifest store progress image = overlay (overlay image (work_at store + progress.end) (number_bytes 2 progress.loads)) (work_at store + progress.end + 2) store.body.items
 

@@ -1,12 +1,11 @@
 //! Why the store didn't do what it was asked.
 ghost use Rattle.std.specs.Prelude.{◌≡◌};
-ghost use Rattle.std.specs.Prelude.{IfOk};
-ghost use Rattle.bank_store.specs.Faults.{store_fault_of, store_fault_text as text_of_store_fault};
+ghost use Rattle.bank_store.specs.Faults.{store_fault_of};
 ghost use Rattle.bank_store.specs.declared.fault.StoreFault.TheVariants.{Memory};
 
 use disk_model::DiskFault;
-use fault_texts::coded;
-use load_base::{Bytes, NoMemory};
+use load_base::{NoMemory, Text};
+use printed_text::{Printed, coded};
 use std::alloc::Global;
 use thiserror::Error;
 
@@ -16,13 +15,13 @@ pub enum StoreFault {
     /// K1: the contents and their manifest pass the bank. How many bytes they need, and how many it has.
     #[error("{need} bytes are needed in a bank of {have}")]
     BankFull { need: u64, have: u32 },
-    /// K2: the sequence number that rules is the last one.
+    /// K2: the sequence number that is active is the last one.
     #[error("the sequence numbers are spent")]
     SequenceSpent,
     /// K3: the disk failed, and its count of faults rose.
     #[error("the disk failed")]
     DiskFailed,
-    /// Memory is wanting.
+    /// Out of memory.
     #[error("memory is wanting")]
     Memory,
 }
@@ -46,15 +45,20 @@ impl From<NoMemory> for StoreFault {
     }
 }
 
-/// The text of a fault of the store: `K1 NEED HAVE`, `K2` or `K3`. Want of memory is no fault of what was
-/// asked, and has no text of its own.
-pub fn store_fault_text(alloc: Global, fault: &StoreFault) -> Result<Bytes, NoMemory>
-    ensures { IfOk result (λ text. text.items ≡ text_of_store_fault fault.now) }
-{
-    match *fault {
-        StoreFault::BankFull { need, have } => coded(alloc, b"K1", &[need, u64::from(have)]),
-        StoreFault::SequenceSpent => coded(alloc, b"K2", &[]),
-        StoreFault::DiskFailed => coded(alloc, b"K3", &[]),
-        StoreFault::Memory => Ok(Bytes::new(alloc)),
+impl Printed for StoreFault {
+    ghost use Rattle.bank_store.specs.Faults.{store_fault_text};
+
+    ghost printed = { store_fault_text };
+
+    ghost longest = { 44 };
+
+    /// `K1 NEED HAVE`, `K2` or `K3`.
+    fn text(&self, alloc: Global) -> Result<Text, NoMemory> {
+        match *self {
+            StoreFault::BankFull { need, have } => coded(alloc, b"K1", &[need, u64::from(have)]),
+            StoreFault::SequenceSpent => coded(alloc, b"K2", &[]),
+            StoreFault::DiskFailed => coded(alloc, b"K3", &[]),
+            StoreFault::Memory => Ok(Text::empty(alloc)),
+        }
     }
 }

@@ -3,9 +3,9 @@ ghost use Rattle.std.specs.Option.{ForSome};
 ghost use Rattle.disk_model.specs.Image.{Image};
 ghost use Rattle.disk_model.specs.Moments.{LeavesOnly};
 ghost use Rattle.disk_model.specs.State.{IsSettled};
-ghost use Rattle.disk_layout.specs.Looks.{RunsOn};
-ghost use Rattle.disk_layout.specs.Stands.{StandingView, Stands};
-ghost use Rattle.bank_store.specs.Acts.{AddsOnly, IsRunning};
+ghost use Rattle.disk_layout.specs.DiskReads.{RunsOn};
+ghost use Rattle.disk_layout.specs.Holds.{StandingView, HoldsConfig};
+ghost use Rattle.bank_store.specs.DiskWrites.{AddsOnly, IsRunning};
 ghost use Rattle.bank_store.specs.Store.{IsIdle};
 ghost use Rattle.bank_store.specs.Fits.{HoldsFor, Fits, Works, InstallsBeside};
 ghost use Rattle.bank_store.specs.Keeps.{Continues, IsOldOrNew};
@@ -19,15 +19,19 @@ use disk_model::Disk;
 /// it, or what holds it or another, leave only that since their start.
 pub fn a_settled_disk_works<K: Disk>()
     ensures fits { (store : Store) (disk : K) → IsIdle store → IsRunning (K.state disk)
-        → ForSome (K.state disk).reads (λ image. (s : StandingView) × HoldsFor store image s) → Fits store (K.state disk) }
+        → ForSome (K.state disk).reads (λ image. (s : StandingView) × HoldsFor store image s)
+            → Fits store (K.state disk) }
     ensures works { (store : Store) (disk : K) → IsIdle store → IsSettled (K.state disk)
         → Fits store (K.state disk) → Works store (K.state disk) }
-    ensures now { (store : Store) (disk : K) (s : StandingView) (left : Image) → InstallsBeside store (K.state disk) s
+    ensures now { (store : Store) (disk : K) (s : StandingView) (left : Image)
+        → InstallsBeside store (K.state disk) s
         → (K.state disk).now left → HoldsFor store left s }
-    ensures since { (store : Store) (old new : K) (s : StandingView) → InstallsBeside store (K.state old) s
-        → AddsOnly (K.state old) (K.state new) (λ left. Stands left s)
-        → LeavesOnly (K.state old).clock (λ left. Stands left s) (K.state new) }
-    ensures since_either { (store : Store) (old new : K) (s next : StandingView) → InstallsBeside store (K.state old) s
+    ensures since { (store : Store) (old new : K) (s : StandingView)
+        → InstallsBeside store (K.state old) s
+        → AddsOnly (K.state old) (K.state new) (λ left. HoldsConfig left s)
+        → LeavesOnly (K.state old).clock (λ left. HoldsConfig left s) (K.state new) }
+    ensures since_either { (store : Store) (old new : K) (s next : StandingView)
+        → InstallsBeside store (K.state old) s
         → AddsOnly (K.state old) (K.state new) (IsOldOrNew s next)
         → LeavesOnly (K.state old).clock (IsOldOrNew s next) (K.state new) }
 {}

@@ -1,4 +1,4 @@
-//! Writes to a disk what it is to stand for.
+//! Writes to a disk the configuration that it is to hold.
 #![tactic(auto)]
 
 mod fault;
@@ -8,7 +8,7 @@ mod stage;
 mod store;
 
 pub use disk_layout::{Identity, Manifest, ManifestFile, ManifestLoad};
-pub use fault::{StoreFault, store_fault_text};
+pub use fault::StoreFault;
 pub use formatting::format;
 pub use laws::{a_settled_disk_works, a_store_goes_on_fitting};
 pub use store::Store;

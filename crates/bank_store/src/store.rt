@@ -1,4 +1,4 @@
-//! Installs a configuration into the bank that doesn't rule.
+//! Installs a configuration into the bank that isn't active.
 ghost use Rattle.std.specs.Prelude.{◌≡◌, ◌⊎◌, ℕ, ◌+◌, ◌-◌, ◌<◌, ◌≤◌, ◌↔◌, List, [], false, true, Some, length, IsOk, IfErr, OnOk, IsErrOf};
 ghost use Rattle.std.specs.Option.{ForSome};
 ghost use Rattle.load_base.specs.Config.{LoadView};
@@ -6,7 +6,7 @@ ghost use Rattle.disk_model.specs.Image.{Image};
 ghost use Rattle.disk_model.specs.Moments.{LeavesOnly};
 ghost use Rattle.disk_model.specs.State.{HasCause};
 ghost use Rattle.disk_layout.specs.Places.{IsBankSize, most_files};
-ghost use Rattle.disk_layout.specs.Stands.{StandingView};
+ghost use Rattle.disk_layout.specs.Holds.{StandingView};
 ghost use Rattle.bank_store.specs.declared.fault.StoreFault.TheVariants.{BankFull, SequenceSpent, Memory};
 ghost use Rattle.bank_store.specs.declared.stage.Filling.{Filling};
 ghost use Rattle.disk_layout.specs.Slots.{IsManifestRange};
@@ -24,12 +24,12 @@ use std::alloc::Global;
 /// The gate of a slot that is shut.
 const SHUT: u8 = 0;
 
-/// Installs a configuration into the bank that doesn't rule, while the ruling one stays whole. It holds no
+/// Installs a configuration into the bank that isn't active, while the active one stays whole. It holds no
 /// disk: each call that writes is lent the disk whose recovery gave the store.
 ///
 /// An installation goes `prepare`, `begin`, then for each load `start_load` and for each of its files
-/// `append` as often as pieces of it come and `end_file`, then `seal` and `activate`. The ruling slot's own
-/// place and bank are never written; the other slot's gate is the last byte that is.
+/// `append` as often as pieces of it come and `end_file`, then `seal` and `activate`. The active slot's own
+/// offset and bank are never written; the other slot's gate is the last byte that is.
 #[derive(Drop)]
 pub struct Store {
     size: u32,
@@ -41,11 +41,11 @@ pub struct Store {
 }
 
 impl Store {
-    ghost use Rattle.bank_store.specs.Store.{bank_size, active_of, active_slot, active_bank, active_sequence, is_other_open, stage_of, work_at, SameActive, IsIdle, IsFilling, IsSealed, IsPrepared, IsSpent, IsBetweenLoads, AwaitsLoad, AwaitsFile, AwaitsEnd, PassesBank, room_of, load_announced, file_ended, manifest_length, slot_body, with_gate_shut, with_manifest, with_slot};
+    ghost use Rattle.bank_store.specs.Store.{bank_size_of, active_of, active_slot, active_bank, active_sequence, is_other_open, stage_of, work_at, SameActive, IsIdle, IsFilling, IsSealed, IsPrepared, IsSpent, IsBetweenLoads, AwaitsLoad, AwaitsFile, AwaitsEnd, PassesBank, room_of, load_announced, file_ended, manifest_length, slot_body, with_gate_shut, with_manifest, with_slot};
     ghost use Rattle.bank_store.specs.Given.{Given, HasGiven, with_load, with_file, configured};
     ghost use Rattle.bank_store.specs.Fits.{HoldsFor, CanActivate};
     ghost use Rattle.bank_store.specs.Keeps.{Keeps, Continues, Begins, Appends, Seals, Activates, LeavesActive, LeavesRest, IsShutFor, KeepsNear, IsOldOrNew};
-    ghost use Rattle.bank_store.specs.Acts.{Acts, AddsOnly, GoesOn, IsAnswered, IsRunning};
+    ghost use Rattle.bank_store.specs.DiskWrites.{WritesDisk, AddsOnly, TimeGoesOn, IsAnswered, IsRunning};
     ghost use Rattle.disk_layout.specs.Slots.{other_slot};
 
     /// A store for a disk with banks of `size` bytes on which this is active, with a manifest that lies in its
@@ -54,7 +54,7 @@ impl Store {
         requires size { IsBankSize size }
         requires manifest { IsManifestRange size active.manifest }
         ensures idle { IsIdle result }
-        ensures size { bank_size result ≡ size }
+        ensures size { bank_size_of result ≡ size }
         ensures active { active_of result ≡ active }
         ensures other { is_other_open result ≡ other_is_open }
     {
@@ -81,12 +81,13 @@ impl Store {
 
     /// Begins an installation: shuts the other slot where it is open, and syncs.
     ///
-    /// SequenceSpent where the ruling sequence number is 4,294,967,295; then nothing was done.
+    /// SequenceSpent where the active sequence number is 4,294,967,295; then nothing was done.
     pub fn begin<K: Disk>(&mut self, disk: &mut K) -> Result<(), StoreFault>
         requires prepared { IsPrepared self.old }
         requires running { IsRunning (K.state disk.old) }
         // With Ok.
-        ensures begins { OnOk result (Begins self.old self.new (K.state disk.old) (K.state disk.new)) }
+        ensures begins { OnOk result (Begins self.old self.new (K.state disk.old)
+            (K.state disk.new)) }
         // Refusals.
         ensures spent { IsErrOf result SequenceSpent ↔ IsSpent self.old }
         ensures untouched { IsErrOf result SequenceSpent → disk.new ≡ disk.old }
@@ -94,13 +95,14 @@ impl Store {
         ensures refused { IfErr result (λ fault. self.new ≡ self.old) }
         // Whatever it answers.
         ensures clock { OnOk result ((K.state disk.old).clock < (K.state disk.new).clock) }
-        ensures acts { Acts (K.state disk.old) (K.state disk.new) result }
+        ensures writes_disk { WritesDisk (K.state disk.old) (K.state disk.new) result }
         ensures keeps { Keeps self.old self.new (K.state disk.old) (K.state disk.new) result }
     {
         if self.active.sequence == u32::MAX {
             return Err(StoreFault::SequenceSpent);
         }
         self.shut_other(disk)?;
+        // Only once the gate is shut on the medium may the body after it be written.
         disk.sync()?;
         self.other_is_open = false;
         self.stage = Stage::Filling(Filling {
@@ -115,29 +117,32 @@ impl Store {
     // Shuts the other slot where it is open.
     fn shut_other<K: Disk>(&self, disk: &mut K) -> Result<(), DiskFault>
         requires running { IsRunning (K.state disk.old) }
-        ensures goes_on { GoesOn (K.state disk.old) (K.state disk.new) }
+        ensures goes_on { TimeGoesOn (K.state disk.old) (K.state disk.new) }
         ensures cause { HasCause (K.state disk.old) (K.state disk.new) result }
         ensures leaves { LeavesActive self.now (K.state disk.old) (K.state disk.new) }
         ensures written { OnOk result (ForSome (K.state disk.old).reads
             (λ image. (K.state disk.new).reads ≡ Some (with_gate_shut self.now image))) }
         ensures rest { OnOk result (LeavesRest self.now (K.state disk.old) (K.state disk.new)) }
         ensures shut { OnOk result (ForSome (K.state disk.old).reads (λ image.
-            ForSome (K.state disk.new).reads (λ now. (s : StandingView) → HoldsFor self.now image s → IsShutFor self.now now s))) }
+            ForSome (K.state disk.new).reads (λ now. (s : StandingView)
+                → HoldsFor self.now image s → IsShutFor self.now now s))) }
     {
+        // A shut gate isn't written again: a torn write could open a body that was never finished.
         if !self.other_is_open {
             return Ok(());
         }
         disk.write(self.other(), &[SHUT])
     }
 
-    /// Announces a load of 1 to 256 files, behind those before it, which are complete: 31 at most. It always
+    /// Announces a load of 1 to 256 files, after those before it, which are complete: 31 at most. It always
     /// answers Ok, and takes no memory.
     #[tactic(auto, using(crate::proofs::Giving::given_load, crate::proofs::Sizes::load_more))]
     pub fn start_load(&mut self, part: PartText, files: u16) -> Result<(), StoreFault>
         requires filling { AwaitsLoad self.old }
         requires files { (1 ≤ files) × (files ≤ most_files) }
         ensures done { IsOk result }
-        ensures filling { (progress : Filling) → IsFilling self.old progress → IsFilling self.new (load_announced files progress) }
+        ensures filling { (progress : Filling) → IsFilling self.old progress
+            → IsFilling self.new (load_announced files progress) }
         ensures manifest { manifest_length self.new ≡ manifest_length self.old + 17 }
         ensures given { (image : Image) (g : Given) → HasGiven self.old image g
             → HasGiven self.new image (with_load part files g) }
@@ -156,22 +161,26 @@ impl Store {
         Ok(())
     }
 
-    /// Writes a piece of the file that ends next, behind what came before. No bytes make no call of the disk.
+    /// Writes a piece of the file that ends next, after what came before. No bytes make no call of the disk.
     ///
     /// BankFull where the contents would pass the bank; then nothing was written.
     pub fn append<K: Disk>(&mut self, disk: &mut K, bytes: &[u8]) -> Result<(), StoreFault>
         requires filling { AwaitsFile self.old }
         requires running { IsRunning (K.state disk.old) }
         // With Ok.
-        ensures appends { OnOk result (Appends self.old self.new (K.state disk.old) (K.state disk.new) bytes.now) }
+        ensures appends { OnOk result (Appends self.old self.new (K.state disk.old)
+            (K.state disk.new) bytes.now) }
         ensures nothing { bytes.now ≡ [] → disk.new ≡ disk.old }
         // Refusals.
-        ensures full { (need have : ℕ) → IsErrOf result (BankFull need have) ↔ PassesBank self.old (length bytes.now) need have }
-        ensures untouched { (need have : ℕ) → IsErrOf result (BankFull need have) → disk.new ≡ disk.old }
+        ensures full { (need have : ℕ)
+            → IsErrOf result (BankFull need have)
+            ↔ PassesBank self.old (length bytes.now) need have }
+        ensures untouched { (need have : ℕ) → IsErrOf result (BankFull need have)
+            → disk.new ≡ disk.old }
         ensures not_spent { ¬ IsErrOf result SequenceSpent }
         ensures refused { IfErr result (λ fault. self.new ≡ self.old) }
         // Whatever it answers.
-        ensures acts { Acts (K.state disk.old) (K.state disk.new) result }
+        ensures writes_disk { WritesDisk (K.state disk.old) (K.state disk.new) result }
         ensures keeps { Keeps self.old self.new (K.state disk.old) (K.state disk.new) result }
     {
         let Stage::Filling(progress) = self.stage else {
@@ -201,7 +210,8 @@ impl Store {
     pub fn end_file(&mut self, name: Name) -> Result<(), StoreFault>
         requires filling { AwaitsEnd self.old }
         ensures done { IsOk result }
-        ensures filling { (progress : Filling) → IsFilling self.old progress → IsFilling self.new (file_ended progress) }
+        ensures filling { (progress : Filling) → IsFilling self.old progress
+            → IsFilling self.new (file_ended progress) }
         ensures manifest { manifest_length self.new ≡ manifest_length self.old + (5 + length name) }
         ensures given { (image : Image) (g : Given) → HasGiven self.old image g
             → HasGiven self.new image (with_file name g) }
@@ -222,22 +232,26 @@ impl Store {
         Ok(())
     }
 
-    /// Writes the manifest behind the contents, and all of the other slot but its gate, and syncs.
+    /// Writes the manifest after the contents, and all of the other slot but its gate, and syncs.
     ///
     /// BankFull where contents and manifest together pass the bank; then nothing was written.
     pub fn seal<K: Disk>(&mut self, disk: &mut K) -> Result<(), StoreFault>
         requires filling { IsBetweenLoads self.old }
         requires running { IsRunning (K.state disk.old) }
         // With Ok.
-        ensures seals { OnOk result (Seals self.old self.new (K.state disk.old) (K.state disk.new)) }
+        ensures seals { OnOk result (Seals self.old self.new (K.state disk.old)
+            (K.state disk.new)) }
         // Refusals.
-        ensures full { (need have : ℕ) → IsErrOf result (BankFull need have) ↔ PassesBank self.old (manifest_length self.old) need have }
-        ensures untouched { (need have : ℕ) → IsErrOf result (BankFull need have) → disk.new ≡ disk.old }
+        ensures full { (need have : ℕ)
+            → IsErrOf result (BankFull need have)
+            ↔ PassesBank self.old (manifest_length self.old) need have }
+        ensures untouched { (need have : ℕ) → IsErrOf result (BankFull need have)
+            → disk.new ≡ disk.old }
         ensures not_spent { ¬ IsErrOf result SequenceSpent }
         ensures refused { IfErr result (λ fault. self.new ≡ self.old) }
         // Whatever it answers.
         ensures clock { OnOk result ((K.state disk.old).clock < (K.state disk.new).clock) }
-        ensures acts { Acts (K.state disk.old) (K.state disk.new) result }
+        ensures writes_disk { WritesDisk (K.state disk.old) (K.state disk.new) result }
         ensures keeps { Keeps self.old self.new (K.state disk.old) (K.state disk.new) result }
     {
         let Stage::Filling(progress) = self.stage else {
@@ -253,6 +267,7 @@ impl Store {
         }
         self.write_manifest(disk, progress)?;
         self.write_slot(disk, progress.end, length as u32)?;
+        // All that the gate lets count has to last before the gate is opened.
         disk.sync()?;
         self.stage = Stage::Sealed(ManifestRange {
             offset: progress.end,
@@ -261,12 +276,12 @@ impl Store {
         Ok(())
     }
 
-    // Writes the manifest behind the contents: how many loads there are, and what the body says of each.
+    // Writes the manifest after the contents: how many loads there are, and what the body says of each.
     fn write_manifest<K: Disk>(&self, disk: &mut K, progress: Filling) -> Result<(), DiskFault>
         requires filling { IsFilling self.now progress }
-        requires within { progress.end + manifest_length self.now ≤ bank_size self.now }
+        requires within { progress.end + manifest_length self.now ≤ bank_size_of self.now }
         requires running { IsRunning (K.state disk.old) }
-        ensures goes_on { GoesOn (K.state disk.old) (K.state disk.new) }
+        ensures goes_on { TimeGoesOn (K.state disk.old) (K.state disk.new) }
         ensures cause { HasCause (K.state disk.old) (K.state disk.new) result }
         ensures near { KeepsNear self.now (K.state disk.old) (K.state disk.new) }
         ensures written { OnOk result (ForSome (K.state disk.old).reads
@@ -277,13 +292,13 @@ impl Store {
         disk.write(at + 2, self.body.as_slice())
     }
 
-    // Writes the body of the other slot, all but its gate: that its bank rules with the next sequence number, and where
+    // Writes the body of the other slot, all but its gate: that its bank is active with the next sequence number, and where
     // in it the manifest begins and how many bytes it has.
     fn write_slot<K: Disk>(&self, disk: &mut K, place: u32, length: u32) -> Result<(), DiskFault>
         requires shut { is_other_open self.now ≡ false }
         requires goes_on { active_sequence self.now < 4294967295 }
         requires running { IsRunning (K.state disk.old) }
-        ensures goes_on { GoesOn (K.state disk.old) (K.state disk.new) }
+        ensures goes_on { TimeGoesOn (K.state disk.old) (K.state disk.new) }
         ensures cause { HasCause (K.state disk.old) (K.state disk.new) result }
         ensures near { KeepsNear self.now (K.state disk.old) (K.state disk.new) }
         ensures written { OnOk result (ForSome (K.state disk.old).reads
@@ -308,29 +323,35 @@ impl Store {
         says.encode_body()
     }
 
-    /// Opens the gate of the other slot and syncs. With Ok the new configuration rules, and the store is that
+    /// Opens the gate of the other slot and syncs. With Ok the new configuration is active, and the store is that
     /// of the disk on which it does.
     pub fn activate<K: Disk>(&mut self, disk: &mut K) -> Result<(), StoreFault>
         requires sealed { IsSealed self.old }
         requires running { IsRunning (K.state disk.old) }
         // With Ok.
-        ensures activates { OnOk result (Activates self.old self.new (K.state disk.old) (K.state disk.new)) }
+        ensures activates { OnOk result (Activates self.old self.new (K.state disk.old)
+            (K.state disk.new)) }
         // Refusals.
         ensures only_failures { IsOk result ⊎ ¬ IsAnswered result }
         ensures refused { IfErr result (λ fault. self.new ≡ self.old) }
         // Whatever it answers.
-        ensures any_moment { (s : StandingView) (loads : List LoadView) → CanActivate self.old (K.state disk.old) s loads
-            → LeavesOnly (K.state disk.old).clock (IsOldOrNew s (configured s loads)) (K.state disk.new) }
-        ensures adds { (s : StandingView) (loads : List LoadView) → CanActivate self.old (K.state disk.old) s loads
+        ensures any_moment { (s : StandingView) (loads : List LoadView)
+            → CanActivate self.old (K.state disk.old) s loads
+            → LeavesOnly (K.state disk.old).clock (IsOldOrNew s (configured s loads))
+                (K.state disk.new) }
+        ensures adds { (s : StandingView) (loads : List LoadView)
+            → CanActivate self.old (K.state disk.old) s loads
             → AddsOnly (K.state disk.old) (K.state disk.new) (IsOldOrNew s (configured s loads)) }
         ensures clock { OnOk result ((K.state disk.old).clock < (K.state disk.new).clock) }
-        ensures acts { Acts (K.state disk.old) (K.state disk.new) result }
+        ensures writes_disk { WritesDisk (K.state disk.old) (K.state disk.new) result }
     {
         let Stage::Sealed(manifest) = self.stage else {
             unreachable!()
         };
         let slot = self.other();
+        // One byte in a write of its own: after a power loss the slot is open or it isn't.
         disk.write(slot, &[OPEN])?;
+        // From here on the old configuration can't come back.
         disk.sync()?;
         self.forget();
         self.active = Active {
@@ -392,7 +413,7 @@ impl Store {
     // The offset of the other bank.
     fn work(&self) -> u32
         ensures place { result ≡ work_at self.now }
-        ensures within { result + bank_size self.now ≤ 134225920 }
+        ensures within { result + bank_size_of self.now ≤ 134225920 }
     {
         self.active.bank.other().offset(self.size)
     }

@@ -1,9 +1,10 @@
 ghost use Rattle.std.specs.Prelude.{◌≡◌, IfOk};
 
-use crate::{Identity, Store, StoreFault, format, store_fault_text};
+use crate::{Identity, Store, StoreFault, format};
 use disk_layout::{Active, Bank, ManifestRange, Slot};
 use disk_model::{Call, Disk, FileDisk, MemDisk, Note};
 use load_base::{Ident, Name, PartText};
+use printed_text::Printed;
 use std::fs;
 use std::test::Fail;
 
@@ -158,7 +159,7 @@ fn each_fault_has_its_text(rt: HostRuntime) -> Result<(), Fail> {
         (StoreFault::Memory, b""),
     ];
     for (fault, text) in texts {
-        let printed = store_fault_text(rt.alloc(), &fault)?;
+        let printed = fault.text(rt.alloc())?;
         assert_eq!(rt; printed.as_slice(), text);
     }
     Ok(())

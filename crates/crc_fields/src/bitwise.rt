@@ -34,8 +34,8 @@ pub fn crc32_after(sum: u32, bytes: &[u8]) -> u32
 fn after_byte_16(mut register: u16, byte: u8) -> u16
     ensures { result ≡ register_after_bits 16 0x1021 register (lowest_bits 8 byte) }
 {
-    for place in (0..8u32).rev() {
-        register = after_bit_16(register, (byte >> place) % 2);
+    for bit in (0..8u32).rev() {
+        register = after_bit_16(register, (byte >> bit) % 2);
     }
     register
 }
@@ -44,8 +44,8 @@ fn after_byte_16(mut register: u16, byte: u8) -> u16
 fn after_byte_32(mut register: u32, byte: u8) -> u32
     ensures { result ≡ register_after_bits 32 0x04C11DB7 register (lowest_bits 8 byte) }
 {
-    for place in (0..8u32).rev() {
-        register = after_bit_32(register, (byte >> place) % 2);
+    for bit in (0..8u32).rev() {
+        register = after_bit_32(register, (byte >> bit) % 2);
     }
     register
 }

@@ -1,4 +1,5 @@
-//! The two check sums of this project's formats (docs/FORMATS.md), CRC-16 and CRC-32, over whole bytes or over pieces.
+//! The two check sums of this project's formats (docs/FORMATS.md), over whole bytes or over pieces: CRC-16/IBM-3740
+//! and CRC-32/BZIP2, as catalogues of check sums name them.
 #![tactic(auto)]
 
 pub mod bitwise;
@@ -30,6 +31,7 @@ pub fn crc32(bytes: &[u8]) -> u32
 }
 
 /// Laws of both check sums, for callers that join or compare pieces themselves.
+// For the proof: does nothing.
 #[tactic(auto, using(crate::proofs::Laws::laws))]
 pub fn check_sum_laws()
     // A register goes through pieces as through all of them joined, at each width.
@@ -79,8 +81,8 @@ mod tests {
     #[test]
     fn tables_agree_with_bits(rt: HostRuntime) {
         let mut message = [0u8; 300];
-        for (place, byte) in message.iter_mut().enumerate() {
-            *byte = (place * 7 % 256) as u8;
+        for (offset, byte) in message.iter_mut().enumerate() {
+            *byte = (offset * 7 % 256) as u8;
         }
         for length in 0..=300 {
             let part = &message[..length];

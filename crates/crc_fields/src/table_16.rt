@@ -27,7 +27,7 @@ static TABLE: [u16; 256] = [
     0x2E93, 0x3EB2, 0x0ED1, 0x1EF0,
 ];
 
-// The same where a zero byte comes behind the byte.
+// The same where a zero byte comes after the byte.
 static EARLIER: [u16; 256] = [
     0x0000, 0x3331, 0x6662, 0x5553, 0xCCC4, 0xFFF5, 0xAAA6, 0x9997, 0x89A9, 0xBA98, 0xEFCB, 0xDCFA,
     0x456D, 0x765C, 0x230F, 0x103E, 0x0373, 0x3042, 0x6511, 0x5620, 0xCFB7, 0xFC86, 0xA9D5, 0x9AE4,
@@ -59,9 +59,9 @@ pub(crate) fn crc16_after(sum: u16, bytes: &[u8]) -> u16
 {
     let mut register = sum;
     let mut rest = bytes;
-    while let Some((pair, behind)) = rest.split_first_chunk::<2>() {
+    while let Some((pair, after)) = rest.split_first_chunk::<2>() {
         register = after_two(register, pair);
-        rest = behind;
+        rest = after;
     }
     after_bytes(register, rest)
 }

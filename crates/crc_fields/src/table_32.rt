@@ -37,7 +37,7 @@ static TABLE: [u32; 256] = [
     0xAFB010B1, 0xAB710D06, 0xA6322BDF, 0xA2F33668, 0xBCB4666D, 0xB8757BDA, 0xB5365D03, 0xB1F740B4,
 ];
 
-// The same where a zero byte comes behind the byte.
+// The same where a zero byte comes after the byte.
 static EARLIER: [u32; 256] = [
     0x00000000, 0xD219C1DC, 0xA0F29E0F, 0x72EB5FD3, 0x452421A9, 0x973DE075, 0xE5D6BFA6, 0x37CF7E7A,
     0x8A484352, 0x5851828E, 0x2ABADD5D, 0xF8A31C81, 0xCF6C62FB, 0x1D75A327, 0x6F9EFCF4, 0xBD873D28,
@@ -79,9 +79,9 @@ pub(crate) fn crc32_after(sum: u32, bytes: &[u8]) -> u32
 {
     let mut register = !sum;
     let mut rest = bytes;
-    while let Some((pair, behind)) = rest.split_first_chunk::<2>() {
+    while let Some((pair, after)) = rest.split_first_chunk::<2>() {
         register = after_two(register, pair);
-        rest = behind;
+        rest = after;
     }
     !after_bytes(register, rest)
 }

@@ -8,7 +8,7 @@ use Rattle.std.proofs.lemmas.List.Elements.{All-nil, All-cons, All-head, All-tai
 use Rattle.std.proofs.lemmas.List.Sums.{sum_by-append, sum_by-cons}
 use Rattle.load_base.specs.Config.{FileView, LoadView}
 use Rattle.disk_layout.specs.Manifest.{LoadEntry, size_of, total_length}
-use Rattle.disk_layout.specs.Contents.{file_entry_of, entry_of, entries_of, bytes_of, contents_of, first_name, HeaderIsFirst, HeadersAreFirst}
+use Rattle.disk_layout.specs.Contents.{file_entry_of, entry_of, entries_of, bytes_of, contents_of_loads, first_name, HeaderIsFirst, HeadersAreFirst}
 use Rattle.disk_layout.specs.declared.manifest.ManifestFile.{ManifestFile}
 
 -- ---- files
@@ -36,8 +36,8 @@ total_length-cons l ls =
     ap (λ (fs : List ManifestFile). size_of fs) (flat_map-cons (λ (e : LoadEntry). e.files) l ls)
     ∙ sum_by-append (λ (f : ManifestFile). f.length) l.files (flat_map (λ (e : LoadEntry). e.files) ls)
 
-contents_of-cons : (l : LoadView) (ls : List LoadView) → contents_of (l ∷ ls) ≡ bytes_of l.files ++ contents_of ls
-contents_of-cons l ls =
+contents_of_loads-cons : (l : LoadView) (ls : List LoadView) → contents_of_loads (l ∷ ls) ≡ bytes_of l.files ++ contents_of_loads ls
+contents_of_loads-cons l ls =
     ap (λ (fs : List FileView). bytes_of fs) (flat_map-cons (λ (e : LoadView). e.files) l ls)
     ∙ flat_map-append (λ (f : FileView). f.bytes) l.files (flat_map (λ (e : LoadView). e.files) ls)
 
@@ -78,16 +78,16 @@ cut_entries (l ∷ ls) bytes enough =
     ap₂ (λ (e : LoadEntry) (es : List LoadEntry). e ∷ es) (entry_of_cut l bytes (omega (arith, both, enough)))
     (cut_entries ls (drop (size_of l.files) bytes) (omega (arith, length-drop (size_of l.files) bytes, both, enough)))
 
-cut_front : (ls : List LoadEntry) (bytes : List ℕ) → total_length ls ≤ length bytes → contents_of (cut ls bytes) ≡ take (total_length ls) bytes
+cut_front : (ls : List LoadEntry) (bytes : List ℕ) → total_length ls ≤ length bytes → contents_of_loads (cut ls bytes) ≡ take (total_length ls) bytes
 cut_front [] bytes enough = refl
 cut_front (l ∷ ls) bytes enough =
     let both = total_length-cons l ls in
     let first = cut_files_bytes l.files bytes (omega (arith, both, enough)) in
     let rest = cut_front ls (drop (size_of l.files) bytes) (omega (arith, length-drop (size_of l.files) bytes, both, enough)) in
-    contents_of-cons (cut_load l bytes) (cut ls (drop (size_of l.files) bytes)) ∙ ap₂ (λ (a : List ℕ) (b : List ℕ). a ++ b) first rest
+    contents_of_loads-cons (cut_load l bytes) (cut ls (drop (size_of l.files) bytes)) ∙ ap₂ (λ (a : List ℕ) (b : List ℕ). a ++ b) first rest
     ∙ sym (take-add (size_of l.files) (total_length ls) bytes) ∙ ap (λ (n : ℕ). take n bytes) (sym both)
 
-pub cut_contents : (ls : List LoadEntry) (bytes : List ℕ) → total_length ls ≡ length bytes → contents_of (cut ls bytes) ≡ bytes
+pub cut_contents : (ls : List LoadEntry) (bytes : List ℕ) → total_length ls ≡ length bytes → contents_of_loads (cut ls bytes) ≡ bytes
 cut_contents ls bytes exact = cut_front ls bytes (omega (arith, exact)) ∙ ap (λ (n : ℕ). take n bytes) exact ∙ take-length bytes
 
 pub cut_headers : (ls : List LoadEntry) (bytes : List ℕ) → HeadersAreFirst (cut ls bytes)
@@ -105,11 +105,11 @@ size_of_files [] = refl
 size_of_files (f ∷ fs) =
     size_of-cons (file_entry_of f) (map file_entry_of fs) ∙ ap (λ (n : ℕ). length f.bytes + n) (size_of_files fs) ∙ sym (ap length (file_again f fs) ∙ length-append f.bytes (bytes_of fs))
 
-pub total_of_entries : (loads : List LoadView) → total_length (entries_of loads) ≡ length (contents_of loads)
+pub total_of_entries : (loads : List LoadView) → total_length (entries_of loads) ≡ length (contents_of_loads loads)
 total_of_entries [] = refl
 total_of_entries (l ∷ ls) =
     total_length-cons (entry_of l) (entries_of ls) ∙ ap₂ (λ (a : ℕ) (b : ℕ). a + b) (size_of_files l.files) (total_of_entries ls)
-    ∙ sym (ap length (contents_of-cons l ls) ∙ length-append (bytes_of l.files) (contents_of ls))
+    ∙ sym (ap length (contents_of_loads-cons l ls) ∙ length-append (bytes_of l.files) (contents_of_loads ls))
 
 files_again : (fs : List FileView) (rest : List ℕ) → cut_files (map file_entry_of fs) (bytes_of fs ++ rest) ≡ fs
 files_again [] rest = refl
@@ -130,13 +130,13 @@ load_again l rest header =
     make : List ℕ → List ℕ → List FileView → LoadView
     make part header files = record { part = part; header_name = header; files = files }
 
-pub again : (loads : List LoadView) → HeadersAreFirst loads → cut (entries_of loads) (contents_of loads) ≡ loads
+pub again : (loads : List LoadView) → HeadersAreFirst loads → cut (entries_of loads) (contents_of_loads loads) ≡ loads
 again [] headers = refl
 again (l ∷ ls) headers =
-    let parts = contents_of-cons l ls in
+    let parts = contents_of_loads-cons l ls in
     let size = size_of_files l.files in
-    let first = ap (λ (b : List ℕ). cut_load (entry_of l) b) parts ∙ load_again l (contents_of ls) (All-head (λ (v : LoadView). HeaderIsFirst v) l ls headers) in
-    let behind : drop (size_of (map file_entry_of l.files)) (contents_of (l ∷ ls)) ≡ contents_of ls =
-    ap (drop (size_of (map file_entry_of l.files))) parts ∙ drop_at (bytes_of l.files) (contents_of ls) (size_of (map file_entry_of l.files)) (sym size) in
+    let first = ap (λ (b : List ℕ). cut_load (entry_of l) b) parts ∙ load_again l (contents_of_loads ls) (All-head (λ (v : LoadView). HeaderIsFirst v) l ls headers) in
+    let behind : drop (size_of (map file_entry_of l.files)) (contents_of_loads (l ∷ ls)) ≡ contents_of_loads ls =
+    ap (drop (size_of (map file_entry_of l.files))) parts ∙ drop_at (bytes_of l.files) (contents_of_loads ls) (size_of (map file_entry_of l.files)) (sym size) in
     ap₂ (λ (v : LoadView) (vs : List LoadView). v ∷ vs) first
     (ap (λ (b : List ℕ). cut (entries_of ls) b) behind ∙ again ls (All-tail (λ (v : LoadView). HeaderIsFirst v) l ls headers))

@@ -26,7 +26,7 @@ is_fitting bytes (Err fault) fit gives = tt
 wrong_or_memory : (place : ℕ) → Wrong place ≡ Memory → ⊥
 wrong_or_memory place e = cc
 
--- what was refused is a fault, or memory was wanting
+-- what was refused is a fault, or out of memory
 pub is_refused : (bytes : List ℕ) (result : Result Manifest ManifestFault) → IsBytes bytes → GivesManifest bytes result → IfErr result (λ fault. RefusesManifestBytes bytes fault)
 is_refused bytes (Ok m) fit gives = tt
 is_refused bytes (Err Memory) fit gives = tt

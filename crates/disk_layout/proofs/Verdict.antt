@@ -1,4 +1,4 @@
--- What an image stands for, or its fault, as one value that is computed from it.
+-- The configuration that an image holds, or its fault, as one value that is computed from it.
 use Rattle.std.proofs.Common.{◌≡◌, ℕ, ◌+◌, ◌<◌, ◌≤◌, ◌⊎◌, inl, inr, Bool, true, false, ◌==◌, nat_lt, nat_le, List, length, Option, Some, None, Result, Ok, Err, if◌then◌else◌, refl, sym, ap, ◌∙◌, arith, lit<}
 use Rattle.std.proofs.lemmas.Bool.{lt-ltb, le-ltb, le-leb, lt-leb, eq-eqb, ne_eqb, cases_lt, cases_eq}
 use Rattle.std.proofs.lemmas.List.{get_or_past}
@@ -11,11 +11,11 @@ use Rattle.field_grammar.specs.ExactLaws.{answer-spelled, answer-fault, one_or_o
 use Rattle.disk_layout.specs.Places.{slot_a, slot_b, bank_at, longest_manifest, longest_identity}
 use Rattle.disk_layout.specs.Identity.{identity, HasIdentity, HasNoIdentity}
 use Rattle.disk_layout.specs.Manifest.{LoadEntry, manifest, total_length}
-use Rattle.disk_layout.specs.Contents.{contents_of, entries_of}
-use Rattle.disk_layout.specs.Slots.{IsOpen, Rules, sequence_of, bank_of, manifest_place_of, manifest_length_of}
-use Rattle.disk_layout.specs.Stands.{StandingView, Outline, outline_of, IsSoundSlot, IsBadSlot, IsRuledBy, manifest_at, manifest_of, HasOutline, StandsBy, Stands, StandsNot}
-use Rattle.disk_layout.specs.Stands.IsBadSlot.{no_such_bank, too_long, past_the_bank}
-use Rattle.disk_layout.specs.Stands.StandsNot.{not_formatted, no_open_slot, bad_slot, bad_manifest, other_lengths}
+use Rattle.disk_layout.specs.Contents.{contents_of_loads, entries_of}
+use Rattle.disk_layout.specs.Slots.{IsOpen, IsActiveSlot, sequence_of, bank_of, manifest_place_of, manifest_length_of}
+use Rattle.disk_layout.specs.Holds.{StandingView, Outline, outline_of, IsSoundSlot, IsBadSlot, HasActiveSlot, manifest_at, manifest_of, HasOutline, HoldsBy, HoldsConfig, HasDiskFault}
+use Rattle.disk_layout.specs.Holds.IsBadSlot.{no_such_bank, too_long, past_the_bank}
+use Rattle.disk_layout.specs.Holds.HasDiskFault.{not_formatted, no_open_slot, bad_slot, bad_manifest, other_lengths}
 use Rattle.disk_layout.specs.declared.identity.Identity.{Identity}
 use Rattle.disk_layout.specs.declared.fault.RecoverFault.{RecoverFault}
 use Rattle.disk_layout.specs.declared.fault.RecoverFault.TheVariants.{NotFormatted, NoOpenSlot, BadSlot, BadManifest, Memory}
@@ -23,11 +23,11 @@ use Rattle.disk_layout.specs.declared.manifest.ManifestFault.{ManifestFault}
 use Rattle.disk_layout.specs.declared.manifest.ManifestFault.TheVariants as manifests
 use Rattle.disk_layout.proofs.Cuts.{cut, cut_entries, cut_contents, cut_headers, again}
 use Rattle.disk_layout.specs.ManifestLaws.{fault_has_place, manifest_ends}
-use Rattle.disk_layout.specs.SlotLaws.{one_slot, none_rules, some_slot}
+use Rattle.disk_layout.specs.SlotLaws.{one_slot, none_is_active, some_slot}
 
--- ---- the slot that rules
+-- ---- the active slot
 
--- the place of what can't be in a slot
+-- the offset of what can't be in a slot
 abbrev slot_fault : Image → Identity → ℕ → Option ℕ
 slot_fault image id slot =
     if nat_le 2 (bank_of image slot) then Some (slot + 20)
@@ -56,7 +56,7 @@ of_slot image id slot None = of_manifest image id slot (answer manifest (manifes
 
 -- ---- the whole
 
-abbrev of_identity : (image : Image) → Identity → ((slot : ℕ) × Rules image slot) ⊎ (¬ IsOpen image slot_a × ¬ IsOpen image slot_b) → Result StandingView RecoverFault
+abbrev of_identity : (image : Image) → Identity → ((slot : ℕ) × IsActiveSlot image slot) ⊎ (¬ IsOpen image slot_a × ¬ IsOpen image slot_b) → Result StandingView RecoverFault
 of_identity image id (inl ruling) = of_slot image id ruling.0 (slot_fault image id ruling.0)
 of_identity image id (inr none) = Err NoOpenSlot
 
@@ -64,7 +64,7 @@ abbrev of_answer : Image → Result Identity ℕ → Result StandingView Recover
 of_answer image (Ok id) = of_identity image id (some_slot image)
 of_answer image (Err place) = Err (NotFormatted place)
 
--- what the image stands for, or its fault
+-- what the image holds, or its fault
 pub verdict : Image → Result StandingView RecoverFault
 verdict image = of_answer image (answer identity (range image 0 longest_identity))
 
@@ -90,37 +90,37 @@ bad_is_some image id slot place (past_the_bank bank short past is) =
       is,
     ) refl
 
-ruled_verdict : (image : Image) (id : Identity) (slot : ℕ) → IsRuledBy image id slot → verdict image ≡ of_slot image id slot (slot_fault image id slot)
+ruled_verdict : (image : Image) (id : Identity) (slot : ℕ) → HasActiveSlot image id slot → verdict image ≡ of_slot image id slot (slot_fault image id slot)
 unfolding verdict
-ruled_verdict image id slot ruled =
-    rw (answer-spelled identity (range image 0 longest_identity) id ruled.identity) (by_slot (some_slot image))
+ruled_verdict image id slot has_active =
+    rw (answer-spelled identity (range image 0 longest_identity) id has_active.identity) (by_slot (some_slot image))
   where
-    by_slot : (found : ((s : ℕ) × Rules image s) ⊎ (¬ IsOpen image slot_a × ¬ IsOpen image slot_b)) → of_identity image id found ≡ of_slot image id slot (slot_fault image id slot)
-    by_slot (inl found) = ap (λ (s : ℕ). of_slot image id s (slot_fault image id s)) (one_slot image found.0 slot found.1 ruled.rules)
-    by_slot (inr none) = absurd (none_rules image slot none.0 none.1 ruled.rules)
+    by_slot : (found : ((s : ℕ) × IsActiveSlot image s) ⊎ (¬ IsOpen image slot_a × ¬ IsOpen image slot_b)) → of_identity image id found ≡ of_slot image id slot (slot_fault image id slot)
+    by_slot (inl found) = ap (λ (s : ℕ). of_slot image id s (slot_fault image id s)) (one_slot image found.0 slot found.1 has_active.is_active)
+    by_slot (inr none) = absurd (none_is_active image slot none.0 none.1 has_active.is_active)
 
-sound_verdict : (image : Image) (id : Identity) (slot : ℕ) → IsRuledBy image id slot → IsSoundSlot image id slot
+sound_verdict : (image : Image) (id : Identity) (slot : ℕ) → HasActiveSlot image id slot → IsSoundSlot image id slot
     → verdict image ≡ of_manifest image id slot (answer manifest (manifest_of image id slot))
-sound_verdict image id slot ruled can = ruled_verdict image id slot ruled ∙ ap (of_slot image id slot) (sound_is_none image id slot can)
+sound_verdict image id slot has_active can = ruled_verdict image id slot has_active ∙ ap (of_slot image id slot) (sound_is_none image id slot can)
 
-loads_verdict : (image : Image) (id : Identity) (slot : ℕ) (loads : List LoadEntry) → IsRuledBy image id slot → IsSoundSlot image id slot
+loads_verdict : (image : Image) (id : Identity) (slot : ℕ) (loads : List LoadEntry) → HasActiveSlot image id slot → IsSoundSlot image id slot
     → Spelled manifest (manifest_of image id slot) loads → verdict image ≡ of_loads image id slot loads (total_length loads == manifest_place_of image slot)
-loads_verdict image id slot loads ruled can spelled =
-    sound_verdict image id slot ruled can
+loads_verdict image id slot loads has_active can spelled =
+    sound_verdict image id slot has_active can
     ∙ ap (of_manifest image id slot) (answer-spelled manifest (manifest_of image id slot) loads (spelled_at_front manifest (manifest_of image id slot) loads spelled))
 
 same_parts : (id : Identity) (b c q r : ℕ) (l m : List LoadView) → b ≡ c → q ≡ r → l ≡ m → made id b q l ≡ made id c r m
 same_parts id b c q r l m e d h = rw (e, d, h) refl
 
 -- what stands is the verdict
-pub stands_verdict : (image : Image) (s : StandingView) → Stands image s → verdict image ≡ Ok s
+pub stands_verdict : (image : Image) (s : StandingView) → HoldsConfig image s → verdict image ≡ Ok s
 stands_verdict image s stands =
     let id : Identity = s.identity in
     let slot : ℕ = stands.slot in
     let outline : HasOutline image slot (outline_of s) = stands.by.outline in
-    let bytes : contents_of s.loads ≡ bytes_before image id slot = stands.by.contents ∙ ap (λ (b : ℕ). range image (bank_at id.bank b) (manifest_place_of image slot)) outline.bank in
+    let bytes : contents_of_loads s.loads ≡ bytes_before image id slot = stands.by.contents ∙ ap (λ (b : ℕ). range image (bank_at id.bank b) (manifest_place_of image slot)) outline.bank in
     let loads : cut (entries_of s.loads) (bytes_before image id slot) ≡ s.loads = ap (cut (entries_of s.loads)) (sym bytes) ∙ again s.loads stands.by.headers in
-    loads_verdict image id slot (entries_of s.loads) outline.ruled outline.can_be outline.manifest
+    loads_verdict image id slot (entries_of s.loads) outline.has_active outline.can_be outline.manifest
     ∙ ap (of_loads image id slot (entries_of s.loads)) (eq-eqb (total_length (entries_of s.loads)) (manifest_place_of image slot) outline.lengths)
     ∙ ap (λ (v : StandingView). Ok v) (same_parts id (bank_of image slot) s.bank (sequence_of image slot) s.sequence _ s.loads (sym outline.bank) (sym outline.sequence) loads)
 
@@ -128,8 +128,8 @@ none_verdict : (image : Image) (id : Identity) → HasIdentity image id → ¬ I
 unfolding verdict
 none_verdict image id has a b = rw (answer-spelled identity (range image 0 longest_identity) id has) (by_slot (some_slot image))
   where
-    by_slot : (found : ((s : ℕ) × Rules image s) ⊎ (¬ IsOpen image slot_a × ¬ IsOpen image slot_b)) → of_identity image id found ≡ Err NoOpenSlot
-    by_slot (inl found) = absurd (none_rules image found.0 a b found.1)
+    by_slot : (found : ((s : ℕ) × IsActiveSlot image s) ⊎ (¬ IsOpen image slot_a × ¬ IsOpen image slot_b)) → of_identity image id found ≡ Err NoOpenSlot
+    by_slot (inl found) = absurd (none_is_active image found.0 a b found.1)
     by_slot (inr none) = refl
 
 faulty_verdict : (image : Image) (place : ℕ) → HasNoIdentity image place → verdict image ≡ Err (NotFormatted place)
@@ -140,20 +140,20 @@ abbrev refusal : RecoverFault → Result StandingView RecoverFault
 refusal f = Err f
 
 -- a fault is the verdict
-pub fault_verdict : (image : Image) (f : RecoverFault) → StandsNot image f → verdict image ≡ Err f
+pub fault_verdict : (image : Image) (f : RecoverFault) → HasDiskFault image f → verdict image ≡ Err f
 fault_verdict image f (not_formatted place has_none is) = faulty_verdict image place has_none ∙ ap refusal (sym is)
 fault_verdict image f (no_open_slot id has a b is) = none_verdict image id has a b ∙ ap refusal (sym is)
-fault_verdict image f (bad_slot id slot place ruled bad is) =
-    ruled_verdict image id slot ruled ∙ ap (of_slot image id slot) (bad_is_some image id slot place bad) ∙ ap refusal (sym is)
-fault_verdict image f (bad_manifest id slot place ruled can faulty is) =
-    sound_verdict image id slot ruled can ∙ ap (of_manifest image id slot) (answer-fault manifest (manifest_of image id slot) (manifests.Wrong place) faulty) ∙ ap refusal (sym is)
-fault_verdict image f (other_lengths id slot loads ruled can spelled other is) =
-    loads_verdict image id slot loads ruled can spelled
+fault_verdict image f (bad_slot id slot place has_active bad is) =
+    ruled_verdict image id slot has_active ∙ ap (of_slot image id slot) (bad_is_some image id slot place bad) ∙ ap refusal (sym is)
+fault_verdict image f (bad_manifest id slot place has_active can faulty is) =
+    sound_verdict image id slot has_active can ∙ ap (of_manifest image id slot) (answer-fault manifest (manifest_of image id slot) (manifests.Wrong place) faulty) ∙ ap refusal (sym is)
+fault_verdict image f (other_lengths id slot loads has_active can spelled other is) =
+    loads_verdict image id slot loads has_active can spelled
     ∙ ap (of_loads image id slot loads) (ne_eqb (total_length loads) (manifest_place_of image slot) other) ∙ ap refusal (sym is)
 
 -- ---- the verdict is what stands
 
--- a slot can be, or not at one place
+-- a slot can be, or not at one offset
 slot_cases : (image : Image) (id : Identity) (slot : ℕ) → IsSoundSlot image id slot ⊎ ((place : ℕ) × IsBadSlot image id slot place)
 slot_cases image id slot =
     by_bounds (cases_lt (bank_of image slot) 2) (cases_lt longest_manifest (manifest_length_of image slot)) (cases_lt id.bank (manifest_place_of image slot + manifest_length_of image slot))
@@ -173,7 +173,7 @@ range_fits image at n fits k = elim (cases_lt k n) [
 ]
 
 -- an outline is that of a configuration
-pub outline_stands : (image : Image) (slot : ℕ) (o : Outline) → HasOutline image slot o → (s : StandingView) × StandsBy image slot s × (outline_of s ≡ o)
+pub outline_stands : (image : Image) (slot : ℕ) (o : Outline) → HasOutline image slot o → (s : StandingView) × HoldsBy image slot s × (outline_of s ≡ o)
 outline_stands image slot o outline =
     let before : List ℕ = range image (bank_at o.identity.bank o.bank) (manifest_place_of image slot) in
     let exact : total_length o.loads ≡ length before = outline.lengths ∙ sym (length_range image (bank_at o.identity.bank o.bank) (manifest_place_of image slot)) in
@@ -191,41 +191,41 @@ outline_stands image slot o outline =
     sketched : Identity → ℕ → ℕ → List LoadEntry → Outline
     sketched identity bank sequence loads = record { identity = identity; bank = bank; sequence = sequence; loads = loads }
 
--- an image that stands for a configuration, or fails at a condition
+-- an image that holds a configuration, or fails at a condition
 abbrev pub StandsOrNot : Image → Type 0
-StandsOrNot image = ((s : StandingView) × Stands image s) ⊎ ((f : RecoverFault) × StandsNot image f)
+StandsOrNot image = ((s : StandingView) × HoldsConfig image s) ⊎ ((f : RecoverFault) × HasDiskFault image f)
 
-by_lengths : (image : Image) (id : Identity) (slot : ℕ) (loads : List LoadEntry) → IsRuledBy image id slot → IsSoundSlot image id slot
+by_lengths : (image : Image) (id : Identity) (slot : ℕ) (loads : List LoadEntry) → HasActiveSlot image id slot → IsSoundSlot image id slot
     → Spelled manifest (manifest_of image id slot) loads → StandsOrNot image
-by_lengths image id slot loads ruled can spelled = elim (cases_eq (total_length loads) (manifest_place_of image slot)) [
+by_lengths image id slot loads has_active can spelled = elim (cases_eq (total_length loads) (manifest_place_of image slot)) [
   | inl same ↦
       let outline : HasOutline image slot (record { identity = id; bank = bank_of image slot; sequence = sequence_of image slot; loads = loads }) =
-      record { ruled = ruled; can_be = can; bank = refl; sequence = refl; manifest = spelled; lengths = same } in
+      record { has_active = has_active; can_be = can; bank = refl; sequence = refl; manifest = spelled; lengths = same } in
       let found = outline_stands image slot _ outline in
       inl (found.0, record { slot = slot; by = found.1 })
-  | inr other ↦ inr (BadManifest (manifest_at image id slot), other_lengths id slot loads ruled can spelled other refl)
+  | inr other ↦ inr (BadManifest (manifest_at image id slot), other_lengths id slot loads has_active can spelled other refl)
 ]
 
-by_manifest : (image : Image) (id : Identity) (slot : ℕ) → IsOfBytes image → IsRuledBy image id slot → IsSoundSlot image id slot → StandsOrNot image
-by_manifest image id slot fits ruled can =
+by_manifest : (image : Image) (id : Identity) (slot : ℕ) → IsOfBytes image → HasActiveSlot image id slot → IsSoundSlot image id slot → StandsOrNot image
+by_manifest image id slot fits has_active can =
     elim (whole_one_or_other manifest (manifest_of image id slot) manifest_ends (range_fits image (manifest_at image id slot) (manifest_length_of image slot) fits)) [
-      | inl spelled ↦ by_lengths image id slot spelled.0 ruled can spelled.1
+      | inl spelled ↦ by_lengths image id slot spelled.0 has_active can spelled.1
       | inr faulty ↦
           let place = fault_has_place (manifest_of image id slot) faulty.0 faulty.1 in
-          inr (BadManifest (manifest_at image id slot + place.0), bad_manifest id slot place.0 ruled can (rw (← place.1) faulty.1) refl)
+          inr (BadManifest (manifest_at image id slot + place.0), bad_manifest id slot place.0 has_active can (rw (← place.1) faulty.1) refl)
     ]
 
-by_identity : (image : Image) (id : Identity) → IsOfBytes image → HasIdentity image id → ((slot : ℕ) × Rules image slot) ⊎ (¬ IsOpen image slot_a × ¬ IsOpen image slot_b)
+by_identity : (image : Image) (id : Identity) → IsOfBytes image → HasIdentity image id → ((slot : ℕ) × IsActiveSlot image slot) ⊎ (¬ IsOpen image slot_a × ¬ IsOpen image slot_b)
     → StandsOrNot image
 by_identity image id fits has (inl found) =
-    let ruled : IsRuledBy image id found.0 = record { identity = has; rules = found.1 } in
+    let has_active : HasActiveSlot image id found.0 = record { identity = has; is_active = found.1 } in
     elim (slot_cases image id found.0) [
-      | inl can ↦ by_manifest image id found.0 fits ruled can
-      | inr bad ↦ inr (BadSlot bad.0, bad_slot id found.0 bad.0 ruled bad.1 refl)
+      | inl can ↦ by_manifest image id found.0 fits has_active can
+      | inr bad ↦ inr (BadSlot bad.0, bad_slot id found.0 bad.0 has_active bad.1 refl)
     ]
 by_identity image id fits has (inr none) = inr (NoOpenSlot, no_open_slot id has none.0 none.1 refl)
 
--- each image of bytes stands for a configuration or fails at a condition
+-- each image of bytes holds a configuration or fails at a condition
 pub stands_or_not : (image : Image) → IsOfBytes image → StandsOrNot image
 stands_or_not image fits = elim (one_or_other identity (range image 0 longest_identity) (range_fits image 0 longest_identity fits)) [
   | inl has ↦ by_identity image has.0 fits has.1 (some_slot image)

@@ -16,13 +16,13 @@ entry_of load = record { part = load.part; files = map file_entry_of load.files 
 abbrev pub entries_of : List LoadView → List LoadEntry
 entries_of loads = map entry_of loads
 
--- the bytes of these files, one behind the other
+-- the bytes of these files, back to back
 abbrev pub bytes_of : List FileView → List ℕ
 bytes_of files = flat_map (λ (f : FileView). f.bytes) files
 
--- the bytes of all files of these loads, one behind the other
-abbrev pub contents_of : List LoadView → List ℕ
-contents_of loads = bytes_of (flat_map (λ (l : LoadView). l.files) loads)
+-- the bytes of all files of these loads, back to back
+abbrev pub contents_of_loads : List LoadView → List ℕ
+contents_of_loads loads = bytes_of (flat_map (λ (l : LoadView). l.files) loads)
 
 abbrev pub first_name : List FileView → List ℕ
 first_name [] = []

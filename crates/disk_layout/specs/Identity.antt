@@ -1,4 +1,4 @@
--- The identity at the front of a disk (docs/DISK.md).
+-- The identity at the start of a disk (docs/DISK.md).
 use Rattle.std.specs.Prelude.{ℕ, List, [], ◌∷◌, ◌++◌, length, ◌==◌, is_none}
 use Rattle.load_base.specs.Ident.{IsIdent}
 use Rattle.load_base.specs.Verdicts.{ident_fault_of}
@@ -12,7 +12,7 @@ use Rattle.disk_layout.specs.Fields.{sound}
 use Rattle.disk_layout.specs.Places.{is_bank_size, IsBankSize, longest_identity}
 use Rattle.disk_layout.specs.declared.identity.Identity.{Identity}
 
--- A fault of an identity is the place at which it can't go on.
+-- A fault of an identity is the offset at which it can't go on.
 abbrev pub fault_place : FieldFault → ℕ
 fault_place (Short place) = place
 fault_place (BadPad place) = place
@@ -64,7 +64,7 @@ identity = do
 abbrev pub HasIdentity : Image → Identity → Type 0
 HasIdentity image id = SpelledAtFront identity (range image 0 longest_identity) id
 
--- the disk begins with no identity: this is the first place at which it can't go on
+-- the disk begins with no identity: this is the first offset at which it can't go on
 abbrev pub HasNoIdentity : Image → ℕ → Type 0
 HasNoIdentity image place = Fault identity (range image 0 longest_identity) place
 

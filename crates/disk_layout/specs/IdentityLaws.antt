@@ -157,7 +157,7 @@ identity_is_short id is =
     let serial = is.serial.size.1 in
     simp (length-append, length_number_bytes) (omega (arith, hw, pos, serial))
 
--- where the text of an identity stands at the front of a disk, the disk has it
+-- where the text of an identity stands at the start of a disk, the disk has it
 pub has_identity : (image : Image) (id : Identity) → IsIdentity id → crc16_of (identity_front id) < 2 ^ 16 → range image 0 (length (identity_text id)) ≡ identity_text id → HasIdentity image id
 has_identity image id is small stands =
     let n : ℕ = length (identity_text id) in

@@ -1,11 +1,12 @@
 pub mod Contents
+pub mod DiskReads
 pub mod Faults
 pub mod FieldLaws
 pub mod Fields
+pub mod Holds
 pub mod Identity
 pub mod IdentityBytes
 pub mod IdentityLaws
-pub mod Looks
 pub mod Manifest
 pub mod ManifestLaws
 pub mod ManifestSpelling
@@ -15,4 +16,3 @@ pub mod Reading
 pub mod SlotBodyLaws
 pub mod SlotLaws
 pub mod Slots
-pub mod Stands

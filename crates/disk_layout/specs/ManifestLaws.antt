@@ -1,4 +1,4 @@
--- Bytes are one manifest, or fail at one place.
+-- Bytes are one manifest, or fail at one offset.
 use Rattle.std.proofs.Common.{◌≡◌, ◌≢◌, ℕ, zero, suc, ◌+◌, ◌≤◌, List, [], ◌∷◌, ◌++◌, length, Bool, Ok, Err, inl, inr, sym, ap, ◌∙◌, arith, length-append}
 use Rattle.std.specs.List.{concat}
 use Rattle.std.proofs.lemmas.List.Folds.{concat-append}
@@ -16,7 +16,7 @@ use Rattle.disk_layout.specs.Manifest.{LoadEntry, manifest, counted_loads, count
 use Rattle.disk_layout.specs.declared.manifest.ManifestFault.{ManifestFault}
 use Rattle.disk_layout.specs.declared.manifest.ManifestFault.TheVariants.{Wrong, Memory}
 
--- wherever the format stops, the fault has a place within the bytes
+-- wherever the format stops, the fault has an offset within the bytes
 record HasPlaces {A : Type 0} (g : Grammar ManifestFault A) : Type 0 where
   each : (before : List ℕ) (fields : List (List ℕ)) (rest : List ℕ) (fault : ManifestFault) → Stops g before fields rest fault
       → (place : ℕ) × (fault ≡ Wrong place) × (place ≤ length before + (length (concat fields) + length rest))
@@ -95,7 +95,7 @@ places_manifest =
     places_seq counted_loads _ (places_seq load_count _ (places_sound (number 2) (λ n. nat_le n most_loads)) (λ count. places_times count load_entry places_load))
     (λ loads. places_seq (ended Wrong) _ places_ended (λ u. places_give loads))
 
--- a fault of a manifest has a place within the bytes
+-- a fault of a manifest has an offset within the bytes
 pub fault_has_place : (bytes : List ℕ) (fault : ManifestFault) → Fault manifest bytes fault → (place : ℕ) × (fault ≡ Wrong place) × (place ≤ length bytes)
 fault_has_place bytes fault faulty =
     let (fields, rest, parts, stops) = faulty in
@@ -116,11 +116,11 @@ manifest_ends = ends_last _ _ (λ loads. ends_before _ _ (ends_at_end Wrong))
 pub manifest_found : (bytes : List ℕ) (loads : List LoadEntry) → IsBytes bytes → answer manifest bytes ≡ Ok loads → Spelled manifest bytes loads
 manifest_found bytes loads fit e = spelled_whole manifest bytes loads manifest_ends (answer_is_spelled manifest bytes loads fit e)
 
--- a place at which they are refused is their fault
+-- an offset at which they are refused is their fault
 pub manifest_faulty : (bytes : List ℕ) (place : ℕ) → IsBytes bytes → answer manifest bytes ≡ Err (Wrong place) → Fault manifest bytes (Wrong place)
 manifest_faulty bytes place fit e = answer_is_fault manifest bytes (Wrong place) fit e
 
--- they are not refused for want of memory
+-- they are not refused because it is out of memory
 pub manifest_never_wants : (bytes : List ℕ) → IsBytes bytes → answer manifest bytes ≡ Err Memory → ⊥
 manifest_never_wants bytes fit e =
     let found = fault_has_place bytes Memory (answer_is_fault manifest bytes Memory fit e) in

@@ -1,4 +1,4 @@
--- Ranges of an image, one behind the other.
+-- Ranges of an image, back to back.
 use Rattle.std.proofs.Common.{◌≡◌, ℕ, ◌+◌, List, ◌++◌, sym, ap₂, ◌∙◌, arith}
 use Rattle.std.proofs.lemmas.List.{take-append-drop}
 use Rattle.disk_model.specs.Image.{Image, range}

@@ -55,8 +55,8 @@ manifest_length_of image slot = number_at 4 image (slot + 25)
 abbrev pub IsSlot : ℕ → Type 0
 IsSlot slot = (slot ≡ slot_a) ⊎ (slot ≡ slot_b)
 
--- the open slot with the greatest sequence rules, and slot A where both have the same
-pub record Rules (image : Image) (slot : ℕ) : Type 0 where
+-- the open slot with the greatest sequence is active, and slot A where both have the same
+pub record IsActiveSlot (image : Image) (slot : ℕ) : Type 0 where
   pub is_slot : IsSlot slot
   pub gate : IsOpen image slot
   pub greatest : (other : ℕ) → IsSlot other → IsOpen image other → sequence_of image other ≤ sequence_of image slot

@@ -7,29 +7,29 @@ use disk_model::DiskFault;
 use load_base::NoMemory;
 use thiserror::Error;
 
-/// Why a disk stands for no configuration, or why it couldn't be read. A place is a byte offset on the
+/// Why a disk holds no configuration, or why it couldn't be read. An offset is a byte offset on the
 /// disk, from 0 (docs/DISK.md).
 #[derive(Clone, Copy, Debug, PartialEq, Eq, Drop, Error)]
 pub enum RecoverFault {
-    /// V1: the disk begins with no identity; the first place at which it can't go on. Whatever is wrong
-    /// with an Ident, that is the place of its length.
+    /// V1: the disk begins with no identity; the first offset at which it can't go on. Whatever is wrong
+    /// with an Ident, that is the offset of its length.
     #[error("no identity stands at place {0}")]
     NotFormatted(u64),
     /// V2: neither slot is open.
     #[error("neither slot is open")]
     NoOpenSlot,
-    /// V3: what the ruling slot says can't be; the place of its bank, of the manifest's length, or of the
-    /// manifest's place, where the manifest passes the bank.
+    /// V3: what the active slot says can't be; the offset of its bank, of the manifest's length, or of the
+    /// manifest's offset, where the manifest passes the bank.
     #[error("the ruling slot can't be right at place {0}")]
     BadSlot(u64),
-    /// V4: the manifest isn't in its form; the first place at which it can't go on. Where the files'
-    /// lengths don't add up to the manifest's place in its bank, the place where the manifest begins.
+    /// V4: the manifest isn't in its form; the first offset at which it can't go on. Where the files'
+    /// lengths don't add up to the manifest's offset in its bank, the offset where the manifest begins.
     #[error("the manifest can't be right at place {0}")]
     BadManifest(u64),
     /// The disk failed.
     #[error("the disk failed")]
     DiskFailed,
-    /// Memory is wanting.
+    /// Out of memory.
     #[error("memory is wanting")]
     Memory,
 }

@@ -11,7 +11,7 @@ use crc_fields::crc16;
 use field_codec::{FieldFault, Reader};
 use load_base::Ident;
 
-/// What the front of a disk says of its target: the kind of its hardware, its position, its serial number,
+/// What the start of a disk says of its target: the kind of its hardware, its position, its serial number,
 /// and the size of each of its two banks, 4,096 to 67,108,864 bytes.
 #[derive(Clone, Copy)]
 pub struct Identity {

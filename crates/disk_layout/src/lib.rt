@@ -1,4 +1,4 @@
-//! What stands where on a disk, what a disk stands for, and why it may stand for nothing.
+//! What stands where on a disk, the configuration that a disk holds, and why it may hold nothing.
 #![tactic(auto)]
 
 mod active;
@@ -18,7 +18,7 @@ pub use identity::Identity;
 pub use identity_bytes::IdentityBytes;
 pub use laws::{
     a_manifest_is_decided, a_slot_is_read_again, an_identity_is_read_again, an_outline_is_filled,
-    constants_are_those_of_the_layout, stands_for_one_thing,
+    constants_are_those_of_the_layout, an_image_holds_one_configuration,
 };
 pub use manifest::{Manifest, ManifestFault, ManifestFile, ManifestLoad};
 pub use slot::SlotFields;

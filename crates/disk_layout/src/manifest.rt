@@ -25,7 +25,7 @@ pub struct ManifestLoad {
 }
 
 /// What stands in a bank: the loads in their order, at most 32 of them, each of 1 to 256 files. The files
-/// stand one behind the other from the bank's start on, and the manifest stands behind the last.
+/// stand back to back from the bank's start on, and the manifest stands after the last.
 #[derive(Drop)]
 pub struct Manifest {
     pub loads: List<ManifestLoad>,
@@ -45,10 +45,10 @@ impl Manifest {
 /// Why bytes are no manifest.
 #[derive(Clone, Copy, Debug, PartialEq, Eq)]
 pub enum ManifestFault {
-    /// The first place at which they can't go on, from 0: where a field begins that doesn't fit or is
-    /// wrong, or the first byte behind the manifest.
+    /// The first offset at which they can't go on, from 0: where a field begins that doesn't fit or is
+    /// wrong, or the first byte after the manifest.
     Wrong(u64),
-    /// Memory is wanting. The bytes are not at fault.
+    /// Out of memory. The bytes are not at fault.
     Memory,
 }
 
@@ -77,7 +77,9 @@ fn read_loads(
     count: u16,
     reader: &mut Reader,
 ) -> Result<List<ManifestLoad>, ManifestFault>
-    ensures { Decodes Memory (λ loads. map entry_view loads.items) (times count load_entry) reader.old result reader.new }
+    ensures { Decodes Memory
+        (λ loads. map entry_view loads.items)
+        (times count load_entry) reader.old result reader.new }
 {
     let mut loads = List::new(alloc);
     for _ in 0..count {
@@ -102,7 +104,8 @@ fn read_files(
     count: u16,
     reader: &mut Reader,
 ) -> Result<List<ManifestFile>, ManifestFault>
-    ensures { Decodes Memory (λ files. files.items) (times count file_entry) reader.old result reader.new }
+    ensures { Decodes Memory
+        (λ files. files.items) (times count file_entry) reader.old result reader.new }
 {
     let mut files = List::new(alloc);
     for _ in 0..count {

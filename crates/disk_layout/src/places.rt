@@ -24,7 +24,7 @@ pub const SEQUENCE_IN_SLOT: u32 = 16;
 /// Where a slot names its bank.
 pub const BANK_IN_SLOT: u32 = 20;
 
-/// Where a slot says in which place of its bank the manifest begins.
+/// Where a slot says at which offset of its bank the manifest begins.
 pub const PLACE_IN_SLOT: u32 = 21;
 
 /// Where a slot says how many bytes the manifest has.
@@ -33,7 +33,7 @@ pub const LENGTH_IN_SLOT: u32 = 25;
 /// The gate of an open slot; with any other byte the slot is shut.
 pub const OPEN: u8 = 0xA5;
 
-/// Where bank 0 begins; bank 1 begins behind it.
+/// Where bank 0 begins; bank 1 begins after it.
 pub const BANKS: u32 = 8192;
 
 /// The most bytes of a manifest: 32 loads of 256 files with names of 64 bytes.

@@ -24,7 +24,8 @@ impl SlotFields {
     /// What the bytes of a slot say.
     pub fn decode(bytes: &[u8]) -> SlotFields
         requires { length bytes.now ≡ SLOT_LENGTH }
-        ensures { (image : Image) (at : ℕ) → bytes.now ≡ range image at 29 → IsSlotAt image at result }
+        ensures { (image : Image) (at : ℕ) → bytes.now ≡ range image at 29
+            → IsSlotAt image at result }
     {
         SlotFields {
             gate: bytes[0],

@@ -1,8 +1,8 @@
-//! What a disk stands for.
+//! The configuration that a disk holds.
 use crate::Identity;
 use load_base::Config;
 
-/// What a disk stands for: its target, the bank that rules (0 or 1), the sequence number, which is one
+/// The configuration that a disk holds: its target, the active bank (0 or 1), the sequence number, which is one
 /// greater at each change of the configuration, and the loads in that bank.
 #[derive(Drop)]
 pub struct Standing {

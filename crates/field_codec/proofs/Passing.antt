@@ -21,7 +21,7 @@ raw_is_read count place bytes fits =
     let enough : ltb (length (drop place bytes)) count ≡ false = le-ltb _ _ (omega (arith, length-drop place bytes)) in
     rw (enough, advanced-cursor_at count place bytes) refl
 
--- what a format read is the spelling of the value, and the place is behind it
+-- what a format read is the spelling of the value, and the position is after it
 passes : {F A : Type 0} (g : Grammar F A) (s : A → List (List ℕ)) (P : A → Type 0) (c d : Cursor) (value : A)
     → IsSpelledBy g s P → IsBytes c.rest → read g c ≡ Ok (value, d) → Passes (concat (s value)) c d
 passes g s P c d value spells fit e =
@@ -29,7 +29,7 @@ passes g s P c d value spells fit e =
     let is = (spells.to c.before took.fields (length d.rest) value took.follows).0 in
     (took.parts ∙ ap (λ (f : List (List ℕ)). concat f ++ d.rest) is, took.passed ∙ ap (λ (f : List (List ℕ)). c.before ++ concat f) is)
 
--- the bytes of a place in bytes
+-- the bytes of a position in bytes
 pub fit_at : (bytes : List ℕ) (place : ℕ) → IsBytes bytes → IsBytes (drop place bytes)
 fit_at bytes place fit = IsBytes-drop place bytes fit
 

@@ -5,23 +5,23 @@ use Rattle.field_grammar.specs.Fields.{number_in}
 use Rattle.field_grammar.specs.declared.fault.FieldFault.{FieldFault}
 use Rattle.field_grammar.specs.declared.fault.FieldFault.TheVariants.{Short, BadPad}
 
--- these bytes stand at the old place, and the new one is behind them
+-- these bytes stand at the old position, and the new one is after them
 abbrev pub Passes : List ℕ → Cursor → Cursor → Type 0
 Passes passed old new = (old.rest ≡ passed ++ new.rest) × (new.before ≡ old.before ++ passed)
 
--- the same of two places in bytes
+-- the same of two positions in bytes
 abbrev pub PassesAt : List ℕ → ℕ → ℕ → List ℕ → Type 0
 PassesAt bytes place end passed = Passes passed (cursor_at bytes place) (cursor_at bytes end)
 
--- so many bytes don't fit there, and the fault has the place where they should begin
+-- N bytes don't fit there, and the fault has the offset where they should begin
 abbrev pub IsShort : ℕ → Cursor → FieldFault → Type 0
 IsShort n c fault = (length c.rest < n) × (fault ≡ Short (length c.before))
 
--- a text of so many bytes is odd, and the byte that stands there in place of its pad isn't zero
+-- a text of N bytes is odd, and the byte that stands there in place of its pad isn't zero
 abbrev pub IsBadPad : ℕ → Cursor → FieldFault → Type 0
 IsBadPad n c fault = (n % 2 ≡ 1) × (0 < slice_index c.rest 0) × (fault ≡ BadPad (length c.before))
 
--- the pad of a text of so many bytes doesn't fit there, or isn't zero
+-- the pad of a text of N bytes doesn't fit there, or isn't zero
 abbrev pub IsPadFault : ℕ → Cursor → FieldFault → Type 0
 IsPadFault n c fault = IsShort (n % 2) c fault ⊎ IsBadPad n c fault
 

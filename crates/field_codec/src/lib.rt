@@ -1,5 +1,4 @@
-//! Fields of files and packets: read from left to right out of bytes, and written one behind the
-//! other.
+//! Fields of files and packets: read from left to right out of bytes, and written back to back.
 //!
 //! All numbers are unsigned, the highest byte first. A padded text is a length in two bytes, that
 //! many bytes, and one zero byte where the length is odd. A short text is a length in one byte, and
@@ -8,7 +7,7 @@
 //! # A decoder
 //!
 //! A format is written once, in `specs/`, as a tree of fields. Here it is a count in one byte, so
-//! many short texts, and nothing behind them; `named` makes this crate's fault of a `FieldFault`.
+//! many short texts, and nothing after them; `named` makes this crate's fault of a `FieldFault`.
 //!
 //! ```text
 //! unfoldable pub text : Grammar SampleFault (List ℕ)
@@ -40,7 +39,7 @@
 //!
 //! The whole is a function that `Gives Memory view result (answer texts bytes.now)`, and the public
 //! call's four clauses follow from that by `found`, `only`, `refused` and `faulty` of
-//! `field_grammar`'s `proofs/Decoders.antt`, one line each.
+//! `field_grammar`'s `specs/DecoderLaws.antt`, one line each.
 #![tactic(auto)]
 
 mod reader;

@@ -8,10 +8,10 @@ use byteorder::{BigEndian, ByteOrder};
 use field_grammar::FieldFault;
 use std::marker::Model;
 
-/// Reads fields from left to right. It stands at a place in the bytes, and a call that is refused
+/// Reads fields from left to right. It is at an offset in the bytes, and a call that is refused
 /// leaves it there.
 ///
-/// A contract sees it as that place: the bytes `before` it, and the `rest` from it on. Each call
+/// A contract sees it as that position: the bytes `before` it, and the `rest` from it on. Each call
 /// says what it read as it is written, and, for decoders, that it reads a field of a format.
 #[derive(Drop)]
 pub struct Reader<'a> {
@@ -33,14 +33,14 @@ impl<'a> Model for Reader<'a> {
 impl<'a> Reader<'a> {
     ghost use Rattle.field_grammar.specs.Cursor.{start};
 
-    /// A reader that stands where the bytes begin.
+    /// A reader at the start of the bytes.
     pub fn new(bytes: &'a [u8]) -> Reader<'a>
         ensures { result ≡ start bytes.now }
     {
         Reader { bytes, place: 0 }
     }
 
-    /// The place where the reader stands, counted from 0.
+    /// The offset of the reader in the bytes, from 0.
     pub fn place(&self) -> usize
         ensures { result ≡ length self.now.before }
     {
@@ -136,7 +136,7 @@ impl<'a> Reader<'a> {
     }
 
     /// A padded text: its length in two bytes, its bytes, and a zero byte where the length is odd.
-    /// Where one of the three doesn't fit, the fault has the place where the text begins.
+    /// Where one of the three doesn't fit, the fault has the offset where the text begins.
     pub fn take_padded(&mut self) -> Result<&'a [u8], FieldFault>
         ensures ok { IfOk result (λ text. Passes (padded_text text.now) self.old self.new) }
         ensures err { IfErr result (IsPaddedFault self.old) }
@@ -149,7 +149,7 @@ impl<'a> Reader<'a> {
     }
 
     /// A short text: its length in one byte, and its bytes. Where one of the two doesn't fit, the
-    /// fault has the place where the text begins.
+    /// fault has the offset where the text begins.
     pub fn take_short(&mut self) -> Result<&'a [u8], FieldFault>
         ensures ok { IfOk result (λ text. Passes (short_text text.now) self.old self.new) }
         ensures err { IfErr result (IsShort (short_size self.old.rest) self.old) }
@@ -244,7 +244,7 @@ fn pad_at(bytes: &[u8], place: usize, size: usize) -> Result<((), usize), FieldF
     Ok(((), end))
 }
 
-// A fault of a text's part, as one of the text that begins at this place.
+// A fault of a text's part, as one of the text that begins at this offset.
 fn text_fault(fault: FieldFault, place: usize) -> FieldFault
     ensures { result ≡ text_fault place fault }
 {
@@ -306,7 +306,8 @@ fn short_as_one(bytes: &[u8], place: usize) -> Result<(&[u8], usize), FieldFault
 fn short_at(bytes: &[u8], place: usize) -> Result<(&[u8], usize), FieldFault>
     requires { place ≤ length bytes.now }
     ensures ok { IfOk result (λ x. PassesAt bytes.now place x.1 (short_text x.0.now)) }
-    ensures err { IfErr result (IsShort (short_size (drop place bytes.now)) (cursor_at bytes.now place)) }
+    ensures err { IfErr result (IsShort (short_size (drop place bytes.now))
+        (cursor_at bytes.now place)) }
     ensures reads { ReadsAt (λ b. b.now) short bytes.now place result }
 {
     let (text, end) = short_as_one(bytes, place)?;

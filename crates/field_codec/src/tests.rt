@@ -33,19 +33,6 @@ fn reads_texts(rt: HostRuntime) {
 }
 
 #[test]
-fn refuses_a_field_where_it_begins(rt: HostRuntime) {
-    let mut reader = Reader::new(&[0x21, 0x43]);
-    assert_eq!(rt; reader.take_u8(), Ok(0x21));
-    assert_eq!(rt; reader.take_u16(), Err(FieldFault::Short(1)));
-    assert_eq!(rt; reader.take_u32(), Err(FieldFault::Short(1)));
-    assert_eq!(rt; reader.take_u64(), Err(FieldFault::Short(1)));
-    assert_eq!(rt; reader.take_raw(2), Err(FieldFault::Short(1)));
-    assert_eq!(rt; reader.take_pad(1), Err(FieldFault::BadPad(1)));
-    assert_eq!(rt; reader.take_u8(), Ok(0x43));
-    assert_eq!(rt; reader.take_pad(1), Err(FieldFault::Short(2)));
-}
-
-#[test]
 fn refuses_a_text_where_it_begins(rt: HostRuntime) {
     let padded: [(&[u8], FieldFault); 5] = [
         (&[], FieldFault::Short(0)),

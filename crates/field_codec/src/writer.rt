@@ -6,7 +6,7 @@ use load_base::{Bytes, NoMemory};
 use std::alloc::Global;
 use std::marker::Model;
 
-/// Writes fields one behind the other. Where memory is wanting, a call leaves what was written
+/// Writes fields back to back. A call that is out of memory leaves what was written
 /// before it.
 ///
 /// A contract sees it as the bytes that were written.

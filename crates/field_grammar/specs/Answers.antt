@@ -3,17 +3,17 @@ use Rattle.std.specs.Prelude.{◌≡◌, ℕ, ◌≤◌, List, length, Result, O
 use Rattle.field_grammar.specs.Cursor.{Cursor, start, cursor_at}
 use Rattle.field_grammar.specs.Grammar.{Grammar, read, ◌then◌}
 
--- What the format says at the front of the bytes, or its first fault.
+-- What the format says at the start of the bytes, or its first fault.
 abbrev pub answer : {F A : Type 0} → Grammar F A → List ℕ → Result A F
 answer g bytes = read g (start bytes) then (λ x. Ok x.0)
 
--- A reader's answer, seen by view, is what the format reads there; the reader then stands behind it,
+-- A reader's answer, seen by view, is what the format reads there; the reader then stands after it,
 -- and after a refusal where it stood.
 abbrev pub Reads : {F T X : Type 0} → (T → X) → Grammar F X → Cursor → Result T F → Cursor → Type 0
 Reads view g old (Ok x) new = read g old ≡ Ok (view x, new)
 Reads view g old (Err e) new = (read g old ≡ Err e) × (new ≡ old)
 
--- The same of a function that is given bytes and a place, and answers the place behind.
+-- The same of a function that is given bytes and a position, and answers the position after.
 abbrev pub ReadsAt : {F T X : Type 0} → (T → X) → Grammar F X → List ℕ → ℕ → Result (T × ℕ) F → Type 0
 ReadsAt view g bytes place (Ok x) = (x.1 ≤ length bytes) × (read g (cursor_at bytes place) ≡ Ok (view x.0, cursor_at bytes x.1))
 ReadsAt view g bytes place (Err e) = read g (cursor_at bytes place) ≡ Err e

@@ -46,7 +46,7 @@ spelled-pair {A = A} {B = B} g h s t P Q one two = record {
   );
 }
 
--- the same value in another form, from which it can be told
+-- the same value in another form, from which it can be computed
 pub spelled-mapped : {F A B : Type 0} (f : A → B) (back : B → A) (g : Grammar F A) (s : A → List (List ℕ)) (P : A → Type 0)
     → ((x : A) → back (f x) ≡ x) → ((y : B) → f (back y) ≡ y) → IsSpelledBy g s P → IsSpelledBy (mapped f g) (λ y. s (back y)) (λ y. P (back y))
 spelled-mapped {A = A} {B = B} f back g s P there again one = record {
@@ -79,7 +79,7 @@ spelled-expected g wanted wrong s P one fits = record {
   from = λ before after value u. (wanted, s wanted, [], sym (append-nil (s wanted)), one.from before (0 + after) wanted fits, (refl, eq-eqb wanted wanted refl));
 }
 
--- a value that a verdict makes of another, which it tells
+-- a value that a verdict makes of another, which determines it
 pub spelled-judged : {F A B : Type 0} (g : Grammar F A) (verdict : ℕ → A → Result B F) (back : B → A) (s : A → List (List ℕ)) (P : A → Type 0) (Q : B → Type 0)
     → IsSpelledBy g s P
     → ((place : ℕ) (x : A) (y : B) → P x → verdict place x ≡ Ok y → (x ≡ back y) × Q y)
@@ -100,7 +100,7 @@ spelled-judged g verdict back s P Q one there again = record {
 size_behind : (before one two : List ℕ) → length ((before ++ one) ++ two) - length before ≡ length one + length two
 size_behind before one two = omega (arith, length-append (before ++ one) two, length-append before one)
 
--- a value behind a number of one width that is due to how many bytes the two take
+-- a value after a number of one width that is due to how many bytes the two take
 pub spelled-measured : {F A : Type 0} (g : Grammar F ℕ) (due : ℕ → ℕ) (wrong : F) (item : Grammar F A) (width : ℕ) (s : ℕ → List (List ℕ)) (t : A → List (List ℕ)) (P : ℕ → Type 0) (Q : A → Type 0)
     → ((n : ℕ) → length (concat (s n)) ≡ width) → IsSpelledBy g s P → IsSpelledBy item t Q
     → IsSpelledBy (measured g due wrong item) (λ x. s (due (width + length (concat (t x)))) ++ t x) (λ x. P (due (width + length (concat (t x)))) × Q x)
@@ -143,7 +143,7 @@ spelled-measured {A = A} g due wrong item width s t P Q wide one two = record {
       );
 }
 
--- so many values of one kind are spelled one behind the other
+-- N values of one kind are spelled back to back
 pub times_to : {F A : Type 0} (g : Grammar F A) (s : A → List (List ℕ)) (P : A → Type 0) → IsSpelledBy g s P → (n : ℕ) (before : List ℕ) (fields : List (List ℕ)) (after : ℕ) (value : List A)
     → Follows (times n g) before fields after value → (fields ≡ flat_map s value) × AllByRecursion P value × (length value ≡ n)
 unfolding times
@@ -170,7 +170,7 @@ times_from g s P one before after (x ∷ xs) fits = (
   (xs, flat_map s xs, [], sym (append-nil (flat_map s xs)), times_from g s P one (before ++ concat (s x)) (0 + after) xs fits.1, (refl, refl)),
 )
 
--- a count, and so many values of one kind
+-- a count, and that many values of one kind
 pub spelled-counted : {F A : Type 0} (count : Grammar F ℕ) (g : Grammar F A) (c : ℕ → List (List ℕ)) (s : A → List (List ℕ)) (C : ℕ → Type 0) (P : A → Type 0)
     → IsSpelledBy count c C → IsSpelledBy g s P → IsSpelledBy (seq count (λ n. times n g)) (λ xs. c (length xs) ++ flat_map s xs) (λ xs. C (length xs) × AllByRecursion P xs)
 spelled-counted count g c s C P one two = record {

@@ -1,17 +1,17 @@
--- A place in bytes.
+-- A position in bytes.
 use Rattle.std.specs.Prelude.{ℕ, List, [], ◌++◌, take, drop}
 use Rattle.std.specs.List.{concat}
 
--- what stands before the place, and what stands from it on
+-- what stands before the position, and what stands from it on
 pub record Cursor : Type 0 where
   pub before : List ℕ
   pub rest : List ℕ
 
--- the place where the bytes begin
+-- the position where the bytes begin
 abbrev pub start : List ℕ → Cursor
 start bytes = record { before = []; rest = bytes }
 
--- the place in the bytes that has so many of them before it
+-- the position in the bytes that has N of them before it
 abbrev pub cursor_at : List ℕ → ℕ → Cursor
 cursor_at bytes place = record { before = take place bytes; rest = drop place bytes }
 
@@ -19,10 +19,10 @@ cursor_at bytes place = record { before = take place bytes; rest = drop place by
 abbrev pub advanced : ℕ → Cursor → Cursor
 advanced n c = record { before = c.before ++ take n c.rest; rest = drop n c.rest }
 
--- the place where these fields begin, behind those bytes and before the rest
+-- the position where these fields begin, after those bytes and before the rest
 abbrev pub at : List ℕ → List (List ℕ) → List ℕ → Cursor
 at before fields rest = record { before = before; rest = concat fields ++ rest }
 
--- the place behind these fields
+-- the position after these fields
 abbrev pub behind : List ℕ → List (List ℕ) → List ℕ → Cursor
 behind before fields rest = record { before = before ++ concat fields; rest = rest }

@@ -26,15 +26,15 @@ pub faulty : {F T X : Type 0} (memory : F) (view : T → X) (g : Grammar F X) (b
     → Gives memory view r (answer g bytes) → (f : F) → Fault g bytes f → Gives memory view r (Err f)
 faulty memory view g bytes r gives f fault = gives_also memory view r (answer g bytes) (Err f) gives (answer-fault g bytes f fault)
 
--- ---- values at the front of bytes
+-- ---- values at the start of bytes
 
--- what was read is spelled at the front
+-- what was read is spelled at the start
 pub found_at_front : {F T X : Type 0} (memory : F) (view : T → X) (g : Grammar F X) (bytes : List ℕ) (r : Result T F) → IsBytes bytes
     → Gives memory view r (answer g bytes) → IfOk r (λ x. SpelledAtFront g bytes (view x))
 found_at_front memory view g bytes (Err e) fit gives = tt
 found_at_front memory view g bytes (Ok x) fit gives = answer_is_spelled g bytes (view x) fit gives
 
--- what is spelled at the front is read
+-- what is spelled at the start is read
 pub only_at_front : {F T X : Type 0} (memory : F) (view : T → X) (g : Grammar F X) (bytes : List ℕ) (r : Result T F)
     → Gives memory view r (answer g bytes) → (v : X) → SpelledAtFront g bytes v → Gives memory view r (Ok v)
 only_at_front memory view g bytes r gives v spelled = gives_also memory view r (answer g bytes) (Ok v) gives (answer-spelled g bytes v spelled)

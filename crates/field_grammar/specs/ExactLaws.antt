@@ -21,9 +21,9 @@ value_is x y r e d = cc
 fault_is : {F A : Type 0} (e f : F) (r : Result A F) → r ≡ Err e → r ≡ Err f → e ≡ f
 fault_is e f r x y = cc
 
--- ---- the front of bytes
+-- ---- the start of bytes
 
--- what is spelled at the front is the answer
+-- what is spelled at the start is the answer
 pub answer-spelled : {F A : Type 0} (g : Grammar F A) (bytes : List ℕ) (value : A) → SpelledAtFront g bytes value → answer g bytes ≡ Ok value
 answer-spelled g bytes value spelled =
     let (fields, rest, parts, follows) = spelled in
@@ -42,7 +42,7 @@ answer_took {F = F} {A = A} g bytes value fit e =
     let same : x.0 ≡ value = value_is {F = F} x.0 value (Ok x.0) refl is in
     (x.1, subst (λ (v : A). Took g (start bytes) x.1 v) same (what_is_read_follows g (start bytes) x.1 x.0 fit was))
 
--- a value that is the answer is spelled at the front
+-- a value that is the answer is spelled at the start
 pub answer_is_spelled : {F A : Type 0} (g : Grammar F A) (bytes : List ℕ) (value : A) → IsBytes bytes → answer g bytes ≡ Ok value → SpelledAtFront g bytes value
 answer_is_spelled g bytes value fit e =
     let (c, took) = answer_took g bytes value fit e in
@@ -110,7 +110,7 @@ ends_last g k ends = record {
       (ends x).at_end (before ++ concat first) others after value fy;
 }
 
--- a format with a part that ends the bytes, behind which no field stands
+-- a format with a part that ends the bytes, after which no field stands
 pub ends_before : {F A B : Type 0} (g : Grammar F A) (k : A → Grammar F B) → EndsTheBytes g → EndsTheBytes (seq g k)
 ends_before g k ends = record {
   at_end = λ before fields after value follows.
@@ -124,13 +124,13 @@ ends_renamed m g ends = record { at_end = λ before fields after value follows. 
 
 -- ---- whole bytes
 
--- whole bytes are a front with nothing behind it
+-- whole bytes are a prefix with nothing after it
 pub spelled_at_front : {F A : Type 0} (g : Grammar F A) (bytes : List ℕ) (value : A) → Spelled g bytes value → SpelledAtFront g bytes value
 spelled_at_front g bytes value spelled =
     let (fields, parts, follows) = spelled in
     (fields, [], rw append-nil parts, follows)
 
--- where a format ends the bytes, what it spells at the front is the whole
+-- where a format ends the bytes, what it spells at the start is the whole
 pub spelled_whole : {F A : Type 0} (g : Grammar F A) (bytes : List ℕ) (value : A) → EndsTheBytes g → SpelledAtFront g bytes value → Spelled g bytes value
 spelled_whole g bytes value ends spelled =
     let (fields, rest, parts, follows) = spelled in

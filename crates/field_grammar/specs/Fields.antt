@@ -17,24 +17,24 @@ number_bytes n value = big_bytes n value
 
 -- ---- fields as formats
 
--- so many bytes
+-- N bytes
 unfoldable pub raw : ℕ → Grammar FieldFault (List ℕ)
 raw n = field Short n
 
--- an unsigned number of so many bytes
+-- an unsigned number of N bytes
 unfoldable pub number : ℕ → Grammar FieldFault ℕ
 number n = do
   bytes ← raw n
   give (number_in n bytes)
 
--- what fills a text of so many bytes up to an even number: one byte, which is zero, or none
+-- what fills a text of N bytes up to an even number: one byte, which is zero, or none
 unfoldable pub pad : ℕ → Grammar FieldFault (Unit {0})
 pad n = do
   before ← front
   bytes ← raw (n % 2)
   check (slice_index bytes 0 == 0) (BadPad (length before))
 
--- a length in two bytes, so many bytes, and the pad: each field is short at its own place
+-- a length in two bytes, N bytes, and the pad: each field is short at its own offset
 unfoldable pub padded_parts : Grammar FieldFault (List ℕ)
 padded_parts = do
   n ← number 2
@@ -42,13 +42,13 @@ padded_parts = do
   pad n
   give text
 
--- a length in one byte, and so many bytes: each field is short at its own place
+-- a length in one byte, and N bytes: each field is short at its own offset
 unfoldable pub short_parts : Grammar FieldFault (List ℕ)
 short_parts = do
   n ← number 1
   raw n
 
--- a fault of a text's part as one of the text that begins at this place
+-- a fault of a text's part as one of the text that begins at this offset
 abbrev pub text_fault : ℕ → FieldFault → FieldFault
 text_fault place (Short part) = Short place
 text_fault place (BadPad part) = BadPad part
@@ -81,7 +81,7 @@ judged_padded named verdict = do
   renamed named (pad n)
   give text
 
--- nothing, where half of the place is the word at which a pointer says that a section begins
+-- nothing, where half of the offset is the word at which a pointer says that a section begins
 unfoldable pub section : {F : Type 0} → (ℕ → F) → ℕ → Grammar F (Unit {0})
 section wrong said = do
   before ← front
@@ -89,7 +89,7 @@ section wrong said = do
 
 -- ---- such fields as they are written
 
--- the pad of a text of so many bytes
+-- the pad of a text of N bytes
 unfoldable pub pad_bytes : ℕ → List ℕ
 pad_bytes n = replicate (n % 2) 0
 
@@ -101,7 +101,7 @@ short_text text = number_bytes 1 (length text) ++ text
 abbrev pub padded_text : List ℕ → List ℕ
 padded_text text = number_bytes 2 (length text) ++ text ++ pad_bytes (length text)
 
--- the fields of a number of so many bytes
+-- the fields of a number of N bytes
 abbrev pub number_fields : ℕ → ℕ → List (List ℕ)
 number_fields n value = number_bytes n value ∷ []
 

@@ -18,15 +18,15 @@ pub data Grammar : Type 0 → Type 0 → Type 1 where
   check : {F : Type 0} → Bool → F → Grammar F (Unit {0})
   -- the first format where the test holds, and else the second
   choose : {F A : Type 0} → Bool → Grammar F A → Grammar F A → Grammar F A
-  -- a field of so many bytes; where there are fewer, the fault of the place where it begins
+  -- a field of N bytes; where there are fewer, the fault of the offset where it begins
   field : {F : Type 0} → (ℕ → F) → ℕ → Grammar F (List ℕ)
-  -- a field of the bytes up to a zero, and the zero; where there is none, the fault of the place where it begins
+  -- a field of the bytes up to a zero, and the zero; where there is none, the fault of the offset where it begins
   zero_ended : {F : Type 0} → (ℕ → F) → Grammar F (List ℕ)
   -- no field: the value is all that was read so far
   front : {F : Type 0} → Grammar F (List ℕ)
   -- no field: the value is how many bytes are left
   left : {F : Type 0} → Grammar F ℕ
-  -- one format, and behind it another that may depend on what the first says
+  -- one format, and after it another that may depend on what the first says
   seq : {F A B : Type 0} → Grammar F A → (A → Grammar F B) → Grammar F B
   -- the same format with other faults
   renamed : {E F A : Type 0} → (E → F) → Grammar E A → Grammar F A
@@ -60,7 +60,7 @@ expected g wanted wrong = do
   found ← g
   check (found == wanted) (wrong found)
 
--- what a verdict makes of a value and of the place where it begins: another value, or a fault
+-- what a verdict makes of a value and of the position where it begins: another value, or a fault
 abbrev pub judged : {F A B : Type 0} → Grammar F A → (ℕ → A → Result B F) → Grammar F B
 judged g verdict = do
   before ← front
@@ -75,7 +75,7 @@ sized g bytes_of wrong = do
   check (bytes_of said == size) (wrong said size)
   give said
 
--- a value behind a number that is due to how many bytes the two take
+-- a value after a number that is due to how many bytes the two take
 abbrev pub measured : {F A : Type 0} → Grammar F ℕ → (ℕ → ℕ) → F → Grammar F A → Grammar F A
 measured g due wrong item = do
   start ← front
@@ -85,14 +85,14 @@ measured g due wrong item = do
   check (said == due (length stop - length start)) wrong
   give x
 
--- a test that the bytes end here, and the fault of the place where they go on
+-- a test that the bytes end here, and the fault of the offset where they go on
 abbrev pub ended : {F : Type 0} → (ℕ → F) → Grammar F (Unit {0})
 ended more = do
   before ← front
   size ← left
   check (size == 0) (more (length before))
 
--- so many values of one kind
+-- N values of one kind
 unfoldable pub times : {F A : Type 0} → ℕ → Grammar F A → Grammar F (List A)
 times zero g = give []
 times (suc n) g = do
@@ -100,7 +100,7 @@ times (suc n) g = do
   xs ← times n g
   give (x ∷ xs)
 
--- so many values, each of which may depend on those before it
+-- N values, each of which may depend on those before it
 unfoldable pub listed : {F A : Type 0} → ℕ → (List A → Grammar F A) → List A → Grammar F (List A)
 listed zero item so_far = give so_far
 listed (suc n) item so_far = do
@@ -115,12 +115,12 @@ abbrev pub ◌then◌ : {F A B : Type 0} → Result A F → (A → Result B F) �
 (Ok x) then k = k x
 (Err e) then k = Err e
 
--- the value with the place, where there is a value
+-- the value with the position, where there is a value
 abbrev pub stays : {F A : Type 0} → Cursor → Result A F → Result (A × Cursor) F
 stays c (Ok x) = Ok (x, c)
 stays c (Err e) = Err e
 
--- the next n bytes, or the fault of the place where they should begin
+-- the next n bytes, or the fault of the offset where they should begin
 abbrev pub field_at : {F : Type 0} → (ℕ → F) → ℕ → Cursor → Result (List ℕ × Cursor) F
 field_at short n c = if nat_lt (length c.rest) n then Err (short (length c.before)) else Ok (take n c.rest, advanced n c)
 
@@ -130,12 +130,12 @@ before_zero [] = None
 before_zero (zero ∷ bytes) = Some 0
 before_zero (suc b ∷ bytes) = option_map suc (before_zero bytes)
 
--- so many bytes and the zero behind them, or the fault of the place where they should begin
+-- N bytes and the zero after them, or the fault of the offset where they should begin
 abbrev pub zero_ended_at : {F : Type 0} → (ℕ → F) → Cursor → Option ℕ → Result (List ℕ × Cursor) F
 zero_ended_at short c None = Err (short (length c.before))
 zero_ended_at short c (Some n) = Ok (take n c.rest, advanced (suc n) c)
 
--- What the format reads from a place: a value and the place behind its fields, or the first fault
+-- What the format reads from a position: a value and the position after its fields, or the first fault
 -- that is met from left to right.
 abbrev pub read : {F A : Type 0} → Grammar F A → Cursor → Result (A × Cursor) F
 read (give x) c = Ok (x, c)
@@ -155,7 +155,7 @@ read (renamed m g) c = result_map_both (λ x. x) m (read g c)
 abbrev pub HasNoZero : List ℕ → Type 0
 HasNoZero bytes = before_zero bytes ≡ None
 
--- These fields, behind those bytes and before that many others, follow the format to its end and pass
+-- These fields, after those bytes and before that many others, follow the format to its end and pass
 -- its tests, and this is the value that they say.
 abbrev pub Follows : {F A : Type 0} → Grammar F A → List ℕ → List (List ℕ) → ℕ → A → Type 0
 Follows (give x) before fields after value = (fields ≡ []) × (x ≡ value)
@@ -171,7 +171,7 @@ Follows (seq {A = A} g k) before fields after value =
     × Follows g before first (length (concat others) + after) x × Follows (k x) (before ++ concat first) others after value
 Follows (renamed m g) before fields after value = Follows g before fields after value
 
--- These fields, behind those bytes and before the rest, follow the format as far as they go, and the
+-- These fields, after those bytes and before the rest, follow the format as far as they go, and the
 -- next test of the format fails with this fault.
 abbrev pub Stops : {F A : Type 0} → Grammar F A → List ℕ → List (List ℕ) → List ℕ → F → Type 0
 Stops (give x) before fields rest fault = ⊥
@@ -188,20 +188,20 @@ Stops (seq {A = A} g k) before fields rest fault =
     × Follows g before first (length (concat others) + length rest) x × Stops (k x) (before ++ concat first) others rest fault)
 Stops (renamed {E = E} m g) before fields rest fault = (e : E) × Stops g before fields rest e × (m e ≡ fault)
 
--- The second place is in the same bytes, and not before the first.
+-- The second position is in the same bytes, and not before the first.
 pub record MovesOn (from to : Cursor) : Type 0 where
   pub passed : List ℕ
   pub parts : from.rest ≡ passed ++ to.rest
   pub behind : to.before ≡ from.before ++ passed
 
--- From one place to the other stand fields that follow the format and say this value.
+-- From one position to the other stand fields that follow the format and say this value.
 pub record Took {F A : Type 0} (g : Grammar F A) (from to : Cursor) (value : A) : Type 0 where
   pub fields : List (List ℕ)
   pub parts : from.rest ≡ concat fields ++ to.rest
   pub passed : to.before ≡ from.before ++ concat fields
   pub follows : Follows g from.before fields (length to.rest) value
 
--- From the place on stand fields that follow the format so far, and the next test fails with this fault.
+-- From the position on stand fields that follow the format so far, and the next test fails with this fault.
 pub record Stopped {F A : Type 0} (g : Grammar F A) (from : Cursor) (fault : F) : Type 0 where
   pub fields : List (List ℕ)
   pub rest : List ℕ
@@ -214,12 +214,12 @@ pub record Stopped {F A : Type 0} (g : Grammar F A) (from : Cursor) (fault : F) 
 abbrev pub Spelled : {F A : Type 0} → Grammar F A → List ℕ → A → Type 0
 Spelled g bytes value = (fields : List (List ℕ)) × (bytes ≡ concat fields) × Follows g [] fields 0 value
 
--- The bytes begin with fields that follow the format and say this value, and may go on behind them.
+-- The bytes begin with fields that follow the format and say this value, and may go on after them.
 abbrev pub SpelledAtFront : {F A : Type 0} → Grammar F A → List ℕ → A → Type 0
 SpelledAtFront g bytes value =
     (fields : List (List ℕ)) × (rest : List ℕ) × (bytes ≡ concat fields ++ rest) × Follows g [] fields (length rest) value
 
--- The bytes begin with fields that follow the format so far, and the first test that fails comes behind
+-- The bytes begin with fields that follow the format so far, and the first test that fails comes after
 -- them and has this fault.
 abbrev pub Fault : {F A : Type 0} → Grammar F A → List ℕ → F → Type 0
 Fault g bytes fault = (fields : List (List ℕ)) × (rest : List ℕ) × (bytes ≡ concat fields ++ rest) × Stops g [] fields rest fault

@@ -1,4 +1,4 @@
--- Texts as fields, each judged by the function that tells what is wrong with its bytes.
+-- Texts as fields, each judged by the function that says what is wrong with its bytes.
 use Rattle.std.proofs.Common.{ℕ, ◌<◌, ◌^◌, List, length, Option, refl, subst}
 use Rattle.load_base.specs.Verdicts.{verdict, TellsFaults}
 use Rattle.load_base.specs.VerdictLaws.{accepted}
@@ -8,7 +8,7 @@ use Rattle.field_grammar.specs.declared.fault.FieldFault.{FieldFault}
 use Rattle.field_grammar.specs.CombinedLaws.{spelled-as}
 use Rattle.field_grammar.specs.TextLaws.{Judges, spelled-judged_short, spelled-judged_padded}
 
--- a function that tells the faults of a text judges the bytes of such a text, by the name that a format has for its faults
+-- a function that says the faults of a text judges the bytes of such a text, by the name that a format has for its faults
 pub judges_by : {E F : Type 0} (wrong : ℕ → E → F) (fault_of : List ℕ → Option E) (IsRight : List ℕ → Type 0) (IsFault : List ℕ → E → Type 0) → TellsFaults fault_of IsRight IsFault
     → Judges (λ place bytes. verdict (wrong place) (fault_of bytes) bytes) (λ text. text) IsRight
 judges_by wrong fault_of IsRight IsFault tells = record {

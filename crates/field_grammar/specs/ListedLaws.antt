@@ -43,7 +43,7 @@ listed_from item s P one (x ∷ xs) so_far before after all =
     let there : Follows (listed (length xs) item (so_far ++ x ∷ [])) (before ++ concat (s so_far x)) others after (so_far ++ x ∷ xs) = subst (λ (v : List _). Follows (listed (length xs) item (so_far ++ x ∷ [])) (before ++ concat (s so_far x)) others after v) (append_assoc so_far (x ∷ []) xs) later in
     (x, s so_far x, others, refl, (one so_far).from before (length (concat others) + after) x all.0, there)
 
--- so many values, each of which may depend on those before it
+-- N values, each of which may depend on those before it
 pub placed-listed : {F A : Type 0} (item : List A → Grammar F A) (s : List A → A → List (List ℕ)) (P : List A → List ℕ → ℕ → A → Type 0) (n : ℕ) → ((so_far : List A) → IsPlacedBy (item so_far) (λ before. s so_far) (P so_far))
     → IsPlacedBy (listed n item []) (λ before. listed_fields s []) (λ before after xs. (length xs ≡ n) × AllPlaced s P [] before after xs)
 placed-listed {A = A} item s P n one = record {

@@ -9,7 +9,7 @@ use Rattle.std.proofs.lemmas.List.Folds.{concat-append}
 use Rattle.field_grammar.specs.Cursor.{Cursor}
 use Rattle.field_grammar.specs.Grammar.{Grammar, read, times, listed, ◌then◌}
 
--- ---- so many values of one kind
+-- ---- N values of one kind
 
 -- the values that were read so far before those that are read yet
 abbrev pub with_front : {F A : Type 0} → List A → Result (List A × Cursor) F → Result (List A × Cursor) F
@@ -69,7 +69,7 @@ pub begins : {F A : Type 0} (r : Result (List A × Cursor) F) → with_front [] 
 begins (Ok x) = refl
 begins (Err f) = refl
 
--- ---- so many values that may depend on those before them
+-- ---- N values that may depend on those before them
 
 item_more : {F A : Type 0} (item : List A → Grammar F A) (so_far : List A) (n : ℕ) (c d : Cursor) (x : A)
     → read (item so_far) c ≡ Ok (x, d) → read (listed (suc n) item so_far) c ≡ read (listed n item (so_far ++ x ∷ [])) d
@@ -113,7 +113,7 @@ list_is_done item so_far count i c total yet le =
     let none : count - i ≡ 0 = omega arith in
     sym yet ∙ (ap (λ (n : ℕ). read (listed n item so_far) c) none ∙ item_none item so_far c)
 
--- ---- a loop that writes so many values one behind the other
+-- ---- a loop that writes N values back to back
 
 pub concat_more : {X Y : Type 0} (f : Y → List (List ℕ)) (v : X → Y) (xs : List X) (i : ℕ) (d : X) → i < length xs
     → concat (flat_map f (map v (take i xs))) ++ concat (f (v (get_or xs i d))) ≡ concat (flat_map f (map v (take (i + 1) xs)))

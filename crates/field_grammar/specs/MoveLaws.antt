@@ -18,7 +18,7 @@ goes_further b c d one two = record {
   behind = two.behind ∙ (ap (λ (l : List ℕ). l ++ two.passed) one.behind ∙ append_assoc b.before one.passed two.passed);
 }
 
--- a step to this place
+-- a step to this position
 steps_to : {F A : Type 0} (b c d : Cursor) (x value : A) → MovesOn b c → said {A = A × Cursor} {F = F} (x, c) ≡ said (value, d) → MovesOn b d
 steps_to {F = F} {A = A} b c d x value moves e = subst (λ (p : A × Cursor). MovesOn b p.1) (same_value {F = F} (x, c) (value, d) e) moves
 
@@ -26,7 +26,7 @@ zero_ended_moves : {F : Type 0} (short : ℕ → F) (c d : Cursor) (value : List
 zero_ended_moves short c d value None e = absurd cc
 zero_ended_moves {F = F} short c d value (Some n) e = steps_to {F = F} c (advanced (suc n) c) d (take n c.rest) value (advances (suc n) c) e
 
--- where a value is read, the place moves on
+-- where a value is read, the position moves on
 pub moves_on : {F A : Type 0} (g : Grammar F A) (c d : Cursor) (value : A) → read g c ≡ Ok (value, d) → MovesOn c d
 moves_on {F = F} (give x) c d value e = steps_to {F = F} c c d x value (stays_there c) e
 moves_on {F = F} (judge (Ok x)) c d value e = steps_to {F = F} c c d x value (stays_there c) e
@@ -46,7 +46,7 @@ moves_on (seq g k) c d value e =
     goes_further c x.1 d (moves_on g c x.1 x.0 first) (moves_on (k x.0) x.1 d value second)
 moves_on (renamed m g) c d value e = moves_on g c d value (renamed_ok m (read g c) (value, d) e)
 
--- the place isn't before the one where the reading began
+-- the position isn't before the one where the reading began
 pub place_goes_on : {F A : Type 0} (g : Grammar F A) (c d : Cursor) (value : A) → read g c ≡ Ok (value, d) → length c.before ≤ length d.before
 place_goes_on g c d value e =
     let moves = moves_on g c d value e in

@@ -1,4 +1,4 @@
--- How formats spell their values where a test looks at the place, at the bytes before or at how many are
+-- How formats spell their values where a test looks at the offset, at the bytes before or at how many are
 -- left.
 use Rattle.std.proofs.Common.{◌≡◌, ℕ, ◌+◌, List, [], ◌++◌, length, refl, sym, ap, subst, ◌∙◌, arith}
 use Rattle.std.specs.List.{concat}
@@ -38,9 +38,9 @@ placed-as g s t P Q there back one = record {
       subst (λ (f : List (List ℕ)). Follows g before f after value) b.0 (one.from before after value b.1);
 }
 
--- ---- one format behind another
+-- ---- one format after another
 
--- what stands behind the last part is what stands behind the whole
+-- what stands after the last part is what stands after the whole
 none_behind : (others : List (List ℕ)) (after : ℕ) → others ≡ [] → length (concat others) + after ≡ after
 none_behind others after none = rw none (omega arith)
 
@@ -81,7 +81,7 @@ placed-renamed m g s P one = record {
   from = λ before after value fits. one.from before after value fits;
 }
 
--- ---- tests of the place, of the bytes before and of how many are left
+-- ---- tests of the offset, of the bytes before and of how many are left
 
 -- what was read so far
 pub placed-front : {F A : Type 0} (k : List ℕ → Grammar F A) (t : List ℕ → List ℕ → A → List (List ℕ)) (Q : List ℕ → List ℕ → ℕ → A → Type 0)

@@ -23,13 +23,13 @@ size_short text = simp (length-append, length_number_bytes) (omega arith)
 pub size_padded : (text : List ℕ) → size_of (padded_fields text) ≡ 2 + length text + length text % 2
 size_padded text = simp (length-append, append-nil, length_number_bytes, length_pad_bytes) (omega arith)
 
--- the place behind fields
+-- the position after fields
 pub place_behind : (before : List ℕ) (f s : List (List ℕ)) → f ≡ s → length (before ++ concat f) ≡ length before + size_of s
 place_behind before f s same = length-append before (concat f) ∙ ap (λ (g : List (List ℕ)). length before + size_of g) same
 
 -- ---- sections
 
--- a section has no field of its own, and begins at half of its place
+-- a section has no field of its own, and begins at half of its offset
 pub placed-section : {F : Type 0} (wrong : ℕ → F) (said : ℕ) → IsPlacedBy (section wrong said) (λ before u. []) (λ before after u. said ≡ length before / 2)
 unfolding section
 placed-section wrong said = record {

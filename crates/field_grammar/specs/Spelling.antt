@@ -8,8 +8,8 @@ pub record IsSpelledBy {F A : Type 0} (g : Grammar F A) (spelling : A → List (
   pub to : (before : List ℕ) (fields : List (List ℕ)) (after : ℕ) (value : A) → Follows g before fields after value → (fields ≡ spelling value) × Fits value
   pub from : (before : List ℕ) (after : ℕ) (value : A) → Fits value → Follows g before (spelling value) after value
 
--- The same where it depends on the bytes before the fields what spells a value (a place, a check sum), and on
--- them and on how many bytes stand behind whether it fits.
+-- The same where it depends on the bytes before the fields what spells a value (an offset, a check sum), and on
+-- them and on how many bytes stand after whether it fits.
 pub record IsPlacedBy {F A : Type 0} (g : Grammar F A) (spelling : List ℕ → A → List (List ℕ)) (Fits : List ℕ → ℕ → A → Type 0) : Type 0 where
   pub to : (before : List ℕ) (fields : List (List ℕ)) (after : ℕ) (value : A) → Follows g before fields after value → (fields ≡ spelling before value) × Fits before after value
   pub from : (before : List ℕ) (after : ℕ) (value : A) → Fits before after value → Follows g before (spelling before value) after value
@@ -18,16 +18,16 @@ pub record IsPlacedBy {F A : Type 0} (g : Grammar F A) (spelling : List ℕ → 
 abbrev pub size_of : List (List ℕ) → ℕ
 size_of fields = length (concat fields)
 
--- the fields of a value behind those so far, where the last of so many values is spelled otherwise
+-- the fields of a value after those so far, where the last of N values is spelled otherwise
 abbrev pub with_last : {A : Type 0} → (Bool → A → List (List ℕ)) → ℕ → List A → A → List (List ℕ)
 with_last fields count so_far value = fields (length so_far + 1 == count) value
 
--- the fields of values one behind the other, where those of each may depend on the values before it
+-- the fields of values back to back, where those of each may depend on the values before it
 unfoldable pub listed_fields : {A : Type 0} → (List A → A → List (List ℕ)) → List A → List A → List (List ℕ)
 listed_fields spelling so_far [] = []
 listed_fields spelling so_far (x ∷ xs) = spelling so_far x ++ listed_fields spelling (so_far ++ x ∷ []) xs
 
--- Each of the values fits behind those before it, and at its place.
+-- Each of the values fits after those before it, and at its offset.
 abbrev pub AllPlaced : {A : Type 0} → (List A → A → List (List ℕ)) → (List A → List ℕ → ℕ → A → Type 0) → List A → List ℕ → ℕ → List A → Type 0
 AllPlaced spelling Fits so_far before after [] = ⊤
 AllPlaced spelling Fits so_far before after (x ∷ xs) =

@@ -1,4 +1,4 @@
--- Lemmas on bytes, places and single steps of reading.
+-- Lemmas on bytes, positions and single steps of reading.
 use Rattle.std.proofs.Common.{◌≡◌, ℕ, zero, suc, ◌+◌, Bool, true, false, cond, Option, Some, None, List, [], ◌∷◌, ◌++◌, length, take, drop, Result, Ok, Err, refl, ap, subst, ◌∙◌, append_assoc, arith, inl, inr, ◌⊎◌}
 use Rattle.std.specs.Prelude.{option_map}
 use Rattle.std.specs.Result.{result_map_both}
@@ -20,7 +20,7 @@ IsBytes-take n bytes fit i =
       | inr past ↦ rw (get_or_past (take n bytes) i 0 (omega (arith, length-take n bytes))) (omega arith)
     ]
 
--- what stands behind a part of bytes is bytes
+-- what stands after a part of bytes is bytes
 pub IsBytes-behind : (front rest : List ℕ) → IsBytes (front ++ rest) → IsBytes rest
 IsBytes-behind front rest fit = subst IsBytes (drop_at front rest (length front) refl) (IsBytes-drop (length front) (front ++ rest) fit)
 
@@ -41,7 +41,7 @@ pub then_ok : {F A B : Type 0} (r : Result A F) (k : A → Result B F) (y : B) �
 then_ok (Ok x) k y e = (x, refl, e)
 then_ok (Err f) k y e = absurd cc
 
--- where two steps are refused, the first is, or the second behind it
+-- where two steps are refused, the first is, or the second after it
 pub then_err : {F A B : Type 0} (r : Result A F) (k : A → Result B F) (f : F) → (r then k) ≡ Err f → (r ≡ Err f) ⊎ ((x : A) × (r ≡ Ok x) × (k x ≡ Err f))
 then_err (Ok x) k f e = inr (x, refl, e)
 then_err (Err d) k f e = inl cc
@@ -98,7 +98,7 @@ one_more : (o : Option ℕ) (n : ℕ) → option_map suc o ≡ Some n → (m : �
 one_more None n e = absurd cc
 one_more (Some m) n e = (m, refl, cc)
 
--- what stands before the first zero, the zero, and the bytes behind it
+-- what stands before the first zero, the zero, and the bytes after it
 abbrev pub IsSplitAtZero : List ℕ → ℕ → Type 0
 IsSplitAtZero bytes n =
     (bytes ≡ (take n bytes ++ 0 ∷ []) ++ drop (suc n) bytes) × (take (suc n) bytes ≡ take n bytes ++ 0 ∷ []) × HasNoZero (take n bytes)

@@ -104,7 +104,7 @@ spelled-short_parts = record {
   );
 }
 
--- another place of its fault changes no spelling
+-- another position of its fault changes no spelling
 spelled-as_one : (g : Grammar _ (List ℕ)) (s : List ℕ → List (List ℕ)) (P : List ℕ → Type 0) → IsSpelledBy g s P → IsSpelledBy (as_one g) s P
 spelled-as_one g s P one = record {
   to = λ before fields after value follows.

@@ -1,4 +1,4 @@
--- Loops that write values one behind the other.
+-- Loops that write values back to back.
 use Rattle.std.proofs.Common.{◌≡◌, ℕ, ◌+◌, ◌*◌, ◌<◌, ◌≤◌, List, [], ◌∷◌, ◌++◌, length, take, get_or, Bool, refl, sym, ap, subst, ◌∙◌, append_assoc, arith, ◌==◌}
 use Rattle.std.specs.Prelude.{map}
 use Rattle.std.specs.List.{concat, flat_map, All, AllByRecursion}
@@ -71,7 +71,7 @@ all_taken P xs i le all = rw (take_all i xs le) at all
 
 -- ---- how long it is
 
--- values of at most so many bytes each
+-- values of at most N bytes each
 pub at_most_each : {A : Type 0} (f : A → List (List ℕ)) (P : A → Type 0) (most : ℕ) → ((x : A) → P x → length (concat (f x)) ≤ most)
     → (xs : List A) → All P xs → length (concat (flat_map f xs)) ≤ length xs * most
 at_most_each f P most each [] all = omega arith

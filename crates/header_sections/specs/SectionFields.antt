@@ -30,7 +30,7 @@ entry_size body_fields this = 2 + size_of (body_fields this)
 abbrev pub entry_fields : {E : Type 0} → (E → List (List ℕ)) → Bool → E → List (List ℕ)
 entry_fields body_fields last this = number_fields 2 (distance_of last (entry_size body_fields this)) ++ body_fields this
 
--- the entry after those so far, in a list of so many
+-- the entry after those so far, in a list of `count`
 abbrev pub entry_fields_after : {E : Type 0} → (E → List (List ℕ)) → ℕ → List E → E → List (List ℕ)
 entry_fields_after body_fields count so_far this = with_last (entry_fields body_fields) count so_far this
 

@@ -49,7 +49,7 @@ pub spelled-part : IsSpelledBy part padded_fields IsPartNumberText
 unfolding part
 spelled-part = spelled-right_padded named faults.Part part_fault_of IsPartNumberText IsPartFault part_faults (λ t is. omega (arith, part_size t is))
 
--- a count in two bytes, and so many texts, in a format that names the faults of a piece
+-- a count in two bytes, and the texts, in a format that has its own names for the faults of a piece
 pub spelled-texts : {F : Type 0} (wrong : SectionFault → F) (count : Grammar F ℕ) (C : ℕ → Type 0) → IsSpelledBy count (number_fields 2) C
     → IsSpelledBy (seq count (λ n. renamed wrong (texts n))) texts_fields (λ t. C (length t) × AllByRecursion IsText t)
 unfolding texts_fields

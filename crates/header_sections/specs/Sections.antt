@@ -58,7 +58,7 @@ start version = do
 
 -- ---- sections
 
--- a section begins at the word that pointer `which` says
+-- a section begins at word `said`, which is pointer `which`
 unfoldable pub section_at : ℕ → ℕ → Grammar SectionFault (Unit {0})
 section_at which said = section (faults.Pointer which said) said
 
@@ -69,11 +69,11 @@ user_data which said = do
   words ← u16
   renamed named (raw (2 * words))
 
--- the distance of an entry of so many bytes: its length in words, and 0 for the last of its list
+-- the distance of an entry of `size` bytes: its length in words, and 0 for the last of its list
 abbrev pub distance_of : Bool → ℕ → ℕ
 distance_of last size = if last then 0 else size / 2
 
--- an entry: its distance, and what a format says there
+-- an entry: its distance, and its fields
 abbrev pub entry : {F E : Type 0} → Grammar F ℕ → F → Grammar F E → Bool → Grammar F E
 entry distance wrong body last = measured distance (distance_of last) wrong body
 

@@ -6,7 +6,7 @@ use Rattle.field_grammar.specs.Spelling.{listed_fields}
 use Rattle.field_grammar.specs.Fields.{number_bytes}
 use Rattle.header_sections.specs.SectionFields.{entry_fields_after, entries_fields}
 
--- the entries so far, in a list of so many
+-- the first `i` entries of a list
 abbrev pub entries_to : {E : Type 0} → (E → List (List ℕ)) → List E → ℕ → List ℕ
 entries_to f es i = concat (listed_fields (entry_fields_after f (length es)) [] (take i es))
 

@@ -1,4 +1,4 @@
-//! Lists of entries, each behind its distance.
+//! Lists of entries, each after its distance.
 ghost use Rattle.std.specs.Prelude.{◌≡◌, ◌++◌, ◌+◌, ◌*◌, ◌==◌, ◌<◌, ◌≤◌, ◌^◌, length, false, OnOk};
 ghost use Rattle.std.specs.List.{concat, All};
 ghost use Rattle.field_grammar.specs.Spelling.{size_of};
@@ -69,7 +69,8 @@ pub fn put_entries<E: Entry>(out: &mut Writer, entries: &[E]) -> Result<(), NoMe
 fn put_entry<E: Entry>(out: &mut Writer, entry: &E, last: bool) -> Result<(), NoMemory>
     requires fits { E.Fits entry.now }
     requires short { last ≡ false → entry_size E.body_fields entry.now ≤ 131070 }
-    ensures { OnOk result (out.new ≡ out.old ++ concat (entry_fields E.body_fields last entry.now)) }
+    ensures { OnOk result (out.new ≡ out.old ++ concat
+        (entry_fields E.body_fields last entry.now)) }
 {
     out.put_u16(distance(entry, last))?;
     entry.put_body(out)?;

@@ -15,14 +15,14 @@ pub enum SectionFault {
     Short(u64),
     /// A pad byte isn't 0; its offset.
     Pad(u64),
-    /// The length in words is `said`, and there are `found` bytes.
+    /// The length in words of 2 bytes is `said`, and there are `found` bytes.
     Length {
         said: u64,
         found: u64,
     },
     /// Another version.
     Version(u64),
-    /// Pointer `which` says that its section begins at word `said`; it begins at word `expected`.
+    /// Pointer `which` is word `said`; its section begins at word `expected`.
     Pointer {
         which: u64,
         said: u64,

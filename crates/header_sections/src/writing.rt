@@ -50,7 +50,8 @@ pub fn put_user(out: &mut Writer, user: &[u8]) -> Result<(), NoMemory>
 
 /// The bytes, and their CRC-16 in 2 bytes after them.
 pub fn with_check_sum(alloc: Global, covered: Bytes) -> Result<Bytes, NoMemory>
-    ensures { IfOk result (λ bytes. bytes.items ≡ covered.items ++ number_bytes 2 (crc16_of covered.items)) }
+    ensures { IfOk result (λ bytes. bytes.items ≡ covered.items
+        ++ number_bytes 2 (crc16_of covered.items)) }
 {
     let mut whole = covered;
     let sum = number_of(alloc, crc16(whole.as_slice()))?;

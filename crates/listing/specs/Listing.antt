@@ -4,8 +4,8 @@ use Rattle.std.specs.List.{flat_map}
 use Rattle.std.specs.Fmt.{decimal}
 use Rattle.load_base.specs.Config.{FileView, LoadView}
 use Rattle.crc_fields.specs.CheckSums.{crc16_of}
-use Rattle.shown_files.specs.Lines.{line, hex_16}
-use Rattle.disk_layout.specs.Stands.{StandingView}
+use Rattle.printed_text.specs.Lines.{line, hex_16}
+use Rattle.disk_layout.specs.Holds.{StandingView}
 use Rattle.disk_layout.specs.declared.identity.Identity.{Identity}
 
 -- `target HW POS SERIAL`

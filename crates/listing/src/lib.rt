@@ -6,13 +6,13 @@
 ghost use Rattle.std.specs.Prelude.{◌≡◌, ◌++◌, map, OnOk, IfOk};
 ghost use Rattle.std.specs.List.{flat_map};
 ghost use Rattle.load_base.specs.Config.{file_view, load_view};
-ghost use Rattle.disk_layout.specs.Stands.{standing_view};
+ghost use Rattle.disk_layout.specs.Holds.{standing_view};
 ghost use Rattle.listing.specs.Listing.{file_line, load_line, load_lines, target_line, bank_line, loads_line, listing};
 
 use crc_fields::crc16;
 use disk_layout::{Identity, Standing};
 use load_base::{Bytes, Load, NoMemory, StoredFile};
-use shown_files::lines::{put_hex_16, put_number};
+use printed_text::{put_hex_16, put_number};
 use std::alloc::Global;
 
 /// The listing of a configuration, in lines that end with a line feed: the target, its active bank with the sequence

@@ -33,9 +33,9 @@ name_is_long bytes long = name_is_refused bytes names.TooLong long
 pub name_is_hidden : (bytes : List ℕ) → 1 ≤ length bytes → length bytes ≤ 64 → slice_index bytes 0 ≡ 0x2E → Err (names.BadByte 0) ≡ judged name_fault_of bytes
 name_is_hidden bytes some few hidden = name_is_refused bytes (names.BadByte 0) ((some, few), inl (hidden, refl))
 
-pub name_is_bad : (bytes : List ℕ) (place : ℕ) → 1 ≤ length bytes → length bytes ≤ 64 → slice_index bytes 0 ≢ 0x2E → IsFirstBad is_name_byte bytes place
-    → Err (names.BadByte place) ≡ judged name_fault_of bytes
-name_is_bad bytes place some few visible bad = name_is_refused bytes (names.BadByte place) ((some, few), inr (visible, bad))
+pub name_is_bad : (bytes : List ℕ) (offset : ℕ) → 1 ≤ length bytes → length bytes ≤ 64 → slice_index bytes 0 ≢ 0x2E → IsFirstBad is_name_byte bytes offset
+    → Err (names.BadByte offset) ≡ judged name_fault_of bytes
+name_is_bad bytes offset some few visible bad = name_is_refused bytes (names.BadByte offset) ((some, few), inr (visible, bad))
 
 pub ruleset name_judgements = (name_is_read, name_is_empty, name_is_long, name_is_hidden, name_is_bad)
 
@@ -50,8 +50,8 @@ text_is_refused bytes fault other is = rw ((text_faults.wrong bytes fault).0 (ot
 pub text_is_long : (bytes : List ℕ) → 255 < length bytes → Err (texts.TooLong (length bytes)) ≡ judged text_fault_of bytes
 text_is_long bytes long = text_is_refused bytes (texts.TooLong (length bytes)) (λ e. cc) (refl, long)
 
-pub text_is_bad : (bytes : List ℕ) (place : ℕ) → length bytes ≤ 255 → IsFirstBad is_printable bytes place → Err (texts.BadByte place) ≡ judged text_fault_of bytes
-text_is_bad bytes place few bad = text_is_refused bytes (texts.BadByte place) (λ e. cc) (few, bad)
+pub text_is_bad : (bytes : List ℕ) (offset : ℕ) → length bytes ≤ 255 → IsFirstBad is_printable bytes offset → Err (texts.BadByte offset) ≡ judged text_fault_of bytes
+text_is_bad bytes offset few bad = text_is_refused bytes (texts.BadByte offset) (λ e. cc) (few, bad)
 
 pub ruleset text_judgements = (text_is_read, text_is_long, text_is_bad)
 
@@ -69,9 +69,9 @@ ident_is_empty bytes empty = ident_is_refused bytes (idents.Length (length bytes
 pub ident_is_long : (bytes : List ℕ) → 20 < length bytes → Err (idents.Length (length bytes)) ≡ judged ident_fault_of bytes
 ident_is_long bytes long = ident_is_refused bytes (idents.Length (length bytes)) (refl, inr long)
 
-pub ident_is_bad : (bytes : List ℕ) (place : ℕ) → 1 ≤ length bytes → length bytes ≤ 20 → IsFirstBad is_ident_byte bytes place
-    → Err (idents.BadByte place) ≡ judged ident_fault_of bytes
-ident_is_bad bytes place some few bad = ident_is_refused bytes (idents.BadByte place) ((some, few), bad)
+pub ident_is_bad : (bytes : List ℕ) (offset : ℕ) → 1 ≤ length bytes → length bytes ≤ 20 → IsFirstBad is_ident_byte bytes offset
+    → Err (idents.BadByte offset) ≡ judged ident_fault_of bytes
+ident_is_bad bytes offset some few bad = ident_is_refused bytes (idents.BadByte offset) ((some, few), bad)
 
 pub ruleset ident_judgements = (ident_is_read, ident_is_empty, ident_is_long, ident_is_bad)
 
@@ -86,7 +86,7 @@ part_text_is_refused bytes fault is = rw ((part_text_faults.wrong bytes fault).0
 pub part_text_has_another_length : (bytes : List ℕ) → length bytes ≢ 15 → Err (parts.Length (length bytes)) ≡ judged part_text_fault_of bytes
 part_text_has_another_length bytes other = part_text_is_refused bytes (parts.Length (length bytes)) (refl, other)
 
-pub part_text_is_bad : (bytes : List ℕ) (place : ℕ) → length bytes ≡ 15 → IsFirstBad is_graphic bytes place → Err (parts.BadByte place) ≡ judged part_text_fault_of bytes
-part_text_is_bad bytes place size bad = part_text_is_refused bytes (parts.BadByte place) (size, bad)
+pub part_text_is_bad : (bytes : List ℕ) (offset : ℕ) → length bytes ≡ 15 → IsFirstBad is_graphic bytes offset → Err (parts.BadByte offset) ≡ judged part_text_fault_of bytes
+part_text_is_bad bytes offset size bad = part_text_is_refused bytes (parts.BadByte offset) (size, bad)
 
 pub ruleset part_text_judgements = (part_text_is_read, part_text_has_another_length, part_text_is_bad)

@@ -3,9 +3,10 @@ use Rattle.std.proofs.Common.{◌≡◌, ℕ, ◌+◌, ◌<◌, List, [], ◌∷
 use Rattle.std.proofs.lemmas.List.{take_more}
 use Rattle.std.proofs.lemmas.Bool.{eqb-true, eq-eqb}
 use Rattle.std.proofs.lemmas.List.Sums.{fold_push}
+use Rattle.load_base.specs.Bytes.{same_bytes}
 use Rattle.load_base.specs.Host.{Files, SameBut, WritesFile}
 use Rattle.load_base.specs.declared.sink.WriteFault.TheVariants.{Memory}
-use Rattle.load_base.specs.Written.{same_bytes, no_files, with_file, written_files, IsAppended}
+use Rattle.load_base.specs.Written.{no_files, with_file, written_files, IsAppended}
 use Rattle.load_base.specs.declared.mem_host.Written.{Written}
 
 -- the same bytes are the same list

@@ -1,7 +1,7 @@
 -- Lists of a known length and numbers below a known one, case by case.
 use Rattle.std.proofs.Common.{◌≡◌, ℕ, zero, suc, ◌<◌, List, [], ◌∷◌, length, arith}
 
--- what holds of each list of so many numbers, said of its numbers
+-- what holds of each list of N numbers, said of its numbers
 abbrev pub OfEach : ℕ → (List ℕ → Type 0) → Type 0
 OfEach zero P = P []
 OfEach (suc n) P = (x : ℕ) → OfEach n (λ xs. P (x ∷ xs))

@@ -1,4 +1,4 @@
--- A configuration as names and bytes, without the room of its lists: two are the same where these are.
+-- A configuration as names and bytes, without the spare capacity of its lists: two are the same where these are.
 use Rattle.std.specs.Prelude.{ℕ, List, map}
 use Rattle.load_base.specs.declared.config.StoredFile.{StoredFile}
 use Rattle.load_base.specs.declared.config.Load.{Load}

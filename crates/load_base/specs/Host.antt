@@ -15,8 +15,8 @@ Files = List ℕ → Option (List ℕ)
 abbrev pub longest_file : ℕ
 longest_file = 16777215
 
--- Reading answers what the name has: its bytes, that it has none, or that they are too many. A failure and
--- want of memory say nothing of it.
+-- Reading answers what the name has: its bytes, that it has none, or that they are too many. Failed and Memory
+-- say nothing of it.
 abbrev pub FileIs : Option (List ℕ) → Result (Listed ℕ) ReadFault → Type 0
 FileIs file (Ok bytes) = file ≡ Some bytes.items
 FileIs file (Err reading.Absent) = file ≡ None

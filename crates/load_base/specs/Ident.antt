@@ -19,4 +19,4 @@ pub record IsIdent (bytes : List ℕ) : Type 0 where
 -- the first thing that is wrong with a text
 abbrev pub IsIdentFault : List ℕ → IdentFault → Type 0
 IsIdentFault bytes (Length found) = (found ≡ length bytes) × ((length bytes ≡ 0) ⊎ (20 < length bytes))
-IsIdentFault bytes (BadByte place) = HasIdentLength bytes × IsFirstBad is_ident_byte bytes place
+IsIdentFault bytes (BadByte offset) = HasIdentLength bytes × IsFirstBad is_ident_byte bytes offset

@@ -2,6 +2,8 @@ pub mod Bytes
 pub mod Cases
 pub mod Config
 pub mod Counts
+pub mod EqualityLaws
+pub mod Failing
 pub mod Host
 pub mod Ident
 pub mod Listed
@@ -12,6 +14,7 @@ pub mod Padded
 pub mod PartText
 pub mod Sink
 pub mod Text
+pub mod TextLaws
 pub mod VerdictLaws
 pub mod Verdicts
 pub mod Written

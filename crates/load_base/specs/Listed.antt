@@ -2,12 +2,12 @@
 use Rattle.std.specs.Prelude.{ℕ, List, refl}
 use Rattle.std.specs.Coded.{Coded, code_by, coded×, coded_list, coded_ℕ}
 
--- the members, and how many pushes surely take no memory
+-- the members, and the spare capacity: this many pushes take no memory
 pub record Listed (T : Type 0) : Type 0 where
   pub items : List T
-  pub room : ℕ
+  pub spare : ℕ
 
 abbrev pub listed_code : {T : Type 0} → Coded T → Coded (Listed T)
 listed_code {T} code =
     code_by (List T × ℕ) (coded× (coded_list code) coded_ℕ)
-    (λ l. (l.items, l.room)) (λ p. record { items = p.0; room = p.1 }) (λ _. refl)
+    (λ l. (l.items, l.spare)) (λ p. record { items = p.0; spare = p.1 }) (λ _. refl)

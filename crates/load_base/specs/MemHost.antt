@@ -1,5 +1,6 @@
 -- What a host in memory keeps.
-use Rattle.std.specs.Prelude.{ℕ, ◌+◌, List}
+use Rattle.std.specs.Prelude.{ℕ}
+use Rattle.load_base.specs.Failing.{CallNumbers}
 use Rattle.load_base.specs.Host.{Files}
 use Rattle.load_base.specs.Written.{written_files}
 use Rattle.load_base.specs.declared.mem_host.MemHost.{MemHost}
@@ -8,13 +9,9 @@ use Rattle.load_base.specs.declared.mem_host.MemHost.{MemHost}
 abbrev pub files_of : MemHost → Files
 files_of host = written_files host.written.items
 
--- the numbers of the calls that were set to fail, in the order in which they were set
-abbrev pub failing_calls : MemHost → List ℕ
-failing_calls host = host.failing.items
-
--- the number of the call that comes next
-abbrev pub next_call : MemHost → ℕ
-next_call host = host.calls + 1
+-- its calls of `read` and `write`
+abbrev pub calls_of : MemHost → CallNumbers
+calls_of host = host.calls
 
 -- how often it has failed
 abbrev pub faults_of : MemHost → ℕ

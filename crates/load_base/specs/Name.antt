@@ -25,5 +25,5 @@ pub record IsName (bytes : List ℕ) : Type 0 where
 abbrev pub IsNameFault : List ℕ → NameFault → Type 0
 IsNameFault bytes Empty = length bytes ≡ 0
 IsNameFault bytes TooLong = 64 < length bytes
-IsNameFault bytes (BadByte place) =
-    HasNameLength bytes × ((IsHidden bytes × (place ≡ 0)) ⊎ (¬ IsHidden bytes × IsFirstBad is_name_byte bytes place))
+IsNameFault bytes (BadByte offset) =
+    HasNameLength bytes × ((IsHidden bytes × (offset ≡ 0)) ⊎ (¬ IsHidden bytes × IsFirstBad is_name_byte bytes offset))

@@ -16,4 +16,4 @@ pub record IsPartText (bytes : List ℕ) : Type 0 where
 -- the first thing that is wrong with a text
 abbrev pub IsPartTextFault : List ℕ → PartTextFault → Type 0
 IsPartTextFault bytes (Length found) = (found ≡ length bytes) × (length bytes ≢ 15)
-IsPartTextFault bytes (BadByte place) = (length bytes ≡ 15) × IsFirstBad is_graphic bytes place
+IsPartTextFault bytes (BadByte offset) = (length bytes ≡ 15) × IsFirstBad is_graphic bytes offset

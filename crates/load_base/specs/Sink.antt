@@ -4,16 +4,16 @@ use Rattle.load_base.specs.Counts.{Rose}
 use Rattle.load_base.specs.declared.sink.WriteFault.{WriteFault}
 use Rattle.load_base.specs.declared.sink.WriteFault.TheVariants.{Failed, Memory}
 
--- The output goes on by these bytes. Of a sink that doesn't tell it nothing is claimed.
-abbrev pub GoesOn : Option (List ℕ) → Option (List ℕ) → List ℕ → Type 0
-GoesOn None new bytes = Unit {0}
-GoesOn (Some was) new bytes = new ≡ Some (was ++ bytes)
+-- The output is what it was, and then these bytes. Of a sink that doesn't tell it nothing is claimed.
+abbrev pub IsExtended : Option (List ℕ) → Option (List ℕ) → List ℕ → Type 0
+IsExtended None new bytes = Unit {0}
+IsExtended (Some was) new bytes = new ≡ Some (was ++ bytes)
 
--- All the bytes go out; where the sink fails a front of them, and where memory is wanting none.
+-- All the bytes go out; of a sink that fails a prefix of them, and of one that is out of memory none.
 abbrev pub Puts : {T : Type 0} → Option (List ℕ) → Option (List ℕ) → List ℕ → Result T WriteFault → Type 0
-Puts was new bytes (Ok x) = GoesOn was new bytes
-Puts was new bytes (Err Failed) = (n : ℕ) × GoesOn was new (take n bytes)
-Puts was new bytes (Err Memory) = GoesOn was new []
+Puts was new bytes (Ok x) = IsExtended was new bytes
+Puts was new bytes (Err Failed) = (n : ℕ) × IsExtended was new (take n bytes)
+Puts was new bytes (Err Memory) = IsExtended was new []
 
 -- the count of faults hasn't fallen, and a call that failed raised it
 pub record HasWriteCause {T : Type 0} (before now : ℕ) (result : Result T WriteFault) : Type 0 where

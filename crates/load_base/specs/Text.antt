@@ -13,8 +13,8 @@ pub record IsText (bytes : List ℕ) : Type 0 where
   pub size : length bytes ≤ 255
   pub good : AllGood is_printable bytes
 
--- the first thing that is wrong with a text; want of memory says nothing of it
+-- the first thing that is wrong with a text; Memory says nothing of it
 abbrev pub IsTextFault : List ℕ → TextFault → Type 0
 IsTextFault bytes (TooLong found) = (found ≡ length bytes) × (255 < length bytes)
-IsTextFault bytes (BadByte place) = (length bytes ≤ 255) × IsFirstBad is_printable bytes place
+IsTextFault bytes (BadByte offset) = (length bytes ≤ 255) × IsFirstBad is_printable bytes offset
 IsTextFault bytes Memory = Unit {0}

@@ -25,42 +25,42 @@ pub first_bad-none : (good : ℕ → ℕ → Bool) (bytes : List ℕ) → ((k : 
 first_bad-none good [] each = refl
 first_bad-none good (b ∷ bytes) each =
     let here : good 0 b ≡ true = each 0 (omega arith) in
-    let later : first_bad (λ place. good (suc place)) bytes ≡ None =
-    first_bad-none (λ place. good (suc place)) bytes (λ k within. each (suc k) (omega (arith, within))) in
+    let later : first_bad (λ offset. good (suc offset)) bytes ≡ None =
+    first_bad-none (λ offset. good (suc offset)) bytes (λ k within. each (suc k) (omega (arith, within))) in
     rw (here, later) refl
 
 -- it is the one that isn't where all before it are
-pub first_bad-some : (good : ℕ → ℕ → Bool) (bytes : List ℕ) (place : ℕ) → place < length bytes
-    → ((k : ℕ) → k < place → good k (slice_index bytes k) ≡ true) → good place (slice_index bytes place) ≡ false → first_bad good bytes ≡ Some place
-first_bad-some good [] place within before bad = absurd (omega arith)
+pub first_bad-some : (good : ℕ → ℕ → Bool) (bytes : List ℕ) (offset : ℕ) → offset < length bytes
+    → ((k : ℕ) → k < offset → good k (slice_index bytes k) ≡ true) → good offset (slice_index bytes offset) ≡ false → first_bad good bytes ≡ Some offset
+first_bad-some good [] offset within before bad = absurd (omega arith)
 first_bad-some good (b ∷ bytes) zero within before bad = rw bad refl
-first_bad-some good (b ∷ bytes) (suc place) within before bad =
+first_bad-some good (b ∷ bytes) (suc offset) within before bad =
     let here : good 0 b ≡ true = before 0 (omega arith) in
-    let later : first_bad (λ at. good (suc at)) bytes ≡ Some place =
-    first_bad-some (λ at. good (suc at)) bytes place (omega (arith, within)) (λ k less. before (suc k) (omega (arith, less))) bad in
+    let later : first_bad (λ at. good (suc at)) bytes ≡ Some offset =
+    first_bad-some (λ at. good (suc at)) bytes offset (omega (arith, within)) (λ k less. before (suc k) (omega (arith, less))) bad in
     rw (here, later) refl
 
--- what a first bad place means
-pub record IsFirstBadAt (good : ℕ → ℕ → Bool) (bytes : List ℕ) (place : ℕ) : Type 0 where
-  pub within : place < length bytes
-  pub before : (k : ℕ) → k < place → good k (slice_index bytes k) ≡ true
-  pub bad : good place (slice_index bytes place) ≡ false
+-- what an offset of a first bad byte means
+pub record IsFirstBadAt (good : ℕ → ℕ → Bool) (bytes : List ℕ) (offset : ℕ) : Type 0 where
+  pub within : offset < length bytes
+  pub before : (k : ℕ) → k < offset → good k (slice_index bytes k) ≡ true
+  pub bad : good offset (slice_index bytes offset) ≡ false
 
 -- what is found says which bytes are good
 abbrev pub SaysWhichAreGood : (good : ℕ → ℕ → Bool) → List ℕ → Option ℕ → Type 0
 SaysWhichAreGood good bytes found =
-    MatchOption found ((k : ℕ) → k < length bytes → good k (slice_index bytes k) ≡ true) (λ place. IsFirstBadAt good bytes place)
+    MatchOption found ((k : ℕ) → k < length bytes → good k (slice_index bytes k) ≡ true) (λ offset. IsFirstBadAt good bytes offset)
 
 here_or_later : (good : ℕ → ℕ → Bool) (b : ℕ) (bytes : List ℕ) (here : Bool) (later : Option ℕ) → good 0 b ≡ here
-    → SaysWhichAreGood (λ place. good (suc place)) bytes later → SaysWhichAreGood good (b ∷ bytes) (if here then option_map suc later else Some 0)
+    → SaysWhichAreGood (λ offset. good (suc offset)) bytes later → SaysWhichAreGood good (b ∷ bytes) (if here then option_map suc later else Some 0)
 here_or_later good b bytes true None is each = at
   where
     at : (k : ℕ) → k < length (b ∷ bytes) → good k (slice_index (b ∷ bytes) k) ≡ true
     at zero within = is
     at (suc k) within = each k (omega (arith, within))
-here_or_later good b bytes true (Some place) is found = record { within = omega (arith, found.within); before = before; bad = found.bad }
+here_or_later good b bytes true (Some offset) is found = record { within = omega (arith, found.within); before = before; bad = found.bad }
   where
-    before : (k : ℕ) → k < suc place → good k (slice_index (b ∷ bytes) k) ≡ true
+    before : (k : ℕ) → k < suc offset → good k (slice_index (b ∷ bytes) k) ≡ true
     before zero less = is
     before (suc k) less = found.before k (omega (arith, less))
 here_or_later good b bytes false later is said = record { within = omega arith; before = λ k less. absurd (omega (arith, less)); bad = is }
@@ -68,30 +68,30 @@ here_or_later good b bytes false later is said = record { within = omega arith; 
 pub first_bad-says : (good : ℕ → ℕ → Bool) (bytes : List ℕ) → SaysWhichAreGood good bytes (first_bad good bytes)
 first_bad-says good [] = λ k within. absurd (omega (arith, within))
 first_bad-says good (b ∷ bytes) =
-    here_or_later good b bytes (good 0 b) (first_bad (λ place. good (suc place)) bytes) refl (first_bad-says (λ place. good (suc place)) bytes)
+    here_or_later good b bytes (good 0 b) (first_bad (λ offset. good (suc offset)) bytes) refl (first_bad-says (λ offset. good (suc offset)) bytes)
 
 -- ---- tests in a row
 
--- a fault is told where its test says so, and else what comes behind
-test_says : {E : Type 0} (t : Bool) (fault : E) (behind : Option E) (IsRight : Type 0) (IsFault : E → Type 0)
-    → (t ≡ true → IsFault fault) → (t ≡ false → MatchOption behind IsRight IsFault) → MatchOption (if t then Some fault else behind) IsRight IsFault
-test_says true fault behind IsRight IsFault found passed = found refl
-test_says false fault behind IsRight IsFault found passed = passed refl
+-- a fault is told where its test says so, and else what comes after it
+test_says : {E : Type 0} (t : Bool) (fault : E) (after : Option E) (IsRight : Type 0) (IsFault : E → Type 0)
+    → (t ≡ true → IsFault fault) → (t ≡ false → MatchOption after IsRight IsFault) → MatchOption (if t then Some fault else after) IsRight IsFault
+test_says true fault after IsRight IsFault found passed = found refl
+test_says false fault after IsRight IsFault found passed = passed refl
 
 -- the bytes of a text are tested last
 bytes_say : {E : Type 0} (good : ℕ → Bool) (bytes : List ℕ) (named : ℕ → E) (IsRight : Type 0) (IsFault : E → Type 0)
-    → (AllGood good bytes → IsRight) → ((place : ℕ) → IsFirstBad good bytes place → IsFault (named place))
+    → (AllGood good bytes → IsRight) → ((offset : ℕ) → IsFirstBad good bytes offset → IsFault (named offset))
     → MatchOption (option_map named (first_bad (λ _ byte. good byte) bytes)) IsRight IsFault
 bytes_say good bytes named IsRight IsFault right wrong = go (first_bad (λ _ byte. good byte) bytes) (first_bad-says (λ _ byte. good byte) bytes)
   where
     go : (found : Option ℕ) → SaysWhichAreGood (λ _ byte. good byte) bytes found → MatchOption (option_map named found) IsRight IsFault
     go None each = right each
-    go (Some place) is = wrong place (record { within = is.within; before = is.before; bad = is.bad })
+    go (Some offset) is = wrong offset (record { within = is.within; before = is.before; bad = is.bad })
 
 -- so a function whose answer always says what holds, and that answers what holds, tells the faults
 pub tells : {E : Type 0} (fault_of : List ℕ → Option E) (IsRight : List ℕ → Type 0) (IsFault : List ℕ → E → Type 0)
     → ((bytes : List ℕ) → MatchOption (fault_of bytes) (IsRight bytes) (IsFault bytes)) → ((bytes : List ℕ) → IsRight bytes → fault_of bytes ≡ None)
-    → ((bytes : List ℕ) (fault : E) → IsFault bytes fault → fault_of bytes ≡ Some fault) → ((bytes : List ℕ) → IsRight bytes → (place : ℕ) → slice_index bytes place < 256)
+    → ((bytes : List ℕ) (fault : E) → IsFault bytes fault → fault_of bytes ≡ Some fault) → ((bytes : List ℕ) → IsRight bytes → (offset : ℕ) → slice_index bytes offset < 256)
     → TellsFaults fault_of IsRight IsFault
 tells {E = E} fault_of IsRight IsFault says right wrong small = record {
   right = λ bytes. (right bytes, is_right bytes (fault_of bytes) (says bytes));
@@ -108,11 +108,11 @@ tells {E = E} fault_of IsRight IsFault says right wrong small = record {
     is_wrong bytes fault (Some other) is e = let same : other ≡ fault = cc in subst (IsFault bytes) same is
 
 -- what holds of each byte that is there
-pub small_by : (good : ℕ → ℕ → Bool) → ((place b : ℕ) → good place b ≡ true → b < 256) → (bytes : List ℕ)
-    → ((k : ℕ) → k < length bytes → good k (slice_index bytes k) ≡ true) → (place : ℕ) → slice_index bytes place < 256
-small_by good small [] each place = omega arith
+pub small_by : (good : ℕ → ℕ → Bool) → ((offset b : ℕ) → good offset b ≡ true → b < 256) → (bytes : List ℕ)
+    → ((k : ℕ) → k < length bytes → good k (slice_index bytes k) ≡ true) → (offset : ℕ) → slice_index bytes offset < 256
+small_by good small [] each offset = omega arith
 small_by good small (b ∷ bytes) each zero = small 0 b (each 0 (omega arith))
-small_by good small (b ∷ bytes) each (suc place) = small_by (λ k. good (suc k)) (λ k. small (suc k)) bytes (λ k within. each (suc k) (omega (arith, within))) place
+small_by good small (b ∷ bytes) each (suc offset) = small_by (λ k. good (suc k)) (λ k. small (suc k)) bytes (λ k within. each (suc k) (omega (arith, within))) offset
 
 -- ---- names of files
 
@@ -130,11 +130,11 @@ name_wrong : (bytes : List ℕ) (fault : NameFault) → IsNameFault bytes fault 
 unfolding name_fault_of
 name_wrong bytes names.Empty is = rw (eq-eqb (length bytes) 0 is) refl
 name_wrong bytes names.TooLong is = rw (ne_eqb (length bytes) 0 (λ e. absurd (omega (arith, e, is))), lt-ltb 64 (length bytes) is) refl
-name_wrong bytes (names.BadByte place) is =
+name_wrong bytes (names.BadByte offset) is =
     rw (ne_eqb (length bytes) 0 (λ e. absurd (omega (arith, e, is.0.0))), le-ltb 64 (length bytes) is.0.1)
     (elim is.1 [
       | inl hidden ↦ rw (eq-eqb (slice_index bytes 0) 0x2E hidden.0, hidden.1) refl
-      | inr bad ↦ rw (ne_eqb (slice_index bytes 0) 0x2E bad.0, first_bad-some (λ _ byte. is_name_byte byte) bytes place bad.1.within bad.1.before bad.1.bad) refl
+      | inr bad ↦ rw (ne_eqb (slice_index bytes 0) 0x2E bad.0, first_bad-some (λ _ byte. is_name_byte byte) bytes offset bad.1.within bad.1.before bad.1.bad) refl
     ])
 
 name_says : (bytes : List ℕ) → MatchOption (name_fault_of bytes) (IsName bytes) (IsNameFault bytes)
@@ -148,7 +148,7 @@ name_says bytes =
     (λ visible.
     bytes_say is_name_byte bytes names.BadByte (IsName bytes) (IsNameFault bytes)
     (λ good. record { size = size; visible = eqb-false (slice_index bytes 0) 0x2E visible; good = good })
-    (λ place bad. (size, inr (eqb-false (slice_index bytes 0) 0x2E visible, bad))))))
+    (λ offset bad. (size, inr (eqb-false (slice_index bytes 0) 0x2E visible, bad))))))
 
 name_byte_small : (b : ℕ) → is_name_byte b ≡ true → b < 256
 name_byte_small b good = grind (arith, nat_tests)
@@ -165,8 +165,8 @@ text_right bytes is = rw (le-ltb 255 (length bytes) is.size, first_bad-none (λ 
 text_wrong : (bytes : List ℕ) (fault : TextFault) → (fault ≢ texts.Memory) × IsTextFault bytes fault → text_fault_of bytes ≡ Some fault
 unfolding text_fault_of
 text_wrong bytes (texts.TooLong found) is = rw (lt-ltb 255 (length bytes) is.1.1, is.1.0) refl
-text_wrong bytes (texts.BadByte place) is =
-    rw (le-ltb 255 (length bytes) is.1.0, first_bad-some (λ _ byte. is_printable byte) bytes place is.1.1.within is.1.1.before is.1.1.bad) refl
+text_wrong bytes (texts.BadByte offset) is =
+    rw (le-ltb 255 (length bytes) is.1.0, first_bad-some (λ _ byte. is_printable byte) bytes offset is.1.1.within is.1.1.before is.1.1.bad) refl
 text_wrong bytes texts.Memory is = absurd (is.0 refl)
 
 text_says : (bytes : List ℕ) → MatchOption (text_fault_of bytes) (IsText bytes) (λ fault. (fault ≢ texts.Memory) × IsTextFault bytes fault)
@@ -177,7 +177,7 @@ text_says bytes =
     (λ short.
     let size = ltb-false 255 (length bytes) short in
     bytes_say is_printable bytes texts.BadByte (IsText bytes) (λ fault. (fault ≢ texts.Memory) × IsTextFault bytes fault)
-    (λ good. record { size = size; good = good }) (λ place bad. ((λ e. cc), (size, bad))))
+    (λ good. record { size = size; good = good }) (λ offset bad. ((λ e. cc), (size, bad))))
 
 printable_small : (b : ℕ) → is_printable b ≡ true → b < 256
 printable_small b good = grind (arith, nat_tests)
@@ -209,8 +209,8 @@ ident_right bytes is = rw (length_passes (length bytes) is.size, first_bad-none 
 ident_wrong : (bytes : List ℕ) (fault : IdentFault) → IsIdentFault bytes fault → ident_fault_of bytes ≡ Some fault
 unfolding ident_fault_of
 ident_wrong bytes (idents.Length found) is = rw (length_stops (length bytes) is.1, is.0) refl
-ident_wrong bytes (idents.BadByte place) is =
-    rw (length_passes (length bytes) is.0, first_bad-some (λ _ byte. is_ident_byte byte) bytes place is.1.within is.1.before is.1.bad) refl
+ident_wrong bytes (idents.BadByte offset) is =
+    rw (length_passes (length bytes) is.0, first_bad-some (λ _ byte. is_ident_byte byte) bytes offset is.1.within is.1.before is.1.bad) refl
 
 ident_says : (bytes : List ℕ) → MatchOption (ident_fault_of bytes) (IsIdent bytes) (IsIdentFault bytes)
 unfolding ident_fault_of
@@ -218,7 +218,7 @@ ident_says bytes =
     test_says ((length bytes == 0) || nat_lt 20 (length bytes)) _ _ (IsIdent bytes) (IsIdentFault bytes) (λ found. (refl, has_none (length bytes) found))
     (λ passed.
     let size = has_length (length bytes) passed in
-    bytes_say is_ident_byte bytes idents.BadByte (IsIdent bytes) (IsIdentFault bytes) (λ good. record { size = size; good = good }) (λ place bad. (size, bad)))
+    bytes_say is_ident_byte bytes idents.BadByte (IsIdent bytes) (IsIdentFault bytes) (λ good. record { size = size; good = good }) (λ offset bad. (size, bad)))
 
 ident_byte_small : (b : ℕ) → is_ident_byte b ≡ true → b < 256
 ident_byte_small b good = grind (arith, nat_tests)
@@ -235,8 +235,8 @@ part_text_right bytes is = rw (eq-eqb (length bytes) 15 is.size, first_bad-none 
 part_text_wrong : (bytes : List ℕ) (fault : PartTextFault) → IsPartTextFault bytes fault → part_text_fault_of bytes ≡ Some fault
 unfolding part_text_fault_of
 part_text_wrong bytes (parts.Length found) is = rw (ne_eqb (length bytes) 15 is.1, is.0) refl
-part_text_wrong bytes (parts.BadByte place) is =
-    rw (eq-eqb (length bytes) 15 is.0, first_bad-some (λ _ byte. is_graphic byte) bytes place is.1.within is.1.before is.1.bad) refl
+part_text_wrong bytes (parts.BadByte offset) is =
+    rw (eq-eqb (length bytes) 15 is.0, first_bad-some (λ _ byte. is_graphic byte) bytes offset is.1.within is.1.before is.1.bad) refl
 
 part_text_says : (bytes : List ℕ) → MatchOption (part_text_fault_of bytes) (IsPartText bytes) (IsPartTextFault bytes)
 unfolding part_text_fault_of
@@ -246,7 +246,7 @@ part_text_says bytes = go (length bytes == 15) refl
         → MatchOption (if t then option_map parts.BadByte (first_bad (λ _ byte. is_graphic byte) bytes) else Some (parts.Length (length bytes))) (IsPartText bytes) (IsPartTextFault bytes)
     go true is =
         let size = eqb-true (length bytes) 15 is in
-        bytes_say is_graphic bytes parts.BadByte (IsPartText bytes) (IsPartTextFault bytes) (λ good. record { size = size; good = good }) (λ place bad. (size, bad))
+        bytes_say is_graphic bytes parts.BadByte (IsPartText bytes) (IsPartTextFault bytes) (λ good. record { size = size; good = good }) (λ offset bad. (size, bad))
     go false is = (refl, λ e. eqb-false (length bytes) 15 is e)
 
 graphic_small : (b : ℕ) → is_graphic b ≡ true → b < 256

@@ -13,10 +13,10 @@ use Rattle.load_base.specs.declared.part_text.PartTextFault.TheVariants as parts
 use Rattle.load_base.specs.declared.text.TextFault.{TextFault}
 use Rattle.load_base.specs.declared.text.TextFault.TheVariants as texts
 
--- the place of the first byte that isn't good there
+-- the offset of the first byte that isn't good there
 abbrev pub first_bad : (ℕ → ℕ → Bool) → List ℕ → Option ℕ
 first_bad good [] = None
-first_bad good (byte ∷ bytes) = if good 0 byte then option_map suc (first_bad (λ place. good (suc place)) bytes) else Some 0
+first_bad good (byte ∷ bytes) = if good 0 byte then option_map suc (first_bad (λ offset. good (suc offset)) bytes) else Some 0
 
 -- what is wrong with the name of a file
 unfoldable pub name_fault_of : List ℕ → Option NameFault
@@ -57,4 +57,4 @@ judged fault_of bytes = verdict (λ fault. fault) (fault_of bytes) bytes
 pub record TellsFaults {E : Type 0} (fault_of : List ℕ → Option E) (IsRight : List ℕ → Type 0) (IsFault : List ℕ → E → Type 0) : Type 0 where
   pub right : (bytes : List ℕ) → IsRight bytes ↔ (fault_of bytes ≡ None)
   pub wrong : (bytes : List ℕ) (fault : E) → IsFault bytes fault ↔ (fault_of bytes ≡ Some fault)
-  pub small : (bytes : List ℕ) → IsRight bytes → (place : ℕ) → slice_index bytes place < 256
+  pub small : (bytes : List ℕ) → IsRight bytes → (offset : ℕ) → slice_index bytes offset < 256

@@ -1,12 +1,8 @@
 -- Files that were written one after the other.
-use Rattle.std.specs.Prelude.{◌≡◌, ℕ, List, [], ◌∷◌, ◌++◌, fold, Bool, nat_eq, if◌then◌else◌, Some, None}
-use Rattle.std.specs.Cmp.Lexicographic.{pointwise}
+use Rattle.std.specs.Prelude.{◌≡◌, ℕ, List, [], ◌∷◌, ◌++◌, fold, if◌then◌else◌, Some, None}
+use Rattle.load_base.specs.Bytes.{same_bytes}
 use Rattle.load_base.specs.Host.{Files}
 use Rattle.load_base.specs.declared.mem_host.Written.{Written}
-
--- whether two lists of bytes are the same
-abbrev pub same_bytes : List ℕ → List ℕ → Bool
-same_bytes xs ys = pointwise nat_eq xs ys
 
 abbrev pub no_files : Files
 no_files name = None

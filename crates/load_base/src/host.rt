@@ -18,7 +18,7 @@ pub enum ReadFault {
     TooLong,
     /// The host failed, and its count of faults rose.
     Failed,
-    /// Memory is wanting.
+    /// Out of memory.
     Memory,
 }
 

@@ -10,9 +10,9 @@ use std::marker::Model;
 /// Why bytes are no [`Ident`].
 #[derive(Clone, Copy, Debug, PartialEq, Eq)]
 pub enum IdentFault {
-    /// I1: not 1 to 20 bytes. The number found.
+    /// I1: not 1 to 20 bytes. Their number.
     Length(u64),
-    /// I2: a byte that no Ident has. Its place, from 0.
+    /// I2: a byte that no Ident has. Its offset.
     BadByte(u64),
 }
 
@@ -49,13 +49,14 @@ impl Ident {
             return Err(IdentFault::Length(bytes.len() as u64));
         }
         match first_bad(bytes) {
-            Some(place) => Err(IdentFault::BadByte(place as u64)),
+            Some(offset) => Err(IdentFault::BadByte(offset as u64)),
             None => Ok(Ident {
                 text: Padded::new(bytes),
             }),
         }
     }
 
+    /// Its bytes.
     pub fn as_slice(&self) -> &[u8]
         ensures bytes { result.now ≡ self.now }
         ensures is_ident { IsIdent self.now }
@@ -64,10 +65,30 @@ impl Ident {
     }
 }
 
-// The place of the first byte that no Ident has.
+impl PartialEq for Ident {
+    ghost use Rattle.std.specs.Cmp.{partial_equiv_from_equiv};
+    ghost use Rattle.std.specs.Cmp.Lexicographic.{nat_list_eq_equiv};
+    ghost use Rattle.load_base.specs.Bytes.{same_bytes};
+
+    ghost eq = { same_bytes };
+
+    ghost laws = { partial_equiv_from_equiv nat_list_eq_equiv };
+
+    fn eq(&self, other: &Ident) -> bool {
+        self.as_slice() == other.as_slice()
+    }
+}
+
+impl Eq for Ident {
+    ghost use Rattle.std.specs.Cmp.Lexicographic.{nat_list_eq_equiv};
+
+    ghost laws = { nat_list_eq_equiv };
+}
+
+// The offset of the first byte that no Ident has.
 fn first_bad(bytes: &[u8]) -> Option<usize>
     ensures none { IfNone result (AllGood is_good bytes.now) }
-    ensures first { IfSome result (λ place. IsFirstBad is_good bytes.now place) }
+    ensures first { IfSome result (λ offset. IsFirstBad is_good bytes.now offset) }
 {
     bytes.iter().position(|byte| !is_ident_byte(*byte))
 }

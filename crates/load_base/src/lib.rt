@@ -1,8 +1,9 @@
-//! What every other crate stands on: lists that can reserve room, the texts of loads and targets, the
+//! What every other crate stands on: lists with spare capacity, the texts of loads and targets, the
 //! configuration of a target, the host that keeps files, and the sink that output goes to.
 #![tactic(auto)]
 
 mod config;
+mod failing;
 mod host;
 mod ident;
 mod laws;
@@ -18,9 +19,10 @@ mod tests;
 mod text;
 
 pub use config::{Config, Load, StoredFile};
+pub use failing::{FailingCalls, FaultCount};
 pub use host::{Host, LONGEST_FILE, ReadFault};
 pub use ident::{Ident, IdentFault};
-pub use laws::text_laws;
+pub use laws::{equality_laws, list_equality_law, text_laws};
 pub use list::{Bytes, List, NoMemory};
 pub use mem_host::MemHost;
 pub use name::{Name, NameFault};

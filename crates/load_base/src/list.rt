@@ -1,10 +1,10 @@
-//! Lists that can reserve room.
+//! Lists that can reserve spare capacity.
 ghost use Rattle.std.specs.Prelude.{◌≡◌, ℕ, ◌+◌, ◌<◌, ◌≤◌, ◌↔◌, [], ◌∷◌, ◌++◌, length, IsOk, IsTrue, IsNone, IfNone, IfSome, OnOk, OnErr};
 
 use std::alloc::{AllocError, AllocFailed, Global};
 use std::marker::Model;
 
-/// Memory is wanting: the one refusal that no input causes.
+/// Out of memory: the one refusal that no input causes.
 #[derive(Clone, Copy, Debug, PartialEq, Eq)]
 pub struct NoMemory;
 
@@ -20,9 +20,9 @@ impl<T: Drop> From<AllocFailed<T>> for NoMemory {
     }
 }
 
-/// A list that can reserve room, so that later pushes take no memory.
+/// A list that can reserve spare capacity, so that later pushes take no memory.
 ///
-/// A contract sees it as its members, `items`, and its `room`: how many pushes surely take no memory.
+/// A contract sees it as its members, `items`, and its spare capacity, `spare`: this many pushes take no memory.
 #[derive(Drop)]
 pub struct List<T> {
     inner: Vec<T>,
@@ -39,7 +39,7 @@ impl<T> Model for List<T> {
 
     ghost coded = { listed_code T.code };
 
-    ghost view = { λ l. record { items = l.inner.items; room = vec_capacity l.inner - vec_len l.inner } };
+    ghost view = { λ l. record { items = l.inner.items; spare = vec_capacity l.inner - vec_len l.inner } };
 }
 
 impl<T> List<T> {
@@ -58,56 +58,59 @@ impl<T> List<T> {
         T: Drop,
         ensures ok { OnOk result (self.new.items ≡ self.old.items ++ value ∷ []) }
         ensures err { OnErr result (self.new.items ≡ self.old.items) }
-        ensures room { self.old.room ≤ self.new.room + 1 }
-        ensures has_room { 1 ≤ self.old.room → IsOk result }
+        ensures spare { self.old.spare ≤ self.new.spare + 1 }
+        ensures has_spare { 1 ≤ self.old.spare → IsOk result }
     {
         self.inner.push(value)?;
         Ok(())
     }
 
-    /// Makes room for so many more pushes.
+    /// Reserves spare capacity for `more` pushes.
     pub fn reserve(&mut self, more: usize) -> Result<(), NoMemory>
-        ensures ok { OnOk result (more ≤ self.new.room) }
+        ensures ok { OnOk result (more ≤ self.new.spare) }
         ensures items { self.new.items ≡ self.old.items }
-        ensures room { self.old.room ≤ self.new.room }
-        ensures has_room { more ≤ self.old.room → IsOk result }
+        ensures spare { self.old.spare ≤ self.new.spare }
+        ensures has_spare { more ≤ self.old.spare → IsOk result }
     {
         self.inner.reserve(more)?;
         Ok(())
     }
 
-    /// Takes the last member off, and leaves room for one more push.
+    /// Takes the last member off, and leaves spare capacity for one more push.
     pub fn pop(&mut self) -> Option<T>
         ensures last { IfSome result (λ value. self.old.items ≡ self.new.items ++ value ∷ []) }
-        ensures room { IfSome result (λ _. self.new.room ≡ self.old.room + 1) }
+        ensures spare { IfSome result (λ _. self.new.spare ≡ self.old.spare + 1) }
         ensures empty { IsNone result ↔ (self.old.items ≡ []) }
         ensures same { IfNone result (self.new ≡ self.old) }
     {
         self.inner.pop()
     }
 
-    /// Takes all members off, and leaves room for as many more pushes.
+    /// Takes all members off, and keeps their memory as spare capacity.
     pub fn clear(&mut self)
     where
         T: Drop,
         ensures items { self.new.items ≡ [] }
-        ensures room { self.new.room ≡ self.old.room + length self.old.items }
+        ensures spare { self.new.spare ≡ self.old.spare + length self.old.items }
     {
         self.inner.clear();
     }
 
+    /// The members.
     pub fn as_slice(&self) -> &[T]
         ensures { result.now ≡ self.now.items }
     {
         self.inner.as_slice()
     }
 
+    /// The number of members.
     pub fn len(&self) -> usize
         ensures { result ≡ length self.now.items }
     {
         self.inner.len()
     }
 
+    /// Whether there is no member.
     pub fn is_empty(&self) -> bool
         ensures { IsTrue result ↔ (self.now.items ≡ []) }
     {
@@ -115,13 +118,34 @@ impl<T> List<T> {
     }
 }
 
+impl<T: PartialEq> PartialEq for List<T> {
+    ghost use Rattle.std.specs.Prelude.{List};
+    ghost use Rattle.std.specs.Cmp.{on_per};
+    ghost use Rattle.std.specs.Cmp.Lexicographic.{pointwise, lists_per};
+
+    ghost eq = { λ one other. pointwise T.eq one.items other.items };
+
+    ghost laws = { on_per (λ list. list.items) (lists_per T.laws) };
+
+    fn eq(&self, other: &List<T>) -> bool {
+        self.as_slice() == other.as_slice()
+    }
+}
+
+impl<T: Eq> Eq for List<T> {
+    ghost use Rattle.std.specs.Cmp.{on_equiv};
+    ghost use Rattle.std.specs.Cmp.Lexicographic.{lists_equiv};
+
+    ghost laws = { on_equiv (λ list. list.items) (lists_equiv T.Eq.laws) };
+}
+
 impl List<u8> {
     /// Adds all the bytes at the end, or none.
     pub fn extend(&mut self, bytes: &[u8]) -> Result<(), NoMemory>
         ensures ok { OnOk result (self.new.items ≡ self.old.items ++ bytes.now) }
         ensures err { OnErr result (self.new.items ≡ self.old.items) }
-        ensures room { self.old.room ≤ self.new.room + length bytes.now }
-        ensures has_room { length bytes.now ≤ self.old.room → IsOk result }
+        ensures spare { self.old.spare ≤ self.new.spare + length bytes.now }
+        ensures has_spare { length bytes.now ≤ self.old.spare → IsOk result }
     {
         self.inner.extend_from_slice(bytes)?;
         Ok(())

@@ -1,10 +1,12 @@
 //! A host in memory.
-ghost use Rattle.std.specs.Prelude.{◌≡◌, ◌≤◌, ◌∷◌, ◌++◌, [], IsTrue, Some, OnOk, OnErr, IfOk, IfErr, option_map};
-ghost use Rattle.load_base.specs.Counts.{Rose};
-ghost use Rattle.load_base.specs.Written.{IsAppended, written_files, same_bytes};
+ghost use Rattle.std.specs.Prelude.{◌≡◌, ◌↔◌, ◌≤◌, ◌∷◌, ◌++◌, [], Some, OnOk, OnErr, IfOk, IfErr, IsErrOf, length, option_map};
+ghost use Rattle.load_base.specs.Bytes.{same_bytes};
+ghost use Rattle.load_base.specs.Host.{ReadsFile, WritesFile, HasReadCause, longest_file};
+ghost use Rattle.load_base.specs.Sink.{HasWriteCause};
+ghost use Rattle.load_base.specs.Written.{IsAppended, written_files};
 
 use crate::host::{Host, LONGEST_FILE, ReadFault};
-use crate::{Bytes, List, NoMemory, WriteFault};
+use crate::{Bytes, FailingCalls, FaultCount, List, NoMemory, WriteFault};
 use std::alloc::Global;
 
 /// A file as it was written last, or before.
@@ -19,64 +21,59 @@ pub(crate) struct Written {
 pub struct MemHost {
     alloc: Global,
     written: List<Written>,
-    failing: List<u32>,
-    calls: u32,
-    faults: u64,
+    calls: FailingCalls,
+    faults: FaultCount,
 }
 
 impl MemHost {
     ghost use Rattle.load_base.specs.Written.{no_files};
-    ghost use Rattle.load_base.specs.MemHost.{files_of, failing_calls, next_call, faults_of};
+    ghost use Rattle.load_base.specs.MemHost.{files_of, calls_of, faults_of};
 
     /// A host without files and without faults.
     pub fn new(alloc: Global) -> MemHost
         ensures files { files_of result ≡ no_files }
-        ensures failing { failing_calls result ≡ [] }
-        ensures next { next_call result ≡ 1 }
+        ensures failing { (calls_of result).failing ≡ [] }
+        ensures next { (calls_of result).next ≡ 1 }
         ensures faults { faults_of result ≡ 0 }
     {
         MemHost {
             alloc,
             written: List::new(alloc),
-            failing: List::new(alloc),
-            calls: 0,
-            faults: 0,
+            calls: FailingCalls::new(alloc),
+            faults: FaultCount::new(),
         }
     }
 
     /// Lets the call of `read` or `write` with this number fail; calls count from 1, over both.
     pub fn fail_at(&mut self, call: u32) -> Result<(), NoMemory>
-        ensures ok { OnOk result (failing_calls self.new ≡ failing_calls self.old ++ call ∷ []) }
-        ensures err { OnErr result (failing_calls self.new ≡ failing_calls self.old) }
-        ensures next { next_call self.new ≡ next_call self.old }
+        ensures ok { OnOk result ((calls_of self.new).failing ≡ (calls_of self.old).failing ++ call ∷ []) }
+        ensures err { OnErr result ((calls_of self.new).failing ≡ (calls_of self.old).failing) }
+        ensures next { (calls_of self.new).next ≡ (calls_of self.old).next }
         ensures files { files_of self.new ≡ files_of self.old }
         ensures faults { faults_of self.new ≡ faults_of self.old }
     {
-        self.failing.push(call)
-    }
-
-    // Whether this call is one of those that were set to fail; then it counts as a fault.
-    fn fails(&mut self) -> bool
-        ensures files { self.new.written ≡ self.old.written }
-        ensures later { faults_of self.old ≤ faults_of self.new }
-        ensures rose { IsTrue result → Rose (faults_of self.old) (faults_of self.new) }
-    {
-        self.calls = self.calls.saturating_add(1);
-        if !self.failing.as_slice().contains(&self.calls) {
-            return false;
-        }
-        self.faults = self.faults.saturating_add(1);
-        true
+        self.calls.fail_at(call)
     }
 }
 
 impl Host for MemHost {
-    ghost files = { λ host. Some (written_files host.written.items) };
+    ghost use Rattle.load_base.specs.Failing.{IsSetToFail, CountsCall};
+    ghost use Rattle.load_base.specs.MemHost.{files_of, calls_of, faults_of};
 
-    ghost faults = { λ host. host.faults };
+    ghost files = { λ host. Some (files_of host) };
 
-    fn read(&mut self, alloc: Global, name: &[u8]) -> Result<Bytes, ReadFault> {
-        if self.fails() {
+    ghost faults = { faults_of };
+
+    fn read(&mut self, alloc: Global, name: &[u8]) -> Result<Bytes, ReadFault>
+        ensures file { ReadsFile (Some (files_of self.old)) name.now result }
+        ensures short { IfOk result (λ bytes. length bytes.items ≤ longest_file) }
+        ensures kept { Some (files_of self.new) ≡ Some (files_of self.old) }
+        ensures cause { HasReadCause (faults_of self.old) (faults_of self.new) result }
+        ensures fails { IsErrOf result ReadFault.Failed ↔ IsSetToFail (calls_of self.old) }
+        ensures counts { CountsCall (calls_of self.old) (calls_of self.new) }
+    {
+        if self.calls.count_call() {
+            self.faults.rise();
             return Err(ReadFault::Failed);
         }
         match last_of(self.written.as_slice(), name) {
@@ -86,8 +83,14 @@ impl Host for MemHost {
         }
     }
 
-    fn write(&mut self, name: &[u8], bytes: &[u8]) -> Result<(), WriteFault> {
-        if self.fails() {
+    fn write(&mut self, name: &[u8], bytes: &[u8]) -> Result<(), WriteFault>
+        ensures file { WritesFile (Some (files_of self.old)) (Some (files_of self.new)) name.now bytes.now result }
+        ensures cause { HasWriteCause (faults_of self.old) (faults_of self.new) result }
+        ensures fails { IsErrOf result WriteFault.Failed ↔ IsSetToFail (calls_of self.old) }
+        ensures counts { CountsCall (calls_of self.old) (calls_of self.new) }
+    {
+        if self.calls.count_call() {
+            self.faults.rise();
             return Err(WriteFault::Failed);
         }
         match append(self.alloc, &mut self.written, name, bytes) {

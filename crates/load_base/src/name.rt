@@ -5,6 +5,7 @@ ghost use Rattle.load_base.specs.Name.{IsName, IsNameFault, is_name_byte as is_g
 ghost use Rattle.load_base.specs.Verdicts.{judged, name_fault_of};
 
 use crate::padded::Padded;
+use std::hash::{Hash, Hasher};
 use std::marker::Model;
 
 /// Why bytes are no [`Name`].
@@ -14,7 +15,7 @@ pub enum NameFault {
     Empty,
     /// N2: more than 64 bytes.
     TooLong,
-    /// N3: a byte that no Name has there. Its place, from 0.
+    /// N3: a byte that no Name has there. Its offset.
     BadByte(u64),
 }
 
@@ -57,13 +58,14 @@ impl Name {
             return Err(NameFault::BadByte(0));
         }
         match first_bad(bytes) {
-            Some(place) => Err(NameFault::BadByte(place as u64)),
+            Some(offset) => Err(NameFault::BadByte(offset as u64)),
             None => Ok(Name {
                 text: Padded::new(bytes),
             }),
         }
     }
 
+    /// Its bytes.
     pub fn as_slice(&self) -> &[u8]
         ensures bytes { result.now ≡ self.now }
         ensures is_name { IsName self.now }
@@ -72,10 +74,44 @@ impl Name {
     }
 }
 
-// The place of the first byte that no Name has.
+impl PartialEq for Name {
+    ghost use Rattle.std.specs.Cmp.{partial_equiv_from_equiv};
+    ghost use Rattle.std.specs.Cmp.Lexicographic.{nat_list_eq_equiv};
+    ghost use Rattle.load_base.specs.Bytes.{same_bytes};
+
+    ghost eq = { same_bytes };
+
+    ghost laws = { partial_equiv_from_equiv nat_list_eq_equiv };
+
+    fn eq(&self, other: &Name) -> bool {
+        self.as_slice() == other.as_slice()
+    }
+}
+
+impl Eq for Name {
+    ghost use Rattle.std.specs.Cmp.Lexicographic.{nat_list_eq_equiv};
+
+    ghost laws = { nat_list_eq_equiv };
+}
+
+impl Hash for Name {
+    ghost use Rattle.std.specs.Hash as fed;
+    ghost use Rattle.std.specs.Cmp.Lexicographic.{bytes_decides};
+    ghost use Rattle.std.proofs.Common.{ap};
+
+    ghost hash_input = { λ name. fed.slice fed.u8 name };
+
+    ghost respects_eq = { λ one other same. ap (fed.slice fed.u8) ((bytes_decides one other).0 same) };
+
+    fn hash<H: Hasher>(&self, state: &mut H) {
+        self.as_slice().hash(state);
+    }
+}
+
+// The offset of the first byte that no Name has.
 fn first_bad(bytes: &[u8]) -> Option<usize>
     ensures none { IfNone result (AllGood is_good bytes.now) }
-    ensures first { IfSome result (λ place. IsFirstBad is_good bytes.now place) }
+    ensures first { IfSome result (λ offset. IsFirstBad is_good bytes.now offset) }
 {
     bytes.iter().position(|byte| !is_name_byte(*byte))
 }

@@ -3,7 +3,7 @@ ghost use Rattle.std.specs.Prelude.{◌≡◌, ◌≤◌, length};
 
 use std::marker::Model;
 
-/// A text of at most `N` bytes, with zeros behind it, so that equal texts have equal arrays.
+/// A text of at most `N` bytes, with zeros after it, so that equal texts have equal arrays.
 #[derive(Clone, Copy)]
 pub(crate) struct Padded<const N: usize> {
     cells: [u8; N],

@@ -9,9 +9,9 @@ use std::marker::Model;
 /// Why bytes are no [`PartText`].
 #[derive(Clone, Copy, Debug, PartialEq, Eq)]
 pub enum PartTextFault {
-    /// Y1: not 15 bytes. The number found.
+    /// Y1: not 15 bytes. Their number.
     Length(u64),
-    /// Y2: a byte that isn't 0x21 to 0x7E. Its place, from 0.
+    /// Y2: a byte that isn't 0x21 to 0x7E. Its offset.
     BadByte(u64),
 }
 
@@ -47,14 +47,15 @@ impl PartText {
         if bytes.len() != 15 {
             return Err(PartTextFault::Length(bytes.len() as u64));
         }
-        if let Some(place) = first_bad(bytes) {
-            return Err(PartTextFault::BadByte(place as u64));
+        if let Some(offset) = first_bad(bytes) {
+            return Err(PartTextFault::BadByte(offset as u64));
         }
         let mut part = [0; 15];
         part.copy_from_slice(bytes);
         Ok(PartText { bytes: part })
     }
 
+    /// Its bytes.
     pub fn as_slice(&self) -> &[u8]
         ensures bytes { result.now ≡ self.now }
         ensures is_part { IsPartText self.now }
@@ -63,10 +64,30 @@ impl PartText {
     }
 }
 
-// The place of the first byte that no part number has.
+impl PartialEq for PartText {
+    ghost use Rattle.std.specs.Cmp.{partial_equiv_from_equiv};
+    ghost use Rattle.std.specs.Cmp.Lexicographic.{nat_list_eq_equiv};
+    ghost use Rattle.load_base.specs.Bytes.{same_bytes};
+
+    ghost eq = { same_bytes };
+
+    ghost laws = { partial_equiv_from_equiv nat_list_eq_equiv };
+
+    fn eq(&self, other: &PartText) -> bool {
+        self.as_slice() == other.as_slice()
+    }
+}
+
+impl Eq for PartText {
+    ghost use Rattle.std.specs.Cmp.Lexicographic.{nat_list_eq_equiv};
+
+    ghost laws = { nat_list_eq_equiv };
+}
+
+// The offset of the first byte that no part number has.
 fn first_bad(bytes: &[u8]) -> Option<usize>
     ensures none { IfNone result (AllGood is_good bytes.now) }
-    ensures first { IfSome result (λ place. IsFirstBad is_good bytes.now place) }
+    ensures first { IfSome result (λ offset. IsFirstBad is_good bytes.now offset) }
 {
     bytes.iter().position(|byte| !is_graphic(*byte))
 }

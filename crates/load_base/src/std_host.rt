@@ -1,14 +1,16 @@
 //! The files of the system.
-ghost use Rattle.std.specs.Prelude.{◌≡◌, ◌≤◌, None, length, IfOk};
+ghost use Rattle.std.specs.Prelude.{◌≡◌, ◌≤◌, None, length, IfOk, IsErrOf};
+ghost use Rattle.load_base.specs.Host.{WritesFile};
+ghost use Rattle.load_base.specs.Sink.{HasWriteCause};
 
 use crate::host::{Host, LONGEST_FILE, ReadFault};
-use crate::{Bytes, NoMemory, WriteFault};
+use crate::{Bytes, FaultCount, NoMemory, WriteFault};
 use std::alloc::Global;
 use std::io::{self, ErrorKind, Read};
 use std::rt::Files;
 use std::{fs, str};
 
-// Files are read in pieces of so many bytes.
+// The host reads files in pieces of this many bytes.
 const PIECE: usize = 8192;
 
 /// The files of the system, relative to the current folder. A file is absent only where the system says that
@@ -16,14 +18,18 @@ const PIECE: usize = 8192;
 #[derive(Drop)]
 pub struct StdHost<'r, R: Files> {
     rt: &'r R,
-    faults: u64,
+    faults: FaultCount,
 }
 
 impl<'r, R: Files> StdHost<'r, R> {
+    /// The files of the system, without faults yet.
     pub fn new(rt: &'r R) -> StdHost<'r, R>
         ensures { ⟦<StdHost<'r, R> as Host>⟧.faults result ≡ 0 }
     {
-        StdHost { rt, faults: 0 }
+        StdHost {
+            rt,
+            faults: FaultCount::new(),
+        }
     }
 }
 
@@ -36,19 +42,23 @@ impl<R: Files> Host for StdHost<'_, R> {
         match read_file(self.rt, alloc, name) {
             Ok(bytes) => Ok(bytes),
             Err(ReadFault::Failed) => {
-                self.faults = self.faults.saturating_add(1);
+                self.faults.rise();
                 Err(ReadFault::Failed)
             }
             Err(fault) => Err(fault),
         }
     }
 
-    /// Missing folders are made. Want of memory isn't answered.
-    fn write(&mut self, name: &[u8], bytes: &[u8]) -> Result<(), WriteFault> {
+    /// It makes missing folders, and is never out of memory.
+    fn write(&mut self, name: &[u8], bytes: &[u8]) -> Result<(), WriteFault>
+        ensures file { WritesFile None None name.now bytes.now result }
+        ensures cause { HasWriteCause self.old.faults self.new.faults result }
+        ensures never_memory { ¬ IsErrOf result WriteFault.Memory }
+    {
         match write_file(self.rt, name, bytes) {
             Ok(()) => Ok(()),
             Err(_) => {
-                self.faults = self.faults.saturating_add(1);
+                self.faults.rise();
                 Err(WriteFault::Failed)
             }
         }

@@ -1,22 +1,22 @@
 //! Texts that people read.
-ghost use Rattle.std.specs.Prelude.{◌≡◌, ◌⊎◌, ◌<◌, IsOk, IfOk, IfErr, IfSome, IfNone, IsErrOf};
+ghost use Rattle.std.specs.Prelude.{◌≡◌, ◌⊎◌, ◌<◌, [], IsOk, IfOk, IfErr, IfSome, IfNone, IsErrOf};
 ghost use Rattle.load_base.specs.Bytes.{AllGood, IsFirstBad};
 ghost use Rattle.load_base.specs.Text.{IsText, IsTextFault, is_printable as is_good};
 ghost use Rattle.load_base.specs.Verdicts.{judged, text_fault_of};
 ghost use Rattle.load_base.specs.declared.text.TextFault.TheVariants.{Memory};
 
-use crate::{Bytes, NoMemory};
+use crate::{Bytes, Ident, Name, NoMemory, PartText};
 use std::alloc::Global;
 use std::marker::Model;
 
 /// Why bytes are no [`Text`].
 #[derive(Clone, Copy, Debug, PartialEq, Eq)]
 pub enum TextFault {
-    /// X1: more than 255 bytes. The number found.
+    /// X1: more than 255 bytes. Their number.
     TooLong(u64),
-    /// X2: a byte that isn't 0x20 to 0x7E. Its place, from 0.
+    /// X2: a byte that isn't 0x20 to 0x7E. Its offset.
     BadByte(u64),
-    /// Memory is wanting.
+    /// Out of memory.
     Memory,
 }
 
@@ -57,14 +57,54 @@ impl Text {
         if bytes.len() > 255 {
             return Err(TextFault::TooLong(bytes.len() as u64));
         }
-        if let Some(place) = first_bad(bytes) {
-            return Err(TextFault::BadByte(place as u64));
+        if let Some(offset) = first_bad(bytes) {
+            return Err(TextFault::BadByte(offset as u64));
         }
-        let mut copy = Bytes::new(alloc);
-        copy.extend(bytes)?;
-        Ok(Text { bytes: copy })
+        Ok(copy_of(alloc, bytes)?)
     }
 
+    /// The name of a file, as a text.
+    #[tactic(auto, using(crate::specs::TextLaws::name_is_text))]
+    pub fn of_name(alloc: Global, name: &Name) -> Result<Text, NoMemory>
+        ensures { IfOk result (λ text. text ≡ name.now) }
+    {
+        copy_of(alloc, name.as_slice())
+    }
+
+    /// The name of a target or of its hardware or position, as a text.
+    #[tactic(auto, using(crate::specs::TextLaws::ident_is_text))]
+    pub fn of_ident(alloc: Global, ident: &Ident) -> Result<Text, NoMemory>
+        ensures { IfOk result (λ text. text ≡ ident.now) }
+    {
+        copy_of(alloc, ident.as_slice())
+    }
+
+    /// A part number, as a text.
+    #[tactic(auto, using(crate::specs::TextLaws::part_text_is_text))]
+    pub fn of_part(alloc: Global, part: &PartText) -> Result<Text, NoMemory>
+        ensures { IfOk result (λ text. text ≡ part.now) }
+    {
+        copy_of(alloc, part.as_slice())
+    }
+
+    /// The text of no bytes. It takes no memory yet.
+    pub fn empty(alloc: Global) -> Text
+        ensures { result ≡ [] }
+    {
+        Text {
+            bytes: Bytes::new(alloc),
+        }
+    }
+
+    /// The text of these bytes, which are known to be one. It takes no memory.
+    pub fn of_printable(bytes: Bytes) -> Text
+        requires { IsText bytes.items }
+        ensures { result ≡ bytes.items }
+    {
+        Text { bytes }
+    }
+
+    /// Its bytes.
     pub fn as_slice(&self) -> &[u8]
         ensures bytes { result.now ≡ self.now }
         ensures is_text { IsText self.now }
@@ -73,10 +113,39 @@ impl Text {
     }
 }
 
-// The place of the first byte that no Text has.
+impl PartialEq for Text {
+    ghost use Rattle.std.specs.Cmp.{partial_equiv_from_equiv};
+    ghost use Rattle.std.specs.Cmp.Lexicographic.{nat_list_eq_equiv};
+    ghost use Rattle.load_base.specs.Bytes.{same_bytes};
+
+    ghost eq = { same_bytes };
+
+    ghost laws = { partial_equiv_from_equiv nat_list_eq_equiv };
+
+    fn eq(&self, other: &Text) -> bool {
+        self.as_slice() == other.as_slice()
+    }
+}
+
+impl Eq for Text {
+    ghost use Rattle.std.specs.Cmp.Lexicographic.{nat_list_eq_equiv};
+
+    ghost laws = { nat_list_eq_equiv };
+}
+
+fn copy_of(alloc: Global, bytes: &[u8]) -> Result<Text, NoMemory>
+    requires { IsText bytes.now }
+    ensures { IfOk result (λ text. text ≡ bytes.now) }
+{
+    let mut copy = Bytes::new(alloc);
+    copy.extend(bytes)?;
+    Ok(Text::of_printable(copy))
+}
+
+// The offset of the first byte that no Text has.
 fn first_bad(bytes: &[u8]) -> Option<usize>
     ensures none { IfNone result (AllGood is_good bytes.now) }
-    ensures first { IfSome result (λ place. IsFirstBad is_good bytes.now place) }
+    ensures first { IfSome result (λ offset. IsFirstBad is_good bytes.now offset) }
 {
     bytes.iter().position(|byte| !is_printable(*byte))
 }

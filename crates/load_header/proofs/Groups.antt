@@ -1,4 +1,4 @@
--- How the groups of sections of a header are spelled, at their places.
+-- How the groups of sections of a header are spelled, at their offsets.
 use Rattle.std.proofs.Common.{◌≡◌, ℕ, ◌+◌, ◌/◌, ◌<◌, ◌≤◌, ◌^◌, List, [], ◌++◌, length, refl, sym, ap, subst, ◌∙◌, arith}
 use Rattle.std.specs.List.{concat, AllByRecursion}
 use Rattle.std.proofs.lemmas.Bool.{eqb-true}
@@ -29,9 +29,9 @@ abbrev pub identity_parts : Identity → List (List ℕ)
 identity_parts v = padded_fields v.0 ++ (padded_fields v.1 ++ number_fields 2 v.2)
 
 pub record IsIdentity (places : Pointers) (before : List ℕ) (v : Identity) : Type 0 where
-  pub part_place : places.part ≡ length before / 2
+  pub part_offset : places.part ≡ length before / 2
   pub part : IsPartNumberText v.0
-  pub type_place : places.type_name ≡ (length before + size_of (padded_fields v.0)) / 2
+  pub type_offset : places.type_name ≡ (length before + size_of (padded_fields v.0)) / 2
   pub type_name : IsText v.1
   pub type_id : v.2 < 2 ^ 16
 
@@ -50,7 +50,7 @@ placed-identity places = record {
       let size : length b2 ≡ length before + size_of (padded_fields number) = omega (arith, place_behind before f0 [] a0.0, place_behind b1 f1 (padded_fields number) a1.0) in
       let is : Identity = (number, title, id) in
       let whole : fields ≡ identity_parts is = rw (e0, e1, e2, e3, e4, last.0, a0.0, a1.0, a2.0, a3.0, a4.0) refl in
-      let fits : IsIdentity places before is = record { part_place = a0.1; part = a1.1; type_place = a2.1 ∙ ap (λ (n : ℕ). n / 2) size; type_name = a3.1; type_id = a4.1 } in
+      let fits : IsIdentity places before is = record { part_offset = a0.1; part = a1.1; type_offset = a2.1 ∙ ap (λ (n : ℕ). n / 2) size; type_name = a3.1; type_id = a4.1 } in
       subst (λ (v : Identity). (fields ≡ identity_parts v) × IsIdentity places before v) last.1 (whole, fits);
   from = λ before after value fits.
       let b2 : List ℕ = (before ++ []) ++ concat (padded_fields value.0) in
@@ -60,7 +60,7 @@ placed-identity places = record {
         [],
         identity_parts value,
         refl,
-        (placed-section 1 places.part).from before _ tt fits.part_place,
+        (placed-section 1 places.part).from before _ tt fits.part_offset,
         (
           value.0,
           padded_fields value.0,
@@ -72,7 +72,7 @@ placed-identity places = record {
             [],
             type_part,
             refl,
-            (placed-section 2 places.type_name).from b2 _ tt (fits.type_place ∙ ap (λ (n : ℕ). n / 2) (sym size)),
+            (placed-section 2 places.type_name).from b2 _ tt (fits.type_offset ∙ ap (λ (n : ℕ). n / 2) (sym size)),
             (
               value.1,
               padded_fields value.1,
@@ -95,9 +95,9 @@ abbrev pub targets_parts : Targets → List (List ℕ)
 targets_parts v = texts_fields v.0 ++ positions_fields v.1
 
 pub record AreTargets (places : Pointers) (before : List ℕ) (v : Targets) : Type 0 where
-  pub hardware_place : places.hardware ≡ length before / 2
+  pub hardware_offset : places.hardware ≡ length before / 2
   pub hardware : AreTexts v.0
-  pub positions_place : places.positions ≡ (length before + size_of (texts_fields v.0)) / 2
+  pub positions_offset : places.positions ≡ (length before + size_of (texts_fields v.0)) / 2
   pub positions : (length v.1 < 2 ^ 16) × AllByRecursion IsHardwareAt v.1
 
 pub placed-targets : (places : Pointers) → IsPlacedBy (targets places) (λ before. targets_parts) (λ before after v. AreTargets places before v)
@@ -114,7 +114,7 @@ placed-targets places = record {
       let size : length b2 ≡ length before + size_of (texts_fields hardware) = omega (arith, place_behind before f0 [] a0.0, place_behind b1 f1 (texts_fields hardware) a1.0) in
       let is : Targets = (hardware, list) in
       let whole : fields ≡ targets_parts is = rw (e0, e1, e2, e3, last.0, a0.0, a1.0, a2.0, a3.0, append-nil) refl in
-      let fits : AreTargets places before is = record { hardware_place = a0.1; hardware = a1.1; positions_place = a2.1 ∙ ap (λ (n : ℕ). n / 2) size; positions = a3.1 } in
+      let fits : AreTargets places before is = record { hardware_offset = a0.1; hardware = a1.1; positions_offset = a2.1 ∙ ap (λ (n : ℕ). n / 2) size; positions = a3.1 } in
       subst (λ (v : Targets). (fields ≡ targets_parts v) × AreTargets places before v) last.1 (whole, fits);
   from = λ before after value fits.
       let b2 : List ℕ = (before ++ []) ++ concat (texts_fields value.0) in
@@ -123,7 +123,7 @@ placed-targets places = record {
         [],
         targets_parts value,
         refl,
-        (placed-section 3 places.hardware).from before _ tt fits.hardware_place,
+        (placed-section 3 places.hardware).from before _ tt fits.hardware_offset,
         (
           value.0,
           texts_fields value.0,
@@ -135,7 +135,7 @@ placed-targets places = record {
             [],
             positions_fields value.1,
             refl,
-            (placed-section 4 places.positions).from b2 _ tt (fits.positions_place ∙ ap (λ (n : ℕ). n / 2) (sym size)),
+            (placed-section 4 places.positions).from b2 _ tt (fits.positions_offset ∙ ap (λ (n : ℕ). n / 2) (sym size)),
             (value.1, positions_fields value.1, [], sym (append-nil (positions_fields value.1)), spelled-positions.from _ _ value.1 fits.positions, (refl, refl)),
           ),
         ),
@@ -151,9 +151,9 @@ abbrev pub all_files_parts : AllFiles → List (List ℕ)
 all_files_parts v = files_fields v.0 ++ files_fields v.1
 
 pub record AreFiles (places : Pointers) (before : List ℕ) (v : AllFiles) : Type 0 where
-  pub data_place : places.data_files ≡ length before / 2
+  pub data_offset : places.data_files ≡ length before / 2
   pub data_files : AllByRecursion IsHeaderFile v.0
-  pub support_place : places.support_files ≡ (length before + size_of (files_fields v.0)) / 2
+  pub support_offset : places.support_files ≡ (length before + size_of (files_fields v.0)) / 2
   pub support_files : AllByRecursion IsHeaderFile v.1
   pub few : length v.0 + length v.1 ≤ 255
 
@@ -167,9 +167,9 @@ placed-all_files places = record {
       let is : AllFiles = (first, support) in
       let whole : fields ≡ all_files_parts is = rw (e1, e2, last.0, a1.0, a2.0, append-nil) refl in
       let fits : AreFiles places before is = record {
-        data_place = a1.1.0;
+        data_offset = a1.1.0;
         data_files = a1.1.2;
-        support_place = a2.1.0 ∙ ap (λ (n : ℕ). n / 2) (place_behind before f1 (files_fields first) a1.0);
+        support_offset = a2.1.0 ∙ ap (λ (n : ℕ). n / 2) (place_behind before f1 (files_fields first) a1.0);
         support_files = a2.1.2;
         few = a2.1.1;
       } in
@@ -180,13 +180,13 @@ placed-all_files places = record {
         files_fields value.0,
         files_fields value.1,
         refl,
-        (placed-files 5 places.data_files 0).from before _ value.0 (fits.data_place, omega (arith, fits.few), fits.data_files),
+        (placed-files 5 places.data_files 0).from before _ value.0 (fits.data_offset, omega (arith, fits.few), fits.data_files),
         (
           value.1,
           files_fields value.1,
           [],
           sym (append-nil (files_fields value.1)),
-          (placed-files 6 places.support_files (length value.0)).from (before ++ concat (files_fields value.0)) _ value.1 (fits.support_place ∙ ap (λ (n : ℕ). n / 2) (sym size), fits.few, fits.support_files),
+          (placed-files 6 places.support_files (length value.0)).from (before ++ concat (files_fields value.0)) _ value.1 (fits.support_offset ∙ ap (λ (n : ℕ). n / 2) (sym size), fits.few, fits.support_files),
           (refl, refl),
         ),
       );
@@ -258,9 +258,9 @@ abbrev pub tail_parts : List ℕ → Tail → List (List ℕ)
 tail_parts before v = user_fields v.0 ++ (number_fields 2 0 ++ sums_parts ((before ++ concat (user_fields v.0)) ++ concat (number_fields 2 0)) v.1)
 
 pub record IsTail (places : Pointers) (before : List ℕ) (after : ℕ) (v : Tail) : Type 0 where
-  pub user_place : places.user ≡ length before / 2
+  pub user_offset : places.user ≡ length before / 2
   pub user : IsUserData v.0
-  pub check_place : places.check_value ≡ (length before + size_of (user_fields v.0)) / 2
+  pub check_offset : places.check_value ≡ (length before + size_of (user_fields v.0)) / 2
   pub load_crc : v.1 < 2 ^ 32
   pub none : after ≡ 0
 
@@ -276,9 +276,9 @@ placed-tail places = record {
       let whole : fields ≡ tail_parts before is = rw (e1, e2, e3, last.0, a3.0, a1.0, a2.0) refl in
       let none : after ≡ 0 = omega (arith, a3.1.1) in
       let fits : IsTail places before after is = record {
-        user_place = a1.1.0;
+        user_offset = a1.1.0;
         user = a1.1.1;
-        check_place = a2.1 ∙ ap (λ (n : ℕ). n / 2) (place_behind before f1 (user_fields user) a1.0);
+        check_offset = a2.1 ∙ ap (λ (n : ℕ). n / 2) (place_behind before f1 (user_fields user) a1.0);
         load_crc = a3.1.0;
         none = none;
       } in
@@ -291,13 +291,13 @@ placed-tail places = record {
         user_fields value.0,
         number_fields 2 0 ++ sums_parts b2 value.1,
         refl,
-        (placed-user places.user).from before _ value.0 (fits.user_place, fits.user),
+        (placed-user places.user).from before _ value.0 (fits.user_offset, fits.user),
         (
           tt,
           number_fields 2 0,
           sums_parts b2 value.1,
           refl,
-          (placed-no_check_value places.check_value).from b1 _ tt (fits.check_place ∙ ap (λ (n : ℕ). n / 2) (sym size)),
+          (placed-no_check_value places.check_value).from b1 _ tt (fits.check_offset ∙ ap (λ (n : ℕ). n / 2) (sym size)),
           (value.1, sums_parts b2 value.1, [], refl, placed-check_sums.from b2 _ value.1 (fits.load_crc, omega (arith, fits.none)), (refl, refl)),
         ),
       );

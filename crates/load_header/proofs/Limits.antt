@@ -9,7 +9,7 @@ use Rattle.std.proofs.lemmas.List.Concat.{flat_map-cons}
 use Rattle.field_grammar.specs.Spelling.{size_of}
 use Rattle.field_grammar.specs.Fields.{number_fields, padded_fields}
 use Rattle.load_header.specs.Header.{HeaderView, hardware_at_view, header_view}
-use Rattle.load_header.specs.HeaderFields.{hardware_at_fields, positions_fields, file_body_fields, type_fields, check_place, header_size, pointers_of, IsHardwareAt, IsHeaderFile, IsHeader}
+use Rattle.load_header.specs.HeaderFields.{hardware_at_fields, positions_fields, file_body_fields, type_fields, check_offset, header_size, pointers_of, IsHardwareAt, IsHeaderFile, IsHeader}
 use Rattle.load_header.specs.Encoding.{few_positions, few_members, short_enough, kind_fields, pointers_by, AreSizes, IsKind, HasFiles, HasParts}
 use Rattle.load_header.specs.declared.header.FileEntry.{FileEntry}
 use Rattle.load_header.specs.declared.header.HardwareAt.{HardwareAt}
@@ -63,8 +63,8 @@ size_type h = omega (arith, size_more (padded_fields h.type_name) (number_fields
 pub long_user : (h : HeaderView) → 65536 < length h.user → leb (header_size h) 65536 ≡ false
 unfolding header_size
 long_user h long =
-    let big : 65536 < check_place h + 8 = omega (arith, long, size_user h.user) in
-    lt-leb (check_place h + 8) 65536 big
+    let big : 65536 < check_offset h + 8 = omega (arith, long, size_user h.user) in
+    lt-leb (check_offset h + 8) 65536 big
 
 -- ---- one more member
 
@@ -129,7 +129,7 @@ header_short h is = and_from (length h.user % 2 == 0) (leb (header_size h) 65536
 pub header_user : (h : HeaderView) → IsHeader h → length h.user ≤ 65536
 unfolding header_size
 header_user h is =
-    let size : check_place h + 8 ≤ 65536 = is.size in
+    let size : check_offset h + 8 ≤ 65536 = is.size in
     omega (arith, size, size_user h.user)
 
 -- a header that passes the tests, whose parts are such
@@ -153,7 +153,7 @@ is_header h members files short has flags load =
       size = leb-true (header_size h) 65536 two.1;
     }
 
--- pointers are half the places, however they are computed
+-- pointers are half the offsets, however they are computed
 pub pointers_are : (h : HeaderView) (s : Sizes) → AreSizes h s → pointers_by s ≡ pointers_of h
 unfolding pointers_by pointers_of
 pointers_are h s are = rw (are.part, are.type_name, are.hardware, are.positions, are.data_files, are.support_files, are.user) refl

@@ -18,7 +18,7 @@ use Rattle.header_sections.specs.Sections.{text, name, part, section_at, distanc
 use Rattle.header_sections.specs.SectionFields.{texts_fields, entry_size, entry_fields, entry_fields_after, entries_fields}
 use Rattle.header_sections.specs.SectionLaws as texts
 use Rattle.header_sections.specs.SectionLaws.{placed-section_at}
-use Rattle.load_header.specs.Header.{named, refused, shared, u16, u32, counted_texts, hardware_at, positions, file_size, file_body, file_entry, entry_behind, files, HardwareAtView}
+use Rattle.load_header.specs.Header.{named, refused, shared, u16, u32, counted_texts, hardware_at, positions, file_size, file_body, file_entry, entry_after, files, HardwareAtView}
 use Rattle.load_header.specs.HeaderFields.{hardware_at_fields, positions_fields, file_body_fields, files_fields, AreTexts, IsHardwareAt, IsHeaderFile}
 use Rattle.load_header.specs.declared.fault.HeaderFault.TheVariants as faults
 use Rattle.load_header.specs.declared.header.FileEntry.{FileEntry}
@@ -174,9 +174,9 @@ spelled-file_entry file last =
     (λ f is. (distance_fits last (entry_size file_body_fields f) (body_small f is), is))
     (spelled-measured u16 (distance_of last) (faults.Distance file) (file_body file) 2 (number_fields 2) file_body_fields (λ n. n < 2 ^ 16) IsHeaderFile (size_number 2) spelled-u16 (spelled-file_body file))
 
-placed-entries : (others count : ℕ) → IsPlacedBy (listed count (entry_behind others count) []) (λ before. listed_fields (entry_fields_after file_body_fields count) []) (λ before after xs. (length xs ≡ count) × AllPlaced (entry_fields_after file_body_fields count) (λ so_far b a x. IsHeaderFile x) [] before after xs)
+placed-entries : (others count : ℕ) → IsPlacedBy (listed count (entry_after others count) []) (λ before. listed_fields (entry_fields_after file_body_fields count) []) (λ before after xs. (length xs ≡ count) × AllPlaced (entry_fields_after file_body_fields count) (λ so_far b a x. IsHeaderFile x) [] before after xs)
 placed-entries others count =
-    placed-listed (entry_behind others count) (entry_fields_after file_body_fields count) (λ so_far b a x. IsHeaderFile x) count
+    placed-listed (entry_after others count) (entry_fields_after file_body_fields count) (λ so_far b a x. IsHeaderFile x) count
     (λ so_far. placed (file_entry (others + length so_far + 1) (length so_far + 1 == count)) (entry_fields_after file_body_fields count so_far) IsHeaderFile (spelled-file_entry (others + length so_far + 1) (length so_far + 1 == count)))
 
 all_there : (s : List FileEntry → FileEntry → List (List ℕ)) (xs so_far : List FileEntry) (before : List ℕ) (after : ℕ) → AllPlaced s (λ l b a x. IsHeaderFile x) so_far before after xs → AllByRecursion IsHeaderFile xs

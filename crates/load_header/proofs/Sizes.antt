@@ -9,7 +9,7 @@ use Rattle.field_grammar.specs.SectionLaws.{size_more, size_number, size_padded}
 use Rattle.load_header.specs.Header.{HeaderView, HardwareAtView}
 use Rattle.header_sections.specs.SectionFields.{texts_fields, entry_size}
 use Rattle.header_sections.specs.SizeLaws.{even_all, even_padded, even_texts, size_user, size_entries, even_total}
-use Rattle.load_header.specs.HeaderFields.{hardware_at_fields, positions_fields, file_body_fields, files_fields, type_fields, check_place}
+use Rattle.load_header.specs.HeaderFields.{hardware_at_fields, positions_fields, file_body_fields, files_fields, type_fields, check_offset}
 use Rattle.load_header.specs.declared.header.FileEntry.{FileEntry}
 
 pub size_body : (f : FileEntry) → size_of (file_body_fields f) ≡ (2 + length f.name + length f.name % 2) + (2 + length f.part + length f.part % 2) + 14
@@ -38,6 +38,6 @@ unfolding type_fields
 even_type h = omega (arith, size_more (padded_fields h.type_name) (number_fields 2 h.type_id), size_number 2 h.type_id, even_padded h.type_name)
 
 -- every section begins at an even place
-pub even_place : (h : HeaderView) → length h.user % 2 ≡ 0 → check_place h % 2 ≡ 0
-even_place h even =
+pub even_offset : (h : HeaderView) → length h.user % 2 ≡ 0 → check_offset h % 2 ≡ 0
+even_offset h even =
     omega (arith, even, even_padded h.part, even_type h, even_texts h.hardware, even_positions h.positions, even_files h.data_files, even_files h.support_files, size_user h.user)

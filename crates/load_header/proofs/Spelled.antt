@@ -12,11 +12,11 @@ use Rattle.field_grammar.specs.SectionLaws.{size_more, size_number, place_behind
 use Rattle.header_sections.specs.SectionFields.{texts_fields, user_fields, IsUserData}
 use Rattle.header_sections.specs.SizeLaws.{size_user}
 use Rattle.load_header.specs.Header.{HeaderView, limit, head, header}
-use Rattle.load_header.specs.HeaderFields.{positions_fields, files_fields, type_fields, type_place, hardware_place, positions_place, data_place, support_place, user_place, check_place, header_size, pointers_of, head_fields, identity_fields, targets_fields, all_files_fields, sections_fields, covered_fields, header_fields, IsHeader}
+use Rattle.load_header.specs.HeaderFields.{positions_fields, files_fields, type_fields, type_offset, hardware_offset, positions_offset, data_offset, support_offset, user_offset, check_offset, header_size, pointers_of, head_fields, identity_fields, targets_fields, all_files_fields, sections_fields, covered_fields, header_fields, IsHeader}
 use Rattle.load_header.specs.declared.reading.Pointers.{Pointers}
 use Rattle.load_header.proofs.Groups.{Identity, identity_parts, IsIdentity, placed-identity, Targets, targets_parts, AreTargets, placed-targets, AllFiles, all_files_parts, AreFiles, placed-all_files, Tail, tail_parts, sums_parts, IsTail, placed-tail}
 use Rattle.load_header.proofs.Heads.{Head, IsHead, ArePointers, size_head, head_to, head_from}
-use Rattle.load_header.proofs.Sizes.{even_place}
+use Rattle.load_header.proofs.Sizes.{even_offset}
 
 placed-limit : IsPlacedBy limit (λ before u. []) (λ before after u. after ≤ 65536)
 unfolding limit
@@ -29,7 +29,7 @@ placed-limit = record {
   from = λ before after value fits. (after, [], [], refl, (refl, omega arith), (refl, le-leb after 65536 fits));
 }
 
--- what a header says, group by group
+-- what a header holds, group by group
 abbrev made : Head → Identity → Targets → AllFiles → Tail → HeaderView
 made start what whom parts stop = record {
   flags = start.0;
@@ -44,7 +44,7 @@ made start what whom parts stop = record {
   load_crc = stop.1;
 }
 
--- the groups of what a header says
+-- the groups of what a header holds
 abbrev what_of : HeaderView → Identity
 what_of h = (h.part, h.type_name, h.type_id)
 
@@ -120,7 +120,7 @@ same_pointers a b c d e f g h i j k l m n o p e1 e2 e3 e4 e5 e6 e7 e8 = cc
 half : (n m : ℕ) → n ≡ m → n / 2 ≡ m / 2
 half n m same = ap (λ (k : ℕ). k / 2) same
 
--- groups one behind the other
+-- groups back to back
 follow_on : (fields f1 f2 f3 f4 o1 o2 o3 o4 a b c d : List (List ℕ)) → fields ≡ f1 ++ o1 → f1 ≡ a → o1 ≡ f2 ++ o2 → f2 ≡ b → o2 ≡ f3 ++ o3 → f3 ≡ c → o3 ≡ f4 ++ o4 → f4 ≡ d → o4 ≡ []
     → fields ≡ a ++ (b ++ (c ++ d))
 follow_on fields f1 f2 f3 f4 o1 o2 o3 o4 a b c d e1 z1 e2 z2 e3 z3 e4 z4 none = rw (e1, z1, e2, z2, e3, z3, e4, z4, none, append-nil) refl
@@ -162,18 +162,18 @@ header_to fields after value follows =
     let none : after ≡ 0 = omega (arith, a5.1.none) in
     let said : ℕ = 40 + (length (concat o1) + after) in
     let s1 : length b1 ≡ 40 = omega (arith, place_behind [] f0 [] a0.0, place_behind b0 f1 (head_fields said start.0 start.1) a1.0, size_head said start.0 start.1) in
-    let s2 : length b2 ≡ hardware_place is = omega (arith, s1, place_behind b1 f2 (identity_parts what) a2.0, size_identity is) in
-    let s3 : length b3 ≡ data_place is = omega (arith, s2, place_behind b2 f3 (targets_parts whom) a3.0, size_targets is) in
-    let s4 : length b4 ≡ user_place is = omega (arith, s3, place_behind b3 f4 (all_files_parts parts) a4.0, size_files is) in
+    let s2 : length b2 ≡ hardware_offset is = omega (arith, s1, place_behind b1 f2 (identity_parts what) a2.0, size_identity is) in
+    let s3 : length b3 ≡ data_offset is = omega (arith, s2, place_behind b2 f3 (targets_parts whom) a3.0, size_targets is) in
+    let s4 : length b4 ≡ user_offset is = omega (arith, s3, place_behind b3 f4 (all_files_parts parts) a4.0, size_files is) in
     let places : start.1 ≡ pointers_of is = same_pointers _ _ _ _ _ _ _ _ _ _ _ _ _ _ _ _
-    (a2.1.part_place ∙ half (length b1) 40 s1)
-    (a2.1.type_place ∙ half (length b1 + size_of (padded_fields what.0)) (type_place is) (omega (arith, s1)))
-    (a3.1.hardware_place ∙ half (length b2) (hardware_place is) s2)
-    (a3.1.positions_place ∙ half (length b2 + size_of (texts_fields whom.0)) (positions_place is) (omega (arith, s2)))
-    (a4.1.data_place ∙ half (length b3) (data_place is) s3)
-    (a4.1.support_place ∙ half (length b3 + size_of (files_fields parts.0)) (support_place is) (omega (arith, s3)))
-    (a5.1.user_place ∙ half (length b4) (user_place is) s4)
-    (a5.1.check_place ∙ half (length b4 + size_of (user_fields stop.0)) (check_place is) (omega (arith, s4))) in
+    (a2.1.part_offset ∙ half (length b1) 40 s1)
+    (a2.1.type_offset ∙ half (length b1 + size_of (padded_fields what.0)) (type_offset is) (omega (arith, s1)))
+    (a3.1.hardware_offset ∙ half (length b2) (hardware_offset is) s2)
+    (a3.1.positions_offset ∙ half (length b2 + size_of (texts_fields whom.0)) (positions_offset is) (omega (arith, s2)))
+    (a4.1.data_offset ∙ half (length b3) (data_offset is) s3)
+    (a4.1.support_offset ∙ half (length b3 + size_of (files_fields parts.0)) (support_offset is) (omega (arith, s3)))
+    (a5.1.user_offset ∙ half (length b4) (user_offset is) s4)
+    (a5.1.check_offset ∙ half (length b4 + size_of (user_fields stop.0)) (check_offset is) (omega (arith, s4))) in
     let others : o1 ≡ rest_fields is b4 =
     follow_on o1 f2 f3 f4 f5 o2 o3 o4 o5 (identity_parts what) (targets_parts whom) (all_files_parts parts) (tail_parts b4 stop) e2 a2.0 e3 a3.0 e4 a4.0 e5 a5.0 last.0 in
     let total : said ≡ header_size is = omega (arith, ap (λ (o : List (List ℕ)). size_of o) others, size_rest is b4, none) in
@@ -209,7 +209,7 @@ header_to fields after value follows =
 pointers_fit : (h : HeaderView) → IsHeader h → ArePointers (pointers_of h)
 unfolding pointers_of header_size
 pointers_fit h is =
-    let size : check_place h + 8 ≤ 65536 = is.size in record {
+    let size : check_offset h + 8 ≤ 65536 = is.size in record {
       part = omega arith;
       type_name = omega (arith, size);
       hardware = omega (arith, size);
@@ -222,12 +222,12 @@ pointers_fit h is =
 
 even_size : (h : HeaderView) → IsHeader h → header_size h % 2 ≡ 0
 unfolding header_size
-even_size h is = omega (arith, even_place h is.user_even)
+even_size h is = omega (arith, even_offset h is.user_even)
 
 user_small : (h : HeaderView) → IsHeader h → length h.user / 2 < 2 ^ 16
 unfolding header_size
 user_small h is =
-    let size : check_place h + 8 ≤ 65536 = is.size in
+    let size : check_offset h + 8 ≤ 65536 = is.size in
     omega (arith, size, size_user h.user)
 
 header_from : (value : HeaderView) → IsHeader value → Follows header [] (header_fields value) 0 value
@@ -248,9 +248,9 @@ header_from value fits =
     let after : ℕ = length (concat rest) + 0 in
     let start : Head = (value.flags, places) in
     let s1 : length b1 ≡ 40 = omega (arith, place_behind ([] ++ []) a a refl, size_head size value.flags places) in
-    let s2 : length b2 ≡ hardware_place value = omega (arith, s1, place_behind b1 b b refl, size_identity value) in
-    let s3 : length b3 ≡ data_place value = omega (arith, s2, place_behind b2 c c refl, size_targets value) in
-    let s4 : length b4 ≡ user_place value = omega (arith, s3, place_behind b3 d d refl, size_files value) in
+    let s2 : length b2 ≡ hardware_offset value = omega (arith, s1, place_behind b1 b b refl, size_identity value) in
+    let s3 : length b3 ≡ data_offset value = omega (arith, s2, place_behind b2 c c refl, size_targets value) in
+    let s4 : length b4 ≡ user_offset value = omega (arith, s3, place_behind b3 d d refl, size_files value) in
     let total : 40 + after ≡ size = omega (arith, size_rest value b4) in
     let whole : size_of (a ++ rest) ≡ size = omega (arith, size_more a rest, size_head size value.flags places, total) in
     let is_head : IsHead after start = record {
@@ -261,30 +261,30 @@ header_from value fits =
     } in
     let head_follows = subst (λ (n : ℕ). Follows head ([] ++ []) (head_fields n value.flags places) after start) total (head_from ([] ++ []) after start is_head) in
     let is_identity : IsIdentity places b1 (what_of value) = record {
-      part_place = half 40 (length b1) (sym s1);
+      part_offset = half 40 (length b1) (sym s1);
       part = fits.part;
-      type_place = half (type_place value) (length b1 + size_of (padded_fields value.part)) (omega (arith, s1));
+      type_offset = half (type_offset value) (length b1 + size_of (padded_fields value.part)) (omega (arith, s1));
       type_name = fits.type_name;
       type_id = fits.type_id;
     } in
     let are_targets : AreTargets places b2 (whom_of value) = record {
-      hardware_place = half (hardware_place value) (length b2) (sym s2);
+      hardware_offset = half (hardware_offset value) (length b2) (sym s2);
       hardware = fits.hardware;
-      positions_place = half (positions_place value) (length b2 + size_of (texts_fields value.hardware)) (omega (arith, s2));
+      positions_offset = half (positions_offset value) (length b2 + size_of (texts_fields value.hardware)) (omega (arith, s2));
       positions = (fits.positions_count, fits.positions);
     } in
     let are_files : AreFiles places b3 (files_of value) = record {
-      data_place = half (data_place value) (length b3) (sym s3);
+      data_offset = half (data_offset value) (length b3) (sym s3);
       data_files = fits.data_files;
-      support_place = half (support_place value) (length b3 + size_of (files_fields value.data_files)) (omega (arith, s3));
+      support_offset = half (support_offset value) (length b3 + size_of (files_fields value.data_files)) (omega (arith, s3));
       support_files = fits.support_files;
       few = fits.files;
     } in
     let is_user : IsUserData value.user = record { bytes = fits.user; even = fits.user_even; size = user_small value fits } in
     let is_tail : IsTail places b4 (0 + 0) (stop_of value) = record {
-      user_place = half (user_place value) (length b4) (sym s4);
+      user_offset = half (user_offset value) (length b4) (sym s4);
       user = is_user;
-      check_place = half (check_place value) (length b4 + size_of (user_fields value.user)) (omega (arith, s4));
+      check_offset = half (check_offset value) (length b4 + size_of (user_fields value.user)) (omega (arith, s4));
       load_crc = fits.load_crc;
       none = refl;
     } in

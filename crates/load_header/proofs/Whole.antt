@@ -1,4 +1,4 @@
--- Nothing stands behind a header.
+-- Nothing stands after a header.
 use Rattle.field_grammar.specs.Grammar.{EndsTheBytes}
 use Rattle.field_grammar.specs.ExactLaws.{ends_renamed, ends_last, ends_before}
 use Rattle.crc_fields.specs.CheckSums.{crc16_of}

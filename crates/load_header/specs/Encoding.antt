@@ -58,7 +58,7 @@ pub record AreSmall (s : Sizes) : Type 0 where
 abbrev pub whole_size : Sizes → ℕ
 whole_size s = 40 + s.part + s.type_name + s.hardware + s.positions + s.data_files + s.support_files + s.user + 8
 
--- the pointers to sections that take so many bytes
+-- the pointers to sections of these sizes
 unfoldable pub pointers_by : Sizes → Pointers
 pointers_by s = record {
   part = 20;

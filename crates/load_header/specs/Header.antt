@@ -15,7 +15,7 @@ use Rattle.load_header.specs.declared.header.HardwareAt.{HardwareAt}
 use Rattle.load_header.specs.declared.header.LoadHeader.{LoadHeader}
 use Rattle.load_header.specs.declared.reading.Pointers.{Pointers}
 
--- ---- what a header says, without the room of its lists
+-- ---- what a header holds, without the spare capacity of its lists
 
 pub record HardwareAtView : Type 0 where
   pub hardware : List ℕ
@@ -131,7 +131,7 @@ hardware_at = do
   positions ← counted_texts
   give (record { hardware = hardware; positions = positions })
 
--- a count, and so many kinds of hardware with their positions
+-- a count, and the kinds of hardware with their positions
 unfoldable pub positions : Grammar HeaderFault (List HardwareAtView)
 positions = do
   count ← u16
@@ -160,7 +160,7 @@ file_size file = do
   check (is_size words bytes) (faults.Sizes file)
   give bytes
 
--- what an entry says of this file
+-- what an entry holds of this file
 unfoldable pub file_body : ℕ → Grammar HeaderFault FileEntry
 file_body file = do
   title ← shared name
@@ -173,17 +173,17 @@ file_body file = do
 unfoldable pub file_entry : ℕ → Bool → Grammar HeaderFault FileEntry
 file_entry file last = entry u16 (faults.Distance file) (file_body file) last
 
--- the entry behind those so far, in a list of so many that follows so many other files
-abbrev pub entry_behind : ℕ → ℕ → List FileEntry → Grammar HeaderFault FileEntry
-entry_behind others count so_far = file_entry (others + length so_far + 1) (length so_far + 1 == count)
+-- the entry after those so far, in a list of `count` that follows `others` other files
+abbrev pub entry_after : ℕ → ℕ → List FileEntry → Grammar HeaderFault FileEntry
+entry_after others count so_far = file_entry (others + length so_far + 1) (length so_far + 1 == count)
 
--- the section of a list of files that follows so many other files: a count and the entries
+-- the section of a list of files that follows `others` other files: a count and the entries
 unfoldable pub files : ℕ → ℕ → ℕ → Grammar HeaderFault (List FileEntry)
 files which said others = do
   shared (section_at which said)
   count ← u16
   check (nat_le (others + count) 255) (faults.TooMany (others + count))
-  listed count (entry_behind others count) []
+  listed count (entry_after others count) []
 
 -- the data files and the support files
 unfoldable pub all_files : Pointers → Grammar HeaderFault (List FileEntry × List FileEntry)
@@ -201,7 +201,7 @@ no_check_value said = do
   size ← u16
   check (size == 0) faults.CheckValuePresent
 
--- The CRC-16 of all before it and the CRC-32 of the load, and nothing behind them. The CRC-16 is compared last.
+-- The CRC-16 of all before it and the CRC-32 of the load, and nothing after them. The CRC-16 is compared last.
 unfoldable pub check_sums : Grammar HeaderFault ℕ
 check_sums = do
   before ← front

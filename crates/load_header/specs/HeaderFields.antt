@@ -19,11 +19,11 @@ use Rattle.load_header.specs.declared.reading.Pointers.{Pointers}
 abbrev pub hardware_at_fields : HardwareAtView → List (List ℕ)
 hardware_at_fields h = padded_fields h.hardware ++ texts_fields h.positions
 
--- a count, and so many kinds of hardware with their positions
+-- a count, and the kinds of hardware with their positions
 unfoldable pub positions_fields : List HardwareAtView → List (List ℕ)
 positions_fields list = number_fields 2 (length list) ++ flat_map hardware_at_fields list
 
--- what an entry says of its file, behind the distance: the length in words is that in bytes, halved and rounded up
+-- the fields of a file's entry after the distance: the length in words is that in bytes, halved and rounded up
 unfoldable pub file_body_fields : FileEntry → List (List ℕ)
 file_body_fields file =
     padded_fields file.name ++ (padded_fields file.part ++ (number_fields 4 ((file.length + 1) / 2) ++ (number_fields 8 file.length ++ number_fields 2 file.crc16)))
@@ -41,42 +41,42 @@ type_fields h = padded_fields h.type_name ++ number_fields 2 h.type_id
 abbrev pub head_size : ℕ
 head_size = 40
 
-abbrev pub type_place : HeaderView → ℕ
-type_place h = head_size + size_of (padded_fields h.part)
+abbrev pub type_offset : HeaderView → ℕ
+type_offset h = head_size + size_of (padded_fields h.part)
 
-abbrev pub hardware_place : HeaderView → ℕ
-hardware_place h = type_place h + size_of (type_fields h)
+abbrev pub hardware_offset : HeaderView → ℕ
+hardware_offset h = type_offset h + size_of (type_fields h)
 
-abbrev pub positions_place : HeaderView → ℕ
-positions_place h = hardware_place h + size_of (texts_fields h.hardware)
+abbrev pub positions_offset : HeaderView → ℕ
+positions_offset h = hardware_offset h + size_of (texts_fields h.hardware)
 
-abbrev pub data_place : HeaderView → ℕ
-data_place h = positions_place h + size_of (positions_fields h.positions)
+abbrev pub data_offset : HeaderView → ℕ
+data_offset h = positions_offset h + size_of (positions_fields h.positions)
 
-abbrev pub support_place : HeaderView → ℕ
-support_place h = data_place h + size_of (files_fields h.data_files)
+abbrev pub support_offset : HeaderView → ℕ
+support_offset h = data_offset h + size_of (files_fields h.data_files)
 
-abbrev pub user_place : HeaderView → ℕ
-user_place h = support_place h + size_of (files_fields h.support_files)
+abbrev pub user_offset : HeaderView → ℕ
+user_offset h = support_offset h + size_of (files_fields h.support_files)
 
-abbrev pub check_place : HeaderView → ℕ
-check_place h = user_place h + size_of (user_fields h.user)
+abbrev pub check_offset : HeaderView → ℕ
+check_offset h = user_offset h + size_of (user_fields h.user)
 
 -- the whole: the length of the check value, the check sum of the header and that of the load have 8 bytes
 unfoldable pub header_size : HeaderView → ℕ
-header_size h = check_place h + 8
+header_size h = check_offset h + 8
 
--- the pointers: half the places
+-- the pointers: half the offsets
 unfoldable pub pointers_of : HeaderView → Pointers
 pointers_of h = record {
   part = head_size / 2;
-  type_name = type_place h / 2;
-  hardware = hardware_place h / 2;
-  positions = positions_place h / 2;
-  data_files = data_place h / 2;
-  support_files = support_place h / 2;
-  user = user_place h / 2;
-  check_value = check_place h / 2;
+  type_name = type_offset h / 2;
+  hardware = hardware_offset h / 2;
+  positions = positions_offset h / 2;
+  data_files = data_offset h / 2;
+  support_files = support_offset h / 2;
+  user = user_offset h / 2;
+  check_value = check_offset h / 2;
 }
 
 -- ---- the whole
@@ -86,7 +86,7 @@ pointers_fields p =
     number_fields 4 p.part ++ (number_fields 4 p.type_name ++ (number_fields 4 p.hardware ++ (number_fields 4 p.positions
     ++ (number_fields 4 p.data_files ++ (number_fields 4 p.support_files ++ (number_fields 4 p.user ++ number_fields 4 p.check_value))))))
 
--- the head of a header of so many bytes
+-- the head of a header of `size` bytes
 unfoldable pub head_fields : ℕ → ℕ → Pointers → List (List ℕ)
 head_fields size flags places = number_fields 4 (size / 2) ++ (number_fields 2 0x8004 ++ (number_fields 2 flags ++ pointers_fields places))
 

@@ -38,7 +38,8 @@ fn number_bytes(alloc: Global, value: u32) -> Result<Bytes, NoMemory>
 // All that the check sum of the header covers.
 fn covered_bytes(alloc: Global, header: &LoadHeader) -> Result<Bytes, NoMemory>
     requires { IsHeader (header_view header.now) }
-    ensures { IfOk result (λ bytes. bytes.items ≡ concat (covered_fields (header_view header.now))) }
+    ensures { IfOk result (λ bytes. bytes.items
+        ≡ concat (covered_fields (header_view header.now))) }
 {
     let sizes = sizes_of(header);
     let mut out = Writer::new(alloc);
@@ -110,7 +111,9 @@ fn put_pointers(out: &mut Writer, pointers: Pointers) -> Result<(), NoMemory>
 }
 
 fn put_four(out: &mut Writer, a: u32, b: u32, c: u32, d: u32) -> Result<(), NoMemory>
-    ensures { OnOk result (out.new ≡ out.old ++ (bytes_of_number 4 a ++ (bytes_of_number 4 b ++ (bytes_of_number 4 c ++ bytes_of_number 4 d)))) }
+    ensures { OnOk result (out.new ≡ out.old ++
+        (bytes_of_number 4 a ++ (bytes_of_number 4 b
+        ++ (bytes_of_number 4 c ++ bytes_of_number 4 d)))) }
 {
     out.put_u32(a)?;
     out.put_u32(b)?;

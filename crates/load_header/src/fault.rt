@@ -8,26 +8,26 @@ use header_sections::SectionFault;
 use load_base::{NameFault, NoMemory, TextFault};
 use part_number::PartFault;
 
-/// Why bytes are no load header (this project's layout, docs/FORMATS.md). Places are byte offsets in the
-/// header, counted from 0. A nested fault is never want of memory.
+/// Why bytes are no load header (this project's layout, docs/FORMATS.md). Offsets are in bytes
+/// from the start of the header. A nested fault is never out of memory.
 #[derive(Clone, Copy, Debug, PartialEq, Eq)]
 pub enum HeaderFault {
-    /// H1: a field doesn't fit; the place where it begins.
+    /// H1: a field doesn't fit; the offset where it begins.
     Short(u64),
-    /// H2: the header says that it has `said` words of 2 bytes, and has `found` bytes.
+    /// H2: the length in words of 2 bytes is `said`, and the header has `found` bytes.
     Length {
         said: u64,
         found: u64,
     },
     /// H3: another version than 0x8004.
     Version(u64),
-    /// H4: pointer `which`, 1 to 8, says that its section begins at word `said`; it begins at `expected`.
+    /// H4: pointer `which`, 1 to 8, is word `said`; its section begins at word `expected`.
     Pointer {
         which: u64,
         said: u64,
         expected: u64,
     },
-    /// H5: a pad byte isn't 0; its place.
+    /// H5: a pad byte isn't 0; its offset.
     Pad(u64),
     /// H6: the part number of the load is refused.
     Part(PartFault),
@@ -46,21 +46,21 @@ pub enum HeaderFault {
     },
     /// H11: more than 65,536 bytes.
     TooLong,
-    /// H12: a file's name is refused; the place of its bytes.
+    /// H12: a file's name is refused; the offset of its bytes.
     Name {
         place: u64,
         fault: NameFault,
     },
-    /// H13: a text is refused; the place of its bytes.
+    /// H13: a text is refused; the offset of its bytes.
     Text {
         place: u64,
         fault: TextFault,
     },
-    /// H14: more than 255 data and support files together; so many as counted so far.
+    /// H14: more than 255 data and support files together; the count so far.
     TooMany(u64),
-    /// H15: bytes go on behind the check sum of the load; the place of the first.
+    /// H15: bytes follow the load CRC; the offset of the first.
     Rest(u64),
-    /// Memory is wanting.
+    /// Out of memory.
     Memory,
 }
 

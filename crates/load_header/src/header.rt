@@ -1,4 +1,4 @@
-//! What a load header says.
+//! What a load header holds.
 ghost use Rattle.std.specs.Prelude.{◌≡◌, ◌⊎◌, ◌↔◌, IsTrue, IfOk, IfErr};
 ghost use Rattle.field_grammar.specs.Grammar.{Fault};
 ghost use Rattle.field_grammar.specs.Answers.{Gives};
@@ -44,8 +44,8 @@ pub struct LoadHeader {
     pub data_files: List<FileEntry>,
     pub support_files: List<FileEntry>,
     pub user: Bytes,
-    /// The CRC-32 of the header but its last 4 bytes, of the data files and of the support files, one behind
-    /// the other. It is not compared when a header is read.
+    /// The CRC-32 of the header but its last 4 bytes, of the data files and of the support files, back to
+    /// back. It is not compared when a header is read.
     pub load_crc: u32,
 }
 
@@ -57,12 +57,14 @@ impl LoadHeader {
     pub fn decode(alloc: Global, bytes: &[u8]) -> Result<LoadHeader, HeaderFault>
         // What is read is spelled so.
         ensures found { IfOk result (λ h. HeaderSpells (header_view h) bytes.now) }
-        // What is spelled so is read, unless memory is wanting.
-        ensures only { (v : HeaderView) → HeaderSpells v bytes.now → Gives Memory header_view result (Ok v) }
+        // What is spelled so is read, unless it is out of memory.
+        ensures only { (v : HeaderView) → HeaderSpells v bytes.now
+            → Gives Memory header_view result (Ok v) }
         // A refusal is the first fault,
         ensures refused { IfErr result (λ fault. (fault ≡ Memory) ⊎ Fault header bytes.now fault) }
         // and where there is a fault, it is refused so.
-        ensures faulty { (fault : HeaderFault) → Fault header bytes.now fault → Gives Memory header_view result (Err fault) }
+        ensures faulty { (fault : HeaderFault) → Fault header bytes.now fault
+            → Gives Memory header_view result (Err fault) }
     {
         header_of(alloc, bytes)
     }

@@ -1,5 +1,5 @@
-//! The header of a load: a file with the ending `.LUH`, which says what the load is, which hardware it is
-//! for, and of which files it consists.
+//! The header of a load: a file with the ending `.LUH`, which names the load, the hardware it is
+//! for, and its files.
 #![tactic(auto)]
 
 mod encoding;
@@ -18,4 +18,3 @@ pub use fault::HeaderFault;
 pub use header::{FileEntry, HardwareAt, LoadHeader};
 pub use laws::header_laws;
 pub use load_crc::LoadCrc;
-pub use printing::fault_text;

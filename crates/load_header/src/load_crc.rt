@@ -35,7 +35,8 @@ impl LoadCrc {
 
     /// Takes the next bytes of the files. A file may be given in pieces.
     pub fn file(&mut self, bytes: &[u8])
-        ensures { (given : List ℕ) → self.old ≡ crc32_of given → self.new ≡ crc32_of (given ++ bytes.now) }
+        ensures { (given : List ℕ) → self.old ≡ crc32_of given
+            → self.new ≡ crc32_of (given ++ bytes.now) }
     {
         self.sum.update(bytes);
     }

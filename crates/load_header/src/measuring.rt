@@ -135,7 +135,8 @@ fn size_in_all(header: &LoadHeader) -> u64
 #[tactic(auto, unfolding(crate::specs::HeaderFields::header_size))]
 pub(crate) fn header_size(sizes: Sizes) -> u64
     requires { AreSmall sizes }
-    ensures { result ≡ 40 + sizes.part + sizes.type_name + sizes.hardware + sizes.positions + sizes.data_files + sizes.support_files + sizes.user + 8 }
+    ensures { result ≡ 40 + sizes.part + sizes.type_name + sizes.hardware + sizes.positions +
+        sizes.data_files + sizes.support_files + sizes.user + 8 }
 {
     40 + sizes.part
         + sizes.type_name

@@ -2,7 +2,7 @@
 ghost use Rattle.std.specs.Prelude.{◌≡◌, [], ◌*◌, ◌/◌, ◌+◌, ◌==◌, ◌≤◌, ◌<◌, length, map, IfOk};
 ghost use Rattle.field_grammar.specs.Grammar.{times, listed};
 ghost use Rattle.field_grammar.specs.Answers.{answer, Decodes, Gives};
-ghost use Rattle.load_header.specs.Header.{counted_texts, four, pointers, head, identity, hardware_at, positions, targets, file_size, file_body, file_entry, entry_behind, files, all_files, no_check_value, check_sums, tail, limit, header, hardware_at_view, header_view};
+ghost use Rattle.load_header.specs.Header.{counted_texts, four, pointers, head, identity, hardware_at, positions, targets, file_size, file_body, file_entry, entry_after, files, all_files, no_check_value, check_sums, tail, limit, header, hardware_at_view, header_view};
 ghost use Rattle.load_header.specs.declared.fault.HeaderFault.TheVariants.{Memory};
 
 use crate::fault::HeaderFault;
@@ -29,7 +29,7 @@ pub(crate) const MOST_FILES: usize = 255;
 /// The most bytes of a file.
 pub(crate) const LONGEST_FILE: u64 = 16_777_215;
 
-/// The words at which the sections begin, as the head says.
+/// The words at which the sections begin, as read from the head.
 #[derive(Clone, Copy)]
 pub(crate) struct Pointers {
     pub(crate) part: u32,
@@ -155,7 +155,8 @@ fn read_targets(
     reader: &mut Reader,
     pointers: Pointers,
 ) -> Result<(List<Text>, List<HardwareAt>), HeaderFault>
-    ensures { Decodes Memory (λ x. (x.0.items, map hardware_at_view x.1.items)) (targets pointers) reader.old result reader.new }
+    ensures { Decodes Memory (λ x. (x.0.items, map hardware_at_view x.1.items)) (targets pointers)
+        reader.old result reader.new }
 {
     test_section(reader, 3, pointers.hardware)?;
     let hardware = read_counted_texts(alloc, reader)?;
@@ -166,7 +167,8 @@ fn read_targets(
 
 #[tactic(auto, unfolding(crate::specs::Header::positions))]
 fn read_positions(alloc: Global, reader: &mut Reader) -> Result<List<HardwareAt>, HeaderFault>
-    ensures { Decodes Memory (λ l. map hardware_at_view l.items) positions reader.old result reader.new }
+    ensures { Decodes Memory (λ l. map hardware_at_view l.items) positions reader.old result
+        reader.new }
 {
     let count = reader.take_u16()?;
     let positions = read_so_many_positions(alloc, reader, count)?;
@@ -179,7 +181,8 @@ fn read_so_many_positions(
     reader: &mut Reader,
     count: u16,
 ) -> Result<List<HardwareAt>, HeaderFault>
-    ensures { Decodes Memory (λ l. map hardware_at_view l.items) (times count hardware_at) reader.old result reader.new }
+    ensures { Decodes Memory (λ l. map hardware_at_view l.items) (times count hardware_at)
+        reader.old result reader.new }
 {
     let mut positions = List::new(alloc);
     for _ in 0..count {
@@ -208,7 +211,8 @@ fn read_all_files(
     reader: &mut Reader,
     pointers: Pointers,
 ) -> Result<(List<FileEntry>, List<FileEntry>), HeaderFault>
-    ensures { Decodes Memory (λ x. (x.0.items, x.1.items)) (all_files pointers) reader.old result reader.new }
+    ensures { Decodes Memory (λ x. (x.0.items, x.1.items)) (all_files pointers) reader.old result
+        reader.new }
 {
     let data_files = read_files(alloc, reader, 5, pointers.data_files, 0)?;
     let support_files = read_files(alloc, reader, 6, pointers.support_files, data_files.len())?;
@@ -224,7 +228,8 @@ fn read_files(
     others: usize,
 ) -> Result<List<FileEntry>, HeaderFault>
     requires { others ≤ 65535 }
-    ensures files { Decodes Memory (λ l. l.items) (files which said others) reader.old result reader.new }
+    ensures files { Decodes Memory (λ l. l.items) (files which said others) reader.old result
+        reader.new }
     ensures few { IfOk result (λ l. length l.items ≤ 255) }
 {
     test_section(reader, which, said)?;
@@ -244,7 +249,8 @@ fn read_entries(
     count: usize,
 ) -> Result<List<FileEntry>, HeaderFault>
     requires { others + count ≤ 255 }
-    ensures entries { Decodes Memory (λ l. l.items) (listed count (entry_behind others count) []) reader.old result reader.new }
+    ensures entries { Decodes Memory (λ l. l.items) (listed count (entry_after others count) [])
+        reader.old result reader.new }
     ensures all { IfOk result (λ l. length l.items ≡ count) }
 {
     let mut files = List::new(alloc);

@@ -1,6 +1,7 @@
-use crate::{FileEntry, HeaderFault, LoadCrc, LoadHeader, fault_text, header_laws};
+use crate::{FileEntry, HeaderFault, LoadCrc, LoadHeader, header_laws};
 use crc_fields::{Crc32, crc16};
 use load_base::{Bytes, List, Name, NoMemory, Text};
+use printed_text::Printed;
 use std::alloc::Global;
 
 /// The header of a load with one file, `APP.BIN`, whose bytes are `123456789`, but its two check sums.
@@ -46,21 +47,21 @@ fn app_header() -> [u8; 122] {
 }
 
 /// What these bytes are refused with, or nothing.
-fn outcome(alloc: Global, bytes: &[u8]) -> Result<Bytes, NoMemory> {
+fn outcome(alloc: Global, bytes: &[u8]) -> Result<Text, NoMemory> {
     match LoadHeader::decode(alloc, bytes) {
-        Ok(_) => Ok(Bytes::new(alloc)),
-        Err(fault) => fault_text(alloc, &fault),
+        Ok(_) => Ok(Text::empty(alloc)),
+        Err(fault) => fault.text(alloc),
     }
 }
 
-/// Puts a byte at a place.
+/// Puts a byte at an offset.
 fn change(bytes: &mut [u8], place: usize, byte: u8) {
     if place < bytes.len() {
         bytes[place] = byte;
     }
 }
 
-/// So many bytes at the front.
+/// The first N bytes.
 fn front(bytes: &[u8], size: usize) -> &[u8] {
     if size <= bytes.len() {
         &bytes[..size]
@@ -78,7 +79,7 @@ fn mend(bytes: &mut [u8]) {
     }
 }
 
-/// Each place and byte that is put there, whether the header's check sum is made right again, and what the
+/// Each offset and byte that is put there, whether the header's check sum is made right again, and what the
 /// header is refused with.
 #[test]
 fn each_changed_byte_has_its_refusal(rt: HostRuntime) -> Result<(), NoMemory> {
@@ -167,7 +168,7 @@ fn what_was_read_is_written_again(rt: HostRuntime) -> Result<(), HeaderFault> {
     Ok(())
 }
 
-/// So many files with the name `F.BIN` and an empty part, each of so many bytes.
+/// N files with the name `F.BIN` and an empty part, each of `length` bytes.
 fn files(alloc: Global, count: usize, length: u32) -> Result<List<FileEntry>, HeaderFault> {
     let mut files = List::new(alloc);
     for _ in 0..count {

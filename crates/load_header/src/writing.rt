@@ -35,7 +35,8 @@ fn put_each_kind(out: &mut Writer, list: &[HardwareAt]) -> Result<(), NoMemory>
 pub(crate) fn put_positions(out: &mut Writer, list: &[HardwareAt]) -> Result<(), NoMemory>
     requires count { length list.now < 65536 }
     requires each { list_all few_positions (map hardware_at_view list.now) ≡ true }
-    ensures { OnOk result (out.new ≡ out.old ++ concat (positions_fields (map hardware_at_view list.now))) }
+    ensures { OnOk result (out.new ≡ out.old ++ concat
+        (positions_fields (map hardware_at_view list.now))) }
 {
     out.put_u16(list.len() as u16)?;
     put_each_kind(out, list)?;

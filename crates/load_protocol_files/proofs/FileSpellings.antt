@@ -3,22 +3,22 @@ use Rattle.std.proofs.Common.{◌≡◌, ℕ, ◌+◌, ◌<◌, ◌^◌, List, [
 use Rattle.std.specs.Prelude.{IfOk}
 use Rattle.std.specs.List.{concat}
 use Rattle.std.proofs.lemmas.List.{append-nil}
-use Rattle.field_grammar.specs.Grammar.{Grammar, IsBytes, Spelled, renamed, sized, expected}
+use Rattle.field_grammar.specs.Grammar.{Grammar, IsBytes, IsDecided, EndsTheBytes, Spelled, renamed, sized, expected}
 use Rattle.field_grammar.specs.Fields.{number, number_bytes, number_fields}
 use Rattle.field_grammar.specs.Answers.{answer, Gives}
 use Rattle.field_grammar.specs.Spelling.{IsSpelledBy, IsPlacedBy, SpellsWhole}
 use Rattle.field_grammar.specs.NumberLaws.{wide4, spelled-number, length_number_bytes}
 use Rattle.field_grammar.specs.CombinedLaws.{spelled-renamed, spelled-expected}
 use Rattle.field_grammar.specs.PlacedLaws.{placed, placed-as, placed-sized, placed-before, placed-ended}
-use Rattle.field_grammar.specs.ExactLaws.{whole_one_value, not_both, answer-spelled, spelled_at_front}
-use Rattle.field_grammar.specs.DecoderLaws.{found_spelling, only_spelling, spelled_by}
+use Rattle.field_grammar.specs.ExactLaws.{whole_one_value, not_both, answer-spelled, spelled_at_front, decided, ends_at_end, ends_before, ends_last}
+use Rattle.field_grammar.specs.DecoderLaws.{found_spelling, only_spelling, spelled_by, spelling_is}
 use Rattle.load_protocol_files.specs.Faults.{named}
 use Rattle.load_protocol_files.specs.declared.fault.FileFault.{FileFault}
 use Rattle.load_protocol_files.specs.declared.fault.FileFault.TheVariants as faults
 use Rattle.load_protocol_files.specs.Pieces.{u16, u16_fields}
 use Rattle.field_grammar.specs.OneSpelling.{HasOneSpelling}
-use Rattle.load_protocol_files.specs.Files.{head, tail, file, file_fields, FileSpells}
-use Rattle.load_protocol_files.proofs.PieceSpellings.{spelled-u16}
+use Rattle.load_protocol_files.specs.Files.{head, tail, file, file_fields, FileSpells, IsExact}
+use Rattle.load_protocol_files.specs.PieceLaws.{spelled-u16}
 
 -- ---- the head and the tail
 
@@ -127,3 +127,18 @@ one_spelling_of {A = A} body s P one =
       read_again = λ value bytes is. answer-spelled (file body) bytes value (spelled_at_front (file body) bytes value (spelled value bytes is));
       no_fault = λ value bytes fault is faulty. not_both (file body) bytes value fault (spelled_at_front (file body) bytes value (spelled value bytes is)) faulty;
     }
+
+ends-file : {A : Type 0} (body : Grammar FileFault A) → EndsTheBytes (file body)
+unfolding tail
+ends-file body = ends_last _ _ (λ said. ends_last _ _ (λ value. ends_before _ _ (ends_at_end faults.Rest)))
+
+-- so whatever the bytes are, the format decides them
+pub exact_of : {A : Type 0} (body : Grammar FileFault A) (s : A → List (List ℕ)) (P : A → Type 0) → IsSpelledBy body s P → IsExact (file body) (FileSpells s P)
+exact_of body s P one = record {
+  one = one_spelling_of body s P one;
+  spelled = λ bytes value. (
+    λ is. to_spells s P value bytes (spelling_is (file body) (λ v. file_fields (s v)) (FileFits s P) bytes value (spells-file body s P one) is),
+    λ is. spelled_by (file body) (λ v. file_fields (s v)) (FileFits s P) bytes value (spells-file body s P one) (from_spells s P value bytes is),
+  );
+  decided = λ bytes fit. decided (file body) bytes (ends-file body) fit;
+}

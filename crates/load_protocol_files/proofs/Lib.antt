@@ -1,9 +1,1 @@
 pub mod FileSpellings
-pub mod LciSpelling
-pub mod PieceSpellings
-pub mod SmallFiles
-pub mod LcsSpelling
-pub mod LuiSpelling
-pub mod LurSpelling
-pub mod LusSpelling
-pub mod LclSpelling

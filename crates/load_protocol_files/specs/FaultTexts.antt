@@ -1,7 +1,8 @@
 -- How the faults of protocol files are printed: their code, their fields in decimal, and a fault of a
 -- text behind its place (docs/FORMATS.md).
 use Rattle.std.specs.Prelude.{ℕ, List, [], ◌∷◌, codes}
-use Rattle.fault_texts.specs.FaultTexts.{coded, with_nested, name_fault_text, text_fault_text, part_fault_text}
+use Rattle.printed_text.specs.FaultTexts.{coded, nested, name_fault_text, text_fault_text}
+use Rattle.part_number.specs.FaultText.{part_fault_text}
 use Rattle.load_protocol_files.specs.declared.fault.FileFault.{FileFault}
 use Rattle.load_protocol_files.specs.declared.fault.FileFault.TheVariants as faults
 
@@ -12,7 +13,7 @@ file_fault_text (faults.Length said found) = coded (codes "U2") (said ∷ found 
 file_fault_text (faults.Version found) = coded (codes "U3") (found ∷ [])
 file_fault_text (faults.Digits place) = coded (codes "U4") (place ∷ [])
 file_fault_text (faults.Rest place) = coded (codes "U5") (place ∷ [])
-file_fault_text (faults.Name place fault) = with_nested (coded (codes "U6") (place ∷ [])) (name_fault_text fault)
-file_fault_text (faults.Part place fault) = with_nested (coded (codes "U7") (place ∷ [])) (part_fault_text fault)
-file_fault_text (faults.Text place fault) = with_nested (coded (codes "U8") (place ∷ [])) (text_fault_text fault)
+file_fault_text (faults.Name place fault) = nested (coded (codes "U6") (place ∷ [])) (name_fault_text fault)
+file_fault_text (faults.Part place fault) = nested (coded (codes "U7") (place ∷ [])) (part_fault_text fault)
+file_fault_text (faults.Text place fault) = nested (coded (codes "U8") (place ∷ [])) (text_fault_text fault)
 file_fault_text faults.Memory = []

@@ -1,8 +1,9 @@
 -- What all protocol files have about their fields (docs/FORMATS.md).
-use Rattle.std.specs.Prelude.{◌≡◌, ℕ, ◌+◌, ◌<◌, ◌^◌, List, ◌∷◌, ◌++◌, length}
+use Rattle.std.specs.Prelude.{◌≡◌, ◌↔◌, ℕ, ◌+◌, ◌<◌, ◌^◌, List, ◌∷◌, ◌++◌, length}
 use Rattle.std.specs.List.{concat}
-use Rattle.field_grammar.specs.Grammar.{Grammar, give, renamed, sized, expected, ended, ◌>>=◌, ◌>>◌}
+use Rattle.field_grammar.specs.Grammar.{Grammar, Spelled, IsBytes, IsDecided, give, renamed, sized, expected, ended, ◌>>=◌, ◌>>◌}
 use Rattle.field_grammar.specs.Fields.{number, number_bytes}
+use Rattle.field_grammar.specs.OneSpelling.{HasOneSpelling}
 use Rattle.load_protocol_files.specs.declared.fault.FileFault.{FileFault}
 use Rattle.load_protocol_files.specs.declared.fault.FileFault.TheVariants as faults
 use Rattle.load_protocol_files.specs.Faults.{named}
@@ -39,3 +40,9 @@ pub record IsFileOf (body bytes : List ℕ) : Type 0 where
 -- the value fits, and the bytes are the file of its fields
 abbrev pub FileSpells : {A : Type 0} → (A → List (List ℕ)) → (A → Type 0) → A → List ℕ → Type 0
 FileSpells fields Fits value bytes = Fits value × IsFileOf (concat (fields value)) bytes
+
+-- Bytes spell one file or have one first fault, and never both; a file has one spelling, and is read from it.
+pub record IsExact {A : Type 0} (format : Grammar FileFault A) (Spells : A → List ℕ → Type 0) : Type 0 where
+  pub one : HasOneSpelling format Spells
+  pub spelled : (bytes : List ℕ) (value : A) → Spelled format bytes value ↔ Spells value bytes
+  pub decided : (bytes : List ℕ) → IsBytes bytes → IsDecided format bytes

@@ -1,6 +1,6 @@
 -- Configuration list files (docs/FORMATS.md).
-use Rattle.std.specs.Prelude.{ℕ, ◌<◌, ◌^◌, List, ◌++◌, length, map}
-use Rattle.std.specs.List.{All}
+use Rattle.std.specs.Prelude.{ℕ, ◌+◌, ◌<◌, ◌≤◌, ◌^◌, List, ◌++◌, length, map}
+use Rattle.std.specs.List.{All, concat}
 use Rattle.field_grammar.specs.Grammar.{Grammar, pair, mapped}
 use Rattle.field_grammar.specs.Fields.{short_fields}
 use Rattle.load_base.specs.Text.{IsText}
@@ -71,7 +71,7 @@ unfoldable pub lcl_body : Grammar FileFault LclView
 lcl_body = mapped to_lcl (counted hardware)
 
 -- an LCL: a count, and so much hardware
-unfoldable pub lcl : Grammar FileFault LclView
+abbrev pub lcl : Grammar FileFault LclView
 lcl = file lcl_body
 
 abbrev pub lcl_fields : LclView → List (List ℕ)
@@ -84,3 +84,9 @@ pub record LclFits (v : LclView) : Type 0 where
 -- the bytes are the file of this value
 abbrev pub LclSpells : LclView → List ℕ → Type 0
 LclSpells v bytes = FileSpells lcl_fields LclFits v bytes
+
+-- a file that can be written: its counts fit their two bytes, and its length its four
+pub record IsWritableLcl (it : Lcl) : Type 0 where
+  pub count : length it.hardware.items ≤ 65535
+  pub counts : All (λ h. length h.parts.items ≤ 65535) it.hardware.items
+  pub size : 6 + length (concat (lcl_fields (lcl_view it))) ≤ 4294967295

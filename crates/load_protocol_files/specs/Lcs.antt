@@ -21,7 +21,7 @@ unfoldable pub lcs_body : Grammar FileFault Lcs
 lcs_body = mapped to_lcs lcs_parts
 
 -- an LCS: counter, status, exception, estimated time and description
-unfoldable pub lcs : Grammar FileFault Lcs
+abbrev pub lcs : Grammar FileFault Lcs
 lcs = file lcs_body
 
 abbrev pub lcs_fields : Lcs → List (List ℕ)

@@ -1,5 +1,5 @@
 -- Upload request files (docs/FORMATS.md).
-use Rattle.std.specs.Prelude.{ℕ, ◌<◌, ◌^◌, List, ◌++◌, length}
+use Rattle.std.specs.Prelude.{ℕ, ◌<◌, ◌≤◌, ◌^◌, List, ◌++◌, length}
 use Rattle.std.specs.List.{All}
 use Rattle.field_grammar.specs.Grammar.{Grammar, pair, mapped}
 use Rattle.field_grammar.specs.Fields.{short_fields}
@@ -43,7 +43,7 @@ unfoldable pub lur_body : Grammar FileFault LurView
 lur_body = mapped to_lur (counted wanted)
 
 -- an LUR: a count, and so many loads
-unfoldable pub lur : Grammar FileFault LurView
+abbrev pub lur : Grammar FileFault LurView
 lur = file lur_body
 
 abbrev pub lur_fields : LurView → List (List ℕ)
@@ -56,3 +56,7 @@ pub record LurFits (v : LurView) : Type 0 where
 -- the bytes are the file of this value
 abbrev pub LurSpells : LurView → List ℕ → Type 0
 LurSpells v bytes = FileSpells lur_fields LurFits v bytes
+
+-- a file that can be written: its count fits its two bytes
+abbrev pub IsWritableLur : Lur → Type 0
+IsWritableLur it = length it.loads.items ≤ 65535

@@ -69,7 +69,7 @@ unfoldable pub lus_body : Grammar FileFault LusView
 lus_body = mapped to_lus lus_parts
 
 -- an LUS: status, description, counter, exception, estimated time, ratio, and a count and so many loads
-unfoldable pub lus : Grammar FileFault LusView
+abbrev pub lus : Grammar FileFault LusView
 lus = file lus_body
 
 unfoldable pub progress_fields : LusView → List (List ℕ)
@@ -100,3 +100,9 @@ pub record LusFits (v : LusView) : Type 0 where
 -- the bytes are the file of this value
 abbrev pub LusSpells : LusView → List ℕ → Type 0
 LusSpells v bytes = FileSpells lus_fields LusFits v bytes
+
+-- a file that can be written: no ratio is above 100, and its count fits its two bytes
+pub record IsWritableLus (it : Lus) : Type 0 where
+  pub ratio : it.ratio ≤ 100
+  pub ratios : All (λ load. load.ratio ≤ 100) it.loads.items
+  pub count : length it.loads.items ≤ 65535

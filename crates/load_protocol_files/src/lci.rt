@@ -1,15 +1,14 @@
 //! Configuration initialization files.
-ghost use Rattle.std.specs.Prelude.{◌≡◌, ◌++◌, ◌⊎◌, List, ℕ, IfOk, IfErr, OnOk};
-ghost use Rattle.std.specs.List.{concat};
+ghost use Rattle.std.specs.Prelude.{◌≡◌, ◌⊎◌, List, ℕ, IfOk, IfErr};
 ghost use Rattle.field_grammar.specs.Grammar.{Fault};
-ghost use Rattle.field_grammar.specs.Answers.{answer, Decodes, Gives};
+ghost use Rattle.field_grammar.specs.Answers.{Gives};
 ghost use Rattle.load_protocol_files.specs.declared.fault.FileFault.{FileFault};
 ghost use Rattle.load_protocol_files.specs.declared.fault.FileFault.TheVariants.{Memory};
-ghost use Rattle.load_protocol_files.specs.Lci.{lci, lci_body, lci_fields, LciFits, LciSpells};
+ghost use Rattle.load_protocol_files.specs.Lci.{lci, LciSpells};
 
 use crate::FileFault;
-use crate::pieces::{head_of, tail_of, text_of};
-use crate::putting::{file_of, put_text};
+use crate::file::{self, ProtocolFile};
+use crate::reply::{put_reply, read_reply};
 use field_codec::{Reader, Writer};
 use load_base::{Bytes, NoMemory, Text};
 use std::alloc::Global;
@@ -34,48 +33,48 @@ impl Lci {
         ensures refused { IfErr result (λ e. (e ≡ Memory) ⊎ Fault lci bytes.now e) }
         ensures faulty { (f : FileFault) → Fault lci bytes.now f → Gives Memory (λ v. v) result (Err f) }
     {
-        lci_of(alloc, bytes)
+        file::decode(alloc, bytes)
     }
 
     /// The bytes that spell the file.
-    #[tactic(auto, using(crate::proofs::SmallFiles::lci_is_small))]
     pub fn encode(&self, alloc: Global) -> Result<Bytes, NoMemory>
         ensures { IfOk result (λ bytes. LciSpells self.now bytes.items) }
     {
-        let mut body = Writer::new(alloc);
-        put_lci(&mut body, self)?;
-        file_of(alloc, body)
+        file::encode(alloc, self)
     }
 }
 
-#[tactic(auto, unfolding(crate::specs::Lci::lci))]
-fn lci_of(alloc: Global, bytes: &[u8]) -> Result<Lci, FileFault>
-    ensures { Gives Memory (λ v. v) result (answer lci bytes.now) }
-{
-    let mut reader = Reader::new(bytes);
-    head_of(&mut reader)?;
-    let file = lci_body_of(alloc, &mut reader)?;
-    tail_of(&mut reader)?;
-    Ok(file)
-}
+impl ProtocolFile for Lci {
+    ghost use Rattle.load_protocol_files.specs.declared.lci.Lci.{Lci};
+    ghost use Rattle.load_protocol_files.specs.Lci.{lci_body, lci_fields, LciFits};
+    ghost use Rattle.load_protocol_files.specs.ReplyLaws.{spelled-lci, reply_is_small};
 
-#[tactic(auto, unfolding(crate::specs::Lci::lci_body))]
-fn lci_body_of(alloc: Global, reader: &mut Reader) -> Result<Lci, FileFault>
-    ensures { Decodes Memory (λ v. v) lci_body reader.old result reader.new }
-{
-    let status = reader.take_u16()?;
-    let description = text_of(alloc, reader)?;
-    Ok(Lci {
-        status,
-        description,
-    })
-}
+    ghost Value = { Lci };
 
-fn put_lci(out: &mut Writer, file: &Lci) -> Result<(), NoMemory>
-    ensures fits { OnOk result (LciFits file.now) }
-    ensures ok { OnOk result (out.new ≡ out.old ++ concat (lci_fields file.now)) }
-{
-    out.put_u16(file.status)?;
-    put_text(out, &file.description)?;
-    Ok(())
+    ghost view = { λ it. it };
+
+    ghost body = { lci_body };
+
+    ghost fields = { lci_fields };
+
+    ghost Fits = { λ v. LciFits v };
+
+    ghost IsWritable = { λ it. Unit {0} };
+
+    ghost spelled = { spelled-lci };
+
+    ghost small = { λ it writable fits. reply_is_small it.status it.description fits };
+
+    #[tactic(auto, unfolding(crate::specs::Lci::lci_body))]
+    fn read_body(alloc: Global, reader: &mut Reader) -> Result<Lci, FileFault> {
+        let (status, description) = read_reply(alloc, reader)?;
+        Ok(Lci {
+            status,
+            description,
+        })
+    }
+
+    fn put_body(&self, out: &mut Writer) -> Result<(), NoMemory> {
+        put_reply(out, self.status, &self.description)
+    }
 }

@@ -6,11 +6,12 @@ ghost use Rattle.field_grammar.specs.Answers.{answer, Decodes, Gives};
 ghost use Rattle.load_protocol_files.specs.declared.fault.FileFault.{FileFault};
 ghost use Rattle.load_protocol_files.specs.declared.fault.FileFault.TheVariants.{Memory};
 ghost use Rattle.load_protocol_files.specs.Pieces.{counted};
-ghost use Rattle.load_protocol_files.specs.Lcl.{installed, installed_fields, InstalledFits, hardware, hardware_fields, hardware_view, HardwareFits, LclView, lcl_view, lcl, lcl_body, lcl_fields, LclFits, LclSpells};
+ghost use Rattle.load_protocol_files.specs.Lcl.{IsWritableLcl, installed, installed_fields, InstalledFits, hardware, hardware_fields, hardware_view, HardwareFits, LclView, lcl_view, lcl, lcl_body, lcl_fields, LclFits, LclSpells};
 
 use crate::FileFault;
-use crate::pieces::{head_of, tail_of, text_of};
-use crate::putting::{file_of, put_text};
+use crate::file::{self, ProtocolFile};
+use crate::pieces::text_of;
+use crate::putting::put_text;
 use field_codec::{Reader, Writer};
 use load_base::{Bytes, List, NoMemory, Text};
 use std::alloc::Global;
@@ -49,41 +50,53 @@ impl Lcl {
         ensures refused { IfErr result (λ e. (e ≡ Memory) ⊎ Fault lcl bytes.now e) }
         ensures faulty { (f : FileFault) → Fault lcl bytes.now f → Gives Memory lcl_view result (Err f) }
     {
-        lcl_of(alloc, bytes)
+        file::decode(alloc, bytes)
     }
 
     /// The bytes that spell the file. Each list has at most 65,535 members, and the file at most
     /// 4,294,967,295 bytes.
     pub fn encode(&self, alloc: Global) -> Result<Bytes, NoMemory>
-        requires count { length self.now.hardware.items ≤ 65535 }
-        requires counts { All (λ h. length h.parts.items ≤ 65535) self.now.hardware.items }
-        requires size { 6 + length (concat (lcl_fields (lcl_view self.now))) ≤ 4294967295 }
+        requires { IsWritableLcl self.now }
         ensures { IfOk result (λ bytes. LclSpells (lcl_view self.now) bytes.items) }
     {
-        let mut body = Writer::new(alloc);
-        put_lcl(&mut body, self)?;
-        file_of(alloc, body)
+        file::encode(alloc, self)
     }
 }
 
-#[tactic(auto, unfolding(crate::specs::Lcl::lcl))]
-fn lcl_of(alloc: Global, bytes: &[u8]) -> Result<Lcl, FileFault>
-    ensures { Gives Memory lcl_view result (answer lcl bytes.now) }
-{
-    let mut reader = Reader::new(bytes);
-    head_of(&mut reader)?;
-    let file = lcl_body_of(alloc, &mut reader)?;
-    tail_of(&mut reader)?;
-    Ok(file)
-}
+impl ProtocolFile for Lcl {
+    ghost use Rattle.load_protocol_files.specs.Lcl.{LclView, lcl_view, lcl_body, lcl_fields, LclFits, IsWritableLcl};
+    ghost use Rattle.load_protocol_files.specs.LclLaws.{spelled-lcl, lcl_is_small};
 
-#[tactic(auto, unfolding(crate::specs::Lcl::lcl_body))]
-fn lcl_body_of(alloc: Global, reader: &mut Reader) -> Result<Lcl, FileFault>
-    ensures { Decodes Memory lcl_view lcl_body reader.old result reader.new }
-{
-    let count = reader.take_u16()?;
-    let hardware = hardware_list_of(alloc, count, reader)?;
-    Ok(Lcl { hardware })
+    ghost Value = { LclView };
+
+    ghost view = { lcl_view };
+
+    ghost body = { lcl_body };
+
+    ghost fields = { lcl_fields };
+
+    ghost Fits = { λ v. LclFits v };
+
+    ghost IsWritable = { λ it. IsWritableLcl it };
+
+    ghost spelled = { spelled-lcl };
+
+    ghost small = { λ it writable fits. lcl_is_small it writable };
+
+    #[tactic(auto, unfolding(crate::specs::Lcl::lcl_body))]
+    fn read_body(alloc: Global, reader: &mut Reader) -> Result<Lcl, FileFault> {
+        let count = reader.take_u16()?;
+        let hardware = hardware_list_of(alloc, count, reader)?;
+        Ok(Lcl { hardware })
+    }
+
+    #[tactic(auto, unfolding(crate::specs::Pieces::counted_fields))]
+    fn put_body(&self, out: &mut Writer) -> Result<(), NoMemory> {
+        let list = self.hardware.as_slice();
+        out.put_u16(list.len() as u16)?;
+        put_hardware_list(out, list)?;
+        Ok(())
+    }
 }
 
 #[tactic(auto, using(field_grammar::specs::LoopLaws::goes_on_seen, field_grammar::specs::LoopLaws::ends, field_grammar::specs::LoopLaws::is_done, field_grammar::specs::LoopLaws::begins))]
@@ -139,19 +152,6 @@ fn installed_of(alloc: Global, reader: &mut Reader) -> Result<Part, FileFault>
         amendment,
         designation,
     })
-}
-
-#[tactic(auto, unfolding(crate::specs::Pieces::counted_fields))]
-fn put_lcl(out: &mut Writer, file: &Lcl) -> Result<(), NoMemory>
-    requires count { length file.now.hardware.items ≤ 65535 }
-    requires counts { All (λ h. length h.parts.items ≤ 65535) file.now.hardware.items }
-    ensures fits { OnOk result (LclFits (lcl_view file.now)) }
-    ensures ok { OnOk result (out.new ≡ out.old ++ concat (lcl_fields (lcl_view file.now))) }
-{
-    let list = file.hardware.as_slice();
-    out.put_u16(list.len() as u16)?;
-    put_hardware_list(out, list)?;
-    Ok(())
 }
 
 fn put_hardware_list(out: &mut Writer, list: &[Hardware]) -> Result<(), NoMemory>

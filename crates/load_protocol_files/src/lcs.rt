@@ -8,8 +8,9 @@ ghost use Rattle.load_protocol_files.specs.declared.fault.FileFault.TheVariants.
 ghost use Rattle.load_protocol_files.specs.Lcs.{lcs, lcs_body, lcs_fields, LcsFits, LcsSpells};
 
 use crate::FileFault;
-use crate::pieces::{head_of, tail_of, text_of};
-use crate::putting::{file_of, put_text};
+use crate::file::{self, ProtocolFile};
+use crate::pieces::text_of;
+use crate::putting::put_text;
 use field_codec::{Reader, Writer};
 use load_base::{Bytes, NoMemory, Text};
 use std::alloc::Global;
@@ -40,57 +41,60 @@ impl Lcs {
         ensures refused { IfErr result (λ e. (e ≡ Memory) ⊎ Fault lcs bytes.now e) }
         ensures faulty { (f : FileFault) → Fault lcs bytes.now f → Gives Memory (λ v. v) result (Err f) }
     {
-        lcs_of(alloc, bytes)
+        file::decode(alloc, bytes)
     }
 
     /// The bytes that spell the file.
-    #[tactic(auto, using(crate::proofs::SmallFiles::lcs_is_small))]
     pub fn encode(&self, alloc: Global) -> Result<Bytes, NoMemory>
         ensures { IfOk result (λ bytes. LcsSpells self.now bytes.items) }
     {
-        let mut body = Writer::new(alloc);
-        put_lcs(&mut body, self)?;
-        file_of(alloc, body)
+        file::encode(alloc, self)
     }
 }
 
-#[tactic(auto, unfolding(crate::specs::Lcs::lcs))]
-fn lcs_of(alloc: Global, bytes: &[u8]) -> Result<Lcs, FileFault>
-    ensures { Gives Memory (λ v. v) result (answer lcs bytes.now) }
-{
-    let mut reader = Reader::new(bytes);
-    head_of(&mut reader)?;
-    let file = lcs_body_of(alloc, &mut reader)?;
-    tail_of(&mut reader)?;
-    Ok(file)
-}
+impl ProtocolFile for Lcs {
+    ghost use Rattle.load_protocol_files.specs.declared.lcs.Lcs.{Lcs};
+    ghost use Rattle.load_protocol_files.specs.Lcs.{lcs_body, lcs_fields, LcsFits};
+    ghost use Rattle.load_protocol_files.specs.LcsLaws.{spelled-lcs, lcs_is_small};
 
-#[tactic(auto, unfolding(crate::specs::Lcs::lcs_body))]
-fn lcs_body_of(alloc: Global, reader: &mut Reader) -> Result<Lcs, FileFault>
-    ensures { Decodes Memory (λ v. v) lcs_body reader.old result reader.new }
-{
-    let counter = reader.take_u16()?;
-    let status = reader.take_u16()?;
-    let exception = reader.take_u16()?;
-    let estimated = reader.take_u16()?;
-    let description = text_of(alloc, reader)?;
-    Ok(Lcs {
-        counter,
-        status,
-        exception,
-        estimated,
-        description,
-    })
-}
+    ghost Value = { Lcs };
 
-fn put_lcs(out: &mut Writer, file: &Lcs) -> Result<(), NoMemory>
-    ensures fits { OnOk result (LcsFits file.now) }
-    ensures ok { OnOk result (out.new ≡ out.old ++ concat (lcs_fields file.now)) }
-{
-    out.put_u16(file.counter)?;
-    out.put_u16(file.status)?;
-    out.put_u16(file.exception)?;
-    out.put_u16(file.estimated)?;
-    put_text(out, &file.description)?;
-    Ok(())
+    ghost view = { λ it. it };
+
+    ghost body = { lcs_body };
+
+    ghost fields = { lcs_fields };
+
+    ghost Fits = { λ v. LcsFits v };
+
+    ghost IsWritable = { λ it. Unit {0} };
+
+    ghost spelled = { spelled-lcs };
+
+    ghost small = { λ it writable fits. lcs_is_small it fits };
+
+    #[tactic(auto, unfolding(crate::specs::Lcs::lcs_body))]
+    fn read_body(alloc: Global, reader: &mut Reader) -> Result<Lcs, FileFault> {
+        let counter = reader.take_u16()?;
+        let status = reader.take_u16()?;
+        let exception = reader.take_u16()?;
+        let estimated = reader.take_u16()?;
+        let description = text_of(alloc, reader)?;
+        Ok(Lcs {
+            counter,
+            status,
+            exception,
+            estimated,
+            description,
+        })
+    }
+
+    fn put_body(&self, out: &mut Writer) -> Result<(), NoMemory> {
+        out.put_u16(self.counter)?;
+        out.put_u16(self.status)?;
+        out.put_u16(self.exception)?;
+        out.put_u16(self.estimated)?;
+        put_text(out, &self.description)?;
+        Ok(())
+    }
 }

@@ -1,10 +1,10 @@
 //! The protocol files that a loader and a target exchange: initialization, configuration, status and
-//! requests (this project's layouts, docs/FORMATS.md). Each type is read from its bytes, exactly, and
-//! written as the one spelling that it has.
+//! requests (this project's layouts, docs/FORMATS.md). Each type has `decode` and `encode`.
 #![tactic(auto)]
 
 mod fault;
 mod fault_text;
+mod file;
 mod laws;
 mod lci;
 mod lcl;
@@ -14,11 +14,12 @@ mod lur;
 mod lus;
 mod pieces;
 mod putting;
+mod reply;
 #[cfg(test)]
 mod tests;
 
 pub use fault::FileFault;
-pub use laws::each_file_has_one_spelling;
+pub use laws::protocol_file_laws;
 pub use lci::Lci;
 pub use lcl::{Hardware, Lcl, Part};
 pub use lcs::Lcs;

@@ -1,15 +1,14 @@
 //! Upload initialization files.
-ghost use Rattle.std.specs.Prelude.{◌≡◌, ◌++◌, ◌⊎◌, List, ℕ, IfOk, IfErr, OnOk};
-ghost use Rattle.std.specs.List.{concat};
+ghost use Rattle.std.specs.Prelude.{◌≡◌, ◌⊎◌, List, ℕ, IfOk, IfErr};
 ghost use Rattle.field_grammar.specs.Grammar.{Fault};
-ghost use Rattle.field_grammar.specs.Answers.{answer, Decodes, Gives};
+ghost use Rattle.field_grammar.specs.Answers.{Gives};
 ghost use Rattle.load_protocol_files.specs.declared.fault.FileFault.{FileFault};
 ghost use Rattle.load_protocol_files.specs.declared.fault.FileFault.TheVariants.{Memory};
-ghost use Rattle.load_protocol_files.specs.Lui.{lui, lui_body, lui_fields, LuiFits, LuiSpells};
+ghost use Rattle.load_protocol_files.specs.Lui.{lui, LuiSpells};
 
 use crate::FileFault;
-use crate::pieces::{head_of, tail_of, text_of};
-use crate::putting::{file_of, put_text};
+use crate::file::{self, ProtocolFile};
+use crate::reply::{put_reply, read_reply};
 use field_codec::{Reader, Writer};
 use load_base::{Bytes, NoMemory, Text};
 use std::alloc::Global;
@@ -34,48 +33,48 @@ impl Lui {
         ensures refused { IfErr result (λ e. (e ≡ Memory) ⊎ Fault lui bytes.now e) }
         ensures faulty { (f : FileFault) → Fault lui bytes.now f → Gives Memory (λ v. v) result (Err f) }
     {
-        lui_of(alloc, bytes)
+        file::decode(alloc, bytes)
     }
 
     /// The bytes that spell the file.
-    #[tactic(auto, using(crate::proofs::SmallFiles::lui_is_small))]
     pub fn encode(&self, alloc: Global) -> Result<Bytes, NoMemory>
         ensures { IfOk result (λ bytes. LuiSpells self.now bytes.items) }
     {
-        let mut body = Writer::new(alloc);
-        put_lui(&mut body, self)?;
-        file_of(alloc, body)
+        file::encode(alloc, self)
     }
 }
 
-#[tactic(auto, unfolding(crate::specs::Lui::lui))]
-fn lui_of(alloc: Global, bytes: &[u8]) -> Result<Lui, FileFault>
-    ensures { Gives Memory (λ v. v) result (answer lui bytes.now) }
-{
-    let mut reader = Reader::new(bytes);
-    head_of(&mut reader)?;
-    let file = lui_body_of(alloc, &mut reader)?;
-    tail_of(&mut reader)?;
-    Ok(file)
-}
+impl ProtocolFile for Lui {
+    ghost use Rattle.load_protocol_files.specs.declared.lui.Lui.{Lui};
+    ghost use Rattle.load_protocol_files.specs.Lui.{lui_body, lui_fields, LuiFits};
+    ghost use Rattle.load_protocol_files.specs.ReplyLaws.{spelled-lui, reply_is_small};
 
-#[tactic(auto, unfolding(crate::specs::Lui::lui_body))]
-fn lui_body_of(alloc: Global, reader: &mut Reader) -> Result<Lui, FileFault>
-    ensures { Decodes Memory (λ v. v) lui_body reader.old result reader.new }
-{
-    let status = reader.take_u16()?;
-    let description = text_of(alloc, reader)?;
-    Ok(Lui {
-        status,
-        description,
-    })
-}
+    ghost Value = { Lui };
 
-fn put_lui(out: &mut Writer, file: &Lui) -> Result<(), NoMemory>
-    ensures fits { OnOk result (LuiFits file.now) }
-    ensures ok { OnOk result (out.new ≡ out.old ++ concat (lui_fields file.now)) }
-{
-    out.put_u16(file.status)?;
-    put_text(out, &file.description)?;
-    Ok(())
+    ghost view = { λ it. it };
+
+    ghost body = { lui_body };
+
+    ghost fields = { lui_fields };
+
+    ghost Fits = { λ v. LuiFits v };
+
+    ghost IsWritable = { λ it. Unit {0} };
+
+    ghost spelled = { spelled-lui };
+
+    ghost small = { λ it writable fits. reply_is_small it.status it.description fits };
+
+    #[tactic(auto, unfolding(crate::specs::Lui::lui_body))]
+    fn read_body(alloc: Global, reader: &mut Reader) -> Result<Lui, FileFault> {
+        let (status, description) = read_reply(alloc, reader)?;
+        Ok(Lui {
+            status,
+            description,
+        })
+    }
+
+    fn put_body(&self, out: &mut Writer) -> Result<(), NoMemory> {
+        put_reply(out, self.status, &self.description)
+    }
 }

@@ -1,15 +1,16 @@
 //! Upload request files.
-ghost use Rattle.std.specs.Prelude.{◌≡◌, ◌++◌, ◌⊎◌, ◌≤◌, ◌<◌, ◌^◌, List, ℕ, length, IfOk, IfErr, OnOk};
+ghost use Rattle.std.specs.Prelude.{◌≡◌, ◌↔◌, IsTrue, ◌++◌, ◌⊎◌, ◌≤◌, ◌<◌, ◌^◌, List, ℕ, length, IfOk, IfErr, OnOk};
 ghost use Rattle.std.specs.List.{concat, flat_map, All};
 ghost use Rattle.field_grammar.specs.Grammar.{Fault, times};
 ghost use Rattle.field_grammar.specs.Answers.{answer, Decodes, Gives};
 ghost use Rattle.load_protocol_files.specs.declared.fault.FileFault.{FileFault};
 ghost use Rattle.load_protocol_files.specs.declared.fault.FileFault.TheVariants.{Memory};
-ghost use Rattle.load_protocol_files.specs.Lur.{wanted, wanted_fields, WantedFits, LurView, lur_view, lur, lur_body, lur_fields, LurFits, LurSpells};
+ghost use Rattle.load_protocol_files.specs.Lur.{IsWritableLur, wanted, wanted_fields, WantedFits, LurView, lur_view, lur, lur_body, lur_fields, LurFits, LurSpells};
 
 use crate::FileFault;
-use crate::pieces::{head_of, name_of, part_of, tail_of};
-use crate::putting::{file_of, put_name, put_part};
+use crate::file::{self, ProtocolFile};
+use crate::pieces::{name_of, part_of};
+use crate::putting::{put_name, put_part};
 use field_codec::{Reader, Writer};
 use load_base::{Bytes, List, Name, NoMemory};
 use part_number::PartNumber;
@@ -39,38 +40,59 @@ impl Lur {
         ensures refused { IfErr result (λ e. (e ≡ Memory) ⊎ Fault lur bytes.now e) }
         ensures faulty { (f : FileFault) → Fault lur bytes.now f → Gives Memory lur_view result (Err f) }
     {
-        lur_of(alloc, bytes)
+        file::decode(alloc, bytes)
+    }
+
+    /// Whether the file can be written: it has at most 65,535 loads.
+    pub fn fits(&self) -> bool
+        ensures { IsTrue result ↔ IsWritableLur self.now }
+    {
+        self.loads.len() <= 65_535
     }
 
     /// The bytes that spell the file, which has at most 65,535 loads.
     pub fn encode(&self, alloc: Global) -> Result<Bytes, NoMemory>
-        requires { length self.now.loads.items ≤ 65535 }
+        requires { IsWritableLur self.now }
         ensures { IfOk result (λ bytes. LurSpells (lur_view self.now) bytes.items) }
     {
-        let mut body = Writer::new(alloc);
-        put_lur(&mut body, self)?;
-        file_of(alloc, body)
+        file::encode(alloc, self)
     }
 }
 
-#[tactic(auto, unfolding(crate::specs::Lur::lur))]
-fn lur_of(alloc: Global, bytes: &[u8]) -> Result<Lur, FileFault>
-    ensures { Gives Memory lur_view result (answer lur bytes.now) }
-{
-    let mut reader = Reader::new(bytes);
-    head_of(&mut reader)?;
-    let file = lur_body_of(alloc, &mut reader)?;
-    tail_of(&mut reader)?;
-    Ok(file)
-}
+impl ProtocolFile for Lur {
+    ghost use Rattle.load_protocol_files.specs.Lur.{LurView, lur_view, lur_body, lur_fields, LurFits, IsWritableLur};
+    ghost use Rattle.load_protocol_files.specs.LurLaws.{spelled-lur, lur_is_small};
 
-#[tactic(auto, unfolding(crate::specs::Lur::lur_body))]
-fn lur_body_of(alloc: Global, reader: &mut Reader) -> Result<Lur, FileFault>
-    ensures { Decodes Memory lur_view lur_body reader.old result reader.new }
-{
-    let count = reader.take_u16()?;
-    let loads = loads_of(alloc, count, reader)?;
-    Ok(Lur { loads })
+    ghost Value = { LurView };
+
+    ghost view = { lur_view };
+
+    ghost body = { lur_body };
+
+    ghost fields = { lur_fields };
+
+    ghost Fits = { λ v. LurFits v };
+
+    ghost IsWritable = { λ it. IsWritableLur it };
+
+    ghost spelled = { spelled-lur };
+
+    ghost small = { λ it writable fits. lur_is_small (lur_view it) fits };
+
+    #[tactic(auto, unfolding(crate::specs::Lur::lur_body))]
+    fn read_body(alloc: Global, reader: &mut Reader) -> Result<Lur, FileFault> {
+        let count = reader.take_u16()?;
+        let loads = loads_of(alloc, count, reader)?;
+        Ok(Lur { loads })
+    }
+
+    #[tactic(auto, unfolding(crate::specs::Pieces::counted_fields))]
+    fn put_body(&self, out: &mut Writer) -> Result<(), NoMemory> {
+        let loads = self.loads.as_slice();
+        out.put_u16(loads.len() as u16)?;
+        put_loads(out, loads)?;
+        Ok(())
+    }
 }
 
 #[tactic(auto, using(field_grammar::specs::LoopLaws::goes_on, field_grammar::specs::LoopLaws::ends, field_grammar::specs::LoopLaws::is_done, field_grammar::specs::LoopLaws::begins))]
@@ -91,18 +113,6 @@ fn wanted_of(reader: &mut Reader) -> Result<Wanted, FileFault>
     let header = name_of(reader)?;
     let part = part_of(reader)?;
     Ok(Wanted { header, part })
-}
-
-#[tactic(auto, unfolding(crate::specs::Pieces::counted_fields))]
-fn put_lur(out: &mut Writer, file: &Lur) -> Result<(), NoMemory>
-    requires { length file.now.loads.items ≤ 65535 }
-    ensures fits { OnOk result (LurFits (lur_view file.now)) }
-    ensures ok { OnOk result (out.new ≡ out.old ++ concat (lur_fields (lur_view file.now))) }
-{
-    let loads = file.loads.as_slice();
-    out.put_u16(loads.len() as u16)?;
-    put_loads(out, loads)?;
-    Ok(())
 }
 
 fn put_loads(out: &mut Writer, loads: &[Wanted]) -> Result<(), NoMemory>

@@ -1,16 +1,17 @@
 //! Upload status files.
-ghost use Rattle.std.specs.Prelude.{◌≡◌, ◌++◌, ◌⊎◌, ◌≤◌, ◌<◌, ◌^◌, List, ℕ, length, IfOk, IfErr, OnOk};
+ghost use Rattle.std.specs.Prelude.{◌≡◌, ◌↔◌, IsTrue, ◌++◌, ◌⊎◌, ◌≤◌, ◌<◌, ◌^◌, List, ℕ, length, IfOk, IfErr, OnOk};
 ghost use Rattle.std.specs.List.{concat, flat_map, All};
 ghost use Rattle.field_grammar.specs.Grammar.{Fault, times};
 ghost use Rattle.field_grammar.specs.Answers.{answer, Decodes, Gives};
 ghost use Rattle.load_protocol_files.specs.declared.fault.FileFault.{FileFault};
 ghost use Rattle.load_protocol_files.specs.declared.fault.FileFault.TheVariants.{Memory};
 ghost use Rattle.load_protocol_files.specs.Pieces.{counted};
-ghost use Rattle.load_protocol_files.specs.Lus.{load_status, load_status_fields, LoadStatusFits, LusView, lus_view, lus, lus_body, lus_fields, counts_fields, progress_fields, CountsFit, ProgressFits, LusFits, LusSpells};
+ghost use Rattle.load_protocol_files.specs.Lus.{IsWritableLus, load_status, load_status_fields, LoadStatusFits, LusView, lus_view, lus, lus_body, lus_fields, counts_fields, progress_fields, CountsFit, ProgressFits, LusFits, LusSpells};
 
 use crate::FileFault;
-use crate::pieces::{head_of, name_of, part_of, ratio_of, tail_of, text_of};
-use crate::putting::{file_of, put_name, put_part, put_ratio, put_text};
+use crate::file::{self, ProtocolFile};
+use crate::pieces::{name_of, part_of, ratio_of, text_of};
+use crate::putting::{put_name, put_part, put_ratio, put_text};
 use field_codec::{Reader, Writer};
 use load_base::{Bytes, List, Name, NoMemory, Text};
 use part_number::PartNumber;
@@ -59,53 +60,72 @@ impl Lus {
         ensures refused { IfErr result (λ e. (e ≡ Memory) ⊎ Fault lus bytes.now e) }
         ensures faulty { (f : FileFault) → Fault lus bytes.now f → Gives Memory lus_view result (Err f) }
     {
-        lus_of(alloc, bytes)
+        file::decode(alloc, bytes)
+    }
+
+    /// Whether the file can be written: no ratio is above 100, and it has at most 65,535 loads.
+    pub fn fits(&self) -> bool
+        ensures { IsTrue result ↔ IsWritableLus self.now }
+    {
+        let loads = self.loads.as_slice();
+        self.ratio <= 100 && loads.len() <= 65_535 && are_ratios(loads)
     }
 
     /// The bytes that spell the file. Each ratio is at most 100, and there are at most 65,535 loads.
     pub fn encode(&self, alloc: Global) -> Result<Bytes, NoMemory>
-        requires ratio { self.now.ratio ≤ 100 }
-        requires ratios { All (λ load. load.ratio ≤ 100) self.now.loads.items }
-        requires count { length self.now.loads.items ≤ 65535 }
+        requires { IsWritableLus self.now }
         ensures { IfOk result (λ bytes. LusSpells (lus_view self.now) bytes.items) }
     {
-        let mut body = Writer::new(alloc);
-        put_lus(&mut body, self)?;
-        file_of(alloc, body)
+        file::encode(alloc, self)
     }
 }
 
-#[tactic(auto, unfolding(crate::specs::Lus::lus))]
-fn lus_of(alloc: Global, bytes: &[u8]) -> Result<Lus, FileFault>
-    ensures { Gives Memory lus_view result (answer lus bytes.now) }
-{
-    let mut reader = Reader::new(bytes);
-    head_of(&mut reader)?;
-    let file = lus_body_of(alloc, &mut reader)?;
-    tail_of(&mut reader)?;
-    Ok(file)
-}
+impl ProtocolFile for Lus {
+    ghost use Rattle.load_protocol_files.specs.Lus.{LusView, lus_view, lus_body, lus_fields, LusFits, IsWritableLus};
+    ghost use Rattle.load_protocol_files.specs.LusLaws.{spelled-lus, lus_is_small};
 
-#[tactic(auto, unfolding(crate::specs::Lus::lus_body))]
-fn lus_body_of(alloc: Global, reader: &mut Reader) -> Result<Lus, FileFault>
-    ensures { Decodes Memory lus_view lus_body reader.old result reader.new }
-{
-    let status = reader.take_u16()?;
-    let description = text_of(alloc, reader)?;
-    let counter = reader.take_u16()?;
-    let exception = reader.take_u16()?;
-    let estimated = reader.take_u16()?;
-    let ratio = ratio_of(reader)?;
-    let loads = counted_loads_of(alloc, reader)?;
-    Ok(Lus {
-        status,
-        description,
-        counter,
-        exception,
-        estimated,
-        ratio,
-        loads,
-    })
+    ghost Value = { LusView };
+
+    ghost view = { lus_view };
+
+    ghost body = { lus_body };
+
+    ghost fields = { lus_fields };
+
+    ghost Fits = { λ v. LusFits v };
+
+    ghost IsWritable = { λ it. IsWritableLus it };
+
+    ghost spelled = { spelled-lus };
+
+    ghost small = { λ it writable fits. lus_is_small (lus_view it) fits };
+
+    #[tactic(auto, unfolding(crate::specs::Lus::lus_body))]
+    fn read_body(alloc: Global, reader: &mut Reader) -> Result<Lus, FileFault> {
+        let status = reader.take_u16()?;
+        let description = text_of(alloc, reader)?;
+        let counter = reader.take_u16()?;
+        let exception = reader.take_u16()?;
+        let estimated = reader.take_u16()?;
+        let ratio = ratio_of(reader)?;
+        let loads = counted_loads_of(alloc, reader)?;
+        Ok(Lus {
+            status,
+            description,
+            counter,
+            exception,
+            estimated,
+            ratio,
+            loads,
+        })
+    }
+
+    fn put_body(&self, out: &mut Writer) -> Result<(), NoMemory> {
+        out.put_u16(self.status)?;
+        put_text(out, &self.description)?;
+        put_counts(out, self)?;
+        Ok(())
+    }
 }
 
 fn counted_loads_of(alloc: Global, reader: &mut Reader) -> Result<List<LoadStatus>, FileFault>
@@ -145,19 +165,6 @@ fn load_status_of(alloc: Global, reader: &mut Reader) -> Result<LoadStatus, File
     })
 }
 
-fn put_lus(out: &mut Writer, file: &Lus) -> Result<(), NoMemory>
-    requires ratio { file.now.ratio ≤ 100 }
-    requires ratios { All (λ load. load.ratio ≤ 100) file.now.loads.items }
-    requires count { length file.now.loads.items ≤ 65535 }
-    ensures fits { OnOk result (LusFits (lus_view file.now)) }
-    ensures ok { OnOk result (out.new ≡ out.old ++ concat (lus_fields (lus_view file.now))) }
-{
-    out.put_u16(file.status)?;
-    put_text(out, &file.description)?;
-    put_counts(out, file)?;
-    Ok(())
-}
-
 #[tactic(auto, unfolding(crate::specs::Lus::counts_fields))]
 fn put_counts(out: &mut Writer, file: &Lus) -> Result<(), NoMemory>
     requires ratio { file.now.ratio ≤ 100 }
@@ -186,6 +193,12 @@ fn put_progress(out: &mut Writer, file: &Lus) -> Result<(), NoMemory>
     out.put_u16(loads.len() as u16)?;
     put_loads(out, loads)?;
     Ok(())
+}
+
+fn are_ratios(loads: &[LoadStatus]) -> bool
+    ensures { IsTrue result ↔ All (λ load. load.ratio ≤ 100) loads.now }
+{
+    loads.iter().all(|load| load.ratio <= 100)
 }
 
 fn put_loads(out: &mut Writer, loads: &[LoadStatus]) -> Result<(), NoMemory>

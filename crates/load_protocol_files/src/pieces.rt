@@ -42,7 +42,7 @@ pub(crate) fn tail_of(reader: &mut Reader) -> Result<(), FileFault>
     Ok(())
 }
 
-/// A short text. A bad byte is told before what stands behind the text.
+/// A short text. A bad byte is refused before what follows the text.
 #[tactic(auto, unfolding(crate::specs::Pieces::text))]
 pub(crate) fn text_of(alloc: Global, reader: &mut Reader) -> Result<Text, FileFault>
     ensures { Decodes Memory (λ text. text) text reader.old result reader.new }

@@ -1,7 +1,8 @@
 //! The files of docs/FORMATS.md, and files with one byte changed.
 
-use crate::{FileFault, Lci, Lcl, Lcs, Lui, Lur, Lus, each_file_has_one_spelling};
-use load_base::{Bytes, NoMemory};
+use crate::{FileFault, Lci, Lcl, Lcs, Lui, Lur, Lus, protocol_file_laws};
+use load_base::{Bytes, NoMemory, Text};
+use printed_text::Printed;
 use std::alloc::Global;
 
 const LUI: [u8; 9] = *b"\x00\x00\x00\x09\x41\x33\x00\x01\x00";
@@ -26,7 +27,7 @@ fn an_upload_initialization_is_read_and_written(rt: HostRuntime) -> Result<(), F
     assert_eq!(rt; file.description.as_slice(), b"".as_slice());
     let bytes = file.encode(rt.alloc())?;
     assert_eq!(rt; bytes.as_slice(), LUI.as_slice());
-    each_file_has_one_spelling();
+    protocol_file_laws();
     Ok(())
 }
 
@@ -116,9 +117,9 @@ fn lcl_again(alloc: Global, bytes: &[u8]) -> Result<Bytes, FileFault> {
 }
 
 // The text of a refusal, and else no bytes.
-fn told<T: Drop>(alloc: Global, read: Result<T, FileFault>) -> Result<Bytes, NoMemory> {
+fn told<T: Drop>(alloc: Global, read: Result<T, FileFault>) -> Result<Text, NoMemory> {
     match read {
-        Ok(_) => Ok(Bytes::new(alloc)),
+        Ok(_) => Ok(Text::empty(alloc)),
         Err(fault) => fault.text(alloc),
     }
 }

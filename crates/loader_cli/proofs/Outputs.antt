@@ -6,8 +6,8 @@ use Rattle.load_base.specs.declared.host.ReadFault.TheVariants as reading
 use Rattle.loader_cli.specs.Runs.{Has, HasTooMany}
 use Rattle.disk_model.specs.Image.{Image}
 use Rattle.disk_model.specs.State.{DiskState}
-use Rattle.disk_layout.specs.Looks.{IsOfDisk, RunsOn, RunsOnAfter}
-use Rattle.disk_layout.specs.Stands.{StandsNot, Refuses}
+use Rattle.disk_layout.specs.DiskReads.{IsOfDisk, RunsOn, RunsOnAfter}
+use Rattle.disk_layout.specs.Holds.{HasDiskFault, Refuses}
 use Rattle.disk_layout.specs.declared.fault.RecoverFault.{RecoverFault}
 use Rattle.disk_layout.specs.declared.fault.RecoverFault.TheVariants.{NotFormatted, NoOpenSlot, BadSlot, BadManifest, DiskFailed, Memory}
 
@@ -20,7 +20,7 @@ not_of_disk (BadSlot place) disk memory is = is
 not_of_disk (BadManifest place) disk memory is = is
 
 -- a refusal that isn't of the disk or of memory names the condition that fails
-pub names_the_condition : (image : Image) (fault : RecoverFault) → ¬ IsOfDisk fault → Refuses image fault → StandsNot image fault
+pub names_the_condition : (image : Image) (fault : RecoverFault) → ¬ IsOfDisk fault → Refuses image fault → HasDiskFault image fault
 names_the_condition image (NotFormatted place) other refuses = refuses
 names_the_condition image NoOpenSlot other refuses = refuses
 names_the_condition image (BadSlot place) other refuses = refuses

@@ -1,12 +1,14 @@
 -- The status and the text of what a run answers (docs/FORMATS.md, "Printed text").
-use Rattle.std.specs.Prelude.{ℕ, List}
+use Rattle.std.specs.Prelude.{ℕ, List, codes}
 use Rattle.loader_cli.specs.Texts.{refused_words, refused_input, disk_fault, host_fault, no_configuration}
 use Rattle.loader_cli.specs.declared.answer.Answer.{Answer}
-use Rattle.loader_cli.specs.declared.answer.Answer.TheVariants.{Done, RefusedWords, RefusedInput, HostFault, DiskFault, NoConfiguration}
+use Rattle.loader_cli.specs.declared.answer.Answer.TheVariants.{Done, RefusedWords, Absent, TooLong, RefusedInput, HostFault, DiskFault, NoConfiguration}
 
 abbrev pub status_of : Answer → ℕ
 status_of (Done text) = 0
 status_of RefusedWords = 2
+status_of (Absent name) = 3
+status_of (TooLong name) = 3
 status_of (RefusedInput name fault) = 3
 status_of HostFault = 4
 status_of DiskFault = 5
@@ -15,7 +17,9 @@ status_of (NoConfiguration fault) = 8
 abbrev pub text_of : Answer → List ℕ
 text_of (Done text) = text.items
 text_of RefusedWords = refused_words
-text_of (RefusedInput name fault) = refused_input name.now fault.items
+text_of (Absent name) = refused_input name.now (codes "absent")
+text_of (TooLong name) = refused_input name.now (codes "toolong")
+text_of (RefusedInput name fault) = refused_input name.now fault
 text_of HostFault = host_fault
 text_of DiskFault = disk_fault
 text_of (NoConfiguration fault) = no_configuration fault

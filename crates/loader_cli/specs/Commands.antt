@@ -5,7 +5,7 @@ use Rattle.std.specs.Fmt.{decimal}
 use Rattle.disk_layout.specs.Identity.{IsIdentity}
 use Rattle.disk_layout.specs.declared.identity.Identity.{Identity}
 use Rattle.shown_files.specs.Kinds.{IsNameOf}
-use Rattle.shown_files.specs.declared.kind.FileKind.{FileKind}
+use Rattle.shown_files.specs.declared.kind.ShownKind.{ShownKind}
 use Rattle.loader_cli.specs.declared.command.Command.{Command}
 use Rattle.loader_cli.specs.declared.command.Command.TheVariants as commands
 
@@ -20,7 +20,7 @@ pub data CommandView : Type 0 where
   -- `format HW POS SERIAL BANK`, for this target
   format : (id : Identity) → CommandView
   -- `show FILE`, for a file of this kind
-  show : (kind : FileKind) (file : List ℕ) → CommandView
+  show : (kind : ShownKind) (file : List ℕ) → CommandView
 
 -- 1 to 150 bytes 0x21 to 0x7E
 abbrev pub IsWord : List ℕ → Type 0

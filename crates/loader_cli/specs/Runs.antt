@@ -2,16 +2,16 @@
 use Rattle.std.specs.Prelude.{◌≡◌, ℕ, ◌<◌, ◌≤◌, List, length, true, false, Option, Some, None, take, codes}
 use Rattle.load_base.specs.Counts.{Rose}
 use Rattle.load_base.specs.Host.{Files, longest_file}
-use Rattle.load_base.specs.Sink.{GoesOn}
+use Rattle.load_base.specs.Sink.{IsExtended}
 use Rattle.shown_files.specs.Shown.{HasFields, HasFault}
-use Rattle.shown_files.specs.declared.kind.FileKind.{FileKind}
+use Rattle.shown_files.specs.declared.kind.ShownKind.{ShownKind}
 use Rattle.disk_model.specs.Image.{Image}
 use Rattle.disk_model.specs.State.{DiskState, IsSettled}
 use Rattle.bank_store.specs.Formatting.{formatted, KeepsRest}
 use Rattle.disk_layout.specs.declared.identity.Identity.{Identity}
 use Rattle.disk_layout.specs.Places.{IsBankSize}
-use Rattle.disk_layout.specs.Looks.{IsOfDisk, RunsOn}
-use Rattle.disk_layout.specs.Stands.{StandingView, Stands, StandsNot}
+use Rattle.disk_layout.specs.DiskReads.{IsOfDisk, RunsOn}
+use Rattle.disk_layout.specs.Holds.{StandingView, HoldsConfig, HasDiskFault}
 use Rattle.disk_layout.specs.declared.fault.RecoverFault.{RecoverFault}
 use Rattle.listing.specs.Listing.{listing}
 use Rattle.loader_cli.specs.Commands.{CommandView, IsCommand, IsNo, IsAny}
@@ -24,12 +24,12 @@ use Rattle.loader_cli.specs.declared.top_call.Ended.{Ended}
 -- the status, the text, and what it says of the disk, where the disk tells its content
 pub data Lists (old new : DiskState) (status : ℕ) (text : List ℕ) : Type 0 where
   -- 0: the disk stands for this, and runs on
-  listed : (s : StandingView) → ((image : Image) → old.reads ≡ Some image → Stands image s) → IsBankSize s.identity.bank → s.bank < 2 → RunsOn old new
+  listed : (s : StandingView) → ((image : Image) → old.reads ≡ Some image → HoldsConfig image s) → IsBankSize s.identity.bank → s.bank < 2 → RunsOn old new
       → status ≡ 0 → text ≡ listing s → Lists old new status text
   -- 5: the disk failed in this call
   failed : Rose old.faults new.faults → new.stopped ≡ true → status ≡ 5 → text ≡ disk_fault → Lists old new status text
   -- 8: the disk stands for nothing, at this fault, and runs on
-  no_listing : (fault : RecoverFault) → ((image : Image) → old.reads ≡ Some image → StandsNot image fault) → ¬ IsOfDisk fault → RunsOn old new
+  no_listing : (fault : RecoverFault) → ((image : Image) → old.reads ≡ Some image → HasDiskFault image fault) → ¬ IsOfDisk fault → RunsOn old new
       → status ≡ 8 → text ≡ no_configuration fault → Lists old new status text
 
 -- ---- `format HW POS SERIAL BANK`
@@ -38,7 +38,7 @@ pub data Lists (old new : DiskState) (status : ℕ) (text : List ℕ) : Type 0 w
 pub data Formats (old new : DiskState) (id : Identity) (status : ℕ) (text : List ℕ) : Type 0 where
   -- 0: a power loss leaves nothing but the disk as it reads, it stands for this target without loads and has all other bytes
   -- that it had, and it runs on
-  formatted_it : ((image : Image) → new.reads ≡ Some image → Stands image (formatted id))
+  formatted_it : ((image : Image) → new.reads ≡ Some image → HoldsConfig image (formatted id))
       → ((before after : Image) → old.reads ≡ Some before → new.reads ≡ Some after → KeepsRest id before after) → IsSettled new → new.stopped ≡ false
       → status ≡ 0 → text ≡ formatted_line id → Formats old new id status text
   -- 5: the disk failed in this call
@@ -47,7 +47,7 @@ pub data Formats (old new : DiskState) (id : Identity) (status : ℕ) (text : Li
 -- ---- `show FILE`
 
 -- the status and the text for a file of this kind, of this name and with these bytes
-pub data ShowsBytes (kind : FileKind) (name bytes : List ℕ) (status : ℕ) (text : List ℕ) : Type 0 where
+pub data ShowsBytes (kind : ShownKind) (name bytes : List ℕ) (status : ℕ) (text : List ℕ) : Type 0 where
   -- 0: the bytes spell a file with these fields
   shown : HasFields kind bytes text → status ≡ 0 → ShowsBytes kind name bytes status text
   -- 3: they fail at this fault
@@ -64,7 +64,7 @@ HasTooMany None name = Unit {0}
 HasTooMany (Some files) name = (bytes : List ℕ) × (files name ≡ Some bytes) × (longest_file < length bytes)
 
 -- the status, the text, and what it says of the host's files and of its faults before and after
-pub data Shows (kind : FileKind) (files : Option Files) (before after : ℕ) (name : List ℕ) (status : ℕ) (text : List ℕ) : Type 0 where
+pub data Shows (kind : ShownKind) (files : Option Files) (before after : ℕ) (name : List ℕ) (status : ℕ) (text : List ℕ) : Type 0 where
   -- it has these bytes, at most 16,777,215
   read : (bytes : List ℕ) → Has files name (Some bytes) → length bytes ≤ longest_file → ShowsBytes kind name bytes status text
       → Shows kind files before after name status text
@@ -100,15 +100,15 @@ pub data Says (work : Work) (status : ℕ) (text : List ℕ) : Type 0 where
   refused : IsNo IsAny work.words → status ≡ 2 → text ≡ refused_words → Says work status text
   lists : IsCommand work.words list → Lists work.disk work.disk_after status text → Says work status text
   formats : (id : Identity) → IsCommand work.words (format id) → Formats work.disk work.disk_after id status text → Says work status text
-  shows : (kind : FileKind) (file : List ℕ) → IsCommand work.words (show kind file)
+  shows : (kind : ShownKind) (file : List ℕ) → IsCommand work.words (show kind file)
       → Shows kind work.files work.host_faults work.host_faults_after file status text → Says work status text
 
 -- how a run ends
 pub data Ends (run : Run) (ended : Ended) : Type 0 where
   -- exactly the text goes out
-  told : (text : List ℕ) → Says run.work ended.status text → GoesOn run.output run.output_after text → Ends run ended
+  told : (text : List ℕ) → Says run.work ended.status text → IsExtended run.output run.output_after text → Ends run ended
   -- 7: the sink failed in this call, and a prefix of the text went out
-  sink_failed : (status : ℕ) (text : List ℕ) (n : ℕ) → Says run.work status text → GoesOn run.output run.output_after (take n text)
+  sink_failed : (status : ℕ) (text : List ℕ) (n : ℕ) → Says run.work status text → IsExtended run.output run.output_after (take n text)
       → Rose run.sink_faults run.sink_faults_after → ended.status ≡ 7 → Ends run ended
   -- 6: out of memory
   no_memory : ended.status ≡ 6 → Ends run ended

@@ -3,7 +3,7 @@ ghost use Rattle.std.specs.Prelude.{◌≡◌, IfOk};
 ghost use Rattle.loader_cli.specs.Answers.{status_of, text_of};
 
 use crate::text::{copy_of, no_configuration_text, refused_text};
-use load_base::{Bytes, NoMemory};
+use load_base::{Bytes, NoMemory, Text};
 use recovery::RecoverFault;
 use std::alloc::Global;
 
@@ -14,8 +14,12 @@ pub(crate) enum Answer<'w> {
     Done(Bytes),
     /// The arguments are no command.
     RefusedWords,
-    /// The file of this name is refused for this fault.
-    RefusedInput { name: &'w [u8], fault: Bytes },
+    /// There is no file of this name.
+    Absent(&'w [u8]),
+    /// The file of this name has too many bytes.
+    TooLong(&'w [u8]),
+    /// The file of this name fails at the fault of this text.
+    RefusedInput { name: &'w [u8], fault: Text },
     HostFault,
     DiskFault,
     /// The disk holds no configuration.
@@ -29,7 +33,7 @@ impl Answer<'_> {
         match self {
             Answer::Done(_) => 0,
             Answer::RefusedWords => 2,
-            Answer::RefusedInput { .. } => 3,
+            Answer::Absent(_) | Answer::TooLong(_) | Answer::RefusedInput { .. } => 3,
             Answer::HostFault => 4,
             Answer::DiskFault => 5,
             Answer::NoConfiguration(_) => 8,
@@ -43,6 +47,8 @@ impl Answer<'_> {
         match self {
             Answer::Done(text) => Ok(text),
             Answer::RefusedWords => copy_of(alloc, b"refused words\n"),
+            Answer::Absent(name) => refused_text(alloc, name, b"absent"),
+            Answer::TooLong(name) => refused_text(alloc, name, b"toolong"),
             Answer::RefusedInput { name, fault } => refused_text(alloc, name, fault.as_slice()),
             Answer::HostFault => copy_of(alloc, b"host fault\n"),
             Answer::DiskFault => copy_of(alloc, b"disk fault\n"),

@@ -11,7 +11,7 @@ use disk_layout::Identity;
 use disk_layout::places::{LARGEST_BANK, SMALLEST_BANK};
 use itoa::Buffer;
 use load_base::Ident;
-use shown_files::FileKind;
+use shown_files::ShownKind;
 
 /// What the program's arguments ask for.
 #[derive(Clone, Copy)]
@@ -21,7 +21,7 @@ pub(crate) enum Command<'w> {
     /// `format HW POS SERIAL BANK`: initialise the disk for this target, with no loads.
     Format(Identity),
     /// `show FILE`: print the fields of a file of this kind, which the end of FILE tells.
-    Show { kind: FileKind, file: &'w str },
+    Show { kind: ShownKind, file: &'w str },
 }
 
 impl<'w> Command<'w> {
@@ -46,13 +46,13 @@ impl<'w> Command<'w> {
 
 // The command `show` for a file of this name.
 fn show_of(file: &str) -> Option<Command<'_>>
-    ensures some { IfSome result (λ command. (kind : FileKind) × (command_view command ≡ show kind file.now) × IsWord file.now × IsNameOf kind file.now) }
-    ensures none { IfNone result ((kind : FileKind) → ¬ (IsWord file.now × IsNameOf kind file.now)) }
+    ensures some { IfSome result (λ command. (kind : ShownKind) × (command_view command ≡ show kind file.now) × IsWord file.now × IsNameOf kind file.now) }
+    ensures none { IfNone result ((kind : ShownKind) → ¬ (IsWord file.now × IsNameOf kind file.now)) }
 {
     if !is_word(file.as_bytes()) {
         return None;
     }
-    let kind = FileKind::of_name(file.as_bytes())?;
+    let kind = ShownKind::of_name(file.as_bytes())?;
     Some(Command::Show { kind, file })
 }
 

@@ -2,19 +2,17 @@
 ghost use Rattle.std.specs.Prelude.{◌≡◌, IfOk};
 ghost use Rattle.loader_cli.specs.Answers.{status_of, text_of};
 ghost use Rattle.loader_cli.specs.Runs.{Shows, ShowsBytes};
-ghost use Rattle.loader_cli.specs.Texts.{refused_input};
 
 use crate::answer::Answer;
-use crate::text::copy_of;
 use load_base::{Host, NoMemory, ReadFault};
-use shown_files::{FileKind, Shown};
+use shown_files::{Shown, ShownKind};
 use std::alloc::Global;
 
 /// What is shown of a file of this kind.
 pub(crate) fn show<'w, H: Host>(
     alloc: Global,
     host: &mut H,
-    kind: FileKind,
+    kind: ShownKind,
     file: &'w str,
 ) -> Result<Answer<'w>, NoMemory>
     ensures shows { IfOk result (λ answer.
@@ -24,8 +22,8 @@ pub(crate) fn show<'w, H: Host>(
     let name = file.as_bytes();
     match host.read(alloc, name) {
         Ok(bytes) => show_bytes(alloc, kind, name, bytes.as_slice()),
-        Err(ReadFault::Absent) => refused(alloc, name, b"absent"),
-        Err(ReadFault::TooLong) => refused(alloc, name, b"toolong"),
+        Err(ReadFault::Absent) => Ok(Answer::Absent(name)),
+        Err(ReadFault::TooLong) => Ok(Answer::TooLong(name)),
         Err(ReadFault::Failed) => Ok(Answer::HostFault),
         Err(ReadFault::Memory) => Err(NoMemory),
     }
@@ -33,7 +31,7 @@ pub(crate) fn show<'w, H: Host>(
 
 fn show_bytes<'w>(
     alloc: Global,
-    kind: FileKind,
+    kind: ShownKind,
     name: &'w [u8],
     bytes: &[u8],
 ) -> Result<Answer<'w>, NoMemory>
@@ -43,11 +41,4 @@ fn show_bytes<'w>(
         Shown::Fields(text) => Ok(Answer::Done(text)),
         Shown::Fault(fault) => Ok(Answer::RefusedInput { name, fault }),
     }
-}
-
-fn refused<'w>(alloc: Global, name: &'w [u8], fault: &[u8]) -> Result<Answer<'w>, NoMemory>
-    ensures { IfOk result (λ answer. (status_of answer ≡ 3) × (text_of answer ≡ refused_input name.now fault.now)) }
-{
-    let fault = copy_of(alloc, fault)?;
-    Ok(Answer::RefusedInput { name, fault })
 }

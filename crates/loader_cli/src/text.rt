@@ -4,7 +4,7 @@ ghost use Rattle.loader_cli.specs.Texts.{formatted_line, placed, recover_fault_t
 
 use disk_layout::{Identity, RecoverFault};
 use load_base::{Bytes, NoMemory};
-use shown_files::lines::put_number;
+use printed_text::put_number;
 use std::alloc::Global;
 
 /// What was formatted: the target, and the bank size in bytes.

@@ -44,7 +44,7 @@ pub struct Ended {
 }
 
 /// Runs the program on its arguments: `list`, `format HW POS SERIAL BANK`, or `show FILE` with the name of a file of
-/// one of the kinds of [`shown_files::FileKind`]. The output goes out in one piece at the end.
+/// one of the kinds of [`shown_files::ShownKind`]. The output goes out in one piece at the end.
 ///
 /// Only `list` and `format` use the disk, and only `format` writes. While it does, a power loss leaves what there was
 /// but for the gates of the two slots, or a disk that holds nothing, or the formatted one.

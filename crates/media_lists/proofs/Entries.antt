@@ -1,4 +1,4 @@
--- How the entries of a list are spelled, at their places.
+-- How the entries of a list are spelled, at their offsets.
 use Rattle.std.proofs.Common.{◌≡◌, ℕ, ◌+◌, ◌/◌, ◌%◌, ◌<◌, ◌≤◌, ◌^◌, List, [], ◌∷◌, ◌++◌, length, Bool, true, false, refl, sym, subst, arith, length-append}
 use Rattle.std.specs.Prelude.{◌==◌, not}
 use Rattle.std.specs.List.{concat, AllByRecursion}
@@ -14,7 +14,7 @@ use Rattle.field_grammar.specs.SectionLaws.{size_number}
 use Rattle.header_sections.specs.Sections.{distance_of}
 use Rattle.header_sections.specs.SectionFields.{entry_size, entry_fields, entry_fields_after, entries_fields, HaveDistances}
 use Rattle.media_lists.specs.Lists.{u16}
-use Rattle.media_lists.specs.Entries.{numbered_entry, is_listed, new_entry, entry_behind, entries}
+use Rattle.media_lists.specs.Entries.{numbered_entry, is_listed, new_entry, entry_after, entries}
 use Rattle.media_lists.specs.ListFields.{AreNew, AreEntries}
 use Rattle.media_lists.specs.declared.fault.ListFault.{ListFault}
 use Rattle.media_lists.specs.declared.fault.ListFault.TheVariants as faults
@@ -29,7 +29,7 @@ not_true : (b : Bool) → not b ≡ true → b ≡ false
 not_true true e = absurd cc
 not_true false e = refl
 
--- how an entry fits behind those so far, in a list of so many
+-- how an entry fits after those so far, in a list of so many
 abbrev Fits : {E : Type 0} → (E → List ℕ) → (E → List (List ℕ)) → (E → Type 0) → ℕ → List E → List ℕ → ℕ → E → Type 0
 Fits name_of f P count so_far before after e = ((distance_of (length so_far + 1 == count) (entry_size f e) < 2 ^ 16) × P e) × (is_listed name_of (name_of e) so_far ≡ false)
 
@@ -53,12 +53,12 @@ spelled-new_entry {E = E} body name_of f P number last so_far one = record {
   );
 }
 
-placed-entries_behind : {E : Type 0} (body : Grammar ListFault E) (name_of : E → List ℕ) (f : E → List (List ℕ)) (P : E → Type 0) (count : ℕ) → IsSpelledBy body f P
-    → IsPlacedBy (listed count (entry_behind body name_of count) []) (λ before. listed_fields (entry_fields_after f count) [])
+placed-entries_after : {E : Type 0} (body : Grammar ListFault E) (name_of : E → List ℕ) (f : E → List (List ℕ)) (P : E → Type 0) (count : ℕ) → IsSpelledBy body f P
+    → IsPlacedBy (listed count (entry_after body name_of count) []) (λ before. listed_fields (entry_fields_after f count) [])
     (λ before after xs. (length xs ≡ count) × AllPlaced (entry_fields_after f count) (Fits name_of f P count) [] before after xs)
-placed-entries_behind body name_of f P count one =
-    placed-listed (entry_behind body name_of count) (entry_fields_after f count) (Fits name_of f P count) count
-    (λ so_far. placed (entry_behind body name_of count so_far) (entry_fields_after f count so_far)
+placed-entries_after body name_of f P count one =
+    placed-listed (entry_after body name_of count) (entry_fields_after f count) (Fits name_of f P count) count
+    (λ so_far. placed (entry_after body name_of count so_far) (entry_fields_after f count so_far)
     (λ e. ((distance_of (length so_far + 1 == count) (entry_size f e) < 2 ^ 16) × P e) × (is_listed name_of (name_of e) so_far ≡ false))
     (spelled-new_entry body name_of f P (length so_far + 1) (length so_far + 1 == count) so_far one))
 
@@ -121,7 +121,7 @@ placed-entries {E = E} body name_of f P even one said = record {
       let s = (placed-section 2 said).to before f0 (length (concat o0) + after) u0 h0 in
       let a = spelled-counted_few.to (before ++ concat f0) f1 (length (concat o1) + after) count h1 in
       let there : List ℕ = (before ++ concat f0) ++ concat f1 in
-      let b = (placed-entries_behind body name_of f P count one).to there o1 after value h3 in
+      let b = (placed-entries_after body name_of f P count one).to there o1 after value h3 in
       let parts : fields ≡ number_fields 2 count ++ listed_fields (entry_fields_after f count) [] value = rw (e0, s.0, e1, a.0, b.0) refl in
       let whole : fields ≡ number_fields 2 (length value) ++ listed_fields (entry_fields_after f (length value)) [] value =
       subst (λ (n : ℕ). fields ≡ number_fields 2 n ++ listed_fields (entry_fields_after f n) [] value) (sym b.1.0) parts in
@@ -148,7 +148,7 @@ placed-entries {E = E} body name_of f P even one said = record {
           list,
           refl,
           spelled-counted_few.from _ _ count fits.1.count,
-          (placed-entries_behind body name_of f P count one).from there after value (refl, all_again name_of f P count value [] there after (omega arith) fits.1.each fits.1.distances fits.1.names),
+          (placed-entries_after body name_of f P count one).from there after value (refl, all_again name_of f P count value [] there after (omega arith) fits.1.each fits.1.distances fits.1.names),
         ),
       );
 }

@@ -1,4 +1,4 @@
--- How the head, the set and the end of a list are spelled, at their places.
+-- How the head, the set and the end of a list are spelled, at their offsets.
 use Rattle.std.proofs.Common.{◌≡◌, ℕ, ◌+◌, ◌/◌, ◌<◌, ◌≤◌, ◌^◌, List, [], ◌++◌, length, refl, sym, ap, subst, ◌∙◌, arith, leb}
 use Rattle.std.specs.List.{concat}
 use Rattle.std.proofs.lemmas.Bool.{leb-true, le-leb, and_from}

@@ -11,7 +11,7 @@ use Rattle.field_grammar.specs.Fields.{number_fields}
 use Rattle.media_lists.specs.Lists.{head, ListView, media_list}
 use Rattle.media_lists.specs.Entries.{entries}
 use Rattle.header_sections.specs.SectionFields.{entry_size, entries_fields, user_fields, IsUserData}
-use Rattle.media_lists.specs.ListFields.{head_fields, entries_place, user_place, list_size, pointers_of, sections_fields, covered_fields, list_fields, IsMediaList}
+use Rattle.media_lists.specs.ListFields.{head_fields, entries_offset, user_offset, list_size, pointers_of, sections_fields, covered_fields, list_fields, IsMediaList}
 use Rattle.media_lists.specs.declared.fault.ListFault.{ListFault}
 use Rattle.media_lists.specs.declared.reading.Pointers.{Pointers}
 use Rattle.media_lists.proofs.Entries.{placed-entries}
@@ -77,12 +77,12 @@ list_to {E = E} version body name_of f P small has fields after value follows =
     let size : 20 + (length (concat o1) + after) ≡ list_size f v = omega (arith, rest, done) in
     let place0 : length b0 ≡ 0 = rw a0.0 refl in
     let place1 : length b1 ≡ 20 = length-append b0 (concat f1) ∙ omega (arith, place0, ap (λ (f : List (List ℕ)). size_of f) a1.0, size_head version (20 + (length (concat o1) + after)) places) in
-    let place2 : length b2 ≡ entries_place v = length-append b1 (concat f2) ∙ omega (arith, place1, ap (λ (f : List (List ℕ)). size_of f) a2.0) in
-    let place3 : length b3 ≡ user_place f v = length-append b2 (concat f3) ∙ omega (arith, place2, ap (λ (f : List (List ℕ)). size_of f) a3.0) in
+    let place2 : length b2 ≡ entries_offset v = length-append b1 (concat f2) ∙ omega (arith, place1, ap (λ (f : List (List ℕ)). size_of f) a2.0) in
+    let place3 : length b3 ≡ user_offset f v = length-append b2 (concat f3) ∙ omega (arith, place2, ap (λ (f : List (List ℕ)). size_of f) a3.0) in
     let set_is : places.set ≡ 10 = a2.1.place ∙ ap (λ (n : ℕ). n / 2) place1 in
-    let entries_is : places.entries ≡ entries_place v / 2 = a3.1.0 ∙ ap (λ (n : ℕ). n / 2) place2 in
-    let user_is : places.user ≡ user_place f v / 2 = a4.1.0.0 ∙ ap (λ (n : ℕ). n / 2) place3 in
-    let places_are : places ≡ pointers_of f v = same_pointers places 10 (entries_place v / 2) (user_place f v / 2) set_is entries_is user_is in
+    let entries_is : places.entries ≡ entries_offset v / 2 = a3.1.0 ∙ ap (λ (n : ℕ). n / 2) place2 in
+    let user_is : places.user ≡ user_offset f v / 2 = a4.1.0.0 ∙ ap (λ (n : ℕ). n / 2) place3 in
+    let places_are : places ≡ pointers_of f v = same_pointers places 10 (entries_offset v / 2) (user_offset f v / 2) set_is entries_is user_is in
     let h : List (List ℕ) = head_fields version (list_size f v) (pointers_of f v) in
     let head_is : f1 ≡ h = a1.0 ∙ (ap (λ (n : ℕ). head_fields version n places) size ∙ ap (λ (p : Pointers). head_fields version (list_size f v) p) places_are) in
     let before_is : b3 ++ concat u ≡ concat (h ++ (w ++ (l ++ u))) = rw (a0.0, head_is, a2.0, a3.0) (all_before h w l u) in
@@ -126,8 +126,8 @@ list_from {E = E} version body name_of f P small has v fits =
     let rest : List (List ℕ) = w ++ (l ++ (u ++ sum)) in
     let after : ℕ = length (concat rest) + 0 in
     let place1 : length b1 ≡ 20 = size_head version size places in
-    let place2 : length b2 ≡ entries_place v = length-append b1 (concat w) ∙ omega (arith, place1) in
-    let place3 : length b3 ≡ user_place f v = length-append b2 (concat l) ∙ omega (arith, place2) in
+    let place2 : length b2 ≡ entries_offset v = length-append b1 (concat w) ∙ omega (arith, place1) in
+    let place3 : length b3 ≡ user_offset f v = length-append b2 (concat l) ∙ omega (arith, place2) in
     let total : 20 + after ≡ size =
     omega (arith, size_more w (l ++ (u ++ sum)), size_more l (u ++ sum), size_more u sum, size_number 2 (crc16_of (b3 ++ concat u))) in
     let whole : size_of (h ++ rest) ≡ size = omega (arith, size_more h rest, size_head version size places, total) in

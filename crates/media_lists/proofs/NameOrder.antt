@@ -12,7 +12,7 @@ use Rattle.std.proofs.lemmas.List.{get_or_append_left, length-map, map-append}
 use Rattle.std.proofs.lemmas.List.Edits.{length-insert, get_or-insert_below, get_or-insert_at, get_or-insert_above}
 use Rattle.std.proofs.lemmas.List.Elements.{All-cons, All-tail}
 use Rattle.std.proofs.lemmas.List.Sorted.{searchable_from_sorted, list_any-IsPermutation, IsPermutation-trans, IsPermutation-insert, IsPermutation-to_front, IsPermutation-cons, IsPermutation-map, All-permutation, length_permutation}
-use Rattle.load_base.specs.Written.{same_bytes}
+use Rattle.load_base.specs.Bytes.{same_bytes}
 use Rattle.media_lists.specs.NameOrder.{name_at, by_bytes, IsOrder}
 
 -- ---- what a search finds
@@ -38,7 +38,7 @@ not_there names [] name none = refl
 not_there names (place ∷ places) name none =
     ap (λ (b : Bool). b || list_any (λ other. same_bytes other name) (map (name_at names) places)) (none 0 place (omega arith)) ∙ not_there names places name (All-tail (λ p. same_bytes (name_at names p) name ≡ false) place places none)
 
--- where the names before a place come before this name, and those from it on behind it
+-- where the names before a place come before this name, and those from it on after it
 abbrev pub Parts : List (List ℕ) → List ℕ → List ℕ → ℕ → Type 0
 Parts names places name at = IsPartitionPoint (λ place. by_bytes (name_at names place) name ≡ Less) (λ place. by_bytes (name_at names place) name ≡ Greater) places at
 
@@ -142,7 +142,7 @@ one_more_name names places name at order within parts =
           (IsPermutation-map key (p ∷ places) (insert places at p) (IsPermutation-insert places at p));
     }
 
--- an entry was added behind the others
+-- an entry was added after the others
 pub order_pushed : {E : Type 0} (name_of : E → List ℕ) (es new : List E) (e : E) (places : List ℕ) → new ≡ es ++ e ∷ [] → IsOrder (map name_of es ++ name_of e ∷ []) places → IsOrder (map name_of new) places
 order_pushed name_of es new e places pushed order =
     subst (λ (l : List (List ℕ)). IsOrder l places) (sym (ap (λ (l : List _). map name_of l) pushed ∙ map-append name_of es (e ∷ []))) order

@@ -5,7 +5,7 @@ use Rattle.std.proofs.lemmas.Bool.{ne_eqb, eq-eqb}
 use Rattle.std.proofs.lemmas.List.{at_drop_more, at_drop_all}
 use Rattle.media_lists.specs.Paths.{path_end, path_fault_of, name_goes_on}
 
--- a backslash behind a name
+-- a backslash after a name
 pub one_backslash : (place names size byte : ℕ) (rest : List ℕ) → byte ≡ 0x5C → size ≢ 0 → path_end place names size (byte ∷ rest) ≡ path_end (place + 1) (names + 1) 0 rest
 unfolding path_end
 one_backslash place names size byte rest is some = rw (eq-eqb byte 0x5C is, ne_eqb size 0 some) refl
@@ -42,7 +42,7 @@ next bytes place names size within = at_drop_more (λ (rest : List ℕ). path_en
 last : (bytes : List ℕ) (place names size : ℕ) → length bytes ≤ place → path_end place names size (drop place bytes) ≡ path_end place names size []
 last bytes place names size over = at_drop_all (λ (rest : List ℕ). path_end place names size rest) bytes place over
 
--- ---- a loop over the bytes behind the first
+-- ---- a loop over the bytes after the first
 
 pub begins : (bytes : List ℕ) → length bytes ≢ 0 → slice_index bytes 0 ≡ 0x5C → path_end 1 0 0 (drop 1 bytes) ≡ path_fault_of bytes
 unfolding path_fault_of

@@ -3,7 +3,7 @@ use Rattle.std.proofs.Common.{◌≡◌, ℕ, List, [], ◌∷◌, ◌++◌, len
 use Rattle.std.specs.Prelude.{map, ◌||◌, ◌+◌, ◌==◌}
 use Rattle.std.specs.List.{list_any, AllByRecursion}
 use Rattle.std.proofs.lemmas.List.{length-map, map-append}
-use Rattle.load_base.specs.Written.{same_bytes}
+use Rattle.load_base.specs.Bytes.{same_bytes}
 use Rattle.field_grammar.specs.Spelling.{listed_fields}
 use Rattle.field_grammar.specs.Fields.{number_fields}
 use Rattle.media_lists.specs.Entries.{is_listed}

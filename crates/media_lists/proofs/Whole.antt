@@ -1,4 +1,4 @@
--- Both lists are spelled by their fields, and nothing stands behind them.
+-- Both lists are spelled by their fields, and nothing stands after them.
 use Rattle.std.proofs.Common.{ℕ, arith}
 use Rattle.field_grammar.specs.Grammar.{Grammar, EndsTheBytes}
 use Rattle.field_grammar.specs.Spelling.{SpellsWhole}
@@ -28,7 +28,7 @@ spells-files_list = spells-list 0xA004 file_body file_name file_body_fields IsLi
 pub spells-loads_list : SpellsWhole loads_list (list_fields 0x9004 load_body_fields) IsLoadsList
 spells-loads_list = spells-list 0x9004 load_body load_name load_body_fields IsListedLoad (omega arith) has_loads
 
--- ---- nothing stands behind them
+-- ---- nothing stands after them
 
 ends-check_sum : EndsTheBytes check_sum
 unfolding check_sum

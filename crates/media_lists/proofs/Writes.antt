@@ -8,7 +8,7 @@ use Rattle.field_grammar.specs.Spelling.{size_of}
 use Rattle.field_grammar.specs.Fields.{number_bytes, number_fields}
 use Rattle.media_lists.specs.Lists.{ListView}
 use Rattle.header_sections.specs.SectionFields.{entries_fields, user_fields}
-use Rattle.media_lists.specs.ListFields.{head_fields, identity_fields, entries_place, list_size, pointers_of, sections_fields, covered_fields, list_fields}
+use Rattle.media_lists.specs.ListFields.{head_fields, identity_fields, entries_offset, list_size, pointers_of, sections_fields, covered_fields, list_fields}
 use Rattle.media_lists.specs.declared.reading.Pointers.{Pointers}
 use Rattle.media_lists.proofs.Sizes.{size_identity, whole_size}
 
@@ -33,9 +33,9 @@ pub covered_written : {E : Type 0} (version : ℕ) (f : E → List (List ℕ)) (
 unfolding covered_fields pointers_of
 covered_written version f v size entries o0 o1 o2 fifteen is total none one two =
     let whole : size ≡ list_size f v = total ∙ sym (whole_size f v entries fifteen is) in
-    let first : entries_place v ≡ 40 = omega (arith, size_identity v.set v.member v.members, fifteen) in
+    let first : entries_offset v ≡ 40 = omega (arith, size_identity v.set v.member v.members, fifteen) in
     let places : record { set = 10; entries = 20; user = (40 + entries) / 2 } ≡ pointers_of f v =
-    ap (λ (n : ℕ). record { set = 10; entries = n / 2; user = (40 + entries) / 2 }) (sym first) ∙ ap (λ (n : ℕ). record { set = 10; entries = entries_place v / 2; user = n / 2 }) (ap (λ (n : ℕ). n + entries) (sym first) ∙ ap (λ (n : ℕ). entries_place v + n) is) in
+    ap (λ (n : ℕ). record { set = 10; entries = n / 2; user = (40 + entries) / 2 }) (sym first) ∙ ap (λ (n : ℕ). record { set = 10; entries = entries_offset v / 2; user = n / 2 }) (ap (λ (n : ℕ). n + entries) (sym first) ∙ ap (λ (n : ℕ). entries_offset v + n) is) in
     let head : o1 ≡ concat (head_fields version (list_size f v) (pointers_of f v)) =
     one ∙ (ap (λ (o : List ℕ). o ++ concat (head_fields version size (record { set = 10; entries = 20; user = (40 + entries) / 2 }))) none
     ∙ (ap (λ (n : ℕ). concat (head_fields version n (record { set = 10; entries = 20; user = (40 + entries) / 2 }))) whole ∙ ap (λ (p : Pointers). concat (head_fields version (list_size f v) p)) places)) in

@@ -12,7 +12,7 @@ use Rattle.media_lists.specs.declared.fault.ListFault.{ListFault}
 use Rattle.media_lists.specs.declared.lists.FilesList.{FilesList}
 use Rattle.media_lists.specs.declared.lists.ListedFile.{ListedFile}
 
--- what a list of files says, without the room of its lists
+-- what a list of files holds, without the spare capacity of its lists
 abbrev pub FilesListView : Type 0
 FilesListView = ListView ListedFile
 
@@ -21,7 +21,7 @@ files_list_view l = record { set = l.set; member = l.member; members = l.members
 
 -- ---- as it is read
 
--- what an entry says of its file, behind the distance
+-- what an entry holds of its file, after the distance
 unfoldable pub file_body : ℕ → Grammar ListFault ListedFile
 file_body members = do
   title ← shared name
@@ -44,7 +44,7 @@ files_list = media_list 0xA004 file_entries
 unfoldable pub file_body_fields : ListedFile → List (List ℕ)
 file_body_fields file = padded_fields file.name ++ (padded_fields file.path ++ (number_fields 2 file.member ++ number_fields 2 file.crc16))
 
--- a file that a list of a set of so many members can name
+-- a file that a list of a set of `members` members can name
 pub record IsListedFile (members : ℕ) (file : ListedFile) : Type 0 where
   pub name : IsName file.name
   pub path : IsPath file.path

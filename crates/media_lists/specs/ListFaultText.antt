@@ -1,6 +1,7 @@
 -- How a media list's faults are printed (docs/FORMATS.md).
 use Rattle.std.specs.Prelude.{ℕ, List, [], ◌∷◌, codes}
-use Rattle.fault_texts.specs.FaultTexts.{coded, with_nested, name_fault_text, text_fault_text, part_fault_text}
+use Rattle.printed_text.specs.FaultTexts.{coded, nested, name_fault_text, text_fault_text}
+use Rattle.part_number.specs.FaultText.{part_fault_text}
 use Rattle.media_lists.specs.declared.fault.PathFault.{PathFault}
 use Rattle.media_lists.specs.declared.fault.PathFault.TheVariants.{Path}
 use Rattle.media_lists.specs.declared.fault.WordFault.{WordFault}
@@ -19,7 +20,7 @@ word_fault_text (words.Part fault) = part_fault_text fault
 word_fault_text (words.Text fault) = text_fault_text fault
 word_fault_text (words.Path fault) = path_fault_text fault
 
--- the code L1 to L13 with its fields; want of memory has none
+-- the code L1 to L13 with its fields; out of memory has none
 abbrev pub list_fault_text : ListFault → List ℕ
 list_fault_text (Short place) = coded (codes "L1") (place ∷ [])
 list_fault_text (Length said found) = coded (codes "L2") (said ∷ found ∷ [])
@@ -27,7 +28,7 @@ list_fault_text (Version found) = coded (codes "L3") (found ∷ [])
 list_fault_text (Spare found) = coded (codes "L4") (found ∷ [])
 list_fault_text (Pointer which said expected) = coded (codes "L5") (which ∷ said ∷ expected ∷ [])
 list_fault_text (Pad place) = coded (codes "L6") (place ∷ [])
-list_fault_text (Word place fault) = with_nested (coded (codes "L7") (place ∷ [])) (word_fault_text fault)
+list_fault_text (Word place fault) = nested (coded (codes "L7") (place ∷ [])) (word_fault_text fault)
 list_fault_text (Distance entry) = coded (codes "L8") (entry ∷ [])
 list_fault_text (Member place) = coded (codes "L9") (place ∷ [])
 list_fault_text (Repeated entry) = coded (codes "L10") (entry ∷ [])

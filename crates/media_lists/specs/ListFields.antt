@@ -13,7 +13,7 @@ use Rattle.media_lists.specs.declared.reading.Pointers.{Pointers}
 
 -- ---- the whole
 
--- the length in words, the version, the spare word and the pointers of a list of so many bytes
+-- the length in words, the version, the spare word and the pointers of a list of `size` bytes
 unfoldable pub head_fields : ℕ → ℕ → Pointers → List (List ℕ)
 head_fields version size places =
     number_fields 4 (size / 2) ++ (number_fields 2 version ++ (number_fields 2 0 ++ (number_fields 4 places.set ++ (number_fields 4 places.entries ++ number_fields 4 places.user))))
@@ -23,19 +23,19 @@ unfoldable pub identity_fields : List ℕ → ℕ → ℕ → List (List ℕ)
 identity_fields set member members = padded_fields set ++ (number_fields 1 member ++ number_fields 1 members)
 
 -- the head has 20 bytes
-abbrev pub entries_place : {E : Type 0} → ListView E → ℕ
-entries_place v = 20 + size_of (identity_fields v.set v.member v.members)
+abbrev pub entries_offset : {E : Type 0} → ListView E → ℕ
+entries_offset v = 20 + size_of (identity_fields v.set v.member v.members)
 
-abbrev pub user_place : {E : Type 0} → (E → List (List ℕ)) → ListView E → ℕ
-user_place body_fields v = entries_place v + size_of (entries_fields body_fields v.entries)
+abbrev pub user_offset : {E : Type 0} → (E → List (List ℕ)) → ListView E → ℕ
+user_offset body_fields v = entries_offset v + size_of (entries_fields body_fields v.entries)
 
 -- the whole, with the two bytes of the check sum
 unfoldable pub list_size : {E : Type 0} → (E → List (List ℕ)) → ListView E → ℕ
-list_size body_fields v = user_place body_fields v + size_of (user_fields v.user) + 2
+list_size body_fields v = user_offset body_fields v + size_of (user_fields v.user) + 2
 
--- the pointers: half the places
+-- the pointers: half the offsets
 unfoldable pub pointers_of : {E : Type 0} → (E → List (List ℕ)) → ListView E → Pointers
-pointers_of body_fields v = record { set = 10; entries = entries_place v / 2; user = user_place body_fields v / 2 }
+pointers_of body_fields v = record { set = 10; entries = entries_offset v / 2; user = user_offset body_fields v / 2 }
 
 -- the sections after the head
 unfoldable pub sections_fields : {E : Type 0} → (E → List (List ℕ)) → ListView E → List (List ℕ)
@@ -50,7 +50,7 @@ list_fields version body_fields v = covered_fields version body_fields v ++ numb
 
 -- ---- what can be written
 
--- the number of a member of a set of so many, in at most two bytes
+-- the number of a member of a set of `members`, in at most two bytes
 abbrev pub IsMember : ℕ → ℕ → Type 0
 IsMember members member = (1 ≤ member) × (member ≤ members) × (member < 2 ^ 16)
 

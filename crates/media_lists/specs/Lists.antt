@@ -97,7 +97,7 @@ membership = do
   check (is_member members member) (faults.Member (length before))
   give (member, members)
 
--- the number of a member, of so many
+-- the number of a member, of `members`
 unfoldable pub member_of : ℕ → Grammar ListFault ℕ
 member_of members = do
   before ← front
@@ -137,7 +137,7 @@ limit = do
 
 -- ---- the whole
 
--- what a list says, without the room of its lists
+-- what a list holds, without the spare capacity of its lists
 pub record ListView (E : Type 0) : Type 0 where
   pub set : List ℕ
   pub member : ℕ

@@ -15,7 +15,7 @@ use Rattle.media_lists.specs.declared.fault.ListFault.{ListFault}
 use Rattle.media_lists.specs.declared.lists.LoadsList.{LoadsList}
 use Rattle.media_lists.specs.declared.lists.LoadEntry.{LoadEntry}
 
--- what a list of loads says, without the room of its lists
+-- what a list of loads holds, without the spare capacity of its lists
 pub record LoadEntryView : Type 0 where
   pub part : List ℕ
   pub header_name : List ℕ
@@ -39,7 +39,7 @@ counted_texts = do
   count ← counted
   shared (texts count)
 
--- what an entry says of its load, behind the distance
+-- what an entry holds of its load, after the distance
 unfoldable pub load_body : ℕ → Grammar ListFault LoadEntryView
 load_body members = do
   number ← shared part
@@ -66,7 +66,7 @@ load_body_fields load = padded_fields load.part ++ (padded_fields load.header_na
 abbrev pub kept_fields : LoadEntry → List (List ℕ)
 kept_fields load = load_body_fields (load_entry_view load)
 
--- a load that a list of a set of so many members can name, for at most 1,024 kinds of hardware
+-- a load that a list of a set of `members` members can name, for at most 1,024 kinds of hardware
 pub record IsListedLoad (members : ℕ) (load : LoadEntryView) : Type 0 where
   pub part : IsPartNumberText load.part
   pub header_name : IsName load.header_name
@@ -74,7 +74,7 @@ pub record IsListedLoad (members : ℕ) (load : LoadEntryView) : Type 0 where
   pub few : length load.hardware ≤ 1024
   pub hardware : AllByRecursion IsText load.hardware
 
--- what the words of an entry are by their types
+-- what the texts of an entry are by their types
 pub record HasWords (load : LoadEntryView) : Type 0 where
   pub part : IsPartNumberText load.part
   pub header_name : IsName load.header_name

@@ -3,14 +3,14 @@ use Rattle.std.specs.Prelude.{◌≡◌, ℕ, ◌+◌, ◌≤◌, List, [], ◌�
 use Rattle.std.specs.List.{flat_map, AllByRecursion}
 use Rattle.load_base.specs.Name.{IsName, is_name_byte}
 
--- Whether a path can go on with this byte of a name, behind so many bytes, with so many whole names so far and
--- so many bytes of the next: there are at most 4 names, the first byte of none is a full stop, and behind the
--- byte there is room for a backslash within 64 bytes.
+-- Whether a path can go on with this byte of a name at offset `place`, after `names` whole names and `size` bytes
+-- of the next: there are at most 4 names, the first byte of none is a full stop, and a backslash can follow the
+-- byte within 64 bytes.
 unfoldable pub name_goes_on : (place names size byte : ℕ) → Bool
 name_goes_on place names size byte = is_name_byte byte && nat_lt names 4 && nat_lt place 63 && not (size == 0 && byte == 0x2E)
 
--- The place at which the path can't go on or ends within a name, behind so many bytes, with so many whole names
--- so far and so many bytes of the next. None where it is a path.
+-- The offset at which the path can't go on or ends within a name, from offset `place` on, after `names` whole names
+-- and `size` bytes of the next. None where it is a path.
 unfoldable pub path_end : (place names size : ℕ) → List ℕ → Option ℕ
 path_end place names size [] = if size == 0 then None else Some place
 path_end place names size (byte ∷ bytes) =
@@ -18,13 +18,13 @@ path_end place names size (byte ∷ bytes) =
     else if name_goes_on place names size byte then path_end (place + 1) names (size + 1) bytes
     else Some place
 
--- The length of the longest front of the bytes that is a front of some path, where they are none: a backslash
+-- The length of the longest prefix of the bytes that is a prefix of some path, where they are no path: a backslash
 -- and 0 to 4 names, each followed by a backslash, of at most 64 bytes.
 unfoldable pub path_fault_of : List ℕ → Option ℕ
 path_fault_of [] = Some 0
 path_fault_of (byte ∷ bytes) = if byte == 0x5C then path_end 1 0 0 bytes else Some 0
 
--- a name, and a backslash behind it
+-- a name, and a backslash after it
 abbrev pub closed : List ℕ → List ℕ
 closed name = name ++ 0x5C ∷ []
 
@@ -36,12 +36,12 @@ pub record IsPath (bytes : List ℕ) : Type 0 where
   pub size : length bytes ≤ 64
   pub written : bytes ≡ 0x5C ∷ flat_map closed names
 
--- the bytes are a front of some path
+-- the bytes are a prefix of some path
 pub record IsPathFront (bytes : List ℕ) : Type 0 where
   pub rest : List ℕ
   pub whole : IsPath (bytes ++ rest)
 
--- The front of so many bytes is a front of some path, and no longer one is.
+-- The prefix of `count` bytes is a prefix of some path, and no longer one is.
 pub record IsLongestFront (bytes : List ℕ) (count : ℕ) : Type 0 where
   pub within : count ≤ length bytes
   pub front : IsPathFront (take count bytes)

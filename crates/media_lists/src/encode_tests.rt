@@ -1,8 +1,9 @@
 //! What is written, and the limits of the format, with as much memory as it takes.
-use crate::vectors::{DEEP_FILE, EIGHT_FILES, FILES, LOADS, THREE_LOADS};
-use crate::{FilesList, ListFault, ListedFile, LoadEntry, LoadsList, WordFault, fault_text};
+use crate::vectors::{FILES, LOADS};
+use crate::{FilesList, ListFault, ListedFile, LoadEntry, LoadsList, WordFault};
 use load_base::{Bytes, List, Name, NoMemory, Text};
 use part_number::PartNumber;
+use printed_text::Printed;
 use std::alloc::Global;
 
 /// A word of a list, which has no fault.
@@ -36,7 +37,7 @@ fn part(bytes: &[u8]) -> Result<PartNumber, ListFault> {
     }
 }
 
-/// So many bytes of user data.
+/// N bytes of user data.
 fn user_data(alloc: Global, size: usize) -> Result<Bytes, NoMemory> {
     let mut user = Bytes::new(alloc);
     for _ in 0..size {
@@ -70,7 +71,7 @@ fn file(
     })
 }
 
-/// A list of these files and of so many bytes of user data, of the one member of its set.
+/// A list of these files and of N bytes of user data, of the one member of its set.
 fn files_list(alloc: Global, files: List<ListedFile>, user: usize) -> Result<FilesList, ListFault> {
     Ok(FilesList {
         set: part(b"XYZ5A-0000-0001")?,
@@ -87,15 +88,6 @@ fn many_files(alloc: Global, count: usize, path: &[u8]) -> Result<List<ListedFil
     for number in 0..count {
         let title = numbered(9_999 - number % 10_000);
         files.push(file(alloc, &title, path, 1, 0x29B1)?)?;
-    }
-    Ok(files)
-}
-
-/// Files with these names.
-fn files_named(alloc: Global, titles: &[&[u8]]) -> Result<List<ListedFile>, ListFault> {
-    let mut files = List::new(alloc);
-    for title in titles {
-        files.push(file(alloc, title, b"\\", 1, 0)?)?;
     }
     Ok(files)
 }
@@ -122,16 +114,6 @@ fn the_files_of_a_set_are_written(rt: HostRuntime) -> Result<(), ListFault> {
     let list = files_list(rt.alloc(), files, 0)?;
     let bytes = files_there_and_back(rt.alloc(), &list)?;
     assert_eq!(rt; bytes.as_slice(), FILES.as_slice());
-    Ok(())
-}
-
-#[test]
-fn files_that_were_read_are_written_again(rt: HostRuntime) -> Result<(), ListFault> {
-    for bytes in [FILES.as_slice(), &EIGHT_FILES, &DEEP_FILE] {
-        let list = FilesList::decode(rt.alloc(), bytes)?;
-        let again = files_there_and_back(rt.alloc(), &list)?;
-        assert_eq!(rt; again.as_slice(), bytes);
-    }
     Ok(())
 }
 
@@ -195,7 +177,7 @@ fn members_count_from_1(rt: HostRuntime) -> Result<(), ListFault> {
 
 // ---- lists of loads
 
-/// A load for so many kinds of hardware, each of so many bytes.
+/// A load for N kinds of hardware, each of `size` bytes.
 fn load_for(
     alloc: Global,
     title: &[u8],
@@ -215,7 +197,7 @@ fn load_for(
     })
 }
 
-/// A list of these loads and of so many bytes of user data, of the one member of its set.
+/// A list of these loads and of N bytes of user data, of the one member of its set.
 fn loads_list(alloc: Global, loads: List<LoadEntry>, user: usize) -> Result<LoadsList, ListFault> {
     Ok(LoadsList {
         set: part(b"XYZ5A-0000-0001")?,
@@ -226,20 +208,11 @@ fn loads_list(alloc: Global, loads: List<LoadEntry>, user: usize) -> Result<Load
     })
 }
 
-/// So many loads with a name of their own, each for so many kinds of hardware of 255 bytes.
+/// N loads with a name of their own, each for as many kinds of hardware of 255 bytes.
 fn many_loads(alloc: Global, count: usize, kinds: usize) -> Result<List<LoadEntry>, ListFault> {
     let mut loads = List::new(alloc);
     for number in 0..count {
         loads.push(load_for(alloc, &numbered(number), kinds, 255)?)?;
-    }
-    Ok(loads)
-}
-
-/// Loads with these names.
-fn loads_named(alloc: Global, titles: &[&[u8]]) -> Result<List<LoadEntry>, ListFault> {
-    let mut loads = List::new(alloc);
-    for title in titles {
-        loads.push(load_for(alloc, title, 0, 0)?)?;
     }
     Ok(loads)
 }
@@ -269,16 +242,6 @@ fn the_loads_of_a_set_are_written(rt: HostRuntime) -> Result<(), ListFault> {
     Ok(())
 }
 
-#[test]
-fn loads_that_were_read_are_written_again(rt: HostRuntime) -> Result<(), ListFault> {
-    for bytes in [LOADS.as_slice(), &THREE_LOADS] {
-        let list = LoadsList::decode(rt.alloc(), bytes)?;
-        let again = loads_there_and_back(rt.alloc(), &list)?;
-        assert_eq!(rt; again.as_slice(), bytes);
-    }
-    Ok(())
-}
-
 /// How many loads, each for how many kinds of hardware of 255 bytes, and how many bytes of user data a list has,
 /// and how many bytes it takes, or 0 where it doesn't fit: 46, those of the user data, and for each load 32 and 258
 /// for each kind.
@@ -298,7 +261,7 @@ fn a_list_of_loads_keeps_its_limits(rt: HostRuntime) -> Result<(), ListFault> {
     Ok(())
 }
 
-/// A load of these, and another behind it if it isn't the last.
+/// A load of these, and another after it if it isn't the last.
 fn loads_of(
     alloc: Global,
     title: &[u8],
@@ -339,31 +302,15 @@ fn a_load_has_at_most_1024_kinds_of_hardware_and_131070_bytes(
 
 // ---- both
 
-#[test]
-fn names_stand_once(rt: HostRuntime) -> Result<(), ListFault> {
-    for (titles, fits) in [
-        ([&b"B"[..], b"A", b"C"], true),
-        ([b"B", b"A", b"B"], false),
-        ([b"B", b"A", b"A"], false),
-        ([b"B", b"B.", b"BB"], true),
-        ([b"A", b"B", b"A"], false),
-    ] {
-        let files = files_list(rt.alloc(), files_named(rt.alloc(), &titles)?, 0)?;
-        let loads = loads_list(rt.alloc(), loads_named(rt.alloc(), &titles)?, 0)?;
-        assert_eq!(rt; (files.fits(), loads.fits()), (fits, fits));
-    }
-    Ok(())
-}
-
-/// What so many zeros are refused with as a list of files.
-fn zeros_refused(alloc: Global, size: usize) -> Result<Bytes, NoMemory> {
+/// The refusal of N zeros as a list of files.
+fn zeros_refused(alloc: Global, size: usize) -> Result<Text, NoMemory> {
     let mut zeros = Bytes::new(alloc);
     for _ in 0..size {
         zeros.push(0)?;
     }
     match FilesList::decode(alloc, zeros.as_slice()) {
-        Ok(_) => Ok(Bytes::new(alloc)),
-        Err(fault) => fault_text(alloc, &fault),
+        Ok(_) => Ok(Text::empty(alloc)),
+        Err(fault) => fault.text(alloc),
     }
 }
 

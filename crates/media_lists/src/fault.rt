@@ -12,30 +12,30 @@ use part_number::PartFault;
 /// project's layout, docs/FORMATS.md).
 #[derive(Clone, Copy, Debug, PartialEq, Eq)]
 pub enum PathFault {
-    /// Q1: the length of the longest front of the bytes that is a front of some path.
+    /// Q1: the length of the longest prefix of the bytes that is a prefix of some path.
     Path(u64),
 }
 
-/// Why a word of a media list is refused.
+/// Why a text field of a media list is refused.
 #[derive(Clone, Copy, Debug, PartialEq, Eq)]
 pub enum WordFault {
     /// A name's fault, N1 to N3.
     Name(NameFault),
     /// A part number's fault, P1 to P4.
     Part(PartFault),
-    /// A text's fault, X1 or X2; never want of memory.
+    /// A text's fault, X1 or X2; never out of memory.
     Text(TextFault),
     /// A path's fault, Q1.
     Path(PathFault),
 }
 
-/// Why bytes are no media list (this project's layout, docs/FORMATS.md). Places are byte offsets in the list,
-/// counted from 0, and entries count from 1.
+/// Why bytes are no media list (this project's layout, docs/FORMATS.md). Offsets are in bytes from the
+/// start of the list, and entries count from 1.
 #[derive(Clone, Copy, Debug, PartialEq, Eq)]
 pub enum ListFault {
-    /// L1: a field doesn't fit; the place where it begins.
+    /// L1: a field doesn't fit; the offset where it begins.
     Short(u64),
-    /// L2: the list says that it has `said` words of 2 bytes, and has `found` bytes.
+    /// L2: the length in words of 2 bytes is `said`, and the list has `found` bytes.
     Length {
         said: u64,
         found: u64,
@@ -44,35 +44,35 @@ pub enum ListFault {
     Version(u64),
     /// L4: the spare word isn't 0.
     Spare(u64),
-    /// L5: pointer `which`, 1 to 3, says that its section begins at word `said`; it begins at `expected`.
+    /// L5: pointer `which`, 1 to 3, is word `said`; its section begins at word `expected`.
     Pointer {
         which: u64,
         said: u64,
         expected: u64,
     },
-    /// L6: a pad byte isn't 0; its place.
+    /// L6: a pad byte isn't 0; its offset.
     Pad(u64),
-    /// L7: a name, part number, text or path is refused; the place of its bytes.
+    /// L7: a name, part number, text or path is refused; the offset of its bytes.
     Word {
         place: u64,
         fault: WordFault,
     },
     /// L8: the distance of an entry is neither its length in words nor, for the last, 0.
     Distance(u64),
-    /// L9: there are no members, or the number of a member isn't 1 to their number; its place.
+    /// L9: there are no members, or the number of a member isn't 1 to their number; its offset.
     Member(u64),
     /// L10: a name that stands in an earlier entry too.
     Repeated(u64),
     /// L11: more than 1,048,576 bytes, or a count of more than 1,024.
     TooLong,
-    /// L12: bytes go on behind the check sum; the place of the first.
+    /// L12: bytes follow the check sum; the offset of the first.
     Rest(u64),
     /// L13: the check sum is `found`, and `said` stands there.
     Crc {
         said: u64,
         found: u64,
     },
-    /// Memory is wanting.
+    /// Out of memory.
     Memory,
 }
 

@@ -77,7 +77,8 @@ fn are_new_files(files: &[ListedFile]) -> bool
 }
 
 fn files_meet_limits(files: &[ListedFile], members: u8) -> bool
-    ensures { IsTrue result ↔ AreEntries (is_such_file members) file_name file_body_fields files.now }
+    ensures { IsTrue result ↔ AreEntries (is_such_file members) file_name file_body_fields
+        files.now }
 {
     if files.len() > MOST_ENTRIES {
         return false;
@@ -108,7 +109,8 @@ pub(crate) fn files_fit(list: &FilesList) -> bool
 
 // The entry meets the limits, as the last or another of its list.
 fn is_load(load: &LoadEntry, members: u8, last: bool) -> bool
-    ensures { IsTrue result ↔ (is_such_load members (load_entry_view load.now) × (last ≡ false → entry_size load_body_fields (load_entry_view load.now) ≤ 131070)) }
+    ensures { IsTrue result ↔ (is_such_load members (load_entry_view load.now)
+        × (last ≡ false → entry_size load_body_fields (load_entry_view load.now) ≤ 131070)) }
 {
     if load.hardware.len() > MOST_ENTRIES {
         return false;
@@ -118,7 +120,8 @@ fn is_load(load: &LoadEntry, members: u8, last: bool) -> bool
 }
 
 fn are_loads(loads: &[LoadEntry], members: u8) -> bool
-    ensures { IsTrue result ↔ (AllByRecursion (is_such_load members) (map load_entry_view loads.now) × HaveDistances load_body_fields (map load_entry_view loads.now)) }
+    ensures { IsTrue result ↔ (AllByRecursion (is_such_load members) (map load_entry_view loads.now)
+        × HaveDistances load_body_fields (map load_entry_view loads.now)) }
 {
     for (index, load) in loads.iter().enumerate() {
         if !is_load(load, members, index + 1 == loads.len()) {
@@ -142,7 +145,8 @@ fn are_new_loads(loads: &[LoadEntry]) -> bool
 }
 
 fn loads_meet_limits(loads: &[LoadEntry], members: u8) -> bool
-    ensures { IsTrue result ↔ AreEntries (is_such_load members) load_name load_body_fields (map load_entry_view loads.now) }
+    ensures { IsTrue result ↔ AreEntries (is_such_load members) load_name load_body_fields
+        (map load_entry_view loads.now) }
 {
     if loads.len() > MOST_ENTRIES {
         return false;

@@ -25,4 +25,3 @@ mod writing;
 pub use fault::{ListFault, PathFault, WordFault};
 pub use laws::{files_list_laws, loads_list_laws, path_laws};
 pub use lists::{FILES_VERSION, FilesList, LOADS_VERSION, ListedFile, LoadEntry, LoadsList};
-pub use printing::{fault_text, path_fault_text, word_fault_text};

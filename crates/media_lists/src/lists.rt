@@ -1,4 +1,4 @@
-//! What the two lists of a media set say.
+//! What the two lists of a media set hold.
 ghost use Rattle.std.specs.Prelude.{◌≡◌, ◌⊎◌, ◌↔◌, IsTrue, IfOk, IfErr};
 ghost use Rattle.field_grammar.specs.Grammar.{Fault};
 ghost use Rattle.field_grammar.specs.Answers.{Gives};
@@ -54,12 +54,15 @@ impl FilesList {
     pub fn decode(alloc: Global, bytes: &[u8]) -> Result<FilesList, ListFault>
         // What is read is spelled so.
         ensures found { IfOk result (λ l. FilesSpells (files_list_view l) bytes.now) }
-        // What is spelled so is read, unless memory is wanting.
-        ensures only { (v : FilesListView) → FilesSpells v bytes.now → Gives Memory files_list_view result (Ok v) }
+        // What is spelled so is read, unless it is out of memory.
+        ensures only { (v : FilesListView) → FilesSpells v bytes.now
+            → Gives Memory files_list_view result (Ok v) }
         // A refusal is the first fault,
-        ensures refused { IfErr result (λ fault. (fault ≡ Memory) ⊎ Fault files_list bytes.now fault) }
+        ensures refused { IfErr result (λ fault. (fault ≡ Memory) ⊎ Fault files_list bytes.now
+            fault) }
         // and where there is a fault, it is refused so.
-        ensures faulty { (fault : ListFault) → Fault files_list bytes.now fault → Gives Memory files_list_view result (Err fault) }
+        ensures faulty { (fault : ListFault) → Fault files_list bytes.now fault
+            → Gives Memory files_list_view result (Err fault) }
     {
         files_of(alloc, bytes)
     }
@@ -115,12 +118,15 @@ impl LoadsList {
     pub fn decode(alloc: Global, bytes: &[u8]) -> Result<LoadsList, ListFault>
         // What is read is spelled so.
         ensures found { IfOk result (λ l. LoadsSpells (loads_list_view l) bytes.now) }
-        // What is spelled so is read, unless memory is wanting.
-        ensures only { (v : LoadsListView) → LoadsSpells v bytes.now → Gives Memory loads_list_view result (Ok v) }
+        // What is spelled so is read, unless it is out of memory.
+        ensures only { (v : LoadsListView) → LoadsSpells v bytes.now
+            → Gives Memory loads_list_view result (Ok v) }
         // A refusal is the first fault,
-        ensures refused { IfErr result (λ fault. (fault ≡ Memory) ⊎ Fault loads_list bytes.now fault) }
+        ensures refused { IfErr result (λ fault. (fault ≡ Memory) ⊎ Fault loads_list bytes.now
+            fault) }
         // and where there is a fault, it is refused so.
-        ensures faulty { (fault : ListFault) → Fault loads_list bytes.now fault → Gives Memory loads_list_view result (Err fault) }
+        ensures faulty { (fault : ListFault) → Fault loads_list bytes.now fault
+            → Gives Memory loads_list_view result (Err fault) }
     {
         loads_of(alloc, bytes)
     }

@@ -17,7 +17,7 @@ pub(crate) fn load_body_size(load: &LoadEntry) -> u64
     part_size(&load.part) + name_size(&load.header_name) + 2 + texts_size(load.hardware.as_slice())
 }
 
-/// The bytes of a list whose section of entries takes so many, with so many bytes of user data.
+/// The bytes of a list, from those of its section of entries and of its user data.
 pub(crate) fn list_size(entries: u64, user: usize) -> u64
     requires entries { entries < 2 ^ 50 }
     requires user { user ≤ 131070 }

@@ -1,8 +1,8 @@
-//! Whether the name of an entry stands in an earlier entry too, without a look at all of them.
+//! Whether an earlier entry has the name of an entry, without a look at all of them.
 ghost use Rattle.std.specs.Prelude.{◌≡◌, ◌++◌, ◌<◌, ◌≤◌, ◌∷◌, [], length, map, true, not, IsTrue, IfOk, IfErr};
 ghost use Rattle.std.specs.List.{list_any, AllWithin};
 ghost use Rattle.std.specs.List.Sorted.{IsPartitionPoint};
-ghost use Rattle.load_base.specs.Written.{same_bytes};
+ghost use Rattle.load_base.specs.Bytes.{same_bytes};
 ghost use Rattle.media_lists.specs.Entries.{is_listed};
 ghost use Rattle.media_lists.specs.Loads.{load_entry_view, load_name};
 ghost use Rattle.media_lists.specs.NameOrder.{name_at, by_bytes, IsOrder};
@@ -38,15 +38,16 @@ impl Named for LoadEntry {
     }
 }
 
-/// The places of entries in the order of their names. It takes no memory.
+/// The indices of entries in the order of their names. It takes no memory.
 pub(crate) type Order = ArrayVec<u16, MOST_ENTRIES>;
 
-/// Puts the name of the next entry in its place, unless it stands in one of these entries.
+/// Adds the index of the next entry, unless one of these entries has its name.
 pub(crate) fn is_new<E: Named>(order: &mut Order, entries: &[E], name: &[u8]) -> bool
     requires few { length entries.now < 1024 }
     requires order { IsOrder (map E.name_of entries.now) order.old.items }
     ensures new { result ≡ not (is_listed E.name_of name.now entries.now) }
-    ensures order { IsTrue result → IsOrder (map E.name_of entries.now ++ name.now ∷ []) order.new.items }
+    ensures order { IsTrue result → IsOrder (map E.name_of entries.now ++ name.now ∷ [])
+        order.new.items }
 {
     match find(order.as_slice(), entries, name) {
         Ok(_) => false,
@@ -62,22 +63,27 @@ pub(crate) fn is_new_load(order: &mut Order, loads: &[LoadEntry], name: &[u8]) -
     requires few { length loads.now < 1024 }
     requires order { IsOrder (map load_name (map load_entry_view loads.now)) order.old.items }
     ensures new { result ≡ not (is_listed load_name name.now (map load_entry_view loads.now)) }
-    ensures order { IsTrue result → IsOrder (map load_name (map load_entry_view loads.now) ++ name.now ∷ []) order.new.items }
+    ensures order { IsTrue result → IsOrder (map load_name (map load_entry_view loads.now)
+        ++ name.now ∷ []) order.new.items }
 {
     is_new(order, loads, name)
 }
 
-// The place of the name in the order, or the one where it would stand.
+// The index of the name in the order, or the one where it would be.
 fn find<E: Named>(order: &[u16], entries: &[E], name: &[u8]) -> Result<usize, usize>
     requires { IsOrder (map E.name_of entries.now) order.now }
-    ensures found { IfOk result (λ at. list_any (λ other. same_bytes other name.now) (map E.name_of entries.now) ≡ true) }
+    ensures found { IfOk result (λ at. list_any (λ other. same_bytes other name.now)
+        (map E.name_of entries.now) ≡ true) }
     ensures within { IfErr result (λ at. at ≤ length order.now) }
-    ensures between { IfErr result (λ at. IsPartitionPoint (λ place. by_bytes (name_at (map E.name_of entries.now) place) name.now ≡ Ordering.Less) (λ place. by_bytes (name_at (map E.name_of entries.now) place) name.now ≡ Ordering.Greater) order.now at) }
+    ensures between { IfErr result (λ at. IsPartitionPoint
+        (λ place. by_bytes (name_at (map E.name_of entries.now) place) name.now ≡ Ordering.Less)
+        (λ place. by_bytes (name_at (map E.name_of entries.now) place) name.now ≡ Ordering.Greater)
+        order.now at) }
 {
     order.binary_search_by(|place| compared(entries, *place, name))
 }
 
-// The name at this place against this one.
+// The name of the entry at this index, compared with this one.
 fn compared<E: Named>(entries: &[E], place: u16, name: &[u8]) -> Ordering
     ensures { result ≡ by_bytes (name_at (map E.name_of entries.now) place) name.now }
 {

@@ -16,7 +16,7 @@ pub(crate) const MOST_NAMES: usize = 4;
 /// The most bytes of a path.
 pub(crate) const LONGEST_PATH: usize = 64;
 
-// The length of the longest front of the bytes that is a front of some path, where they are none.
+// The length of the longest prefix of the bytes that is a prefix of some path, where they are no path.
 pub(crate) fn path_fault(bytes: &[u8]) -> Option<usize>
     ensures { result ≡ path_fault_of bytes.now }
 {
@@ -59,7 +59,7 @@ fn is_name_byte(byte: u8) -> bool
     matches!(byte, 0x21..=0x7E) && byte != b'/' && byte != b'\\'
 }
 
-// The path that these bytes are, or the fault of the path whose bytes stand at this place.
+// The path that these bytes are, or the fault of the path whose bytes are at this offset.
 pub(crate) fn path_of(alloc: Global, bytes: &[u8], place: u64) -> Result<Text, ListFault>
     ensures { Gives Memory (λ t. t) result (path_verdict place bytes.now) }
 {
@@ -73,7 +73,7 @@ pub(crate) fn path_of(alloc: Global, bytes: &[u8], place: u64) -> Result<Text, L
     Ok(path)
 }
 
-// A path is a text, so that only memory can be wanting.
+// A path is a text, so that it can only be out of memory.
 fn path_text(alloc: Global, bytes: &[u8]) -> Result<Text, NoMemory>
     requires { IsPath bytes.now }
     ensures { IfOk result (λ text. text ≡ bytes.now) }

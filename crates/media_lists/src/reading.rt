@@ -19,7 +19,7 @@ pub(crate) const LONGEST_LIST: usize = 1_048_576;
 /// The most entries of a list, and the most kinds of hardware of an entry.
 pub(crate) const MOST_ENTRIES: usize = 1_024;
 
-/// The words at which the sections begin, as the head says.
+/// The words at which the sections begin, as read from the head.
 #[derive(Clone, Copy)]
 pub(crate) struct Pointers {
     pub(crate) set: u32,

@@ -3,7 +3,7 @@ ghost use Rattle.std.specs.Prelude.{◌≡◌, ◌≤◌, ◌<◌, ◌+◌, ◌+
 ghost use Rattle.media_lists.specs.NameOrder.{IsOrder};
 ghost use Rattle.field_grammar.specs.Grammar.{listed};
 ghost use Rattle.field_grammar.specs.Answers.{answer, Decodes, Gives};
-ghost use Rattle.media_lists.specs.Entries.{numbered_entry, entry_behind};
+ghost use Rattle.media_lists.specs.Entries.{numbered_entry, entry_after};
 ghost use Rattle.media_lists.specs.Files.{file_body, file_name, file_entries, files_list, files_list_view};
 ghost use Rattle.media_lists.specs.declared.fault.ListFault.TheVariants.{Memory};
 
@@ -45,7 +45,8 @@ fn read_files(
     members: u8,
     said: u32,
 ) -> Result<List<ListedFile>, ListFault>
-    ensures { Decodes Memory (λ l. l.items) (file_entries members said) reader.old result reader.new }
+    ensures { Decodes Memory (λ l. l.items) (file_entries members said) reader.old result
+        reader.new }
 {
     test_section(reader, 2, said)?;
     let count = read_count(reader)?;
@@ -61,7 +62,8 @@ fn read_so_many_files(
     count: usize,
 ) -> Result<List<ListedFile>, ListFault>
     requires { count ≤ 1024 }
-    ensures { Decodes Memory (λ l. l.items) (listed count (entry_behind (file_body members) file_name count) []) reader.old result reader.new }
+    ensures { Decodes Memory (λ l. l.items) (listed count
+        (entry_after (file_body members) file_name count) []) reader.old result reader.new }
 {
     let mut files = List::new(alloc);
     let mut order = Order::new();
@@ -83,8 +85,10 @@ fn read_new_file(
 ) -> Result<ListedFile, ListFault>
     requires few { length files.now.items < 1024 }
     requires order { IsOrder (map file_name files.now.items) order.old.items }
-    ensures read { Decodes Memory (λ f. f) (entry_behind (file_body members) file_name count files.now.items) reader.old result reader.new }
-    ensures order { IfOk result (λ file. IsOrder (map file_name files.now.items ++ file.name ∷ []) order.new.items) }
+    ensures read { Decodes Memory (λ f. f) (entry_after (file_body members) file_name count
+        files.now.items) reader.old result reader.new }
+    ensures order { IfOk result (λ file. IsOrder (map file_name files.now.items ++ file.name ∷ [])
+        order.new.items) }
 {
     let entry = files.len() + 1;
     let file = read_file_entry(alloc, reader, members, entry as u64, entry == count)?;
@@ -103,7 +107,8 @@ fn read_file_entry(
     entry: u64,
     last: bool,
 ) -> Result<ListedFile, ListFault>
-    ensures { Decodes Memory (λ f. f) (numbered_entry (file_body members) entry last) reader.old result reader.new }
+    ensures { Decodes Memory (λ f. f) (numbered_entry (file_body members) entry last) reader.old
+        result reader.new }
 {
     let start = reader.place();
     let said = reader.take_u16()?;

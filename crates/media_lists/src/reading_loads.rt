@@ -3,7 +3,7 @@ ghost use Rattle.std.specs.Prelude.{◌≡◌, ◌≤◌, ◌<◌, ◌+◌, ◌+
 ghost use Rattle.media_lists.specs.NameOrder.{IsOrder};
 ghost use Rattle.field_grammar.specs.Grammar.{listed};
 ghost use Rattle.field_grammar.specs.Answers.{answer, Decodes, Gives};
-ghost use Rattle.media_lists.specs.Entries.{numbered_entry, entry_behind};
+ghost use Rattle.media_lists.specs.Entries.{numbered_entry, entry_after};
 ghost use Rattle.media_lists.specs.Loads.{counted_texts, load_body, load_name, load_entries, loads_list, load_entry_view, loads_list_view};
 ghost use Rattle.media_lists.specs.declared.fault.ListFault.TheVariants.{Memory};
 
@@ -43,7 +43,8 @@ fn read_loads(
     members: u8,
     said: u32,
 ) -> Result<List<LoadEntry>, ListFault>
-    ensures { Decodes Memory (λ l. map load_entry_view l.items) (load_entries members said) reader.old result reader.new }
+    ensures { Decodes Memory (λ l. map load_entry_view l.items) (load_entries members said)
+        reader.old result reader.new }
 {
     test_section(reader, 2, said)?;
     let count = read_count(reader)?;
@@ -59,7 +60,9 @@ fn read_so_many_loads(
     count: usize,
 ) -> Result<List<LoadEntry>, ListFault>
     requires { count ≤ 1024 }
-    ensures { Decodes Memory (λ l. map load_entry_view l.items) (listed count (entry_behind (load_body members) load_name count) []) reader.old result reader.new }
+    ensures { Decodes Memory (λ l. map load_entry_view l.items)
+        (listed count (entry_after (load_body members) load_name count) []) reader.old result
+        reader.new }
 {
     let mut loads = List::new(alloc);
     let mut order = Order::new();
@@ -81,8 +84,12 @@ fn read_new_load(
 ) -> Result<LoadEntry, ListFault>
     requires few { length loads.now.items < 1024 }
     requires order { IsOrder (map load_name (map load_entry_view loads.now.items)) order.old.items }
-    ensures read { Decodes Memory load_entry_view (entry_behind (load_body members) load_name count (map load_entry_view loads.now.items)) reader.old result reader.new }
-    ensures order { IfOk result (λ load. IsOrder (map load_name (map load_entry_view loads.now.items) ++ load.header_name ∷ []) order.new.items) }
+    ensures read { Decodes Memory load_entry_view
+        (entry_after (load_body members) load_name count (map load_entry_view loads.now.items))
+        reader.old result reader.new }
+    ensures order { IfOk result (λ load. IsOrder
+        (map load_name (map load_entry_view loads.now.items) ++ load.header_name ∷ [])
+        order.new.items) }
 {
     let entry = loads.len() + 1;
     let load = read_load_entry(alloc, reader, members, entry as u64, entry == count)?;
@@ -101,7 +108,8 @@ fn read_load_entry(
     entry: u64,
     last: bool,
 ) -> Result<LoadEntry, ListFault>
-    ensures { Decodes Memory load_entry_view (numbered_entry (load_body members) entry last) reader.old result reader.new }
+    ensures { Decodes Memory load_entry_view (numbered_entry (load_body members) entry last)
+        reader.old result reader.new }
 {
     let start = reader.place();
     let said = reader.take_u16()?;

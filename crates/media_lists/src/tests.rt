@@ -1,36 +1,35 @@
 //! What bytes are refused with, each byte changed and each list from outside of this project.
 use crate::vectors::{DEEP_FILE, EIGHT_FILES, FILES, LOADS, THREE_LOADS};
-use crate::{
-    FilesList, ListFault, LoadsList, fault_text, files_list_laws, loads_list_laws, path_laws,
-};
+use crate::{FilesList, ListFault, LoadsList, files_list_laws, loads_list_laws, path_laws};
 use crc_fields::crc16;
-use load_base::{Bytes, NoMemory};
+use load_base::{Bytes, NoMemory, Text};
+use printed_text::Printed;
 use std::alloc::Global;
 
 /// What these bytes are refused with as a list of files, or nothing.
-fn files_outcome(alloc: Global, bytes: &[u8]) -> Result<Bytes, NoMemory> {
+fn files_outcome(alloc: Global, bytes: &[u8]) -> Result<Text, NoMemory> {
     match FilesList::decode(alloc, bytes) {
-        Ok(_) => Ok(Bytes::new(alloc)),
-        Err(fault) => fault_text(alloc, &fault),
+        Ok(_) => Ok(Text::empty(alloc)),
+        Err(fault) => fault.text(alloc),
     }
 }
 
 /// What these bytes are refused with as a list of loads, or nothing.
-fn loads_outcome(alloc: Global, bytes: &[u8]) -> Result<Bytes, NoMemory> {
+fn loads_outcome(alloc: Global, bytes: &[u8]) -> Result<Text, NoMemory> {
     match LoadsList::decode(alloc, bytes) {
-        Ok(_) => Ok(Bytes::new(alloc)),
-        Err(fault) => fault_text(alloc, &fault),
+        Ok(_) => Ok(Text::empty(alloc)),
+        Err(fault) => fault.text(alloc),
     }
 }
 
-/// Puts a byte at a place.
+/// Puts a byte at an offset.
 fn change(bytes: &mut [u8], place: usize, byte: u8) {
     if place < bytes.len() {
         bytes[place] = byte;
     }
 }
 
-/// So many bytes at the front.
+/// The first N bytes.
 fn front(bytes: &[u8], size: usize) -> &[u8] {
     if size <= bytes.len() {
         &bytes[..size]
@@ -55,7 +54,7 @@ fn the_formats_keep_their_laws() {
     path_laws();
 }
 
-/// Each place and byte that is put there, whether the check sum is made right again, and what the list of
+/// Each offset and byte that is put there, whether the check sum is made right again, and what the list of
 /// files is refused with.
 #[test]
 fn each_changed_byte_of_the_files_has_its_refusal(rt: HostRuntime) -> Result<(), NoMemory> {

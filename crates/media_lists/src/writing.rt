@@ -14,7 +14,7 @@ use part_number::PartNumber;
 
 // ---- what the two lists share
 
-/// The head of a list of so many bytes.
+/// The head of a list of `size` bytes.
 #[tactic(auto, unfolding(crate::specs::ListFields::head_fields))]
 pub(crate) fn put_head(
     out: &mut Writer,
@@ -32,7 +32,9 @@ pub(crate) fn put_head(
 }
 
 fn put_pointers(out: &mut Writer, places: Pointers) -> Result<(), NoMemory>
-    ensures { OnOk result (out.new ≡ out.old ++ (number_bytes 4 places.set ++ (number_bytes 4 places.entries ++ number_bytes 4 places.user))) }
+    ensures { OnOk result (out.new ≡ out.old ++
+        (number_bytes 4 places.set ++ (number_bytes 4 places.entries
+        ++ number_bytes 4 places.user))) }
 {
     out.put_u32(places.set)?;
     out.put_u32(places.entries)?;

@@ -1,3 +1,4 @@
+pub mod FaultText
 pub mod Laws
 pub mod PartNumber
 pub mod VerdictLaws

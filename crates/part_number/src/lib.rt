@@ -2,11 +2,14 @@
 #![tactic(auto)]
 
 ghost use Rattle.std.specs.Prelude.{◌≡◌, ℕ, ◌<◌, ◌++◌, List, true, false, codes, length, fold, bit_xor, IsOk, IfOk, IfErr, IfSome, IfNone};
+ghost use Rattle.std.specs.Bool.{Decides};
 ghost use Rattle.load_base.specs.Bytes.{AllGood};
 ghost use Rattle.load_base.specs.PartText.{IsPartText};
 ghost use Rattle.load_base.specs.Verdicts.{judged, TellsFaults};
 ghost use Rattle.part_number.specs.PartNumber.{IsPartNumber, IsPartNumberText, IsPartFault, IsFirstBadPlace, HasGoodCharacters, part_number_text, maker_of, product_of, check_digits_of, check_of, hexadecimal, hexadecimal_digit, is_part_character, is_hexadecimal_digit, is_hyphen_place, is_good_at};
 ghost use Rattle.part_number.specs.Verdicts.{part_fault_of};
+
+mod printing;
 
 use load_base::PartText;
 use std::marker::Model;
@@ -14,12 +17,12 @@ use std::marker::Model;
 /// Why bytes are no [`PartNumber`].
 #[derive(Clone, Copy, Debug, PartialEq, Eq)]
 pub enum PartFault {
-    /// P1: not 15 bytes. The number found.
+    /// P1: not 15 bytes. Their number.
     Length(u64),
-    /// P2: another byte where a hyphen has to stand. Its place, 5 or 10.
+    /// P2: another byte in place of a hyphen. Its offset, 5 or 10.
     Hyphen(u64),
-    /// P3: a byte that no part number has at its place, from 0: at the places 3 and 4 one that is no
-    /// upper-case hexadecimal digit, and elsewhere one that isn't `A` to `Z` or `0` to `9`.
+    /// P3: a byte that no part number has at this offset: at 3 and 4 one that is no upper-case
+    /// hexadecimal digit, and elsewhere one that isn't `A` to `Z` or `0` to `9`.
     Character(u64),
     /// P4: the check digits have the value `written`, and the characters give `computed`.
     Check { written: u8, computed: u8 },
@@ -66,7 +69,7 @@ impl PartNumber {
         }
     }
 
-    /// The part number of a maker and a product. The only refusal is P3, with the place that the first
+    /// The part number of a maker and a product. The only refusal is P3, with the offset that the first
     /// wrong character has in the finished text.
     #[tactic(auto, using(crate::proofs::Faults::fault_of_text, crate::specs::Laws::Read::made_from_text))]
     pub fn make(maker: &[u8; 3], product: &[u8; 8]) -> Result<PartNumber, PartFault>
@@ -89,6 +92,7 @@ impl PartNumber {
         }
     }
 
+    /// Its bytes.
     pub fn as_slice(&self) -> &[u8]
         ensures bytes { result.now ≡ self.now }
         ensures is_part_number { IsPartNumberText self.now }
@@ -97,7 +101,35 @@ impl PartNumber {
     }
 }
 
+impl PartialEq for PartNumber {
+    ghost use Rattle.std.specs.Cmp.{partial_equiv_from_equiv};
+    ghost use Rattle.std.specs.Cmp.Lexicographic.{nat_list_eq_equiv};
+    ghost use Rattle.load_base.specs.Bytes.{same_bytes};
+
+    ghost eq = { same_bytes };
+
+    ghost laws = { partial_equiv_from_equiv nat_list_eq_equiv };
+
+    fn eq(&self, other: &PartNumber) -> bool {
+        self.as_slice() == other.as_slice()
+    }
+}
+
+impl Eq for PartNumber {
+    ghost use Rattle.std.specs.Cmp.Lexicographic.{nat_list_eq_equiv};
+
+    ghost laws = { nat_list_eq_equiv };
+}
+
+/// Part numbers are equal where their texts are.
+// For the proof: does nothing.
+#[tactic(auto, using(load_base::specs::EqualityLaws::equal_bytes))]
+pub fn part_number_equality_law()
+    ensures { (one other : List ℕ) → Decides (⟦<PartNumber as PartialEq>⟧.eq one other) (one ≡ other) }
+{}
+
 /// Laws of part numbers and of their faults, for callers that compare them.
+// For the proof: does nothing.
 #[tactic(auto, using(crate::proofs::Laws::laws))]
 pub fn part_number_laws()
     // A text is the part number of one maker and one product, those that stand in it.
@@ -112,7 +144,7 @@ pub fn part_number_laws()
     ensures no_fault { (text maker product : List ℕ) (fault : PartFault) → IsPartNumber text maker product → ¬ IsPartFault text fault }
     ensures one_fault { (text : List ℕ) (fault other : PartFault) → IsPartFault text fault → IsPartFault text other → fault ≡ other }
 
-    // A function of the bytes tells which, and what is right has 15 bytes.
+    // A function computes which from the bytes, and what is right has 15 bytes.
     ensures told { TellsFaults part_fault_of IsPartNumberText IsPartFault }
     ensures size { (text : List ℕ) → IsPartNumberText text → length text ≡ 15 }
 
@@ -151,7 +183,7 @@ fn first_fault(text: &[u8; 15]) -> Option<PartFault>
     }
 }
 
-// The first place whose byte isn't good there.
+// The offset of the first byte that isn't good there.
 fn first_bad(text: &[u8]) -> Option<usize>
     requires { length text.now ≡ 15 }
     ensures none { IfNone result (HasGoodCharacters text.now) }
@@ -251,9 +283,12 @@ mod tests {
 
     #[test]
     fn known_part_numbers_are_read_and_made(rt: HostRuntime) {
+        part_number_laws();
+        part_number_equality_law();
         for (text, maker, product) in KNOWN {
             let read = PartNumber::read(text).expect(&rt, "it is read");
             let made = PartNumber::make(maker, product).expect(&rt, "it is made");
+            assert_eq!(rt; read == made, true);
             assert_eq!(rt; read.as_slice(), text);
             assert_eq!(rt; made.as_slice(), text);
             assert_eq!(rt; made.text().as_slice(), text);
@@ -281,7 +316,7 @@ mod tests {
     }
 
     #[test]
-    fn a_wrong_character_is_told_by_its_place_in_the_text(rt: HostRuntime) {
+    fn a_wrong_character_is_told_by_its_offset_in_the_text(rt: HostRuntime) {
         for (maker, product, place) in [
             (b"AbC", b"12345678", 1),
             (b"ABC", b"a2345678", 6),

@@ -1,6 +1,6 @@
+pub mod DiskReads
 pub mod Files
 pub mod Loads
-pub mod Looks
 pub mod Pieces
 pub mod Refusals
 pub mod Rulings

@@ -10,7 +10,7 @@ use Rattle.load_base.specs.Config.{FileView, LoadView, load_view}
 use Rattle.load_base.specs.declared.config.Load.{Load}
 use Rattle.disk_model.specs.Image.{Image, range}
 use Rattle.disk_layout.specs.Manifest.{LoadEntry, entry_view, size_of, total_length}
-use Rattle.disk_layout.specs.Contents.{entry_of, entries_of, bytes_of, contents_of, HeaderIsFirst, HeadersAreFirst}
+use Rattle.disk_layout.specs.Contents.{entry_of, entries_of, bytes_of, contents_of_loads, HeaderIsFirst, HeadersAreFirst}
 use Rattle.disk_layout.specs.declared.manifest.ManifestFile.{ManifestFile}
 use Rattle.disk_layout.specs.declared.manifest.ManifestLoad.{ManifestLoad}
 use Rattle.recovery.specs.Parts.{HasFiles}
@@ -50,17 +50,17 @@ load_entries_more loads more load entries i e within is pushed entry so_far =
     ∙ map_push entry_of (map load_view loads) (load_view load)
     ∙ ap₂ (λ (l : List LoadEntry) (x : LoadEntry). l ++ x ∷ []) so_far (entry ∙ ap entry_view is) ∙ sym (map_more entry_view entries i e within)
 
-contents_with : (loads : List LoadView) (load : LoadView) → contents_of (loads ++ load ∷ []) ≡ contents_of loads ++ bytes_of load.files
+contents_with : (loads : List LoadView) (load : LoadView) → contents_of_loads (loads ++ load ∷ []) ≡ contents_of_loads loads ++ bytes_of load.files
 contents_with loads load =
     ap bytes_of (flat_map-append (λ (l : LoadView). l.files) loads (load ∷ []))
     ∙ flat_map-append (λ (f : FileView). f.bytes) (flat_map (λ (l : LoadView). l.files) loads) (flat_map (λ (l : LoadView). l.files) (load ∷ []))
-    ∙ ap (λ (fs : List FileView). contents_of loads ++ bytes_of fs) (flat_map-cons (λ (l : LoadView). l.files) load [] ∙ append-nil load.files)
+    ∙ ap (λ (fs : List FileView). contents_of_loads loads ++ bytes_of fs) (flat_map-cons (λ (l : LoadView). l.files) load [] ∙ append-nil load.files)
 
 pub contents_more : (image : Image) (start at size n : ℕ) (loads more : List Load) (load : Load) → at ≡ start + size → more ≡ loads ++ load ∷ []
-    → contents_of (map load_view loads) ≡ range image start size → bytes_of (load_view load).files ≡ range image at n
-    → contents_of (map load_view more) ≡ range image start (size + n)
+    → contents_of_loads (map load_view loads) ≡ range image start size → bytes_of (load_view load).files ≡ range image at n
+    → contents_of_loads (map load_view more) ≡ range image start (size + n)
 contents_more image start at size n loads more load follows pushed so_far now =
-    ap (λ (l : List Load). contents_of (map load_view l)) pushed ∙ ap contents_of (map_push load_view loads load) ∙ contents_with (map load_view loads) (load_view load)
+    ap (λ (l : List Load). contents_of_loads (map load_view l)) pushed ∙ ap contents_of_loads (map_push load_view loads load) ∙ contents_with (map load_view loads) (load_view load)
     ∙ ap₂ (λ (a : List ℕ) (b : List ℕ). a ++ b) so_far now ∙ ranges_joined image start size at n follows
 
 pub headers_more : (loads more : List Load) (load : Load) → more ≡ loads ++ load ∷ [] → HeadersAreFirst (map load_view loads) → HeaderIsFirst (load_view load)
@@ -70,9 +70,9 @@ headers_more loads more load pushed so_far now =
     (All-push (λ (l : LoadView). HeaderIsFirst l) (map load_view loads) (load_view load) so_far now)
 
 -- before the first load
-pub nothing_listed : (image : Image) (start : ℕ) (loads : List Load) → loads ≡ [] → contents_of (map load_view loads) ≡ range image start 0
+pub nothing_listed : (image : Image) (start : ℕ) (loads : List Load) → loads ≡ [] → contents_of_loads (map load_view loads) ≡ range image start 0
 unfolding range
-nothing_listed image start loads none = ap (λ (l : List Load). contents_of (map load_view l)) none
+nothing_listed image start loads none = ap (λ (l : List Load). contents_of_loads (map load_view l)) none
 
 pub no_headers : (loads : List Load) → loads ≡ [] → HeadersAreFirst (map load_view loads)
 no_headers loads none = subst (λ (l : List Load). HeadersAreFirst (map load_view l)) (sym none) (All-nil (λ (l : LoadView). HeaderIsFirst l))

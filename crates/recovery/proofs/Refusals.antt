@@ -6,10 +6,10 @@ use Rattle.disk_layout.specs.Places.{bank_at}
 use Rattle.disk_layout.specs.Identity.{HasIdentity}
 use Rattle.disk_layout.specs.Slots.{bank_of, IsSlotAt}
 use Rattle.disk_layout.specs.Manifest.{LoadEntry, manifest, total_length}
-use Rattle.disk_layout.specs.Looks.{IsOfDisk}
-use Rattle.disk_layout.specs.Stands.{IsSoundSlot, IsBadSlot, IsRuledBy, manifest_at, manifest_of, HasOutline, Refuses}
-use Rattle.disk_layout.specs.Stands.IsBadSlot.{no_such_bank, too_long, past_the_bank}
-use Rattle.disk_layout.specs.Stands.StandsNot.{no_open_slot, bad_slot, bad_manifest, other_lengths}
+use Rattle.disk_layout.specs.DiskReads.{IsOfDisk}
+use Rattle.disk_layout.specs.Holds.{IsSoundSlot, IsBadSlot, HasActiveSlot, manifest_at, manifest_of, HasOutline, Refuses}
+use Rattle.disk_layout.specs.Holds.IsBadSlot.{no_such_bank, too_long, past_the_bank}
+use Rattle.disk_layout.specs.Holds.HasDiskFault.{no_open_slot, bad_slot, bad_manifest, other_lengths}
 use Rattle.disk_layout.specs.declared.identity.Identity.{Identity}
 use Rattle.disk_layout.specs.declared.fault.RecoverFault.{RecoverFault}
 use Rattle.disk_layout.specs.declared.fault.RecoverFault.TheVariants.{NotFormatted, NoOpenSlot, BadSlot, BadManifest, DiskFailed, Memory}
@@ -26,13 +26,13 @@ of_disk image NoOpenSlot is = absurd is
 of_disk image (BadSlot place) is = absurd is
 of_disk image (BadManifest place) is = absurd is
 
--- ---- no slot rules
+-- ---- no slot is active
 
 pub slots_refuse : (image : Image) (id : Identity) (fault : RecoverFault) → HasIdentity image id → RefusesSlots image fault → Refuses image fault
 slots_refuse image id fault has (inl is) = of_disk image fault is
 slots_refuse image id fault has (inr none) = rw none.2 (no_open_slot id has none.0 none.1 refl)
 
--- ---- the slot that rules can be or not
+-- ---- the active slot can be or not
 
 pub can_be : (image : Image) (id : Identity) (at : ℕ) (slot : SlotFields) → IsSlotAt image at slot → IsSoundAt id.bank slot → IsSoundSlot image id at
 can_be image id at slot is can = record {
@@ -41,16 +41,16 @@ can_be image id at slot is can = record {
   within = rw (← is.offset, ← is.length) can.within;
 }
 
-refuses_bad : (image : Image) (id : Identity) (at place : ℕ) (fault : RecoverFault) → IsRuledBy image id at → IsBadSlot image id at place → fault ≡ BadSlot place → Refuses image fault
-refuses_bad image id at place fault ruled bad is = rw is (bad_slot id at place ruled bad refl)
+refuses_bad : (image : Image) (id : Identity) (at place : ℕ) (fault : RecoverFault) → HasActiveSlot image id at → IsBadSlot image id at place → fault ≡ BadSlot place → Refuses image fault
+refuses_bad image id at place fault has_active bad is = rw is (bad_slot id at place has_active bad refl)
 
-pub slot_refuses : (image : Image) (id : Identity) (at : ℕ) (slot : SlotFields) (fault : RecoverFault) → IsRuledBy image id at → IsSlotAt image at slot
+pub slot_refuses : (image : Image) (id : Identity) (at : ℕ) (slot : SlotFields) (fault : RecoverFault) → HasActiveSlot image id at → IsSlotAt image at slot
     → RefusesSlot id.bank at slot fault → Refuses image fault
-slot_refuses image id at slot fault ruled says (other_bank bank is) = refuses_bad image id at (at + 20) fault ruled (no_such_bank (rw (← says.bank) bank) refl) is
-slot_refuses image id at slot fault ruled says (long bank size is) =
-    refuses_bad image id at (at + 25) fault ruled (too_long (rw (← says.bank) bank) (rw (← says.length) size) refl) is
-slot_refuses image id at slot fault ruled says (past bank size end is) =
-    refuses_bad image id at (at + 21) fault ruled (past_the_bank (rw (← says.bank) bank) (rw (← says.length) size) (rw (← says.offset, ← says.length) end) refl) is
+slot_refuses image id at slot fault has_active says (other_bank bank is) = refuses_bad image id at (at + 20) fault has_active (no_such_bank (rw (← says.bank) bank) refl) is
+slot_refuses image id at slot fault has_active says (long bank size is) =
+    refuses_bad image id at (at + 25) fault has_active (too_long (rw (← says.bank) bank) (rw (← says.length) size) refl) is
+slot_refuses image id at slot fault has_active says (past bank size end is) =
+    refuses_bad image id at (at + 21) fault has_active (past_the_bank (rw (← says.bank) bank) (rw (← says.length) size) (rw (← says.offset, ← says.length) end) refl) is
 
 -- ---- the manifest that it names
 
@@ -65,25 +65,25 @@ bytes_are : (image : Image) (id : Identity) (at : ℕ) (slot : SlotFields) → I
 bytes_are image id at slot is =
     ap (λ (p : ℕ). range image p slot.manifest.length) (start_is image id at slot is) ∙ ap (λ (n : ℕ). range image (manifest_at image id at) n) is.length
 
-pub manifest_refuses : (image : Image) (id : Identity) (at : ℕ) (slot : SlotFields) (fault : RecoverFault) → IsRuledBy image id at → IsSoundSlot image id at → IsSlotAt image at slot
+pub manifest_refuses : (image : Image) (id : Identity) (at : ℕ) (slot : SlotFields) (fault : RecoverFault) → HasActiveSlot image id at → IsSoundSlot image id at → IsSlotAt image at slot
     → RefusesManifest image (bank_at id.bank slot.bank + slot.manifest.offset) slot.manifest.length slot.manifest.offset fault → Refuses image fault
-manifest_refuses image id at slot fault ruled can says (inl (inl is)) = of_disk image fault is
-manifest_refuses image id at slot fault ruled can says (inl (inr wrong)) =
+manifest_refuses image id at slot fault has_active can says (inl (inl is)) = of_disk image fault is
+manifest_refuses image id at slot fault has_active can says (inl (inr wrong)) =
     let (place, faulty, is) = wrong in
-    rw is (bad_manifest id at place ruled can (rw (bytes_are image id at slot says) at faulty) (ap (λ (p : ℕ). BadManifest (p + place)) (start_is image id at slot says)))
-manifest_refuses image id at slot fault ruled can says (inr other) =
+    rw is (bad_manifest id at place has_active can (rw (bytes_are image id at slot says) at faulty) (ap (λ (p : ℕ). BadManifest (p + place)) (start_is image id at slot says)))
+manifest_refuses image id at slot fault has_active can says (inr other) =
     rw other.is (
-    other_lengths id at other.loads ruled can (rw (bytes_are image id at slot says) at other.spelled) (λ same. other.differ (same ∙ sym says.offset))
+    other_lengths id at other.loads has_active can (rw (bytes_are image id at slot says) at other.spelled) (λ same. other.differ (same ∙ sym says.offset))
     (ap (λ (p : ℕ). BadManifest p) (start_is image id at slot says))
     )
 
 -- ---- all of it
 
-pub has_outline : (image : Image) (id : Identity) (at : ℕ) (slot : SlotFields) (loads : List LoadEntry) → IsRuledBy image id at → IsSoundAt id.bank slot → IsSlotAt image at slot
+pub has_outline : (image : Image) (id : Identity) (at : ℕ) (slot : SlotFields) (loads : List LoadEntry) → HasActiveSlot image id at → IsSoundAt id.bank slot → IsSlotAt image at slot
     → Spelled manifest (range image (bank_at id.bank slot.bank + slot.manifest.offset) slot.manifest.length) loads → total_length loads ≡ slot.manifest.offset
     → HasOutline image at (record { identity = id; bank = slot.bank; sequence = slot.sequence; loads = loads })
-has_outline image id at slot loads ruled can says spelled lengths = record {
-  ruled = ruled;
+has_outline image id at slot loads has_active can says spelled lengths = record {
+  has_active = has_active;
   can_be = can_be image id at slot says can;
   bank = says.bank;
   sequence = says.sequence;

@@ -1,12 +1,12 @@
--- What was surveyed and its contents, as what the disk stands for.
+-- What was surveyed and its contents, as what the disk holds.
 use Rattle.std.proofs.Common.{◌≡◌, ℕ, List, Bool, ap, ◌∙◌}
 use Rattle.load_base.specs.Config.{LoadView}
 use Rattle.disk_model.specs.Image.{Image, range}
 use Rattle.disk_layout.specs.Places.{bank_at}
 use Rattle.disk_layout.specs.Slots.{slot_offset, bank_number}
 use Rattle.disk_layout.specs.Manifest.{LoadEntry, manifest_view, total_length}
-use Rattle.disk_layout.specs.Contents.{entries_of, contents_of, HeadersAreFirst}
-use Rattle.disk_layout.specs.Stands.{Outline, Stands}
+use Rattle.disk_layout.specs.Contents.{entries_of, contents_of_loads, HeadersAreFirst}
+use Rattle.disk_layout.specs.Holds.{Outline, HoldsConfig}
 use Rattle.disk_layout.specs.declared.identity.Identity.{Identity}
 use Rattle.disk_layout.specs.declared.active.Active.{Active}
 use Rattle.disk_layout.specs.declared.manifest.Manifest.{Manifest}
@@ -17,7 +17,7 @@ outlined id bank sequence loads = record { identity = id; bank = bank; sequence 
 
 pub stands_for : (image : Image) (id : Identity) (m : Manifest) (active : Active) (other_is_open : Bool) (bank : ℕ) (loads : List LoadView) → bank ≡ bank_number active.bank
     → FindsActive image id m active other_is_open → entries_of loads ≡ manifest_view m → HeadersAreFirst loads
-    → contents_of loads ≡ range image (bank_at id.bank bank) (total_length (manifest_view m)) → Stands image (record { identity = id; bank = bank; sequence = active.sequence; loads = loads })
+    → contents_of_loads loads ≡ range image (bank_at id.bank bank) (total_length (manifest_view m)) → HoldsConfig image (record { identity = id; bank = bank; sequence = active.sequence; loads = loads })
 unfolding outlined
 stands_for image id m active other_is_open bank loads is_bank found entries headers contents = record {
   slot = slot_offset active.slot;

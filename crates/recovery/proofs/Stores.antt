@@ -3,17 +3,17 @@ use Rattle.std.proofs.Common.{◌≡◌, ◌≢◌, ℕ, List, Bool, true, false
 use Rattle.disk_model.specs.Image.{Image}
 use Rattle.disk_layout.specs.Slots.{IsSlot, IsSlotAt, slot_offset, bank_number, other_slot, manifest_place_of, manifest_length_of}
 use Rattle.disk_layout.specs.Manifest.{LoadEntry, manifest_view}
-use Rattle.disk_layout.specs.Stands.{Outline, StandingView, HasOutline, StandsBy, outline_of}
+use Rattle.disk_layout.specs.Holds.{Outline, StandingView, HasOutline, HoldsBy, outline_of}
 use Rattle.disk_layout.specs.declared.active.Active.{Active}
 use Rattle.disk_layout.specs.declared.active.ManifestRange.{ManifestRange}
 use Rattle.disk_layout.specs.declared.identity.Identity.{Identity}
 use Rattle.disk_layout.specs.declared.manifest.Manifest.{Manifest}
-use Rattle.bank_store.specs.Store.{active_slot, bank_size, active_of, is_other_open}
+use Rattle.bank_store.specs.Store.{active_slot, bank_size_of, active_of, is_other_open}
 use Rattle.bank_store.specs.Fits.{HoldsFor}
 use Rattle.bank_store.specs.declared.store.Store.{Store}
 use Rattle.recovery.specs.Parts.{TellsOther}
 use Rattle.recovery.specs.Surveys.{FindsActive, IsSurveyed, outline_of_survey}
-use Rattle.recovery.specs.declared.surveying.Ruler.{Ruler}
+use Rattle.recovery.specs.declared.surveying.ActiveSlot.{ActiveSlot}
 use Rattle.recovery.specs.declared.surveying.Surveyed.{Surveyed}
 
 -- the other slot is one, and another
@@ -22,10 +22,10 @@ other_is_slot slot (inl e) = (inr (omega (arith, e)), λ same. omega (arith, e, 
 other_is_slot slot (inr e) = (inl (omega (arith, e)), λ same. omega (arith, e, same))
 
 -- A configuration of the outline that was found is one that the store keeps as active.
-pub store_holds : (image : Image) (s : Surveyed) → IsSurveyed image s → bank_size s.store ≡ s.identity.bank
-    → (standing : StandingView) → StandsBy image (active_slot s.store) standing → outline_of standing ≡ outline_of_survey s → HoldsFor s.store image standing
+pub store_holds : (image : Image) (s : Surveyed) → IsSurveyed image s → bank_size_of s.store ≡ s.identity.bank
+    → (standing : StandingView) → HoldsBy image (active_slot s.store) standing → outline_of standing ≡ outline_of_survey s → HoldsFor s.store image standing
 store_holds image s found size standing by is =
-    let other = other_is_slot (active_slot s.store) found.outline.ruled.rules.is_slot in
+    let other = other_is_slot (active_slot s.store) found.outline.has_active.is_active.is_slot in
     let tells = found.other (other_slot (active_slot s.store)) other.0 other.1 in
     record {
       by = by;
@@ -47,17 +47,17 @@ same_outline : (image : Image) (id : Identity) (loads : List LoadEntry) (slot at
 same_outline image id loads slot at bank names sequence says here same next outline = rw (here, same, next) outline
 
 -- What the slot says is what is active.
-pub finds : (image : Image) (id : Identity) (m : Manifest) (active : Active) (ruler : Ruler) → active.slot ≡ ruler.slot → bank_number active.bank ≡ ruler.says.bank
-    → active.sequence ≡ ruler.says.sequence → active.manifest ≡ ruler.says.manifest
-    → HasOutline image (slot_offset ruler.slot) (record { identity = id; bank = ruler.says.bank; sequence = ruler.says.sequence; loads = manifest_view m })
-    → IsSlotAt image (slot_offset ruler.slot) ruler.says → TellsOther image (slot_offset ruler.slot) ruler.other_is_open → FindsActive image id m active ruler.other_is_open
-finds image id m active ruler slot bank sequence manifest outline says other =
-    let at : slot_offset active.slot ≡ slot_offset ruler.slot = ap slot_offset slot in
+pub finds : (image : Image) (id : Identity) (m : Manifest) (active : Active) (active_slot : ActiveSlot) → active.slot ≡ active_slot.slot → bank_number active.bank ≡ active_slot.says.bank
+    → active.sequence ≡ active_slot.says.sequence → active.manifest ≡ active_slot.says.manifest
+    → HasOutline image (slot_offset active_slot.slot) (record { identity = id; bank = active_slot.says.bank; sequence = active_slot.says.sequence; loads = manifest_view m })
+    → IsSlotAt image (slot_offset active_slot.slot) active_slot.says → TellsOther image (slot_offset active_slot.slot) active_slot.other_is_open → FindsActive image id m active active_slot.other_is_open
+finds image id m active active_slot slot bank sequence manifest outline says other =
+    let at : slot_offset active.slot ≡ slot_offset active_slot.slot = ap slot_offset slot in
     record {
-      outline = same_outline image id (manifest_view m) (slot_offset active.slot) (slot_offset ruler.slot) (bank_number active.bank) ruler.says.bank active.sequence ruler.says.sequence at bank sequence outline;
+      outline = same_outline image id (manifest_view m) (slot_offset active.slot) (slot_offset active_slot.slot) (bank_number active.bank) active_slot.says.bank active.sequence active_slot.says.sequence at bank sequence outline;
       offset = ap (λ (n : ℕ). manifest_place_of image n) at ∙ sym says.offset ∙ sym (ap (λ (r : ManifestRange). r.offset) manifest);
       length = ap (λ (n : ℕ). manifest_length_of image n) at ∙ sym says.length ∙ sym (ap (λ (r : ManifestRange). r.length) manifest);
-      other = subst (λ (n : ℕ). TellsOther image n ruler.other_is_open) (sym at) other;
+      other = subst (λ (n : ℕ). TellsOther image n active_slot.other_is_open) (sym at) other;
     }
 
 -- what a store keeps of what was found

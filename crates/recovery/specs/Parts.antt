@@ -3,14 +3,14 @@ use Rattle.std.specs.Prelude.{◌≡◌, ◌≢◌, ◌⊎◌, ◌↔◌, ℕ, �
 use Rattle.disk_model.specs.Image.{Image, range}
 use Rattle.field_grammar.specs.Grammar.{Spelled, Fault}
 use Rattle.disk_layout.specs.Places.{slot_a, slot_b, longest_manifest}
-use Rattle.disk_layout.specs.Slots.{slot_offset, IsOpen, IsSlot, Rules, IsSlotAt, IsSound}
+use Rattle.disk_layout.specs.Slots.{slot_offset, IsOpen, IsSlot, IsActiveSlot, IsSlotAt, IsSound}
 use Rattle.disk_layout.specs.Manifest.{LoadEntry, manifest, total_length}
-use Rattle.disk_layout.specs.Looks.{IsOfDisk}
+use Rattle.disk_layout.specs.DiskReads.{IsOfDisk}
 use Rattle.disk_layout.specs.declared.fault.RecoverFault.{RecoverFault}
 use Rattle.disk_layout.specs.declared.fault.RecoverFault.TheVariants.{NoOpenSlot, BadSlot, BadManifest}
 use Rattle.disk_layout.specs.declared.manifest.ManifestFault.TheVariants.{Wrong}
 use Rattle.disk_layout.specs.declared.slot.SlotFields.{SlotFields}
-use Rattle.recovery.specs.declared.surveying.Ruler.{Ruler}
+use Rattle.recovery.specs.declared.surveying.ActiveSlot.{ActiveSlot}
 
 -- ---- the slots
 
@@ -18,11 +18,11 @@ use Rattle.recovery.specs.declared.surveying.Ruler.{Ruler}
 abbrev pub TellsOther : Image → ℕ → Bool → Type 0
 TellsOther image at open_too = (other : ℕ) → IsSlot other → other ≢ at → (open_too ≡ true) ↔ IsOpen image other
 
--- this slot rules, and says this
-pub record IsRulerOn (image : Image) (ruler : Ruler) : Type 0 where
-  pub rules : Rules image (slot_offset ruler.slot)
-  pub says : IsSlotAt image (slot_offset ruler.slot) ruler.says
-  pub other : TellsOther image (slot_offset ruler.slot) ruler.other_is_open
+-- this slot is active, and says this
+pub record IsActiveSlotOn (image : Image) (active_slot : ActiveSlot) : Type 0 where
+  pub is_active : IsActiveSlot image (slot_offset active_slot.slot)
+  pub says : IsSlotAt image (slot_offset active_slot.slot) active_slot.says
+  pub other : TellsOther image (slot_offset active_slot.slot) active_slot.other_is_open
 
 -- neither slot is open, or the disk or memory failed
 abbrev pub RefusesSlots : Image → RecoverFault → Type 0
@@ -32,7 +32,7 @@ RefusesSlots image fault = IsOfDisk fault ⊎ (¬ IsOpen image slot_a × ¬ IsOp
 abbrev pub IsSoundAt : (size : ℕ) → SlotFields → Type 0
 IsSoundAt size slot = IsSound size slot.bank slot.manifest.offset slot.manifest.length
 
--- the first that can't be in what the slot at this place says
+-- the first that can't be in what the slot at this offset says
 pub data RefusesSlot (size at : ℕ) (slot : SlotFields) (fault : RecoverFault) : Type 0 where
   other_bank : 2 ≤ slot.bank → fault ≡ BadSlot (at + 20) → RefusesSlot size at slot fault
   long : slot.bank < 2 → longest_manifest < slot.manifest.length → fault ≡ BadSlot (at + 25) → RefusesSlot size at slot fault
@@ -44,11 +44,11 @@ pub data RefusesSlot (size at : ℕ) (slot : SlotFields) (fault : RecoverFault) 
 abbrev pub HasFiles : LoadEntry → Type 0
 HasFiles entry = 1 ≤ length entry.files
 
--- these bytes are no manifest from one place on, or the disk or memory failed
+-- these bytes are no manifest from one offset on, or the disk or memory failed
 abbrev pub RefusesBytes : Image → (start size : ℕ) → RecoverFault → Type 0
 RefusesBytes image start size fault = IsOfDisk fault ⊎ ((place : ℕ) × Fault manifest (range image start size) (Wrong place) × (fault ≡ BadManifest (start + place)))
 
--- the lengths of its files don't add up to its place
+-- the lengths of its files don't add up to its offset
 pub record HasOtherLengths (image : Image) (start size place : ℕ) (fault : RecoverFault) : Type 0 where
   pub loads : List LoadEntry
   pub spelled : Spelled manifest (range image start size) loads

@@ -4,11 +4,11 @@ use Rattle.disk_model.specs.Image.{Image}
 use Rattle.disk_layout.specs.Places.{IsBankSize}
 use Rattle.disk_layout.specs.Slots.{slot_offset, bank_number, manifest_place_of, manifest_length_of, IsManifestRange}
 use Rattle.disk_layout.specs.Manifest.{ManifestFits, manifest_view, total_length}
-use Rattle.disk_layout.specs.Stands.{Outline, HasOutline}
+use Rattle.disk_layout.specs.Holds.{Outline, HasOutline}
 use Rattle.disk_layout.specs.declared.active.Active.{Active}
 use Rattle.disk_layout.specs.declared.identity.Identity.{Identity}
 use Rattle.disk_layout.specs.declared.manifest.Manifest.{Manifest}
-use Rattle.bank_store.specs.Store.{bank_size, active_of, is_other_open}
+use Rattle.bank_store.specs.Store.{bank_size_of, active_of, is_other_open}
 use Rattle.recovery.specs.Parts.{TellsOther}
 use Rattle.recovery.specs.declared.surveying.Surveyed.{Surveyed}
 
@@ -37,5 +37,5 @@ outline_of_survey s = outline_by s.identity s.manifest (active_of s.store)
 abbrev pub IsSurveyed : Image → Surveyed → Type 0
 IsSurveyed image s = FindsActive image s.identity s.manifest (active_of s.store) (is_other_open s.store)
 
-abbrev pub IsInRange : Surveyed → Type 0
-IsInRange s = IsFoundInRange s.identity s.manifest (active_of s.store) × (bank_size s.store ≡ s.identity.bank)
+abbrev pub IsSurveyInRange : Surveyed → Type 0
+IsSurveyInRange s = IsFoundInRange s.identity s.manifest (active_of s.store) × (bank_size_of s.store ≡ s.identity.bank)

@@ -1,11 +1,12 @@
 //! The contents of a bank, read from the disk.
 ghost use Rattle.std.specs.Prelude.{◌≡◌, ◌+◌, ◌≤◌, Some, false, map, length, IfOk, IfErr};
+ghost use Rattle.std.specs.Option.{ForSome};
 ghost use Rattle.std.specs.List.{All};
 ghost use Rattle.load_base.specs.Config.{file_view, load_view};
 ghost use Rattle.disk_model.specs.Image.{Image, range};
 ghost use Rattle.disk_layout.specs.Manifest.{entry_view, total_length, size_of};
-ghost use Rattle.disk_layout.specs.Contents.{file_entry_of, entry_of, entries_of, bytes_of, contents_of, HeaderIsFirst, HeadersAreFirst};
-ghost use Rattle.disk_layout.specs.Looks.{IsOfDisk, Looks};
+ghost use Rattle.disk_layout.specs.Contents.{file_entry_of, entry_of, entries_of, bytes_of, contents_of_loads, HeaderIsFirst, HeadersAreFirst};
+ghost use Rattle.disk_layout.specs.DiskReads.{IsOfDisk, ReadsDisk};
 ghost use Rattle.recovery.specs.Parts.{HasFiles};
 
 use crate::looking::bytes_on;
@@ -14,7 +15,7 @@ use disk_model::{Disk, SIZE};
 use load_base::{List, Load, StoredFile};
 use std::alloc::Global;
 
-/// These loads, whose files stand one behind the other from `start` on.
+/// These loads, whose files stand back to back from `start` on.
 pub(crate) fn loads_on<K: Disk>(
     alloc: Global,
     disk: &mut K,
@@ -24,12 +25,14 @@ pub(crate) fn loads_on<K: Disk>(
     requires running { (K.state disk.old).stopped ≡ false }
     requires within { start + total_length (map entry_view entries.now) ≤ SIZE }
     requires files { All (λ entry. HasFiles entry) (map entry_view entries.now) }
-    ensures entries { IfOk result (λ loads. entries_of (map load_view loads.items) ≡ map entry_view entries.now) }
+    ensures entries { IfOk result
+        (λ loads. entries_of (map load_view loads.items) ≡ map entry_view entries.now) }
     ensures headers { IfOk result (λ loads. HeadersAreFirst (map load_view loads.items)) }
-    ensures bytes { IfOk result (λ loads. (image : Image) → (K.state disk.old).reads ≡ Some image
-        → contents_of (map load_view loads.items) ≡ range image start (total_length (map entry_view entries.now))) }
+    ensures bytes { IfOk result (λ loads. ForSome (K.state disk.old).reads
+        (λ image. contents_of_loads (map load_view loads.items)
+        ≡ range image start (total_length (map entry_view entries.now)))) }
     ensures refused { IfErr result (λ fault. IsOfDisk fault) }
-    ensures looks { Looks (K.state disk.old) (K.state disk.new) result }
+    ensures reads_disk { ReadsDisk (K.state disk.old) (K.state disk.new) result }
 {
     let mut loads = List::new(alloc);
     let mut at = start;
@@ -41,7 +44,7 @@ pub(crate) fn loads_on<K: Disk>(
     Ok(loads)
 }
 
-// This load, whose files stand from `at` on, and the place behind them.
+// This load, whose files stand from `at` on, and the offset after them.
 fn load_on<K: Disk>(
     alloc: Global,
     disk: &mut K,
@@ -54,10 +57,11 @@ fn load_on<K: Disk>(
     ensures entry { IfOk result (λ x. entry_of (load_view x.0) ≡ entry_view entry.now) }
     ensures header { IfOk result (λ x. HeaderIsFirst (load_view x.0)) }
     ensures end { IfOk result (λ x. x.1 ≡ at + size_of entry.now.files.items) }
-    ensures bytes { IfOk result (λ x. (image : Image) → (K.state disk.old).reads ≡ Some image
-        → bytes_of (load_view x.0).files ≡ range image at (size_of entry.now.files.items)) }
+    ensures bytes { IfOk result (λ x. ForSome (K.state disk.old).reads
+        (λ image. bytes_of (load_view x.0).files
+        ≡ range image at (size_of entry.now.files.items))) }
     ensures refused { IfErr result (λ fault. IsOfDisk fault) }
-    ensures looks { Looks (K.state disk.old) (K.state disk.new) result }
+    ensures reads_disk { ReadsDisk (K.state disk.old) (K.state disk.new) result }
 {
     let (files, end) = files_on(alloc, disk, at, entry.files.as_slice())?;
     let load = Load {
@@ -68,7 +72,7 @@ fn load_on<K: Disk>(
     Ok((load, end))
 }
 
-// These files, which stand one behind the other from `start` on, and the place behind them.
+// These files, which stand back to back from `start` on, and the offset after them.
 fn files_on<K: Disk>(
     alloc: Global,
     disk: &mut K,
@@ -79,10 +83,10 @@ fn files_on<K: Disk>(
     requires within { start + size_of files.now ≤ SIZE }
     ensures entries { IfOk result (λ x. map file_entry_of (map file_view x.0.items) ≡ files.now) }
     ensures end { IfOk result (λ x. x.1 ≡ start + size_of files.now) }
-    ensures bytes { IfOk result (λ x. (image : Image) → (K.state disk.old).reads ≡ Some image
-        → bytes_of (map file_view x.0.items) ≡ range image start (size_of files.now)) }
+    ensures bytes { IfOk result (λ x. ForSome (K.state disk.old).reads
+        (λ image. bytes_of (map file_view x.0.items) ≡ range image start (size_of files.now))) }
     ensures refused { IfErr result (λ fault. IsOfDisk fault) }
-    ensures looks { Looks (K.state disk.old) (K.state disk.new) result }
+    ensures reads_disk { ReadsDisk (K.state disk.old) (K.state disk.new) result }
 {
     let mut stored = List::new(alloc);
     let mut at = start;

@@ -1,4 +1,4 @@
-//! What a disk stands for, read from the disk.
+//! The configuration that a disk holds, read from the disk.
 #![tactic(auto)]
 
 mod contents;

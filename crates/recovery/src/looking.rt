@@ -1,7 +1,8 @@
 //! Reads from a disk.
 ghost use Rattle.std.specs.Prelude.{◌≡◌, ◌+◌, ◌<◌, ◌≤◌, Some, false, length, OnOk, IfOk, IfErr};
+ghost use Rattle.std.specs.Option.{ForSome};
 ghost use Rattle.disk_model.specs.Image.{Image, range};
-ghost use Rattle.disk_layout.specs.Looks.{IsOfDisk, Looks};
+ghost use Rattle.disk_layout.specs.DiskReads.{IsOfDisk, ReadsDisk};
 
 use disk_layout::RecoverFault;
 use disk_model::{Disk, SIZE};
@@ -15,9 +16,10 @@ const PIECE: usize = 8192;
 pub(crate) fn read_from<K: Disk>(disk: &mut K, at: u32, buf: &mut [u8]) -> Result<(), RecoverFault>
     requires running { (K.state disk.old).stopped ≡ false }
     requires within { at + length buf.old ≤ SIZE }
-    ensures bytes { OnOk result ((image : Image) → (K.state disk.old).reads ≡ Some image → buf.new ≡ range image at (length buf.old)) }
+    ensures bytes { OnOk result (ForSome (K.state disk.old).reads
+        (λ image. buf.new ≡ range image at (length buf.old))) }
     ensures refused { IfErr result (λ fault. IsOfDisk fault) }
-    ensures looks { Looks (K.state disk.old) (K.state disk.new) result }
+    ensures reads_disk { ReadsDisk (K.state disk.old) (K.state disk.new) result }
 {
     match disk.read(at, buf) {
         Ok(()) => Ok(()),
@@ -25,7 +27,7 @@ pub(crate) fn read_from<K: Disk>(disk: &mut K, at: u32, buf: &mut [u8]) -> Resul
     }
 }
 
-/// So many bytes from a place on, in pieces of [`PIECE`] bytes.
+/// So many bytes from an offset on, in pieces of [`PIECE`] bytes.
 pub(crate) fn bytes_on<K: Disk>(
     alloc: Global,
     disk: &mut K,
@@ -34,10 +36,11 @@ pub(crate) fn bytes_on<K: Disk>(
 ) -> Result<Bytes, RecoverFault>
     requires running { (K.state disk.old).stopped ≡ false }
     requires within { at + count ≤ SIZE }
-    ensures bytes { IfOk result (λ bytes. (image : Image) → (K.state disk.old).reads ≡ Some image → bytes.items ≡ range image at count) }
+    ensures bytes { IfOk result (λ bytes. ForSome (K.state disk.old).reads
+        (λ image. bytes.items ≡ range image at count)) }
     ensures size { IfOk result (λ bytes. length bytes.items ≡ count) }
     ensures refused { IfErr result (λ fault. IsOfDisk fault) }
-    ensures looks { Looks (K.state disk.old) (K.state disk.new) result }
+    ensures reads_disk { ReadsDisk (K.state disk.old) (K.state disk.new) result }
 {
     let mut bytes = Bytes::new(alloc);
     bytes.reserve(count as usize)?;
@@ -58,11 +61,13 @@ fn add_piece<K: Disk>(
 ) -> Result<(), RecoverFault>
     requires running { (K.state disk.old).stopped ≡ false }
     requires within { at + (length bytes.old.items + length buffer.old) ≤ SIZE }
-    ensures bytes { OnOk result ((image : Image) → (K.state disk.old).reads ≡ Some image → bytes.old.items ≡ range image at (length bytes.old.items)
-        → bytes.new.items ≡ range image at (length bytes.new.items)) }
-    ensures size { OnOk result (length bytes.new.items ≡ length bytes.old.items + length buffer.old) }
+    ensures bytes { OnOk result (ForSome (K.state disk.old).reads
+        (λ image. bytes.old.items ≡ range image at (length bytes.old.items)
+        → bytes.new.items ≡ range image at (length bytes.new.items))) }
+    ensures size { OnOk result (length bytes.new.items
+        ≡ length bytes.old.items + length buffer.old) }
     ensures refused { IfErr result (λ fault. IsOfDisk fault) }
-    ensures looks { Looks (K.state disk.old) (K.state disk.new) result }
+    ensures reads_disk { ReadsDisk (K.state disk.old) (K.state disk.new) result }
 {
     let next = at + bytes.len() as u32;
     read_from(disk, next, buffer)?;

@@ -2,9 +2,9 @@
 ghost use Rattle.std.specs.Prelude.{◌<◌, IfOk, IfErr};
 ghost use Rattle.std.specs.Option.{ForSome};
 ghost use Rattle.disk_layout.specs.Places.{IsBankSize};
-ghost use Rattle.disk_layout.specs.Stands.{Stands, Refuses, standing_view};
-ghost use Rattle.disk_layout.specs.Looks.{Looks};
-ghost use Rattle.bank_store.specs.Acts.{IsRunning};
+ghost use Rattle.disk_layout.specs.Holds.{HoldsConfig, Refuses, standing_view};
+ghost use Rattle.disk_layout.specs.DiskReads.{ReadsDisk};
+ghost use Rattle.bank_store.specs.DiskWrites.{IsRunning};
 
 use crate::contents::loads_on;
 use crate::surveying::active_on;
@@ -13,15 +13,18 @@ use disk_model::Disk;
 use load_base::Config;
 use std::alloc::Global;
 
-/// Recovers what a disk stands for: all that [`crate::survey`] reads, and the contents of the bank that rules.
+/// Recovers the configuration that a disk holds: all that [`crate::survey`] reads, and the contents of the active bank.
 /// Nothing is written. The first condition that fails is the refusal (that it is one, and the only one, is a
-/// law of [`disk_layout::stands_for_one_thing`]); after it the disk runs on.
+/// law of [`disk_layout::an_image_holds_one_configuration`]); after it the disk runs on.
 pub fn recover<K: Disk>(alloc: Global, disk: &mut K) -> Result<Standing, RecoverFault>
     requires { IsRunning (K.state disk.old) }
-    ensures found { IfOk result (λ standing. ForSome (K.state disk.old).reads (λ image. Stands image (standing_view standing))) }
-    ensures refused { IfErr result (λ fault. ForSome (K.state disk.old).reads (λ image. Refuses image fault)) }
-    ensures in_range { IfOk result (λ standing. IsBankSize standing.identity.bank × (standing.bank < 2)) }
-    ensures looks { Looks (K.state disk.old) (K.state disk.new) result }
+    ensures found { IfOk result (λ standing. ForSome (K.state disk.old).reads
+        (λ image. HoldsConfig image (standing_view standing))) }
+    ensures refused { IfErr result (λ fault. ForSome (K.state disk.old).reads
+        (λ image. Refuses image fault)) }
+    ensures in_range { IfOk result
+        (λ standing. IsBankSize standing.identity.bank × (standing.bank < 2)) }
+    ensures reads_disk { ReadsDisk (K.state disk.old) (K.state disk.new) result }
 {
     let found = active_on(alloc, disk)?;
     let start = found.active.bank.offset(found.identity.bank);

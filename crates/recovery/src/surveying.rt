@@ -1,4 +1,4 @@
-//! What rules on a disk: the identity, the slot, and the manifest that it names.
+//! What is active on a disk: the identity, the slot, and the manifest that it names.
 ghost use Rattle.std.specs.Prelude.{◌≡◌, ◌+◌, ◌≤◌, ◌<◌, ◌↔◌, IsTrue, IfSome, IfNone, Some, false, map, OnOk, IfOk, IfErr};
 ghost use Rattle.std.specs.List.{sum_by};
 ghost use Rattle.std.specs.Option.{ForSome};
@@ -9,13 +9,13 @@ ghost use Rattle.disk_layout.specs.Places.{IsBankSize, bank_at};
 ghost use Rattle.disk_layout.specs.Identity.{HasIdentity};
 ghost use Rattle.disk_layout.specs.Slots.{slot_offset, bank_number, IsSlotAt};
 ghost use Rattle.disk_layout.specs.Manifest.{ManifestFits, manifest, manifest_view, entry_view, total_length, size_of};
-ghost use Rattle.disk_layout.specs.Stands.{StandingView, outline_of, Refuses};
-ghost use Rattle.disk_layout.specs.Looks.{IsOfDisk, Looks};
+ghost use Rattle.disk_layout.specs.Holds.{StandingView, outline_of, Refuses};
+ghost use Rattle.disk_layout.specs.DiskReads.{IsOfDisk, ReadsDisk};
 ghost use Rattle.bank_store.specs.Store.{IsIdle};
-ghost use Rattle.bank_store.specs.Acts.{IsRunning};
+ghost use Rattle.bank_store.specs.DiskWrites.{IsRunning};
 ghost use Rattle.bank_store.specs.Fits.{HoldsFor, Fits, Works};
-ghost use Rattle.recovery.specs.Parts.{IsRulerOn, RefusesSlots, IsSoundAt, RefusesSlot, RefusesBytes, RefusesManifest};
-ghost use Rattle.recovery.specs.Surveys.{IsSurveyed, IsInRange, FindsActive, IsFoundInRange, outline_of_survey};
+ghost use Rattle.recovery.specs.Parts.{IsActiveSlotOn, RefusesSlots, IsSoundAt, RefusesSlot, RefusesBytes, RefusesManifest};
+ghost use Rattle.recovery.specs.Surveys.{IsSurveyed, IsSurveyInRange, FindsActive, IsFoundInRange, outline_of_survey};
 
 use crate::looking::{bytes_on, read_from};
 use bank_store::{Store, a_settled_disk_works, a_store_goes_on_fitting};
@@ -30,7 +30,7 @@ use disk_layout::{
 use disk_model::{Disk, SIZE};
 use std::alloc::Global;
 
-/// What rules on a disk, without the contents of its files, and a store that installs beside it.
+/// What is active on a disk, without the contents of its files, and a store that installs beside it.
 #[derive(Drop)]
 pub struct Surveyed {
     pub identity: Identity,
@@ -38,23 +38,27 @@ pub struct Surveyed {
     pub store: Store,
 }
 
-/// Reads what rules on a disk: its identity, the open slot with the greatest sequence, and the manifest that
+/// Reads what is active on a disk: its identity, the open slot with the greatest sequence, and the manifest that
 /// the slot names. Nothing is written. The first condition that fails is the refusal; after it the disk
 /// runs on.
 ///
-/// The store that it gives installs on this disk, beside what rules there. What its calls promise of a power
-/// loss they promise where the disk was settled, as it is behind a sync or a restart.
+/// The store that it gives installs on this disk, beside what is active there. What its calls promise of a power
+/// loss they promise where the disk was settled, as it is after a sync or a restart.
 pub fn survey<K: Disk>(alloc: Global, disk: &mut K) -> Result<Surveyed, RecoverFault>
     requires { IsRunning (K.state disk.old) }
-    ensures found { IfOk result (λ surveyed. ForSome (K.state disk.old).reads (λ image. IsSurveyed image surveyed)) }
-    ensures refused { IfErr result (λ fault. ForSome (K.state disk.old).reads (λ image. Refuses image fault)) }
-    ensures in_range { IfOk result (λ surveyed. IsInRange surveyed) }
+    ensures found { IfOk result (λ surveyed. ForSome (K.state disk.old).reads
+        (λ image. IsSurveyed image surveyed)) }
+    ensures refused { IfErr result (λ fault. ForSome (K.state disk.old).reads
+        (λ image. Refuses image fault)) }
+    ensures in_range { IfOk result (λ surveyed. IsSurveyInRange surveyed) }
     ensures idle { IfOk result (λ surveyed. IsIdle surveyed.store) }
     ensures holds { IfOk result (λ surveyed. ForSome (K.state disk.old).reads
-        (λ image. (s : StandingView) × HoldsFor surveyed.store image s × (outline_of s ≡ outline_of_survey surveyed))) }
+        (λ image. (s : StandingView) × HoldsFor surveyed.store image s
+            × (outline_of s ≡ outline_of_survey surveyed))) }
     ensures fits { IfOk result (λ surveyed. Fits surveyed.store (K.state disk.new)) }
-    ensures works { IfOk result (λ surveyed. IsSettled (K.state disk.old) → Works surveyed.store (K.state disk.new)) }
-    ensures looks { Looks (K.state disk.old) (K.state disk.new) result }
+    ensures works { IfOk result (λ surveyed. IsSettled (K.state disk.old)
+        → Works surveyed.store (K.state disk.new)) }
+    ensures reads_disk { ReadsDisk (K.state disk.old) (K.state disk.new) result }
 {
     let found = active_on(alloc, disk)?;
     let store = Store::new(
@@ -87,44 +91,48 @@ pub(crate) fn active_on<K: Disk>(alloc: Global, disk: &mut K) -> Result<Found, R
     requires { IsRunning (K.state disk.old) }
     ensures found { IfOk result (λ found. ForSome (K.state disk.old).reads
         (λ image. FindsActive image found.identity found.manifest found.active found.other_is_open)) }
-    ensures refused { IfErr result (λ fault. ForSome (K.state disk.old).reads (λ image. Refuses image fault)) }
-    ensures in_range { IfOk result (λ found. IsFoundInRange found.identity found.manifest found.active) }
-    ensures looks { Looks (K.state disk.old) (K.state disk.new) result }
+    ensures refused { IfErr result (λ fault. ForSome (K.state disk.old).reads
+        (λ image. Refuses image fault)) }
+    ensures in_range { IfOk result
+        (λ found. IsFoundInRange found.identity found.manifest found.active) }
+    ensures reads_disk { ReadsDisk (K.state disk.old) (K.state disk.new) result }
 {
     let identity = identity_on(disk)?;
-    let ruler = ruler_on(disk)?;
-    check_slot(identity.bank, ruler.slot, &ruler.says)?;
-    let manifest = manifest_of_slot(alloc, disk, identity.bank, &ruler.says)?;
+    let active_slot = active_slot_on(disk)?;
+    check_slot(identity.bank, active_slot.slot, &active_slot.says)?;
+    let manifest = manifest_of_slot(alloc, disk, identity.bank, &active_slot.says)?;
     Ok(Found {
         identity,
         manifest,
-        active: active_by(&ruler),
-        other_is_open: ruler.other_is_open,
+        active: active_by(&active_slot),
+        other_is_open: active_slot.other_is_open,
     })
 }
 
 // What is active where this slot is.
-fn active_by(ruler: &Ruler) -> Active
-    requires { ruler.now.says.bank < 2 }
-    ensures slot { result.slot ≡ ruler.now.slot }
-    ensures bank { bank_number result.bank ≡ ruler.now.says.bank }
-    ensures sequence { result.sequence ≡ ruler.now.says.sequence }
-    ensures manifest { result.manifest ≡ ruler.now.says.manifest }
+fn active_by(active_slot: &ActiveSlot) -> Active
+    requires { active_slot.now.says.bank < 2 }
+    ensures slot { result.slot ≡ active_slot.now.slot }
+    ensures bank { bank_number result.bank ≡ active_slot.now.says.bank }
+    ensures sequence { result.sequence ≡ active_slot.now.says.sequence }
+    ensures manifest { result.manifest ≡ active_slot.now.says.manifest }
 {
     Active {
-        slot: ruler.slot,
-        bank: Bank::numbered(ruler.says.bank),
-        sequence: ruler.says.sequence,
-        manifest: ruler.says.manifest,
+        slot: active_slot.slot,
+        bank: Bank::numbered(active_slot.says.bank),
+        sequence: active_slot.says.sequence,
+        manifest: active_slot.says.manifest,
     }
 }
 
 fn identity_on<K: Disk>(disk: &mut K) -> Result<Identity, RecoverFault>
-    requires { (K.state disk.old).stopped ≡ false }
-    ensures found { IfOk result (λ id. (image : Image) → (K.state disk.old).reads ≡ Some image → HasIdentity image id) }
+    requires { IsRunning (K.state disk.old) }
+    ensures found { IfOk result (λ id. ForSome (K.state disk.old).reads
+        (λ image. HasIdentity image id)) }
     ensures size { IfOk result (λ id. IsBankSize id.bank) }
-    ensures refused { IfErr result (λ fault. (image : Image) → (K.state disk.old).reads ≡ Some image → Refuses image fault) }
-    ensures looks { Looks (K.state disk.old) (K.state disk.new) result }
+    ensures refused { IfErr result (λ fault. ForSome (K.state disk.old).reads
+        (λ image. Refuses image fault)) }
+    ensures reads_disk { ReadsDisk (K.state disk.old) (K.state disk.new) result }
 {
     let mut front = [0; LONGEST_IDENTITY];
     read_from(disk, 0, &mut front)?;
@@ -135,11 +143,12 @@ fn identity_on<K: Disk>(disk: &mut K) -> Result<Identity, RecoverFault>
 }
 
 fn slot_on<K: Disk>(disk: &mut K, at: u32) -> Result<SlotFields, RecoverFault>
-    requires running { (K.state disk.old).stopped ≡ false }
+    requires running { IsRunning (K.state disk.old) }
     requires within { at ≤ SLOT_B }
-    ensures found { IfOk result (λ slot. (image : Image) → (K.state disk.old).reads ≡ Some image → IsSlotAt image at slot) }
+    ensures found { IfOk result (λ slot. ForSome (K.state disk.old).reads
+        (λ image. IsSlotAt image at slot)) }
     ensures refused { IfErr result (λ fault. IsOfDisk fault) }
-    ensures looks { Looks (K.state disk.old) (K.state disk.new) result }
+    ensures reads_disk { ReadsDisk (K.state disk.old) (K.state disk.new) result }
 {
     let mut bytes = [0; SLOT_LENGTH];
     read_from(disk, at, &mut bytes)?;
@@ -148,28 +157,30 @@ fn slot_on<K: Disk>(disk: &mut K, at: u32) -> Result<SlotFields, RecoverFault>
 
 // The active slot, what it says, and whether the other is open too.
 #[derive(Clone, Copy)]
-struct Ruler {
+struct ActiveSlot {
     slot: Slot,
     says: SlotFields,
     other_is_open: bool,
 }
 
-fn ruler_on<K: Disk>(disk: &mut K) -> Result<Ruler, RecoverFault>
-    requires { (K.state disk.old).stopped ≡ false }
-    ensures found { IfOk result (λ ruler. (image : Image) → (K.state disk.old).reads ≡ Some image → IsRulerOn image ruler) }
-    ensures refused { IfErr result (λ fault. (image : Image) → (K.state disk.old).reads ≡ Some image → RefusesSlots image fault) }
-    ensures looks { Looks (K.state disk.old) (K.state disk.new) result }
+fn active_slot_on<K: Disk>(disk: &mut K) -> Result<ActiveSlot, RecoverFault>
+    requires { IsRunning (K.state disk.old) }
+    ensures found { IfOk result (λ active_slot. ForSome (K.state disk.old).reads
+        (λ image. IsActiveSlotOn image active_slot)) }
+    ensures refused { IfErr result (λ fault. ForSome (K.state disk.old).reads
+        (λ image. RefusesSlots image fault)) }
+    ensures reads_disk { ReadsDisk (K.state disk.old) (K.state disk.new) result }
 {
     let a = slot_on(disk, SLOT_A)?;
     let b = slot_on(disk, SLOT_B)?;
     if is_active_over(&a, &b) {
-        Ok(Ruler {
+        Ok(ActiveSlot {
             slot: Slot::A,
             says: a,
             other_is_open: b.gate == OPEN,
         })
     } else if b.gate == OPEN {
-        Ok(Ruler {
+        Ok(ActiveSlot {
             slot: Slot::B,
             says: b,
             other_is_open: a.gate == OPEN,
@@ -181,7 +192,8 @@ fn ruler_on<K: Disk>(disk: &mut K) -> Result<Ruler, RecoverFault>
 
 // Slot A is open, and slot B isn't both open and of a greater sequence.
 fn is_active_over(a: &SlotFields, b: &SlotFields) -> bool
-    ensures { IsTrue result ↔ ((a.now.gate ≡ OPEN) × (b.now.gate ≡ OPEN → b.now.sequence ≤ a.now.sequence)) }
+    ensures { IsTrue result ↔ ((a.now.gate ≡ OPEN) × (b.now.gate ≡ OPEN
+        → b.now.sequence ≤ a.now.sequence)) }
 {
     a.gate == OPEN && (b.gate != OPEN || b.sequence <= a.sequence)
 }
@@ -189,7 +201,8 @@ fn is_active_over(a: &SlotFields, b: &SlotFields) -> bool
 // What a slot says can be on a disk with banks of this size.
 fn check_slot(bank_size: u32, slot: Slot, says: &SlotFields) -> Result<(), RecoverFault>
     ensures ok { OnOk result (IsSoundAt bank_size says.now) }
-    ensures refused { IfErr result (λ fault. RefusesSlot bank_size (slot_offset slot) says.now fault) }
+    ensures refused { IfErr result
+        (λ fault. RefusesSlot bank_size (slot_offset slot) says.now fault) }
 {
     let at = u64::from(slot.offset());
     let end = u64::from(says.manifest.offset) + u64::from(says.manifest.length);
@@ -212,16 +225,19 @@ fn manifest_of_slot<K: Disk>(
     bank_size: u32,
     slot: &SlotFields,
 ) -> Result<Manifest, RecoverFault>
-    requires running { (K.state disk.old).stopped ≡ false }
+    requires running { IsRunning (K.state disk.old) }
     requires size { IsBankSize bank_size }
     requires can_be { IsSoundAt bank_size slot.now }
-    ensures found { IfOk result (λ m. (image : Image) → (K.state disk.old).reads ≡ Some image
-        → Spelled manifest (range image (bank_at bank_size slot.now.bank + slot.now.manifest.offset) slot.now.manifest.length) (manifest_view m)) }
+    ensures found { IfOk result (λ m. ForSome (K.state disk.old).reads
+        (λ image. Spelled manifest (range image
+        (bank_at bank_size slot.now.bank + slot.now.manifest.offset) slot.now.manifest.length)
+        (manifest_view m))) }
     ensures fits { IfOk result (λ m. ManifestFits (manifest_view m)) }
     ensures lengths { IfOk result (λ m. total_length (manifest_view m) ≡ slot.now.manifest.offset) }
-    ensures refused { IfErr result (λ fault. (image : Image) → (K.state disk.old).reads ≡ Some image
-        → RefusesManifest image (bank_at bank_size slot.now.bank + slot.now.manifest.offset) slot.now.manifest.length slot.now.manifest.offset fault) }
-    ensures looks { Looks (K.state disk.old) (K.state disk.new) result }
+    ensures refused { IfErr result (λ fault. ForSome (K.state disk.old).reads
+        (λ image. RefusesManifest image (bank_at bank_size slot.now.bank + slot.now.manifest.offset)
+        slot.now.manifest.length slot.now.manifest.offset fault)) }
+    ensures reads_disk { ReadsDisk (K.state disk.old) (K.state disk.new) result }
 {
     let start = Bank::numbered(slot.bank).offset(bank_size) + slot.manifest.offset;
     let manifest = manifest_on(alloc, disk, start, slot.manifest.length)?;
@@ -239,12 +255,14 @@ fn manifest_on<K: Disk>(
     start: u32,
     length: u32,
 ) -> Result<Manifest, RecoverFault>
-    requires running { (K.state disk.old).stopped ≡ false }
+    requires running { IsRunning (K.state disk.old) }
     requires within { start + length ≤ SIZE }
-    ensures found { IfOk result (λ m. (image : Image) → (K.state disk.old).reads ≡ Some image → Spelled manifest (range image start length) (manifest_view m)) }
+    ensures found { IfOk result (λ m. ForSome (K.state disk.old).reads
+        (λ image. Spelled manifest (range image start length) (manifest_view m))) }
     ensures fits { IfOk result (λ m. ManifestFits (manifest_view m)) }
-    ensures refused { IfErr result (λ fault. (image : Image) → (K.state disk.old).reads ≡ Some image → RefusesBytes image start length fault) }
-    ensures looks { Looks (K.state disk.old) (K.state disk.new) result }
+    ensures refused { IfErr result (λ fault. ForSome (K.state disk.old).reads
+        (λ image. RefusesBytes image start length fault)) }
+    ensures reads_disk { ReadsDisk (K.state disk.old) (K.state disk.new) result }
 {
     let bytes = bytes_on(alloc, disk, start, length)?;
     match Manifest::decode(alloc, bytes.as_slice()) {
@@ -263,7 +281,7 @@ fn adds_up(manifest: &Manifest, bytes: u32) -> bool
     behind_loads(manifest.loads.as_slice(), bytes) == Some(0)
 }
 
-// How many bytes are left behind the files of these loads; `None` where they have more.
+// How many bytes are left after the files of these loads; `None` where they have more.
 fn behind_loads(loads: &[ManifestLoad], bytes: u32) -> Option<u32>
     ensures some { IfSome result (λ rest. total_length (map entry_view loads.now) + rest ≡ bytes) }
     ensures none { IfNone result (bytes < total_length (map entry_view loads.now)) }

@@ -33,7 +33,7 @@ fn two_slots() -> [u8; 12_290] {
     disk
 }
 
-// Puts bytes in a place, where they end within the disk.
+// Puts bytes at an offset, where they end within the disk.
 fn put(disk: &mut [u8], at: usize, bytes: &[u8]) {
     if at <= disk.len() && bytes.len() <= disk.len() - at {
         disk[at..at + bytes.len()].copy_from_slice(bytes);
@@ -203,11 +203,13 @@ fn put_file(
     first: &[u8],
     second: &[u8],
 ) -> Result<(), StoreFault>
-    requires filling { (progress : Filling) × IsFilling store.old progress × (1 ≤ progress.missing) × (progress.start ≡ progress.end) }
+    requires filling { (progress : Filling) × IsFilling store.old progress
+        × (1 ≤ progress.missing) × (progress.start ≡ progress.end) }
     requires short { length first.now + length second.now ≤ longest_file }
     requires running { (state_of disk.old).stopped ≡ false }
     ensures goes_on { OnOk result ((progress : Filling) → IsFilling store.old progress
-        → IsFilling store.new (file_ended (bytes_appended (length second.now) (bytes_appended (length first.now) progress)))) }
+        → IsFilling store.new (file_ended (bytes_appended (length second.now) (bytes_appended
+            (length first.now) progress)))) }
     ensures running { OnOk result ((state_of disk.new).stopped ≡ false) }
 {
     store.append(disk, first)?;

@@ -5,7 +5,8 @@ use Rattle.std.specs.Fmt.{decimal}
 use Rattle.crc_fields.specs.CheckSums.{crc16_of}
 use Rattle.load_header.specs.Header.{HeaderView, HardwareAtView}
 use Rattle.load_header.specs.declared.header.FileEntry.{FileEntry}
-use Rattle.shown_files.specs.Lines.{line, hex_16, hex_32, user_line}
+use Rattle.printed_text.specs.Lines.{line, hex_16, hex_32}
+use Rattle.shown_files.specs.UserLine.{user_line}
 
 -- `header WORDS VERSION FLAGS`, `part PART` and `type ID NAME`
 unfoldable pub head_lines : (words : ℕ) → HeaderView → List ℕ

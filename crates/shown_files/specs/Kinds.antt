@@ -1,14 +1,14 @@
 -- The kinds of files, by the ends of their names (docs/FORMATS.md).
 use Rattle.std.specs.Prelude.{◌≡◌, ℕ, ◌-◌, ◌≤◌, List, length, drop, codes}
-use Rattle.shown_files.specs.declared.kind.FileKind.{FileKind}
-use Rattle.shown_files.specs.declared.kind.FileKind.TheVariants as kinds
+use Rattle.shown_files.specs.declared.kind.ShownKind.{ShownKind}
+use Rattle.shown_files.specs.declared.kind.ShownKind.TheVariants as kinds
 
 -- the last bytes of the word are these
 abbrev pub EndsWith : List ℕ → List ℕ → Type 0
 EndsWith end word = (length end ≤ length word) × (drop (length word - length end) word ≡ end)
 
 -- what the name of a file of this kind ends with
-abbrev pub ending_of : FileKind → List ℕ
+abbrev pub ending_of : ShownKind → List ℕ
 ending_of kinds.Header = codes ".LUH"
 ending_of kinds.LoadsList = codes "LOADS.LUM"
 ending_of kinds.FilesList = codes "FILES.LUM"
@@ -20,5 +20,5 @@ ending_of kinds.Lur = codes ".LUR"
 ending_of kinds.Lus = codes ".LUS"
 
 -- a file of this name is of this kind
-abbrev pub IsNameOf : FileKind → List ℕ → Type 0
+abbrev pub IsNameOf : ShownKind → List ℕ → Type 0
 IsNameOf kind name = EndsWith (ending_of kind) name

@@ -1,6 +1,6 @@
 pub mod HeaderText
 pub mod Kinds
-pub mod Lines
 pub mod ListText
 pub mod ProtocolText
 pub mod Shown
+pub mod UserLine

@@ -7,7 +7,8 @@ use Rattle.media_lists.specs.Files.{FilesListView}
 use Rattle.media_lists.specs.Loads.{LoadEntryView, LoadsListView}
 use Rattle.media_lists.specs.declared.lists.ListedFile.{ListedFile}
 use Rattle.media_lists.specs.declared.lists.TheConstants.{FILES_VERSION, LOADS_VERSION}
-use Rattle.shown_files.specs.Lines.{line, field_line, hex_16, user_line}
+use Rattle.printed_text.specs.Lines.{line, field_line, hex_16}
+use Rattle.shown_files.specs.UserLine.{user_line}
 
 -- `member N of M`
 unfoldable pub member_line : (member members : ℕ) → List ℕ

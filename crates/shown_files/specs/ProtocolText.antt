@@ -11,7 +11,7 @@ use Rattle.load_protocol_files.specs.declared.lcl.Part.{Part}
 use Rattle.load_protocol_files.specs.Lur.{LurView}
 use Rattle.load_protocol_files.specs.Lus.{LusView}
 use Rattle.load_protocol_files.specs.Lcl.{LclView, HardwareView}
-use Rattle.shown_files.specs.Lines.{line, field_line, number_line, hex_16}
+use Rattle.printed_text.specs.Lines.{line, field_line, number_line, hex_16}
 
 -- the type alone
 abbrev pub type_line : List ℕ → List ℕ

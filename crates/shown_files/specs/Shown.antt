@@ -21,8 +21,8 @@ use Rattle.media_lists.specs.declared.fault.ListFault.TheVariants as lists
 use Rattle.shown_files.specs.HeaderText.{shown_header}
 use Rattle.shown_files.specs.ListText.{shown_files_list, shown_loads_list}
 use Rattle.shown_files.specs.ProtocolText.{shown_lci, shown_lcl, shown_lcs, shown_lui, shown_lur, shown_lus}
-use Rattle.shown_files.specs.declared.kind.FileKind.{FileKind}
-use Rattle.shown_files.specs.declared.kind.FileKind.TheVariants as kinds
+use Rattle.shown_files.specs.declared.kind.ShownKind.{ShownKind}
+use Rattle.shown_files.specs.declared.kind.ShownKind.TheVariants as kinds
 use Rattle.shown_files.specs.declared.shown.Shown.{Shown}
 use Rattle.shown_files.specs.declared.shown.Shown.TheVariants as texts
 
@@ -35,7 +35,7 @@ abbrev pub IsTextOfFault : {F : Type 0} → F → (List ℕ → F → Type 0) �
 IsTextOfFault {F} memory IsFirst text_of bytes text = (fault : F) × IsFirst bytes fault × (fault ≢ memory) × (text ≡ text_of fault)
 
 -- the text has the fields of a file of this kind that the bytes spell
-abbrev pub HasFields : FileKind → (bytes text : List ℕ) → Type 0
+abbrev pub HasFields : ShownKind → (bytes text : List ℕ) → Type 0
 HasFields kinds.Header bytes text = IsTextOfValue HeaderSpells (shown_header bytes) bytes text
 HasFields kinds.LoadsList bytes text = IsTextOfValue LoadsSpells (shown_loads_list bytes) bytes text
 HasFields kinds.FilesList bytes text = IsTextOfValue FilesSpells (shown_files_list bytes) bytes text
@@ -51,7 +51,7 @@ abbrev pub IsFileFault : (List ℕ → FileFault → Type 0) → (bytes text : L
 IsFileFault IsFirst bytes text = IsTextOfFault files.Memory IsFirst file_fault_text bytes text
 
 -- the text is the first fault of the bytes as a file of this kind
-abbrev pub HasFault : FileKind → (bytes text : List ℕ) → Type 0
+abbrev pub HasFault : ShownKind → (bytes text : List ℕ) → Type 0
 HasFault kinds.Header bytes text = IsTextOfFault headers.Memory (Fault header) header_fault_text bytes text
 HasFault kinds.LoadsList bytes text = IsTextOfFault lists.Memory (Fault loads_list) list_fault_text bytes text
 HasFault kinds.FilesList bytes text = IsTextOfFault lists.Memory (Fault files_list) list_fault_text bytes text
@@ -63,6 +63,6 @@ HasFault kinds.Lur bytes text = IsFileFault (Fault lur) bytes text
 HasFault kinds.Lus bytes text = IsFileFault (Fault lus) bytes text
 
 -- this is shown of bytes of this kind
-abbrev pub IsShown : FileKind → (bytes : List ℕ) → Shown → Type 0
+abbrev pub IsShown : ShownKind → (bytes : List ℕ) → Shown → Type 0
 IsShown kind bytes (texts.Fields text) = HasFields kind bytes text.items
-IsShown kind bytes (texts.Fault text) = HasFault kind bytes text.items
+IsShown kind bytes (texts.Fault text) = HasFault kind bytes text

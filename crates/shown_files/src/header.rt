@@ -5,12 +5,13 @@ ghost use Rattle.std.specs.Fmt.{decimal};
 ghost use Rattle.crc_fields.specs.CheckSums.{crc16_of};
 ghost use Rattle.load_header.specs.Header.{header_view, hardware_at_view};
 ghost use Rattle.shown_files.specs.HeaderText.{shown_header, head_lines, hardware_line, position_line, position_lines, file_line, header_crc_line, load_crc_line};
-ghost use Rattle.shown_files.specs.Lines.{line, hex_16, hex_32};
+ghost use Rattle.printed_text.specs.Lines.{line, hex_16, hex_32};
 
-use crate::lines::{put_hex_16, put_line, put_number, put_user};
+use crate::user::put_user;
 use crc_fields::crc16;
 use load_base::{Bytes, NoMemory, Text};
 use load_header::{FileEntry, HardwareAt, LoadHeader};
+use printed_text::{put_hex_16, put_line, put_number};
 use std::alloc::Global;
 
 /// The fields of a load header that these bytes spell, and their check sums.

@@ -4,7 +4,7 @@ ghost use Rattle.shown_files.specs.Kinds.{EndsWith, IsNameOf};
 
 /// A kind of file, which the end of the file's name tells.
 #[derive(Clone, Copy, Debug, PartialEq, Eq)]
-pub enum FileKind {
+pub enum ShownKind {
     /// A load header, `.LUH`.
     Header,
     /// A list of a media set's loads, `LOADS.LUM`.
@@ -25,30 +25,30 @@ pub enum FileKind {
     Lus,
 }
 
-impl FileKind {
+impl ShownKind {
     /// The kind of a file of this name; `None` where the name has none of the ends.
-    pub fn of_name(name: &[u8]) -> Option<FileKind>
+    pub fn of_name(name: &[u8]) -> Option<ShownKind>
         ensures some { IfSome result (λ kind. IsNameOf kind name.now) }
-        ensures none { IfNone result ((kind : FileKind) → ¬ IsNameOf kind name.now) }
+        ensures none { IfNone result ((kind : ShownKind) → ¬ IsNameOf kind name.now) }
     {
         if ends_with(name, b".LUH") {
-            Some(FileKind::Header)
+            Some(ShownKind::Header)
         } else if ends_with(name, b"LOADS.LUM") {
-            Some(FileKind::LoadsList)
+            Some(ShownKind::LoadsList)
         } else if ends_with(name, b"FILES.LUM") {
-            Some(FileKind::FilesList)
+            Some(ShownKind::FilesList)
         } else if ends_with(name, b".LCI") {
-            Some(FileKind::Lci)
+            Some(ShownKind::Lci)
         } else if ends_with(name, b".LCL") {
-            Some(FileKind::Lcl)
+            Some(ShownKind::Lcl)
         } else if ends_with(name, b".LCS") {
-            Some(FileKind::Lcs)
+            Some(ShownKind::Lcs)
         } else if ends_with(name, b".LUI") {
-            Some(FileKind::Lui)
+            Some(ShownKind::Lui)
         } else if ends_with(name, b".LUR") {
-            Some(FileKind::Lur)
+            Some(ShownKind::Lur)
         } else if ends_with(name, b".LUS") {
-            Some(FileKind::Lus)
+            Some(ShownKind::Lus)
         } else {
             None
         }

@@ -3,13 +3,13 @@
 
 mod header;
 mod kind;
-pub mod lines;
 mod lists;
 mod protocol;
 mod shown;
+mod user;
 
 pub use header::header_text;
-pub use kind::FileKind;
+pub use kind::ShownKind;
 pub use lists::{files_list_text, loads_list_text};
 pub use protocol::{lci_text, lcl_text, lcs_text, lui_text, lur_text, lus_text};
 pub use shown::{Shown, show};

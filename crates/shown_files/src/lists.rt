@@ -4,14 +4,15 @@ ghost use Rattle.std.specs.List.{flat_map};
 ghost use Rattle.std.specs.Fmt.{decimal};
 ghost use Rattle.media_lists.specs.Files.{files_list_view};
 ghost use Rattle.media_lists.specs.Loads.{load_entry_view, loads_list_view};
-ghost use Rattle.shown_files.specs.Lines.{hex_16};
+ghost use Rattle.printed_text.specs.Lines.{hex_16};
 ghost use Rattle.shown_files.specs.ListText.{member_line, kind_line, set_lines, crc_line, listed_file_line, shown_files_list, listed_load_line, load_hardware_line, listed_load_lines, shown_loads_list};
 
-use crate::lines::{put_field, put_hex_16, put_number, put_user};
+use crate::user::put_user;
 use crc_fields::crc16;
 use load_base::{Bytes, NoMemory, Text};
 use media_lists::{FILES_VERSION, FilesList, LOADS_VERSION, ListedFile, LoadEntry, LoadsList};
 use part_number::PartNumber;
+use printed_text::{put_field, put_hex_16, put_number};
 use std::alloc::Global;
 
 /// The fields of a list of files that these bytes spell, and its check sum.
@@ -169,7 +170,7 @@ fn put_hardware(out: &mut Bytes, hardware: &[Text]) -> Result<(), NoMemory>
     Ok(())
 }
 
-#[tactic(auto, unfolding(crate::specs::ListText::crc_line, crate::specs::Lines::field_line))]
+#[tactic(auto, unfolding(crate::specs::ListText::crc_line, printed_text::specs::Lines::field_line))]
 fn put_crc(out: &mut Bytes, bytes: &[u8]) -> Result<(), NoMemory>
     ensures { OnOk result (out.new.items ≡ out.old.items ++ crc_line bytes.now) }
 {

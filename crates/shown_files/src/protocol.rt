@@ -6,9 +6,9 @@ ghost use Rattle.load_protocol_files.specs.Lus.{lus_view};
 ghost use Rattle.load_protocol_files.specs.Lcl.{lcl_view, hardware_view};
 ghost use Rattle.shown_files.specs.ProtocolText.{type_line, status_line, state_lines, timer_lines, progress_lines, installed_lines, hardware_lines, wanted_lines, load_status_lines, shown_lci, shown_lcs, shown_lcl, shown_lui, shown_lur, shown_lus};
 
-use crate::lines::{put_field, put_hex_16, put_number_field};
 use load_base::{Bytes, NoMemory, Text};
 use load_protocol_files::{Hardware, Lci, Lcl, Lcs, LoadStatus, Lui, Lur, Lus, Part, Wanted};
+use printed_text::{put_field, put_hex_16, put_number_field};
 use std::alloc::Global;
 
 /// The fields of a configuration initialization file.
@@ -90,7 +90,7 @@ fn text_of_type(alloc: Global, name: &[u8]) -> Result<Bytes, NoMemory>
     Ok(out)
 }
 
-#[tactic(auto, unfolding(crate::specs::Lines::field_line))]
+#[tactic(auto, unfolding(printed_text::specs::Lines::field_line))]
 fn put_status(out: &mut Bytes, status: u16) -> Result<(), NoMemory>
     ensures { OnOk result (out.new.items ≡ out.old.items ++ status_line status) }
 {

@@ -6,17 +6,18 @@ ghost use Rattle.load_header.specs.HeaderFaultText.{header_fault_text};
 ghost use Rattle.load_header.specs.declared.fault.HeaderFault.TheVariants as headers;
 ghost use Rattle.load_protocol_files.specs.FaultTexts.{file_fault_text};
 ghost use Rattle.load_protocol_files.specs.declared.fault.FileFault.TheVariants as files;
-ghost use Rattle.shown_files.specs.declared.kind.FileKind.TheVariants as kinds;
+ghost use Rattle.shown_files.specs.declared.kind.ShownKind.TheVariants as kinds;
 ghost use Rattle.shown_files.specs.Shown.{IsShown};
 
 use crate::header::header_text;
-use crate::kind::FileKind;
+use crate::kind::ShownKind;
 use crate::lists::{files_list_text, loads_list_text};
 use crate::protocol::{lci_text, lcl_text, lcs_text, lui_text, lur_text, lus_text};
-use load_base::{Bytes, NoMemory};
-use load_header::{HeaderFault, LoadHeader, fault_text};
+use load_base::{Bytes, NoMemory, Text};
+use load_header::{HeaderFault, LoadHeader};
 use load_protocol_files::{FileFault, Lci, Lcl, Lcs, Lui, Lur, Lus};
 use media_lists::{FilesList, ListFault, LoadsList};
+use printed_text::Printed;
 use std::alloc::Global;
 
 /// What is shown of a file.
@@ -24,24 +25,24 @@ use std::alloc::Global;
 pub enum Shown {
     /// Its fields, a line each.
     Fields(Bytes),
-    /// The text of its first fault: the code, and behind it the fault's fields.
-    Fault(Bytes),
+    /// The text of its first fault: the code, and after it the fault's fields.
+    Fault(Text),
 }
 
 /// What is shown of these bytes as a file of this kind.
-pub fn show(alloc: Global, kind: FileKind, bytes: &[u8]) -> Result<Shown, NoMemory>
+pub fn show(alloc: Global, kind: ShownKind, bytes: &[u8]) -> Result<Shown, NoMemory>
     ensures { IfOk result (λ shown. IsShown kind bytes.now shown) }
 {
     match kind {
-        FileKind::Header => shown_header(alloc, bytes),
-        FileKind::LoadsList => shown_loads_list(alloc, bytes),
-        FileKind::FilesList => shown_files_list(alloc, bytes),
-        FileKind::Lci => shown_lci(alloc, bytes),
-        FileKind::Lcl => shown_lcl(alloc, bytes),
-        FileKind::Lcs => shown_lcs(alloc, bytes),
-        FileKind::Lui => shown_lui(alloc, bytes),
-        FileKind::Lur => shown_lur(alloc, bytes),
-        FileKind::Lus => shown_lus(alloc, bytes),
+        ShownKind::Header => shown_header(alloc, bytes),
+        ShownKind::LoadsList => shown_loads_list(alloc, bytes),
+        ShownKind::FilesList => shown_files_list(alloc, bytes),
+        ShownKind::Lci => shown_lci(alloc, bytes),
+        ShownKind::Lcl => shown_lcl(alloc, bytes),
+        ShownKind::Lcs => shown_lcs(alloc, bytes),
+        ShownKind::Lui => shown_lui(alloc, bytes),
+        ShownKind::Lur => shown_lur(alloc, bytes),
+        ShownKind::Lus => shown_lus(alloc, bytes),
     }
 }
 
@@ -51,7 +52,7 @@ fn shown_header(alloc: Global, bytes: &[u8]) -> Result<Shown, NoMemory>
     match LoadHeader::decode(alloc, bytes) {
         Ok(header) => Ok(Shown::Fields(header_text(alloc, bytes, &header)?)),
         Err(HeaderFault::Memory) => Err(NoMemory),
-        Err(fault) => Ok(Shown::Fault(fault_text(alloc, &fault)?)),
+        Err(fault) => Ok(Shown::Fault(fault.text(alloc)?)),
     }
 }
 
@@ -61,7 +62,7 @@ fn shown_loads_list(alloc: Global, bytes: &[u8]) -> Result<Shown, NoMemory>
     match LoadsList::decode(alloc, bytes) {
         Ok(list) => Ok(Shown::Fields(loads_list_text(alloc, bytes, &list)?)),
         Err(ListFault::Memory) => Err(NoMemory),
-        Err(fault) => Ok(Shown::Fault(media_lists::fault_text(alloc, &fault)?)),
+        Err(fault) => Ok(Shown::Fault(fault.text(alloc)?)),
     }
 }
 
@@ -71,7 +72,7 @@ fn shown_files_list(alloc: Global, bytes: &[u8]) -> Result<Shown, NoMemory>
     match FilesList::decode(alloc, bytes) {
         Ok(list) => Ok(Shown::Fields(files_list_text(alloc, bytes, &list)?)),
         Err(ListFault::Memory) => Err(NoMemory),
-        Err(fault) => Ok(Shown::Fault(media_lists::fault_text(alloc, &fault)?)),
+        Err(fault) => Ok(Shown::Fault(fault.text(alloc)?)),
     }
 }
 

@@ -5,7 +5,7 @@ use Rattle.disk_model.specs.State.{DiskState, Torn}
 use Rattle.disk_layout.specs.Places.{IsBankSize, slot_a}
 use Rattle.disk_layout.specs.declared.identity.Identity.{Identity}
 use Rattle.std.specs.Prelude.{ℕ, ◌≤◌}
-use Rattle.bank_store.specs.Acts.{AddsOnly}
+use Rattle.bank_store.specs.DiskWrites.{AddsOnly}
 use Rattle.bank_store.specs.Formatting.{IsShut, GatesTorn, IsLaidOut, WhileFormatting}
 use Rattle.bank_store.proofs.Gates.{same_image, opened_or_shut, opened_is, as_it_was}
 use Rattle.bank_store.proofs.Layouts.{rest_stays}

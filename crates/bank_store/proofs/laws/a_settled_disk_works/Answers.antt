@@ -1,5 +1,5 @@
 use Rattle.std.proofs.Common.{inl}
-use Rattle.disk_layout.specs.Stands.{Stands}
+use Rattle.disk_layout.specs.Holds.{HoldsConfig}
 use Rattle.bank_store.specs.Keeps.{IsOldOrNew}
 use Rattle.bank_store.proofs.Moments.{leaves_only}
 use Rattle.bank_store.proofs.Premises.{idle_fits, settled_works, holds_now, stands_now}
@@ -16,7 +16,7 @@ returns-clause-now g c store disk s left beside may = holds_now store (g.K.Disk.
 
 pub returns-clause-since : goal.returns-clause-since
 returns-clause-since g c store old new s beside adds =
-    leaves_only (g.K.Disk.state old) (g.K.Disk.state new) (λ left. Stands left s) (g.met.K.Disk.only_now old) (stands_now store (g.K.Disk.state old) s beside) adds
+    leaves_only (g.K.Disk.state old) (g.K.Disk.state new) (λ left. HoldsConfig left s) (g.met.K.Disk.only_now old) (stands_now store (g.K.Disk.state old) s beside) adds
 
 pub returns-clause-since_either : goal.returns-clause-since_either
 returns-clause-since_either g c store old new s next beside adds =

@@ -3,6 +3,6 @@ use Rattle.crc_fields.specs.CheckSums.{lowest_bits, register_after_bits}
 use Rattle.crc_fields.proofs.bitwise.after_byte_32.Given as goal
 
 -- the bits that are left lead where all eight do
-abbrev pub invariant-loop-place : goal.invariant-loop-place
-invariant-loop-place l =
-    register_after_bits 32 0x04C11DB7 l.register (lowest_bits l.place l.byte) ≡ register_after_bits 32 0x04C11DB7 l.fn.register (lowest_bits 8 l.byte)
+abbrev pub invariant-loop-bit : goal.invariant-loop-bit
+invariant-loop-bit l =
+    register_after_bits 32 0x04C11DB7 l.register (lowest_bits l.bit l.byte) ≡ register_after_bits 32 0x04C11DB7 l.fn.register (lowest_bits 8 l.byte)

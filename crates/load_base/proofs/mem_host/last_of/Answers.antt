@@ -1,7 +1,7 @@
 use Rattle.std.proofs.Common.{ℕ, List, Some, sym, ap, ◌∙◌}
 use Rattle.std.specs.Prelude.{option_map}
 use Rattle.load_base.specs.Host.{Files}
-use Rattle.load_base.specs.Written.{same_bytes}
+use Rattle.load_base.specs.Bytes.{same_bytes}
 use Rattle.load_base.proofs.WrittenFiles.{no_files_yet, found_same, found_other}
 use Rattle.load_base.proofs.mem_host.last_of.Goals as goal
 use Rattle.load_base.proofs.mem_host.last_of.Goals.{then-is_same, else-is_same}

@@ -1,7 +1,7 @@
 use Rattle.std.proofs.Common.{◌≡◌, Ok, arith, length-append}
 use Rattle.field_grammar.specs.Grammar.{read}
 use Rattle.field_grammar.specs.LoopLaws.{list_goes_on}
-use Rattle.load_header.specs.Header.{entry_behind}
+use Rattle.load_header.specs.Header.{entry_after}
 use Rattle.load_header.proofs.reading.read_entries.Goals as goal
 
 pub loop-index-preserved : goal.loop-index-preserved
@@ -10,9 +10,9 @@ loop-index-preserved c =
     let count = c.args.count in
     let items = c.loop-index.files.items in
     let entry = c.in_ok-read_entry.field-0 in
-    let here : read (entry_behind others count items) c.loop-index.reader ≡ Ok (entry, c.read_entry.new.reader) = rw c.loop-index.invariant.so_many c.in_ok-read_entry.ensures in
+    let here : read (entry_after others count items) c.loop-index.reader ≡ Ok (entry, c.read_entry.new.reader) = rw c.loop-index.invariant.so_many c.in_ok-read_entry.ensures in
     record {
       so_many = rw (c.in_ok-push.ensures.ok, length-append) (omega (arith, c.loop-index.invariant.so_many));
       yet = rw c.in_ok-push.ensures.ok
-          (list_goes_on (entry_behind others count) items count c.loop-index.index c.loop-index.reader c.read_entry.new.reader entry _ c.loop-index.invariant.yet c.loop-index-test.true here);
+          (list_goes_on (entry_after others count) items count c.loop-index.index c.loop-index.reader c.read_entry.new.reader entry _ c.loop-index.invariant.yet c.loop-index-test.true here);
     }

@@ -1,4 +1,4 @@
-use Rattle.load_protocol_files.proofs.LclSpelling.{counts_fit}
+use Rattle.load_protocol_files.specs.LclLaws.{counts_fit}
 use Rattle.load_protocol_files.proofs.tests.lcl_again.Goals as goal
 
 pub encode-requires-clause-counts : goal.encode-requires-clause-counts

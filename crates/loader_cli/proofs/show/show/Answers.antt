@@ -1,3 +1,4 @@
+use Rattle.std.proofs.Common.{refl}
 use Rattle.std.proofs.lemmas.Result.{IfOk-weaker}
 use Rattle.loader_cli.specs.Runs.Shows.{read, too_long}
 use Rattle.loader_cli.proofs.Outputs.{has_bytes, has_too_many}
@@ -12,5 +13,4 @@ returns-in-Ok-clause-shows g c =
 pub returns-in-Err-TooLong-clause-shows : goal.returns-in-Err-TooLong-clause-shows
 returns-in-Err-TooLong-clause-shows g c =
     let name = c.as_bytes-name.ensures.value in
-    let has = rw name at (has_too_many _ _ (rw c.in-Err-TooLong.field-0-is at c.in-Err-TooLong.ensures.file)) in
-    IfOk-weaker c.refused-in-Err-TooLong.result _ _ (λ answer said. too_long has said.0 (rw name at said.1)) c.refused-in-Err-TooLong.ensures
+    too_long (rw name at (has_too_many _ _ (rw c.in-Err-TooLong.field-0-is at c.in-Err-TooLong.ensures.file))) refl (rw name refl)

@@ -6,7 +6,7 @@ use Rattle.disk_layout.specs.Manifest.{size_of}
 use Rattle.disk_layout.specs.Contents.{file_entry_of}
 use Rattle.disk_layout.specs.declared.manifest.ManifestFile.{ManifestFile}
 use Rattle.recovery.proofs.Files.{size_more, entries_more, bytes_more, nothing_stored}
-use Rattle.recovery.proofs.Looks.{not_yet, look_more}
+use Rattle.recovery.proofs.DiskReads.{not_yet, look_more}
 use Rattle.recovery.proofs.contents.files_on.Goals as goal
 
 pub loop-file-init : goal.loop-file-init
@@ -24,7 +24,7 @@ loop-file-preserved g c =
     let f = c.file-item.result in
     let longer = size_more files i f c.loop-file-test.true c.file-item.is in
     record {
-      looked = look_more _ _ _ c.in_ok-bytes.bytes c.loop-file.invariant.looked c.in_ok-bytes.ensures.looks;
+      looked = look_more _ _ _ c.in_ok-bytes.bytes c.loop-file.invariant.looked c.in_ok-bytes.ensures.reads_disk;
       place = omega (arith, longer, c.loop-file.invariant.place);
       entries = entries_more c.loop-file.stored.items c.push.new.self.items _ files i f c.loop-file-test.true c.file-item.is c.in_ok-push.ensures.ok
           (ap (λ (n : ℕ). made f.name n) c.in_ok-bytes.ensures.size) c.loop-file.invariant.entries;

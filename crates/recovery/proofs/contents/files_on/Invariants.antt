@@ -4,7 +4,7 @@ use Rattle.load_base.specs.Config.{file_view}
 use Rattle.disk_model.specs.Image.{Image, range}
 use Rattle.disk_layout.specs.Manifest.{size_of}
 use Rattle.disk_layout.specs.Contents.{file_entry_of, bytes_of}
-use Rattle.recovery.proofs.Looks.{Looked}
+use Rattle.recovery.proofs.DiskReads.{Looked}
 use Rattle.recovery.proofs.contents.files_on.Given as goal
 
 abbrev pub invariant-loop-file : goal.invariant-loop-file

@@ -5,7 +5,7 @@ use Rattle.load_base.specs.declared.config.Load.{Load}
 use Rattle.disk_layout.specs.Manifest.{entry_view, total_length, size_of}
 use Rattle.disk_layout.specs.Contents.{entries_of}
 use Rattle.recovery.proofs.Loads.{total_more, total_within, load_entries_more, contents_more, headers_more, nothing_listed, no_headers, has_files}
-use Rattle.recovery.proofs.Looks.{not_yet, look_more}
+use Rattle.recovery.proofs.DiskReads.{not_yet, look_more}
 use Rattle.recovery.proofs.contents.loads_on.Goals as goal
 
 pub loop-entry-init : goal.loop-entry-init
@@ -36,7 +36,7 @@ loop-entry-preserved g c =
     let now = c.in_ok-load.ensures in
     let longer = total_more entries i e c.loop-entry-test.true c.entry-item.is in
     record {
-      looked = look_more _ _ _ (c.in_ok-load.load, c.in_ok-load.end) was.looked now.looks;
+      looked = look_more _ _ _ (c.in_ok-load.load, c.in_ok-load.end) was.looked now.reads_disk;
       place = omega (arith, longer, was.place, now.end);
       named = load_entries_more c.loop-entry.loads.items c.push.new.self.items c.in_ok-load.load entries i e c.loop-entry-test.true c.entry-item.is c.in_ok-push.ensures.ok now.entry was.named;
       headers = headers_more c.loop-entry.loads.items c.push.new.self.items c.in_ok-load.load c.in_ok-push.ensures.ok was.headers now.header;

@@ -3,8 +3,8 @@ use Rattle.std.specs.Prelude.{Some, map}
 use Rattle.load_base.specs.Config.{load_view}
 use Rattle.disk_model.specs.Image.{Image, range}
 use Rattle.disk_layout.specs.Manifest.{entry_view, total_length}
-use Rattle.disk_layout.specs.Contents.{entries_of, contents_of, HeadersAreFirst}
-use Rattle.recovery.proofs.Looks.{Looked}
+use Rattle.disk_layout.specs.Contents.{entries_of, contents_of_loads, HeadersAreFirst}
+use Rattle.recovery.proofs.DiskReads.{Looked}
 use Rattle.recovery.proofs.contents.loads_on.Given as goal
 
 abbrev pub invariant-loop-entry : goal.invariant-loop-entry
@@ -14,5 +14,5 @@ invariant-loop-entry g l = record {
   named : entries_of (map load_view l.loads.items) ≡ map entry_view (take l.entry-index l.entries);
   headers : HeadersAreFirst (map load_view l.loads.items);
   bytes : (image : Image) → (g.K.Disk.state l.fn.disk).reads ≡ Some image
-      → contents_of (map load_view l.loads.items) ≡ range image l.start (total_length (map entry_view (take l.entry-index l.entries)));
+      → contents_of_loads (map load_view l.loads.items) ≡ range image l.start (total_length (map entry_view (take l.entry-index l.entries)));
 }

@@ -1,5 +1,5 @@
 use Rattle.std.proofs.Common.{◌∙◌, ap, length, arith}
-use Rattle.recovery.proofs.Looks.{not_yet}
+use Rattle.recovery.proofs.DiskReads.{not_yet}
 use Rattle.recovery.proofs.Pieces.{nothing_read}
 use Rattle.recovery.proofs.looking.bytes_on.Goals as goal
 

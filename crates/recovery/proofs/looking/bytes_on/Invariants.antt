@@ -1,7 +1,7 @@
 use Rattle.std.proofs.Common.{◌≡◌, ◌≤◌, ◌-◌, length}
 use Rattle.std.specs.Prelude.{Some}
 use Rattle.disk_model.specs.Image.{Image, range}
-use Rattle.recovery.proofs.Looks.{Looked}
+use Rattle.recovery.proofs.DiskReads.{Looked}
 use Rattle.recovery.proofs.looking.bytes_on.Given as goal
 
 abbrev pub invariant-loop-buffer : goal.invariant-loop-buffer

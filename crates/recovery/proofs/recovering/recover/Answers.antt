@@ -12,5 +12,5 @@ returns-clause-found g c image told =
     let entries = ap (map entry_view) c.as_slice.ensures in
     stands_for image f.identity f.manifest f.active f.other_is_open c.number.result (map load_view c.in_ok-loads.loads.items) c.number.ensures.value (c.in_ok-found.ensures.found image told)
     (c.in_ok-loads.ensures.entries ∙ entries) c.in_ok-loads.ensures.headers
-    (c.in_ok-loads.ensures.bytes image (c.in_ok-found.ensures.looks.ok.reads ∙ told)
+    (c.in_ok-loads.ensures.bytes image (c.in_ok-found.ensures.reads_disk.ok.reads ∙ told)
     ∙ ap₂ (λ (p : ℕ) (l : List LoadEntry). range image p (total_length l)) (c.offset-start.ensures.value ∙ ap (λ (n : ℕ). bank_at f.identity.bank n) (sym c.number.ensures.value)) entries)

@@ -1,7 +1,7 @@
 use Rattle.std.proofs.Common.{ℕ, List, refl, subst}
 use Rattle.field_grammar.specs.Grammar.{Fault}
 use Rattle.disk_layout.specs.Identity.{identity}
-use Rattle.disk_layout.specs.Stands.StandsNot.{not_formatted}
+use Rattle.disk_layout.specs.Holds.HasDiskFault.{not_formatted}
 use Rattle.recovery.proofs.surveying.identity_on.Goals as goal
 
 pub returns-in-Err-clause-refused : goal.returns-in-Err-clause-refused

@@ -9,7 +9,7 @@ use Rattle.bank_store.proofs.Gates.{same_image}
 use Rattle.bank_store.proofs.Giving.{given_bytes, given_none}
 use Rattle.bank_store.proofs.Keeping.{keeps_same, keeps_failed}
 use Rattle.bank_store.proofs.Near.{IsWork}
-use Rattle.bank_store.proofs.Working.{bank_is_work, near_start, near_write, rules_still, near_overlay, keeps_written}
+use Rattle.bank_store.proofs.Working.{bank_is_work, near_start, near_write, holds_still, near_overlay, keeps_written}
 use Rattle.bank_store.proofs.Written.{piece_written, no_piece}
 use Rattle.bank_store.proofs.store.Store.append.Goals as goal
 
@@ -27,7 +27,7 @@ returns-in_err-write-clause-keeps g c =
     bank_is_work store _ _ (omega (arith, c.work.ensures.place)) (omega (arith, c.work.ensures.place, c.if-need-from.false, c.from.ensures, c.from-2.ensures)) in
     let p = err_from_is_err_and c.from_residual.result c.from_residual.ensures.1 in rw (p.1, p.2)
     (keeps_failed store disk _ _
-    (λ s beside. rules_still store disk _ beside.image s beside.holds
+    (λ s beside. holds_still store disk _ beside.image s beside.holds
     (near_write store disk beside.image disk _ _ _ _ work (near_start store disk beside.image beside.works beside.told) c.write.ensures.elapses)))
 
 pub returns-then-is_empty-clause-appends : goal.returns-then-is_empty-clause-appends

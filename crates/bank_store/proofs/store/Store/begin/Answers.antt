@@ -1,6 +1,6 @@
 use Rattle.std.proofs.Common.{refl, sym, ◌∙◌, rules}
 use Rattle.std.proofs.lemmas.Result.{err_from_is_err_and}
-use Rattle.disk_layout.specs.Stands.{Stands}
+use Rattle.disk_layout.specs.Holds.{HoldsConfig}
 use Rattle.bank_store.proofs.Begun.{begun_keeps}
 use Rattle.bank_store.proofs.Giving.{given_nothing}
 use Rattle.bank_store.proofs.Keeping.{keeps_same, keeps_failed}
@@ -19,7 +19,7 @@ pub returns-in_err-sync-clause-keeps : goal.returns-in_err-sync-clause-keeps
 returns-in_err-sync-clause-keeps g c =
     let p = err_from_is_err_and c.from_residual-in_err-sync.result c.from_residual-in_err-sync.ensures.1 in rw (p.1, p.2)
     (keeps_failed c.args.self.now (g.K.Disk.state c.args.disk.now) _ _
-    (λ s beside. adds_sync (g.K.Disk.state c.args.disk.now) _ _ (λ left. Stands left s) _ (c.shut_other.ensures.leaves s beside) c.sync.ensures.elapses))
+    (λ s beside. adds_sync (g.K.Disk.state c.args.disk.now) _ _ (λ left. HoldsConfig left s) _ (c.shut_other.ensures.leaves s beside) c.sync.ensures.elapses))
 
 pub returns-clause-begins : goal.returns-clause-begins
 returns-clause-begins g c = record {
@@ -37,5 +37,5 @@ returns-clause-keeps g c =
     begun_keeps store _ disk _ _ (search rules) (record { size = refl; active = refl }) refl refl (store.keeps.idle c.requires.prepared.idle)
     (c.sync.ensures.elapses.tells ∙ c.shut_other.ensures.goes_on.tells)
     (λ image now s told later was. c.in_ok-shut_other.ensures.shut image told now (sym c.in_ok-sync.ensures.kept ∙ later) s was) c.in_ok-sync.ensures.settled
-    (λ s beside. adds_sync disk _ _ (λ left. Stands left s) _ (c.shut_other.ensures.leaves s beside) c.sync.ensures.elapses)
+    (λ s beside. adds_sync disk _ _ (λ left. HoldsConfig left s) _ (c.shut_other.ensures.leaves s beside) c.sync.ensures.elapses)
     (λ image told now later place out. c.in_ok-shut_other.ensures.rest image told now (sym c.in_ok-sync.ensures.kept ∙ later) place out)

@@ -8,7 +8,7 @@ use Rattle.bank_store.proofs.Gates.{same_image}
 use Rattle.bank_store.proofs.Keeping.{keeps_same, keeps_failed}
 use Rattle.bank_store.proofs.Moments.{adds_sync}
 use Rattle.bank_store.proofs.Ready.{sealed_image, near_sealed, stands_sealed, is_ready, sealed_work}
-use Rattle.bank_store.proofs.Working.{near_start, near_then, rules_still, keeps_written}
+use Rattle.bank_store.proofs.Working.{near_start, near_then, holds_still, keeps_written}
 use Rattle.bank_store.proofs.Written.{seal_written}
 use Rattle.bank_store.proofs.store.Store.seal.Goals as goal
 
@@ -21,7 +21,7 @@ returns-in_err-write_manifest-clause-keeps g c =
     let disk = g.K.Disk.state c.args.disk.now in
     let p = err_from_is_err_and c.from_residual.result c.from_residual.ensures.1 in rw (p.1, p.2)
     (keeps_failed store disk _ _
-    (λ s beside. rules_still store disk _ beside.image s beside.holds
+    (λ s beside. holds_still store disk _ beside.image s beside.holds
     (near_then store disk disk _ beside.image (near_start store disk beside.image beside.works beside.told) c.write_manifest.ensures.near)))
 
 pub returns-in_err-write_slot-clause-keeps : goal.returns-in_err-write_slot-clause-keeps
@@ -30,7 +30,7 @@ returns-in_err-write_slot-clause-keeps g c =
     let disk = g.K.Disk.state c.args.disk.now in
     let p = err_from_is_err_and c.from_residual-in_err-write_slot.result c.from_residual-in_err-write_slot.ensures.1 in rw (p.1, p.2)
     (keeps_failed store disk _ _
-    (λ s beside. rules_still store disk _ beside.image s beside.holds
+    (λ s beside. holds_still store disk _ beside.image s beside.holds
     (near_then store disk _ _ beside.image (near_then store disk disk _ beside.image (near_start store disk beside.image beside.works beside.told) c.write_manifest.ensures.near) c.write_slot.ensures.near)))
 
 pub returns-in_err-sync-clause-keeps : goal.returns-in_err-sync-clause-keeps
@@ -39,7 +39,7 @@ returns-in_err-sync-clause-keeps g c =
     let disk = g.K.Disk.state c.args.disk.now in
     let p = err_from_is_err_and c.from_residual-in_err-sync.result c.from_residual-in_err-sync.ensures.1 in rw (p.1, p.2)
     (keeps_failed store disk _ _
-    (λ s beside. rules_still store disk _ beside.image s beside.holds (adds_sync disk _ _ (SameButForWork store beside.image) _
+    (λ s beside. holds_still store disk _ beside.image s beside.holds (adds_sync disk _ _ (SameButForWork store beside.image) _
     (near_then store disk _ _ beside.image (near_then store disk disk _ beside.image (near_start store disk beside.image beside.works beside.told) c.write_manifest.ensures.near) c.write_slot.ensures.near)
     c.sync.ensures.elapses)))
 

@@ -1,11 +1,6 @@
-use Rattle.std.proofs.Common.{ap, subst, List}
-use Rattle.load_base.specs.declared.mem_host.Written.{Written}
-use Rattle.load_base.specs.Written.{IsAppended}
 use Rattle.load_base.proofs.WrittenFiles.{write_ok}
 use Rattle.load_base.proofs.mem_host.MemHostHost.write.Goals as goal
 
 pub returns-in-Ok-clause-file : goal.returns-in-Ok-clause-file
 returns-in-Ok-clause-file c =
-    write_ok c.args.self.now.written.items c.append.new.written.items c.args.name.now c.args.bytes.now c.in-Ok.field-0
-    (subst (λ (old : List Written). IsAppended old c.append.new.written.items c.args.name.now c.args.bytes.now)
-    (ap (λ w. w.items) c.if-fails.ensures.files) c.in-Ok.ensures.ok)
+    write_ok c.args.self.now.written.items c.append.new.written.items c.args.name.now c.args.bytes.now c.in-Ok.field-0 c.in-Ok.ensures.ok

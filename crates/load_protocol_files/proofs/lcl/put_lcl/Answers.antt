@@ -1,5 +1,0 @@
-use Rattle.load_protocol_files.proofs.LclSpelling.{lcl_fits}
-use Rattle.load_protocol_files.proofs.lcl.put_lcl.Goals as goal
-
-pub returns-clause-fits : goal.returns-clause-fits
-returns-clause-fits c = lcl_fits c.args.file.now c.requires.count (rw c.as_slice-list.ensures at c.in_ok-put_hardware_list.ensures.fits)

@@ -1,0 +1,77 @@
+-- Looking at a disk again and again.
+use Rattle.std.proofs.Common.{◌≡◌, ℕ, ◌≤◌, false, Result, Ok, Err, OnOk, refl, sym, ap, subst, ◌∙◌, arith}
+use Rattle.std.specs.Prelude.{IfErr, IsErrOf}
+use Rattle.load_base.specs.Counts.{Rose}
+use Rattle.disk_model.specs.State.{DiskState, OnlyReads}
+use Rattle.disk_model.specs.MomentLaws.{reads_joined}
+use Rattle.disk_layout.specs.DiskReads.{RunsOn, RunsOnAfter, IsOfDisk, ReadsDisk}
+use Rattle.disk_layout.specs.declared.fault.RecoverFault.{RecoverFault}
+use Rattle.disk_layout.specs.declared.fault.RecoverFault.TheVariants.{DiskFailed}
+
+-- nothing was written so far, and the disk runs on
+pub record Looked (old new : DiskState) : Type 0 where
+  pub only_reads : OnlyReads old new
+  pub runs : RunsOn old new
+
+-- before the first look
+pub not_yet : (disk : DiskState) → disk.stopped ≡ false → Looked disk disk
+not_yet disk running = record {
+  only_reads = record {
+    tells = refl;
+    power = record { steady = refl; armings = refl; armed = refl };
+    faults = omega arith;
+    refusals = omega arith;
+    clock = refl;
+    now = λ image may. may;
+    between = λ t u image may. may;
+    keeps = λ t u image may. may;
+    closed = λ is at n closed. closed;
+  };
+  runs = record { reads = refl; running = running };
+}
+
+runs_joined : (a b c : DiskState) → RunsOn a b → RunsOn b c → RunsOn a c
+runs_joined a b c first second = record { reads = second.reads ∙ first.reads; running = second.running }
+
+-- one more look
+pub look_more : {T : Type 0} (a b c : DiskState) (x : T) → Looked a b → ReadsDisk b c (Ok x) → Looked a c
+look_more a b c x so_far look = record { only_reads = reads_joined a b c so_far.only_reads look.only_reads; runs = runs_joined a b c so_far.runs look.ok }
+
+runs_after : (a b c : DiskState) (fault : RecoverFault) → RunsOn a b → RunsOnAfter b c fault → RunsOnAfter a c fault
+runs_after a b c RecoverFault.DiskFailed first after = tt
+runs_after a b c RecoverFault.Memory first after = tt
+runs_after a b c (RecoverFault.NotFormatted place) first after = runs_joined a b c first after
+runs_after a b c RecoverFault.NoOpenSlot first after = runs_joined a b c first after
+runs_after a b c (RecoverFault.BadSlot place) first after = runs_joined a b c first after
+runs_after a b c (RecoverFault.BadManifest place) first after = runs_joined a b c first after
+
+-- after the last look
+pub looked_on : {T : Type 0} (a b : DiskState) (result : Result T RecoverFault) → Looked a b → OnOk result (RunsOn a b) → IfErr result (λ fault. IsOfDisk fault) → ¬ IsErrOf result DiskFailed → ReadsDisk a b result
+looked_on a b (Ok x) so_far ok err failed = record { only_reads = so_far.only_reads; ok = so_far.runs; err = tt; cause = record { failed = λ e. absurd (failed e) } }
+looked_on a b (Err RecoverFault.DiskFailed) so_far ok err failed = absurd (failed refl)
+looked_on a b (Err RecoverFault.Memory) so_far ok err failed = record { only_reads = so_far.only_reads; ok = tt; err = tt; cause = record { failed = λ e. absurd (failed e) } }
+looked_on a b (Err (RecoverFault.NotFormatted place)) so_far ok err failed = absurd err
+looked_on a b (Err RecoverFault.NoOpenSlot) so_far ok err failed = absurd err
+looked_on a b (Err (RecoverFault.BadSlot place)) so_far ok err failed = absurd err
+looked_on a b (Err (RecoverFault.BadManifest place)) so_far ok err failed = absurd err
+
+rose_since : (a b c : ℕ) → a ≤ b → Rose b c → Rose a c
+rose_since a b c earlier rose = omega (arith, earlier, rose)
+
+-- the last look is a fault of the disk
+pub look_ends : {S T : Type 0} (a b c : DiskState) (fault : RecoverFault) (last : Result S RecoverFault) (result : Result T RecoverFault) → last ≡ Err fault → result ≡ Err fault
+    → Looked a b → ReadsDisk b c last → ReadsDisk a c result
+look_ends {T = T} a b c fault last result is told so_far look =
+    subst (λ (r : Result T RecoverFault). ReadsDisk a c r) (sym told) (
+    record {
+      only_reads = reads_joined a b c so_far.only_reads look.only_reads;
+      ok = tt;
+      err = runs_after a b c fault so_far.runs (rw is at look.err);
+      cause = record {
+        failed = λ e.
+            let same : fault ≡ DiskFailed = cc in
+            let cause = look.cause.failed (is ∙ ap (λ (f : RecoverFault). Err f) same) in
+            (rose_since a.faults b.faults c.faults so_far.only_reads.faults cause.0, cause.1);
+      };
+    }
+    )
