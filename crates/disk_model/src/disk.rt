@@ -4,16 +4,18 @@ ghost use Rattle.disk_model.specs.Image.{Image, range, overlay};
 ghost use Rattle.disk_model.specs.State.{DiskState, IsSettled, Closed, KeepsClosed, OnlyReads, Torn, Elapses, HasCause};
 ghost use Rattle.load_base.specs.Counts.{Rose};
 
+use load_base::FaultCount;
+
 /// Why a disk didn't do what it was asked.
 #[derive(Clone, Copy, Debug, PartialEq, Eq)]
 pub enum DiskFault {
     /// The disk failed, and its count of faults rose.
     Failed,
-    /// Memory is wanting, and its count of memory refusals rose.
+    /// Out of memory, and its count of memory refusals rose.
     Memory,
 }
 
-/// The bytes of a disk: room for two banks of 64 MiB behind the identity and the slots.
+/// The bytes of a disk: the identity, the slots, and two banks of 64 MiB (docs/DISK.md).
 pub const SIZE: u32 = 134_225_920;
 
 /// A disk of [`SIZE`] bytes, of which those never written are zero.
@@ -23,7 +25,7 @@ pub const SIZE: u32 = 134_225_920;
 pub trait Disk {
     ghost state: { Self → DiskState };
 
-    /// Fills `buf` with the bytes from place `at` on.
+    /// Fills `buf` with the bytes from offset `at` on.
     fn read(&mut self, at: u32, buf: &mut [u8]) -> Result<(), DiskFault>
         requires running { (state self.old).stopped ≡ false }
         requires within { at + length buf.old ≤ SIZE }
@@ -32,7 +34,7 @@ pub trait Disk {
         ensures only_reads { OnlyReads (state self.old) (state self.new) }
         ensures cause { HasCause (state self.old) (state self.new) result };
 
-    /// Writes the bytes from place `at` on. Where it is refused, the range may hold anything.
+    /// Writes the bytes from offset `at` on. Where it is refused, the range may hold anything.
     fn write(&mut self, at: u32, bytes: &[u8]) -> Result<(), DiskFault>
         requires running { (state self.old).stopped ≡ false }
         requires within { at + length bytes.now ≤ SIZE }
@@ -42,7 +44,7 @@ pub trait Disk {
         ensures elapses { Elapses (state self.old) (state self.new) (Torn at (length bytes.now) (state self.old).now) result }
         ensures cause { HasCause (state self.old) (state self.new) result };
 
-    /// Makes what was written last over a power loss.
+    /// Makes what was written survive a power loss.
     fn sync(&mut self) -> Result<(), DiskFault>
         requires running { (state self.old).stopped ≡ false }
         ensures kept { OnOk result ((state self.new).reads ≡ (state self.old).reads) }
@@ -50,7 +52,7 @@ pub trait Disk {
         ensures elapses { Elapses (state self.old) (state self.new) (state self.old).now result }
         ensures cause { HasCause (state self.old) (state self.new) result };
 
-    /// Lets a disk that stopped go on, with one of the images that a power loss might have left.
+    /// Lets a stopped disk go on, with one of the images that a power loss might have left.
     fn restart(&mut self) -> Result<(), DiskFault>
         ensures settled { OnOk result (IsSettled (state self.new)) }
         ensures elapses { Elapses (state self.old) (state self.new) (state self.old).now result }
@@ -72,12 +74,12 @@ pub trait Disk {
     ghost splits: { (disk : Self) (t u v : ℕ) (image : Image) → t ≤ u → u ≤ v → (state disk).between t v image → (state disk).between t u image ⊎ (state disk).between u v image };
 }
 
-// Counts a refusal, which stops the disk. The count stands still at the greatest `u64`.
-pub(crate) fn refuse(count: &mut u64, stopped: &mut bool)
+// Counts a refusal, which stops the disk.
+pub(crate) fn refuse(count: &mut FaultCount, stopped: &mut bool)
     ensures rose { Rose count.old count.new }
     ensures later { count.old ≤ count.new }
     ensures stopped { stopped.new ≡ true }
 {
-    *count = count.saturating_add(1);
+    count.rise();
     *stopped = true;
 }

@@ -6,6 +6,7 @@ ghost use Rattle.disk_model.specs.State.{untold_reads};
 
 use crate::disk::refuse;
 use crate::{Disk, DiskFault};
+use load_base::FaultCount;
 use std::fs::{OpenFile, OpenOptions};
 use std::io::{self, ErrorKind, Read, Seek, SeekFrom, Write};
 use std::rt::Files;
@@ -19,7 +20,7 @@ pub struct FileDisk<'r, R: Files> {
     name: &'r str,
     file: Option<R::File>,
     clock: u64,
-    faults: u64,
+    faults: FaultCount,
     stopped: bool,
 }
 
@@ -37,7 +38,7 @@ impl<'r, R: Files> FileDisk<'r, R> {
             name,
             file: None,
             clock: 0,
-            faults: 0,
+            faults: FaultCount::new(),
             stopped: false,
         }
     }
@@ -100,7 +101,7 @@ fn advance(clock: &mut u64) -> io::Result<()>
 }
 
 // An error of the system is a fault of the disk, and stops it.
-fn answer(outcome: io::Result<()>, faults: &mut u64, stopped: &mut bool) -> Result<(), DiskFault>
+fn answer(outcome: io::Result<()>, faults: &mut FaultCount, stopped: &mut bool) -> Result<(), DiskFault>
     ensures answered { is_err result ≡ is_err outcome }
     ensures stops { stopped.new ≡ is_err result }
     ensures later { faults.old ≤ faults.new }

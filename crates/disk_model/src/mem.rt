@@ -1,5 +1,5 @@
 //! A disk in memory.
-ghost use Rattle.std.specs.Prelude.{◌≡◌, ◌⊎◌, ◌↔◌, ℕ, ◌+◌, ◌^◌, ◌-◌, ◌<◌, ◌≤◌, Some, true, false, min, length, slice_index, [], ◌∷◌, ◌++◌, Contains, IsTrue, IfOk, OnOk, OnErr};
+ghost use Rattle.std.specs.Prelude.{◌≡◌, ◌⊎◌, ◌↔◌, ℕ, ◌+◌, ◌<◌, ◌≤◌, Some, true, false, length, slice_index, [], ◌∷◌, ◌++◌, IfOk, OnOk, OnErr};
 ghost use Rattle.std.specs.Bool.{OnTrue, OnFalse};
 ghost use Rattle.disk_model.specs.Image.{Image, image_of, range, overlay};
 ghost use Rattle.disk_model.specs.State.{IsSettled, Closed, KeepsClosed, OnlyReads, Torn, Elapses, HasCause};
@@ -8,7 +8,7 @@ ghost use Rattle.disk_model.specs.ReplayLaws.{held_may_leave, counts_its_now, on
 
 use crate::disk::refuse;
 use crate::{Call, Disk, DiskFault, Note, SIZE};
-use load_base::{Bytes, List as Items, NoMemory};
+use load_base::{Bytes, FailingCalls, FaultCount, List as Items, NoMemory};
 use std::alloc::{AllocError, Global};
 
 /// A disk in memory, of which calls can be set to fail.
@@ -21,29 +21,28 @@ pub struct MemDisk {
     first: Bytes,
     notes: Items<Note>,
     bytes: Vec<u8>,
-    failing: Items<u32>,
-    calls: u32,
-    faults: u64,
-    refusals: u64,
+    calls: FailingCalls,
+    faults: FaultCount,
+    refusals: FaultCount,
     stopped: bool,
     ghost same: { (place : ℕ) → slice_index bytes.items place ≡ replayed first.items notes.items place },
 }
 
 impl MemDisk {
-    ghost use Rattle.disk_model.specs.MemDisk.{contents_of, first_of, notes_of, failing_calls, next_call, state_of, CountsCall, IsUnchanged, NotesCall};
+    ghost use Rattle.disk_model.specs.MemDisk.{contents_of, first_of, notes_of, calls_of, state_of, CountsCall, IsUnchanged, NotesCall};
 
-    /// A disk with these bytes from place 0 on, that has not failed.
+    /// A disk with these bytes from offset 0 on, that has not failed.
     pub fn new(alloc: Global, bytes: &[u8]) -> Result<MemDisk, NoMemory>
         requires { length bytes.now ≤ SIZE }
         ensures reads { IfOk result (λ disk. (state_of disk).reads ≡ Some (image_of bytes.now)) }
         ensures only_image { IfOk result (λ disk. IsSettled (state_of disk)) }
         ensures running { IfOk result (λ disk. (state_of disk).stopped ≡ false) }
         ensures no_faults { IfOk result (λ disk. ((state_of disk).faults ≡ 0) × ((state_of disk).refusals ≡ 0)) }
-        ensures failing { IfOk result (λ disk. failing_calls disk ≡ []) }
+        ensures failing { IfOk result (λ disk. (calls_of disk).failing ≡ []) }
         ensures bytes { IfOk result (λ disk. contents_of disk ≡ bytes.now) }
         ensures first { IfOk result (λ disk. first_of disk ≡ bytes.now) }
         ensures no_notes { IfOk result (λ disk. notes_of disk ≡ []) }
-        ensures next { IfOk result (λ disk. next_call disk ≡ 1) }
+        ensures next { IfOk result (λ disk. (calls_of disk).next ≡ 1) }
     {
         let mut first = Bytes::new(alloc);
         first.extend(bytes)?;
@@ -54,19 +53,18 @@ impl MemDisk {
             first,
             notes: Items::new(alloc),
             bytes: held,
-            failing: Items::new(alloc),
-            calls: 0,
-            faults: 0,
-            refusals: 0,
+            calls: FailingCalls::new(alloc),
+            faults: FaultCount::new(),
+            refusals: FaultCount::new(),
             stopped: false,
         })
     }
 
     /// Lets the call of the disk with this number fail; calls count from 1.
     pub fn fail_at(&mut self, call: u32) -> Result<(), NoMemory>
-        ensures ok { OnOk result (failing_calls self.new ≡ failing_calls self.old ++ call ∷ []) }
-        ensures err { OnErr result (failing_calls self.new ≡ failing_calls self.old) }
-        ensures next { next_call self.new ≡ next_call self.old }
+        ensures ok { OnOk result ((calls_of self.new).failing ≡ (calls_of self.old).failing ++ call ∷ []) }
+        ensures err { OnErr result ((calls_of self.new).failing ≡ (calls_of self.old).failing) }
+        ensures next { (calls_of self.new).next ≡ (calls_of self.old).next }
         ensures unchanged { IsUnchanged self.old self.new }
         ensures reads { (state_of self.new).reads ≡ (state_of self.old).reads }
         ensures only_reads { OnlyReads (state_of self.old) (state_of self.new) }
@@ -74,10 +72,10 @@ impl MemDisk {
         ensures faults { (state_of self.new).faults ≡ (state_of self.old).faults }
         ensures refusals { (state_of self.new).refusals ≡ (state_of self.old).refusals }
     {
-        self.failing.push(call)
+        self.calls.fail_at(call)
     }
 
-    /// The bytes that it holds, from place 0 on. Behind them it reads as zero.
+    /// The bytes that it holds, from offset 0 on. After them it reads as zero.
     pub fn as_slice(&self) -> &[u8]
         ensures bytes { result.now ≡ contents_of self.now }
         ensures reads { (state_of self.now).reads ≡ Some (image_of (contents_of self.now)) }
@@ -93,7 +91,7 @@ impl MemDisk {
     }
 
     /// Its writes, syncs and restarts in their order, those too that were set to fail, but none that was
-    /// refused for want of memory. They and the first bytes tell what it holds, and what a power loss may
+    /// refused out of memory. They and the first bytes tell what it holds, and what a power loss may
     /// leave now or might have left before.
     pub fn notes(&self) -> &[Note]
         ensures notes { result.now ≡ notes_of self.now }
@@ -114,7 +112,7 @@ impl MemDisk {
         ensures elapses { Elapses (state_of self.old) (state_of self.new) (state_of self.old).now result }
         ensures cause { HasCause (state_of self.old) (state_of self.new) result }
     {
-        let fails = next_fails(&mut self.calls, &self.failing);
+        let fails = self.calls.count_call();
         let note = Note { call, done: !fails };
         let Ok(()) = self.notes.push(note) else {
             refuse(&mut self.refusals, &mut self.stopped);
@@ -154,7 +152,7 @@ impl Disk for MemDisk {
         ensures only_reads { OnlyReads (state_of self.old) (state_of self.new) }
         ensures cause { HasCause (state_of self.old) (state_of self.new) result }
     {
-        if next_fails(&mut self.calls, &self.failing) {
+        if self.calls.count_call() {
             refuse(&mut self.faults, &mut self.stopped);
             return Err(DiskFault::Failed);
         }
@@ -173,7 +171,7 @@ impl Disk for MemDisk {
         ensures elapses { Elapses (state_of self.old) (state_of self.new) (Torn at (length bytes.now) (state_of self.old).now) result }
         ensures cause { HasCause (state_of self.old) (state_of self.new) result }
     {
-        let fails = next_fails(&mut self.calls, &self.failing);
+        let fails = self.calls.count_call();
         let (notes, held) = (&mut self.notes, &mut self.bytes);
         let Ok(()) = note_write(self.alloc, notes, held, at, bytes, !fails) else {
             refuse(&mut self.refusals, &mut self.stopped);
@@ -207,15 +205,6 @@ impl Disk for MemDisk {
     {
         self.settle(Call::Restart)
     }
-}
-
-// Counts a call, and tells whether it is set to fail.
-fn next_fails(calls: &mut u32, failing: &Items<u32>) -> bool
-    ensures counts { calls.new ≡ min (calls.old + 1) (2 ^ 32 - 1) }
-    ensures set { IsTrue result ↔ Contains failing.now.items calls.new }
-{
-    *calls = calls.saturating_add(1);
-    failing.as_slice().contains(calls)
 }
 
 // Bytes past the end are zero.
@@ -267,7 +256,7 @@ fn overwrite(to: &mut Vec<u8>, at: usize, bytes: &[u8]) -> Result<(), AllocError
     Ok(())
 }
 
-// Zeros come behind the end, as they are read there.
+// Zeros come after the end, as they are read there.
 fn lengthen(to: &mut Vec<u8>, len: usize) -> Result<(), AllocError>
     ensures len { OnOk result (len ≤ length to.new.items) }
     ensures same { OnOk result ((place : ℕ) → slice_index to.new.items place ≡ slice_index to.old.items place) }
