@@ -101,7 +101,11 @@ fn advance(clock: &mut u64) -> io::Result<()>
 }
 
 // An error of the system is a fault of the disk, and stops it.
-fn answer(outcome: io::Result<()>, faults: &mut FaultCount, stopped: &mut bool) -> Result<(), DiskFault>
+fn answer(
+    outcome: io::Result<()>,
+    faults: &mut FaultCount,
+    stopped: &mut bool,
+) -> Result<(), DiskFault>
     ensures answered { is_err result ≡ is_err outcome }
     ensures stops { stopped.new ≡ is_err result }
     ensures later { faults.old ≤ faults.new }
