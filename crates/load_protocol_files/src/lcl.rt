@@ -21,6 +21,7 @@ use std::alloc::Global;
 pub struct Part {
     /// Its part number, which need not be one of a load.
     pub number: Text,
+    /// Its amendment.
     pub amendment: Text,
     /// What the part is.
     pub designation: Text,
@@ -29,9 +30,11 @@ pub struct Part {
 /// A hardware of the target, and what is installed in it.
 #[derive(Drop)]
 pub struct Hardware {
+    /// Its name.
     pub name: Text,
     /// Its serial number.
     pub serial: Text,
+    /// What is installed in it.
     pub parts: List<Part>,
 }
 
@@ -39,6 +42,7 @@ pub struct Hardware {
 /// docs/FORMATS.md).
 #[derive(Drop)]
 pub struct Lcl {
+    /// The hardware of the target.
     pub hardware: List<Hardware>,
 }
 
