@@ -20,7 +20,7 @@ use disk_model::Disk;
 pub fn a_settled_disk_works<K: Disk>()
     ensures fits { (store : Store) (disk : K) → IsIdle store → IsRunning (K.state disk)
         → ForSome (K.state disk).reads (λ image. (s : StandingView) × HoldsFor store image s)
-            → Fits store (K.state disk) }
+        → Fits store (K.state disk) }
     ensures works { (store : Store) (disk : K) → IsIdle store → IsSettled (K.state disk)
         → Fits store (K.state disk) → Works store (K.state disk) }
     ensures now { (store : Store) (disk : K) (s : StandingView) (left : Image)

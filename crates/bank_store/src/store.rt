@@ -125,7 +125,7 @@ impl Store {
         ensures rest { OnOk result (LeavesRest self.now (K.state disk.old) (K.state disk.new)) }
         ensures shut { OnOk result (ForSome (K.state disk.old).reads (λ image.
             ForSome (K.state disk.new).reads (λ now. (s : StandingView)
-                → HoldsFor self.now image s → IsShutFor self.now now s))) }
+            → HoldsFor self.now image s → IsShutFor self.now now s))) }
     {
         // A shut gate isn't written again: a torn write could open a body that was never finished.
         if !self.other_is_open {
@@ -338,7 +338,7 @@ impl Store {
         ensures any_moment { (s : StandingView) (loads : List LoadView)
             → CanActivate self.old (K.state disk.old) s loads
             → LeavesOnly (K.state disk.old).clock (IsOldOrNew s (configured s loads))
-                (K.state disk.new) }
+            (K.state disk.new) }
         ensures adds { (s : StandingView) (loads : List LoadView)
             → CanActivate self.old (K.state disk.old) s loads
             → AddsOnly (K.state disk.old) (K.state disk.new) (IsOldOrNew s (configured s loads)) }

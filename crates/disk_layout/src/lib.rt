@@ -9,6 +9,7 @@ mod laws;
 mod manifest;
 pub mod numbers;
 pub mod places;
+mod printing;
 mod slot;
 mod standing;
 
@@ -17,8 +18,8 @@ pub use fault::RecoverFault;
 pub use identity::Identity;
 pub use identity_bytes::IdentityBytes;
 pub use laws::{
-    a_manifest_is_decided, a_slot_is_read_again, an_identity_is_read_again, an_outline_is_filled,
-    constants_are_those_of_the_layout, an_image_holds_one_configuration,
+    a_manifest_is_decided, a_slot_is_read_again, an_identity_is_read_again,
+    an_image_holds_one_configuration, an_outline_is_filled, constants_are_those_of_the_layout,
 };
 pub use manifest::{Manifest, ManifestFault, ManifestFile, ManifestLoad};
 pub use slot::SlotFields;

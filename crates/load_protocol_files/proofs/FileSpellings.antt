@@ -3,7 +3,7 @@ use Rattle.std.proofs.Common.{◌≡◌, ℕ, ◌+◌, ◌<◌, ◌^◌, List, [
 use Rattle.std.specs.Prelude.{IfOk}
 use Rattle.std.specs.List.{concat}
 use Rattle.std.proofs.lemmas.List.{append-nil}
-use Rattle.field_grammar.specs.Grammar.{Grammar, IsBytes, IsDecided, EndsTheBytes, Spelled, renamed, sized, expected}
+use Rattle.field_grammar.specs.Grammar.{Grammar, IsBytes, EndsTheBytes, Spelled, renamed, sized, expected}
 use Rattle.field_grammar.specs.Fields.{number, number_bytes, number_fields}
 use Rattle.field_grammar.specs.Answers.{answer, Gives}
 use Rattle.field_grammar.specs.Spelling.{IsSpelledBy, IsPlacedBy, SpellsWhole}

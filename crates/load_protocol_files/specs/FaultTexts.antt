@@ -1,12 +1,12 @@
 -- How the faults of protocol files are printed: their code, their fields in decimal, and a fault of a
--- text behind its place (docs/FORMATS.md).
+-- text after its offset (docs/FORMATS.md).
 use Rattle.std.specs.Prelude.{ℕ, List, [], ◌∷◌, codes}
 use Rattle.printed_text.specs.FaultTexts.{coded, nested, name_fault_text, text_fault_text}
 use Rattle.part_number.specs.FaultText.{part_fault_text}
 use Rattle.load_protocol_files.specs.declared.fault.FileFault.{FileFault}
 use Rattle.load_protocol_files.specs.declared.fault.FileFault.TheVariants as faults
 
--- want of memory has no text
+-- Memory has no text
 abbrev pub file_fault_text : FileFault → List ℕ
 file_fault_text (faults.Short place) = coded (codes "U1") (place ∷ [])
 file_fault_text (faults.Length said found) = coded (codes "U2") (said ∷ found ∷ [])

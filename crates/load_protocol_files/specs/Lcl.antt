@@ -30,7 +30,7 @@ pub record InstalledFits (v : Part) : Type 0 where
 
 -- ---- one hardware
 
--- a hardware without the room of its list
+-- a hardware without the spare capacity of its list
 pub record HardwareView : Type 0 where
   pub name : List ℕ
   pub serial : List ℕ
@@ -42,7 +42,7 @@ hardware_view v = record { name = v.name; serial = v.serial; parts = v.parts.ite
 abbrev pub to_hardware : List ℕ × (List ℕ × List Part) → HardwareView
 to_hardware p = record { name = p.0; serial = p.1.0; parts = p.1.1 }
 
--- its name and serial number, and a count and so many parts
+-- its name and serial number, a count, and its parts
 unfoldable pub hardware : Grammar FileFault HardwareView
 hardware = mapped to_hardware (pair text (pair text (counted installed)))
 
@@ -57,7 +57,7 @@ pub record HardwareFits (v : HardwareView) : Type 0 where
 
 -- ---- the file
 
--- a file without the room of its lists
+-- a file without the spare capacity of its lists
 pub record LclView : Type 0 where
   pub hardware : List HardwareView
 
@@ -70,7 +70,7 @@ to_lcl list = record { hardware = list }
 unfoldable pub lcl_body : Grammar FileFault LclView
 lcl_body = mapped to_lcl (counted hardware)
 
--- an LCL: a count, and so much hardware
+-- an LCL: a count, and the hardware
 abbrev pub lcl : Grammar FileFault LclView
 lcl = file lcl_body
 

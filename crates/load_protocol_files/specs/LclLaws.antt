@@ -1,7 +1,8 @@
 -- How configuration list files are spelled.
-use Rattle.std.proofs.Common.{map, ◌+◌, ◌≤◌, arith, ℕ, ◌<◌, ◌^◌, List, length, refl}
-use Rattle.std.specs.List.{All, concat}
-use Rattle.std.proofs.lemmas.List.{length-map, get_or-map}
+use Rattle.std.proofs.Common.{◌≡◌, map, ◌+◌, ◌≤◌, arith, ℕ, ◌<◌, ◌^◌, List, [], ◌++◌, ◌-◌, length, take, get_or, refl, sym, ap, ◌∙◌}
+use Rattle.std.specs.Prelude.{min}
+use Rattle.std.specs.List.{All, concat, flat_map}
+use Rattle.std.proofs.lemmas.List.{length-map, get_or-map, length-append}
 use Rattle.std.proofs.lemmas.List.Elements.{All-map}
 use Rattle.field_grammar.specs.Grammar.{pair}
 use Rattle.field_grammar.specs.Fields.{short_fields}
@@ -11,7 +12,9 @@ use Rattle.load_base.specs.Text.{IsText}
 use Rattle.load_protocol_files.specs.declared.lcl.Hardware.{Hardware}
 use Rattle.load_protocol_files.specs.declared.lcl.Part.{Part}
 use Rattle.load_protocol_files.specs.declared.lcl.Lcl.{Lcl}
-use Rattle.load_protocol_files.specs.Pieces.{text, counted}
+use Rattle.field_grammar.specs.NumberLaws.{length_number_bytes}
+use Rattle.field_grammar.specs.WrittenLaws.{written_more, written_more_seen}
+use Rattle.load_protocol_files.specs.Pieces.{text, counted, counted_fields}
 use Rattle.load_protocol_files.specs.Lcl.{to_part, installed, installed_fields, InstalledFits, HardwareView, hardware_view, to_hardware, hardware, hardware_fields, HardwareFits, LclView, lcl_view, to_lcl, lcl_body, lcl_fields, LclFits, IsWritableLcl}
 use Rattle.load_protocol_files.specs.PieceLaws.{spelled-text, spelled-counted_list}
 
@@ -65,3 +68,41 @@ counts_fit list fit k d lt =
 
 pub lcl_is_small : (it : Lcl) → IsWritableLcl it → 6 + length (concat (lcl_fields (lcl_view it))) < 2 ^ 32
 lcl_is_small it writable = omega (arith, writable.size)
+
+-- ---- its size
+
+pub installed_size : (v : Part) → length (concat (installed_fields v)) ≡ 3 + length v.number + length v.amendment + length v.designation
+installed_size v = simp (length-append, length_number_bytes) (omega arith)
+
+pub hardware_size : (v : HardwareView) → length (concat (hardware_fields v)) ≡ length (concat (flat_map installed_fields v.parts)) + (4 + (length v.name + length v.serial))
+unfolding counted_fields
+hardware_size v = simp (length-append, length_number_bytes) (omega arith)
+
+pub lcl_size : (v : LclView) → length (concat (lcl_fields v)) ≡ 2 + length (concat (flat_map hardware_fields v.hardware))
+unfolding counted_fields
+lcl_size v = simp (length-append, length_number_bytes) (omega arith)
+
+-- one more hardware takes as many bytes more
+pub hardware_more : (list : List Hardware) (i : ℕ) (h : Hardware) → i < length list → h ≡ get_or list i h
+    → length (concat (flat_map hardware_fields (map hardware_view (take (i + 1) list)))) ≡ length (concat (flat_map hardware_fields (map hardware_view (take i list)))) + length (concat (hardware_fields (hardware_view h)))
+hardware_more list i h within is =
+    let before : List ℕ = concat (flat_map hardware_fields (map hardware_view (take i list))) in
+    let more = written_more_seen hardware_fields hardware_view [] before (before ++ concat (hardware_fields (hardware_view h))) list i h within is refl refl in
+    ap length (sym more) ∙ length-append before (concat (hardware_fields (hardware_view h)))
+
+-- and so does one more part
+pub parts_more : (parts : List Part) (i : ℕ) (p : Part) → i < length parts → p ≡ get_or parts i p
+    → length (concat (flat_map installed_fields (take (i + 1) parts))) ≡ length (concat (flat_map installed_fields (take i parts))) + length (concat (installed_fields p))
+parts_more parts i p within is =
+    let before : List ℕ = concat (flat_map installed_fields (take i parts)) in
+    let more = written_more installed_fields [] before (before ++ concat (installed_fields p)) parts i p within is refl refl in
+    ap length (sym more) ∙ length-append before (concat (installed_fields p))
+
+-- so the size tells whether a file can be written, where its counts fit
+pub fits_by_size : (it : Lcl) (size : ℕ) → length it.hardware.items ≤ 65535 → All (λ h. length h.parts.items ≤ 65535) it.hardware.items
+    → size ≡ min (length (concat (flat_map hardware_fields (map hardware_view it.hardware.items)))) (2 ^ 64 - 1)
+    → (size ≤ 4294967287 → IsWritableLcl it) × (IsWritableLcl it → size ≤ 4294967287)
+fits_by_size it size count counts is = (
+  (λ small. record { count = count; counts = counts; size = rw (lcl_size (lcl_view it)) (omega (arith, is, small)) }),
+  (λ writable. let bound = writable.size in omega (arith, is, lcl_size (lcl_view it), bound)),
+)

@@ -29,7 +29,7 @@ pub record WantedFits (v : Wanted) : Type 0 where
 
 -- ---- the file
 
--- a file without the room of its list
+-- a file without the spare capacity of its list
 pub record LurView : Type 0 where
   pub loads : List Wanted
 
@@ -42,7 +42,7 @@ to_lur loads = record { loads = loads }
 unfoldable pub lur_body : Grammar FileFault LurView
 lur_body = mapped to_lur (counted wanted)
 
--- an LUR: a count, and so many loads
+-- an LUR: a count, and the loads
 abbrev pub lur : Grammar FileFault LurView
 lur = file lur_body
 

@@ -1,5 +1,5 @@
 -- How upload request files are spelled.
-use Rattle.std.proofs.Common.{◌+◌, ◌*◌, ◌≤◌, arith, ◌≡◌, ℕ, ◌<◌, ◌^◌, List, length, refl}
+use Rattle.std.proofs.Common.{◌+◌, ◌*◌, ◌≤◌, arith, ℕ, ◌<◌, ◌^◌, List, length, refl}
 use Rattle.std.specs.List.{All, concat, flat_map}
 use Rattle.std.proofs.lemmas.List.{length-append}
 use Rattle.std.proofs.lemmas.List.Folds.{concat-append}

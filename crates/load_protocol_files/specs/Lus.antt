@@ -39,7 +39,7 @@ pub record LoadStatusFits (v : LoadStatus) : Type 0 where
 
 -- ---- the file
 
--- a file without the room of its list
+-- a file without the spare capacity of its list
 pub record LusView : Type 0 where
   pub status : ℕ
   pub description : List ℕ
@@ -68,7 +68,7 @@ to_lus p = record { status = p.0; description = p.1.0; counter = p.1.1.0; except
 unfoldable pub lus_body : Grammar FileFault LusView
 lus_body = mapped to_lus lus_parts
 
--- an LUS: status, description, counter, exception, estimated time, ratio, and a count and so many loads
+-- an LUS: status, description, counter, exception, estimated time, ratio, a count, and the loads
 abbrev pub lus : Grammar FileFault LusView
 lus = file lus_body
 

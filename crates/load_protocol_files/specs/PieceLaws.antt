@@ -134,7 +134,7 @@ spelled-ratio = record {
 
 -- ---- lists
 
--- a count, and so many members
+-- a count of N, and N members
 pub spelled-counted_list : {A : Type 0} (item : Grammar FileFault A) (s : A → List (List ℕ)) (P : A → Type 0) → IsSpelledBy item s P
     → IsSpelledBy (counted item) (counted_fields s) (λ items. (length items < 2 ^ 16) × All P items)
 unfolding counted_fields

@@ -59,7 +59,7 @@ ratio = do
 
 -- ---- lists
 
--- a count, and so many members
+-- a count of N, and N members
 abbrev pub counted : {A : Type 0} → Grammar FileFault A → Grammar FileFault (List A)
 counted item = do
   count ← u16
@@ -77,6 +77,6 @@ ratio_digits n = (48 + n / 100) ∷ (48 + n / 10 % 10) ∷ (48 + n % 10) ∷ []
 abbrev pub ratio_fields : ℕ → List (List ℕ)
 ratio_fields n = ratio_digits n ∷ []
 
--- a count, and the members one behind the other
+-- a count, and the members back to back
 unfoldable pub counted_fields : {A : Type 0} → (A → List (List ℕ)) → List A → List (List ℕ)
 counted_fields fields items = u16_fields (length items) ++ flat_map fields items

@@ -1,5 +1,5 @@
 //! Configuration list files.
-ghost use Rattle.std.specs.Prelude.{◌≡◌, ◌+◌, ◌++◌, ◌⊎◌, ◌≤◌, ◌<◌, ◌^◌, List, ℕ, length, map, IfOk, IfErr, OnOk};
+ghost use Rattle.std.specs.Prelude.{◌≡◌, ◌↔◌, ◌-◌, min, IsTrue, ◌+◌, ◌++◌, ◌⊎◌, ◌≤◌, ◌<◌, ◌^◌, List, ℕ, length, map, IfOk, IfErr, OnOk};
 ghost use Rattle.std.specs.List.{concat, flat_map, All};
 ghost use Rattle.field_grammar.specs.Grammar.{Fault, times};
 ghost use Rattle.field_grammar.specs.Answers.{answer, Decodes, Gives};
@@ -21,6 +21,7 @@ use std::alloc::Global;
 pub struct Part {
     /// Its part number, which need not be one of a load.
     pub number: Text,
+    /// Its amendment.
     pub amendment: Text,
     /// What the part is.
     pub designation: Text,
@@ -29,9 +30,11 @@ pub struct Part {
 /// A hardware of the target, and what is installed in it.
 #[derive(Drop)]
 pub struct Hardware {
+    /// Its name.
     pub name: Text,
     /// Its serial number.
     pub serial: Text,
+    /// What is installed in it.
     pub parts: List<Part>,
 }
 
@@ -39,6 +42,7 @@ pub struct Hardware {
 /// docs/FORMATS.md).
 #[derive(Drop)]
 pub struct Lcl {
+    /// The hardware of the target.
     pub hardware: List<Hardware>,
 }
 
@@ -51,6 +55,22 @@ impl Lcl {
         ensures faulty { (f : FileFault) → Fault lcl bytes.now f → Gives Memory lcl_view result (Err f) }
     {
         file::decode(alloc, bytes)
+    }
+
+    /// Whether the file can be written: each list has at most 65,535 members, and the file at most
+    /// 4,294,967,295 bytes.
+    #[tactic(auto, using(crate::specs::LclLaws::fits_by_size))]
+    pub fn fits(&self) -> bool
+        ensures { IsTrue result ↔ IsWritableLcl self.now }
+    {
+        let list = self.hardware.as_slice();
+        if list.len() > 65_535 {
+            return false;
+        }
+        if !have_few_parts(list) {
+            return false;
+        }
+        size_of_list(list) <= 4_294_967_287
     }
 
     /// The bytes that spell the file. Each list has at most 65,535 members, and the file at most
@@ -112,6 +132,49 @@ fn hardware_list_of(
         list.push(hardware_of(alloc, reader)?)?;
     }
     Ok(list)
+}
+
+fn have_few_parts(list: &[Hardware]) -> bool
+    ensures { IsTrue result ↔ All (λ h. length h.parts.items ≤ 65535) list.now }
+{
+    list.iter().all(|hardware| hardware.parts.len() <= 65_535)
+}
+
+// How many bytes the hardware takes, up to the greatest `u64`.
+fn size_of_list(list: &[Hardware]) -> u64
+    ensures { result ≡ min (length (concat (flat_map hardware_fields (map hardware_view list.now)))) (2 ^ 64 - 1) }
+{
+    let mut size = 0u64;
+    for hardware in list {
+        size = size.saturating_add(size_of_hardware(hardware));
+    }
+    size
+}
+
+#[tactic(auto, using(crate::specs::LclLaws::hardware_size))]
+fn size_of_hardware(hardware: &Hardware) -> u64
+    ensures { result ≡ min (length (concat (hardware_fields (hardware_view hardware.now)))) (2 ^ 64 - 1) }
+{
+    let texts = hardware.name.as_slice().len() + hardware.serial.as_slice().len();
+    size_of_parts(hardware.parts.as_slice()).saturating_add(4 + texts as u64)
+}
+
+fn size_of_parts(parts: &[Part]) -> u64
+    ensures { result ≡ min (length (concat (flat_map installed_fields parts.now))) (2 ^ 64 - 1) }
+{
+    let mut size = 0u64;
+    for part in parts {
+        size = size.saturating_add(size_of_part(part));
+    }
+    size
+}
+
+#[tactic(auto, using(crate::specs::LclLaws::installed_size))]
+fn size_of_part(part: &Part) -> u64
+    ensures { result ≡ length (concat (installed_fields part.now)) }
+{
+    let names = part.number.as_slice().len() + part.amendment.as_slice().len();
+    (3 + names + part.designation.as_slice().len()) as u64
 }
 
 #[tactic(auto, unfolding(crate::specs::Lcl::hardware))]

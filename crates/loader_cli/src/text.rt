@@ -1,10 +1,10 @@
 //! The lines that are printed.
-ghost use Rattle.std.specs.Prelude.{◌≡◌, ◌++◌, OnOk, IfOk};
-ghost use Rattle.loader_cli.specs.Texts.{formatted_line, placed, recover_fault_text, no_configuration, refused_input};
+ghost use Rattle.std.specs.Prelude.{◌≡◌, IfOk};
+ghost use Rattle.loader_cli.specs.Texts.{formatted_line, no_configuration, refused_input};
 
 use disk_layout::{Identity, RecoverFault};
 use load_base::{Bytes, NoMemory};
-use printed_text::put_number;
+use printed_text::{Printed, put_number};
 use std::alloc::Global;
 
 /// What was formatted: the target, and the bank size in bytes.
@@ -28,31 +28,12 @@ pub(crate) fn formatted_text(alloc: Global, identity: &Identity) -> Result<Bytes
 pub(crate) fn no_configuration_text(alloc: Global, fault: RecoverFault) -> Result<Bytes, NoMemory>
     ensures { IfOk result (λ text. text.items ≡ no_configuration fault) }
 {
+    let text = fault.text(alloc)?;
     let mut out = Bytes::new(alloc);
     out.extend(b"no configuration ")?;
-    put_fault(alloc, &mut out, fault)?;
+    out.extend(text.as_slice())?;
     out.extend(b"\n")?;
     Ok(out)
-}
-
-fn put_fault(alloc: Global, out: &mut Bytes, fault: RecoverFault) -> Result<(), NoMemory>
-    ensures { OnOk result (out.new.items ≡ out.old.items ++ recover_fault_text fault) }
-{
-    match fault {
-        RecoverFault::NotFormatted(offset) => put_placed(alloc, out, b"V1", offset),
-        RecoverFault::NoOpenSlot => out.extend(b"V2"),
-        RecoverFault::BadSlot(offset) => put_placed(alloc, out, b"V3", offset),
-        RecoverFault::BadManifest(offset) => put_placed(alloc, out, b"V4", offset),
-        RecoverFault::DiskFailed | RecoverFault::Memory => Ok(()),
-    }
-}
-
-fn put_placed(alloc: Global, out: &mut Bytes, code: &[u8], offset: u64) -> Result<(), NoMemory>
-    ensures { OnOk result (out.new.items ≡ out.old.items ++ placed code.now offset) }
-{
-    out.extend(code)?;
-    out.extend(b" ")?;
-    put_number(alloc, out, offset)
 }
 
 /// That the file of this name is refused for this fault.

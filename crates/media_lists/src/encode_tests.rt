@@ -145,36 +145,6 @@ fn a_list_of_files_keeps_its_limits(rt: HostRuntime) -> Result<(), ListFault> {
     Ok(())
 }
 
-/// The member that has the list, how many there are, and the member that has its file.
-#[test]
-fn members_count_from_1(rt: HostRuntime) -> Result<(), ListFault> {
-    for (member, members, of_file, fits) in [
-        (1, 1, 1, true),
-        (0, 1, 1, false),
-        (2, 1, 1, false),
-        (255, 255, 255, true),
-        (1, 0, 1, false),
-        (0, 0, 0, false),
-        (1, 2, 0, false),
-        (1, 2, 2, true),
-        (1, 2, 3, false),
-        (1, 2, 257, false),
-        (255, 255, 256, false),
-    ] {
-        let mut files = List::new(rt.alloc());
-        files.push(file(rt.alloc(), b"A", b"\\", of_file, 0)?)?;
-        let mut list = files_list(rt.alloc(), files, 0)?;
-        list.member = member;
-        list.members = members;
-        assert_eq!(rt;
-            list.fits(),
-            fits,
-            "{member} of {members}, a file of {of_file}"
-        );
-    }
-    Ok(())
-}
-
 // ---- lists of loads
 
 /// A load for N kinds of hardware, each of `size` bytes.
@@ -257,45 +227,6 @@ fn a_list_of_loads_keeps_its_limits(rt: HostRuntime) -> Result<(), ListFault> {
         let list = loads_list(rt.alloc(), loads, user)?;
         let written = loads_there_and_back(rt.alloc(), &list)?;
         assert_eq!(rt; written.len(), bytes, "{count} loads, {user} bytes");
-    }
-    Ok(())
-}
-
-/// A load of these, and another after it if it isn't the last.
-fn loads_of(
-    alloc: Global,
-    title: &[u8],
-    kinds: usize,
-    size: usize,
-    last: bool,
-) -> Result<LoadsList, ListFault> {
-    let mut loads = List::new(alloc);
-    loads.push(load_for(alloc, title, kinds, size)?)?;
-    if !last {
-        loads.push(load_for(alloc, b"Z", 0, 0)?)?;
-    }
-    loads_list(alloc, loads, 0)
-}
-
-/// An entry takes 24 bytes beside its name and hardware, each a length in 2 bytes and its even bytes: 520 kinds
-/// of 250 bytes and a name of 4 bytes make 131,070.
-#[test]
-fn a_load_has_at_most_1024_kinds_of_hardware_and_131070_bytes(
-    rt: HostRuntime,
-) -> Result<(), ListFault> {
-    for (title, kinds, size, last, fits) in [
-        (&b"LOAD"[..], 520, 250, false, true),
-        (b"LOADED", 520, 250, false, false),
-        (b"LOADED", 520, 250, true, true),
-        (b"L", 1024, 3, false, true),
-        (b"L", 1025, 3, false, false),
-        (b"L", 1025, 3, true, false),
-        (b"L", 1024, 255, true, true),
-        (b"L", 1024, 255, false, false),
-    ] {
-        let list = loads_of(rt.alloc(), title, kinds, size, last)?;
-        let written = loads_there_and_back(rt.alloc(), &list)?;
-        assert_eq!(rt; !written.is_empty(), fits, "{kinds} kinds of {size} bytes");
     }
     Ok(())
 }

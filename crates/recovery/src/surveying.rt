@@ -54,7 +54,7 @@ pub fn survey<K: Disk>(alloc: Global, disk: &mut K) -> Result<Surveyed, RecoverF
     ensures idle { IfOk result (λ surveyed. IsIdle surveyed.store) }
     ensures holds { IfOk result (λ surveyed. ForSome (K.state disk.old).reads
         (λ image. (s : StandingView) × HoldsFor surveyed.store image s
-            × (outline_of s ≡ outline_of_survey surveyed))) }
+        × (outline_of s ≡ outline_of_survey surveyed))) }
     ensures fits { IfOk result (λ surveyed. Fits surveyed.store (K.state disk.new)) }
     ensures works { IfOk result (λ surveyed. IsSettled (K.state disk.old)
         → Works surveyed.store (K.state disk.new)) }

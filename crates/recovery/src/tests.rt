@@ -209,7 +209,7 @@ fn put_file(
     requires running { (state_of disk.old).stopped ≡ false }
     ensures goes_on { OnOk result ((progress : Filling) → IsFilling store.old progress
         → IsFilling store.new (file_ended (bytes_appended (length second.now) (bytes_appended
-            (length first.now) progress)))) }
+        (length first.now) progress)))) }
     ensures running { OnOk result ((state_of disk.new).stopped ≡ false) }
 {
     store.append(disk, first)?;

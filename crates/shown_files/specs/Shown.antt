@@ -30,7 +30,7 @@ use Rattle.shown_files.specs.declared.shown.Shown.TheVariants as texts
 abbrev pub IsTextOfValue : {V : Type 0} → (V → List ℕ → Type 0) → (V → List ℕ) → (bytes text : List ℕ) → Type 0
 IsTextOfValue {V} Spells text_of bytes text = (value : V) × Spells value bytes × (text ≡ text_of value)
 
--- the text is that of the first fault of the bytes, which is never want of memory
+-- the text is that of the first fault of the bytes, which is never Memory
 abbrev pub IsTextOfFault : {F : Type 0} → F → (List ℕ → F → Type 0) → (F → List ℕ) → (bytes text : List ℕ) → Type 0
 IsTextOfFault {F} memory IsFirst text_of bytes text = (fault : F) × IsFirst bytes fault × (fault ≢ memory) × (text ≡ text_of fault)
 

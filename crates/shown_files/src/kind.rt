@@ -2,7 +2,7 @@
 ghost use Rattle.std.specs.Prelude.{◌≡◌, ◌↔◌, IsTrue, IfSome, IfNone};
 ghost use Rattle.shown_files.specs.Kinds.{EndsWith, IsNameOf};
 
-/// A kind of file, which the end of the file's name tells.
+/// A kind of file, by the end of its name.
 #[derive(Clone, Copy, Debug, PartialEq, Eq)]
 pub enum ShownKind {
     /// A load header, `.LUH`.

@@ -150,7 +150,7 @@ fn put_load_line(alloc: Global, out: &mut Bytes, load: &LoadEntry) -> Result<(),
     )
 }
 
-// Two numbers at the end of a line, each behind a space.
+// Two numbers at the end of a line, each after a space.
 fn put_two_numbers(alloc: Global, out: &mut Bytes, first: u64, second: u64) -> Result<(), NoMemory>
     ensures { OnOk result (out.new.items ≡ out.old.items ++ (32 ∷ decimal first ++ 32 ∷ decimal second ++ 10 ∷ [])) }
 {
