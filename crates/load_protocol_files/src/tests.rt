@@ -110,8 +110,12 @@ fn lus_again(alloc: Global, bytes: &[u8]) -> Result<Bytes, FileFault> {
     Ok(bytes)
 }
 
+// The list written again, or no bytes where it doesn't fit.
 fn lcl_again(alloc: Global, bytes: &[u8]) -> Result<Bytes, FileFault> {
     let file = Lcl::decode(alloc, bytes)?;
+    if !file.fits() {
+        return Ok(Bytes::new(alloc));
+    }
     let bytes = file.encode(alloc)?;
     Ok(bytes)
 }
