@@ -8,7 +8,7 @@ use Rattle.disk_model.specs.Image.{Image, overlay, SameOutside}
 use Rattle.disk_model.specs.State.{DiskState, IsSettled, Elapses, Torn}
 use Rattle.disk_model.specs.declared.disk.DiskFault.{DiskFault}
 use Rattle.disk_model.specs.OverlayLaws.{overlay_is, overlay_outside}
-use Rattle.disk_layout.specs.Slots.{IsOpen, IsSlot, manifest_place_of, manifest_length_of}
+use Rattle.disk_layout.specs.Slots.{IsOpen, IsSlot, manifest_offset_of, manifest_length_of}
 use Rattle.disk_layout.specs.declared.active.ManifestRange.{ManifestRange}
 use Rattle.disk_layout.specs.SlotLaws.{offset_is_slot}
 use Rattle.disk_layout.specs.Holds.{StandingView, HoldsBy, HoldsConfig}
@@ -32,7 +32,7 @@ use Rattle.bank_store.proofs.Written.{told_as}
 use Rattle.bank_store.proofs.Carried.{same_slot, same_bank, same_sequence}
 
 opened_is : (image left : Image) (at : ℕ) → SameOutside at 1 image left → IsOpen left at → left ≡ overlay image at (0xA5 ∷ [])
-opened_is image left at same opened = λ i place. overlay_is image left at (0xA5 ∷ []) inside same place i
+opened_is image left at same opened = λ i offset. overlay_is image left at (0xA5 ∷ []) inside same offset i
   where
     inside : (k : ℕ) → k < 1 → left (at + k) ≡ get_or (0xA5 ∷ []) k 0
     inside k below =
@@ -47,7 +47,7 @@ gate_torn store image left s loads was ready same = elim (cases_eq (left (other_
     slot = other_slot (active_slot store);
     by = subst (λ (i : Image). HoldsBy i (other_slot (active_slot store)) (configured s loads)) (sym (opened_is image left (other_slot (active_slot store)) same opened)) ready.opens;
   })
-  | inr shut ↦ inl (record { slot = (active_slot store); by = shut_stands store image left s was (λ place out apart. same place apart) shut })
+  | inr shut ↦ inl (record { slot = (active_slot store); by = shut_stands store image left s was (λ offset out apart. same offset apart) shut })
 ]
 
 pub while_opening : {T : Type 0} (store : Store) (old new : DiskState) (at : ℕ) (s : StandingView) (loads : List LoadView) (result : Result T DiskFault) → at ≡ other_slot (active_slot store)
@@ -55,7 +55,7 @@ pub while_opening : {T : Type 0} (store : Store) (old new : DiskState) (at : ℕ
 while_opening store old new at s loads result is can elapses =
     adds_first old new (Torn at 1 old.now) (IsOldOrNew s (configured s loads)) result elapses
     (λ left torn. gate_torn store can.beside.image left s loads can.beside.holds can.ready
-    (λ place out. torn.same place (subst (λ (n : ℕ). (place < n) ⊎ (n + 1 ≤ place)) (sym is) out) ∙ ap (λ (i : Image). i place) (sym (alone torn.before torn.was))))
+    (λ offset out. torn.same offset (subst (λ (n : ℕ). (offset < n) ⊎ (n + 1 ≤ offset)) (sym is) out) ∙ ap (λ (i : Image). i offset) (sym (alone torn.before torn.was))))
   where
     alone : (left : Image) → old.now left → can.beside.image ≡ left
     alone left may = same_image can.beside.image left (sym can.beside.told ∙ (can.beside.works.settled (can.ready.manifest, can.ready.stage)).only left may)
@@ -91,7 +91,7 @@ switched_stands old new image now s loads at switches is opened was ready =
       bank = ap (λ (b : ℕ). other_bank b) was.bank ∙ sym switches.bank;
       sequence = ap (λ (n : ℕ). n + 1) was.sequence ∙ sym switches.sequence;
       size = was.size ∙ sym switches.size;
-      offset = ap₂ (λ (i : Image) (n : ℕ). manifest_place_of i n) (opened ∙ ap (λ (n : ℕ). overlay image n (0xA5 ∷ [])) is) switches.slot ∙ ready.offset ∙ ap (λ (m : ManifestRange). m.offset) same_manifest;
+      offset = ap₂ (λ (i : Image) (n : ℕ). manifest_offset_of i n) (opened ∙ ap (λ (n : ℕ). overlay image n (0xA5 ∷ [])) is) switches.slot ∙ ready.offset ∙ ap (λ (m : ManifestRange). m.offset) same_manifest;
       length = ap₂ (λ (i : Image) (n : ℕ). manifest_length_of i n) (opened ∙ ap (λ (n : ℕ). overlay image n (0xA5 ∷ [])) is) switches.slot ∙ ready.length ∙ ap (λ (m : ManifestRange). m.length) same_manifest;
       gate = record {
         open_there = λ _. subst (λ (n : ℕ). IsOpen now n) (sym back) old_gate;
@@ -151,5 +151,5 @@ activated old middle new before after slot manifest same is size new_slot bank s
       running = running;
       fits = fits;
       works = λ works. settled_works new after prepared.idle settled (fits works.fits);
-      rest = λ image told now later place out. rest_gate old image now slot _ place is (laid image now told later) out;
+      rest = λ image told now later offset out. rest_gate old image now slot _ offset is (laid image now told later) out;
     }

@@ -34,7 +34,7 @@ shut_gate store image s at is was =
     let here : other_slot (active_slot store) ≡ at + 0 = omega (arith, is) in
     let zero_there : now (other_slot (active_slot store)) ≡ 0 = ap now here ∙ overlay_inside image at (0 ∷ []) 0 (omega arith) in
     let shut : ¬ IsOpen now (other_slot (active_slot store)) = λ opened. absurd (zero_not (now (other_slot (active_slot store))) zero_there opened) in
-    let same : SameButForGate store image now = λ place out apart. overlay_outside image at (0 ∷ []) place (subst (λ (n : ℕ). (place < n) ⊎ (n + 1 ≤ place)) (sym is) apart) in
+    let same : SameButForGate store image now = λ offset out apart. overlay_outside image at (0 ∷ []) offset (subst (λ (n : ℕ). (offset < n) ⊎ (n + 1 ≤ offset)) (sym is) apart) in
     record {
       by = shut_stands store image now s was same shut;
       shut = shut;
@@ -50,7 +50,7 @@ pub while_shutting : {T : Type 0} (store : Store) (old new : DiskState) (at : �
 while_shutting store old new at s result is opened beside elapses =
     adds_first old new (Torn at 1 old.now) (λ left. HoldsConfig left s) result elapses
     (λ left torn. torn_gate_stands store beside.image left s opened beside.holds
-    (λ place out apart. torn.same place (subst (λ (n : ℕ). (place < n) ⊎ (n + 1 ≤ place)) (sym is) apart) ∙ beside.works.near beside.image beside.told torn.before torn.was place out))
+    (λ offset out apart. torn.same offset (subst (λ (n : ℕ). (offset < n) ⊎ (n + 1 ≤ offset)) (sym is) apart) ∙ beside.works.near beside.image beside.told torn.before torn.was offset out))
 
 pub begun_stands : (old new : Store) (image now : Image) (s : StandingView) → SameActive old new → new.other_is_open ≡ false → HoldsFor old image s → IsShutFor old now s → HoldsFor new now s
 begun_stands old new image now s rules shut was is = record {
@@ -84,7 +84,7 @@ begun_fits old new before after running active shut filling empty tells each fit
 pub begun_works : (old new : Store) (before after : DiskState) → IsFilling new nothing_filled → IsSettled after → (Fits old before → Fits new after) → Works old before → Works new after
 begun_works old new before after filling settled fits works = record {
   fits = fits works.fits;
-  near = λ now told left may place out. ap (λ (i : Image). i place) (same_image left now (sym (settled.only left may) ∙ told));
+  near = λ now told left may offset out. ap (λ (i : Image). i offset) (same_image left now (sym (settled.only left may) ∙ told));
   settled = λ sealed. absurd (not_sealed new nothing_filled filling sealed);
 }
 

@@ -3,7 +3,7 @@ use Rattle.std.proofs.Common.{◌≡◌, ℕ, List, [], ◌∷◌, sym, ap, ap�
 use Rattle.load_base.specs.Config.{LoadView}
 use Rattle.disk_model.specs.Image.{Image, range, overlay}
 use Rattle.disk_layout.specs.Holds.{StandingView, HoldsBy}
-use Rattle.disk_layout.specs.Slots.{other_slot, manifest_place_of, manifest_length_of}
+use Rattle.disk_layout.specs.Slots.{other_slot, manifest_offset_of, manifest_length_of}
 use Rattle.disk_layout.specs.declared.active.ManifestRange.{ManifestRange}
 use Rattle.bank_store.specs.Store.{active_slot, with_gate_open, IsIdle, IsFilling, IsSealed, SameActive}
 use Rattle.bank_store.specs.Given.{Given, HasGiven, configured}
@@ -90,7 +90,7 @@ ready_same old new image s loads rules stage was =
       manifest = was.manifest;
       stage = stage ∙ was.stage;
       opens = subst (λ (i : Image). HoldsBy i (other_slot (active_slot new)) (configured s loads)) opened (subst (λ (n : ℕ). HoldsBy (with_gate_open old image) (other_slot n) (configured s loads)) slot was.opens);
-      offset = ap₂ (λ (i : Image) (n : ℕ). manifest_place_of i (other_slot n)) (sym opened) (sym slot) ∙ was.offset;
+      offset = ap₂ (λ (i : Image) (n : ℕ). manifest_offset_of i (other_slot n)) (sym opened) (sym slot) ∙ was.offset;
       length = ap₂ (λ (i : Image) (n : ℕ). manifest_length_of i (other_slot n)) (sym opened) (sym slot) ∙ was.length;
     }
 

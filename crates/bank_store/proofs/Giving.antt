@@ -13,7 +13,7 @@ use Rattle.field_grammar.specs.Fields.{number_bytes, number_fields, short_fields
 use Rattle.disk_model.specs.Image.{Image, range, overlay}
 use Rattle.disk_model.specs.RangeLaws.{length_range}
 use Rattle.disk_model.specs.OverlayLaws.{range_beside_overlay, range_of_overlay}
-use Rattle.disk_layout.specs.Places.{most_loads, most_files}
+use Rattle.disk_layout.specs.Offsets.{most_loads, most_files}
 use Rattle.disk_layout.specs.Manifest.{file_entry_fields}
 use Rattle.disk_layout.specs.Contents.{file_entry_of, bytes_of}
 use Rattle.disk_layout.specs.RangeLaws.{ranges_joined}
@@ -184,7 +184,7 @@ given_bytes old new image now more progress g rules filling stage body is was =
     let files = bytes_of (flat_map files_of g.loads) in
     let bytes : bytes_given (with_bytes more g) ≡ bytes_given g ++ more = sym (append_assoc files g.bytes more) in
     let at = work_at old in
-    let front : range (overlay image (at + progress.end) more) at progress.end ≡ bytes_given g =
+    let prefix : range (overlay image (at + progress.end) more) at progress.end ≡ bytes_given g =
     range_beside_overlay image (at + progress.end) more at progress.end (inl (omega arith)) ∙ ap (λ (f : Filling). range image at f.end) (sym same) ∙ was.written in
     let behind : range (overlay image (at + progress.end) more) (at + progress.end) (length more) ≡ more = range_of_overlay image (at + progress.end) (length more) more refl in
     record {
@@ -200,7 +200,7 @@ given_bytes old new image now more progress g rules filling stage body is was =
           let start : progress.start + length g.bytes ≡ progress.end = ap (λ (f : Filling). f.start + length g.bytes) (sym same) ∙ was.start ∙ ap (λ (f : Filling). f.end) same in
           omega (arith, start, length-append g.bytes more);
       written = ap (λ (n : ℕ). range now n (progress.end + length more)) (work_carried old new rules) ∙ ap (λ (i : Image). range i at (progress.end + length more)) is
-          ∙ sym (ranges_joined (overlay image (at + progress.end) more) at progress.end (at + progress.end) (length more) refl) ∙ ap₂ (λ (a : List ℕ) (b : List ℕ). a ++ b) front behind ∙ sym bytes;
+          ∙ sym (ranges_joined (overlay image (at + progress.end) more) at progress.end (at + progress.end) (length more) refl) ∙ ap₂ (λ (a : List ℕ) (b : List ℕ). a ++ b) prefix behind ∙ sym bytes;
     }
 
 pub given_none : (store : Store) (image now : Image) (bytes : List ℕ) (g : Given) → length bytes ≡ 0 → image ≡ now → HasGiven store image g → HasGiven store now (with_bytes bytes g)

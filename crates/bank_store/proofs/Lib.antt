@@ -3,6 +3,7 @@ pub mod Begun
 pub mod Carried
 pub mod Continuing
 pub mod Footprint
+mod Formatted
 pub mod Gates
 pub mod Giving
 pub mod Images
@@ -15,6 +16,7 @@ pub mod Premises
 pub mod Ready
 pub mod Rests
 pub mod Sealing
+mod Shutting
 pub mod Sizes
 pub mod Working
 pub mod Written

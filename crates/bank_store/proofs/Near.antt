@@ -2,8 +2,8 @@
 use Rattle.std.proofs.Common.{◌≡◌, ◌⊎◌, inl, inr, ℕ, zero, suc, ◌+◌, ◌-◌, ◌<◌, ◌≤◌, Bool, true, false, refl, sym, ◌∙◌, ap, arith}
 use Rattle.std.proofs.lemmas.Bool.{cases_eq, cases_lt}
 use Rattle.disk_model.specs.Image.{Image, SameOutside}
-use Rattle.disk_layout.specs.Places.{bank_at}
-use Rattle.disk_layout.specs.Slots.{IsOpen, IsSlot, manifest_place_of, manifest_length_of}
+use Rattle.disk_layout.specs.Offsets.{bank_at}
+use Rattle.disk_layout.specs.Slots.{IsOpen, IsSlot, manifest_offset_of, manifest_length_of}
 use Rattle.disk_layout.specs.SlotLaws.{offset_is_slot, number_below}
 use Rattle.disk_layout.specs.Holds.{StandingView, HoldsBy, HoldsConfig}
 use Rattle.disk_layout.specs.Slots.{other_slot}
@@ -30,16 +30,16 @@ slot_low slot (inl e) = (omega (arith, e), omega (arith, e))
 slot_low slot (inr e) = (omega (arith, e), omega (arith, e))
 
 -- an offset outside the other bank and the other slot's body doesn't change
-stays : (store : Store) (place : ℕ) → (place < work_at store) ⊎ (work_at store + store.size ≤ place) → (place ≤ other_slot (active_slot store)) ⊎ (other_slot (active_slot store) + 29 ≤ place) → ¬ MayChange store place
-stays store place (inl low) slot (inl bank) = omega (arith, low, bank.0)
-stays store place (inr high) slot (inl bank) = omega (arith, high, bank.1)
-stays store place bank (inl low) (inr body) = omega (arith, low, body.1)
-stays store place bank (inr high) (inr body) = omega (arith, high, body.2)
+stays : (store : Store) (offset : ℕ) → (offset < work_at store) ⊎ (work_at store + store.size ≤ offset) → (offset ≤ other_slot (active_slot store)) ⊎ (other_slot (active_slot store) + 29 ≤ offset) → ¬ MayChange store offset
+stays store offset (inl low) slot (inl bank) = omega (arith, low, bank.0)
+stays store offset (inr high) slot (inl bank) = omega (arith, high, bank.1)
+stays store offset bank (inl low) (inr body) = omega (arith, low, body.1)
+stays store offset bank (inr high) (inr body) = omega (arith, high, body.2)
 
 -- while the other slot is kept as open, all of it stays
-open_stays : (store : Store) (place : ℕ) → store.other_is_open ≡ true → place < work_at store → ¬ MayChange store place
-open_stays store place is low (inl bank) = omega (arith, low, bank.0)
-open_stays store place is low (inr body) = let e : true ≡ false = sym is ∙ body.0 in cc
+open_stays : (store : Store) (offset : ℕ) → store.other_is_open ≡ true → offset < work_at store → ¬ MayChange store offset
+open_stays store offset is low (inl bank) = omega (arith, low, bank.0)
+open_stays store offset is low (inr body) = let e : true ≡ false = sym is ∙ body.0 in cc
 
 gate_same : (store : Store) (one other : Image) → SameButForWork store one other → other (other_slot (active_slot store)) ≡ one (other_slot (active_slot store))
 gate_same store one other same =
@@ -54,7 +54,7 @@ others_same store one other false is gate same = inl (λ there. gate.shut_there 
 
 -- two images differ only where an installation writes, and perhaps in the other slot's gate
 abbrev pub SameButForGate : Store → Image → Image → Type 0
-SameButForGate store one other = (place : ℕ) → ¬ MayChange store place → (place < other_slot (active_slot store)) ⊎ (other_slot (active_slot store) + 1 ≤ place) → other place ≡ one place
+SameButForGate store one other = (offset : ℕ) → ¬ MayChange store offset → (offset < other_slot (active_slot store)) ⊎ (other_slot (active_slot store) + 1 ≤ offset) → other offset ≡ one offset
 
 -- so they have the same active slot
 slot_same : (store : Store) (one other : Image) → SameButForGate store one other → (k : ℕ) → k < 29 → other (active_slot store + k) ≡ one (active_slot store + k)
@@ -65,7 +65,7 @@ slot_same store one other same k below =
     same (active_slot store + k) (stays store (active_slot store + k) (inl (omega (arith, below, ends))) (elim out [ inl before ↦ inl (omega (arith, before)) | inr behind ↦ inr behind ]))
     (elim out [ inl before ↦ inl before | inr behind ↦ inr (omega (arith, behind)) ])
 
-pub offset_same : (store : Store) (one other : Image) (s : StandingView) → HoldsFor store one s → SameButForGate store one other → manifest_place_of other (active_slot store) ≡ store.active.manifest.offset
+pub offset_same : (store : Store) (one other : Image) (s : StandingView) → HoldsFor store one s → SameButForGate store one other → manifest_offset_of other (active_slot store) ≡ store.active.manifest.offset
 offset_same store one other s was same = number_same one other (active_slot store) (slot_same store one other same) 21 (omega arith) ∙ was.offset
 
 pub length_same : (store : Store) (one other : Image) (s : StandingView) → HoldsFor store one s → SameButForGate store one other → manifest_length_of other (active_slot store) ≡ store.active.manifest.length
@@ -79,7 +79,7 @@ stands_by store one other s was same others =
     let high = (other_low (active_slot store) is_slot).1 in
     let low = (other_low (active_slot store) is_slot).0 in
     standing_kept (active_slot store) s one other was.by (record {
-      front = λ place below. same place (stays store place (inl (omega (arith, below))) (inl (omega (arith, below, low)))) (inl (omega (arith, below, low)));
+      prefix = λ offset below. same offset (stays store offset (inl (omega (arith, below))) (inl (omega (arith, below, low)))) (inl (omega (arith, below, low)));
       slot_same = slot_same store one other same;
       bank_same = λ k below.
           let there : bank_at s.identity.bank s.bank + k ≡ bank_at store.size (active_bank store) + k =
@@ -94,12 +94,12 @@ stands_by store one other s was same others =
 -- images that differ only where an installation writes hold the same
 pub near_stands : (store : Store) (one other : Image) (s : StandingView) → HoldsFor store one s → SameButForWork store one other → HoldsFor store other s
 near_stands store one other s was same = record {
-  by = stands_by store one other s was (λ place out apart. same place out) (others_same store one other store.other_is_open refl was.gate same);
+  by = stands_by store one other s was (λ offset out apart. same offset out) (others_same store one other store.other_is_open refl was.gate same);
   bank = was.bank;
   sequence = was.sequence;
   size = was.size;
-  offset = offset_same store one other s was (λ place out apart. same place out);
-  length = length_same store one other s was (λ place out apart. same place out);
+  offset = offset_same store one other s was (λ offset out apart. same offset out);
+  length = length_same store one other s was (λ offset out apart. same offset out);
   gate = record {
     open_there = λ is. gate_same store one other same ∙ was.gate.open_there is;
     shut_there = λ is there. was.gate.shut_there is (sym (gate_same store one other same) ∙ there);
@@ -114,16 +114,16 @@ shut_stands store one other s was same shut = stands_by store one other s was sa
 pub torn_gate_stands : (store : Store) (one other : Image) (s : StandingView) → store.other_is_open ≡ true → HoldsFor store one s → SameButForGate store one other → HoldsConfig other s
 torn_gate_stands store one other s is was same = elim (cases_eq (other (other_slot (active_slot store))) 0xA5) [
   | inl opened ↦
-      let near : SameButForWork store one other = λ place out. elim (cases_eq place (other_slot (active_slot store))) [
+      let near : SameButForWork store one other = λ offset out. elim (cases_eq offset (other_slot (active_slot store))) [
         | inl here ↦ ap other here ∙ opened ∙ sym (was.gate.open_there is) ∙ ap one (sym here)
-        | inr there ↦ same place out (beside (other_slot (active_slot store)) place there)
+        | inr there ↦ same offset out (beside (other_slot (active_slot store)) offset there)
       ] in
       record { slot = (active_slot store); by = (near_stands store one other s was near).by }
   | inr shut ↦ record { slot = (active_slot store); by = shut_stands store one other s was same shut }
 ]
   where
-    beside : (at place : ℕ) → ¬ (place ≡ at) → (place < at) ⊎ (at + 1 ≤ place)
-    beside at place other = elim (cases_lt place at) [
+    beside : (at offset : ℕ) → ¬ (offset ≡ at) → (offset < at) ⊎ (at + 1 ≤ offset)
+    beside at offset other = elim (cases_lt offset at) [
       | inl before ↦ inl before
       | inr from ↦ inr (omega (arith, from, other))
     ]
@@ -131,14 +131,14 @@ torn_gate_stands store one other s is was same = elim (cases_eq (other (other_sl
 -- ---- images that a write may leave
 
 pub near_back : (store : Store) (one other : Image) → SameButForWork store one other → SameButForWork store other one
-near_back store one other same place out = sym (same place out)
+near_back store one other same offset out = sym (same offset out)
 
 pub near_on : (store : Store) (one two three : Image) → SameButForWork store one two → SameButForWork store two three → SameButForWork store one three
-near_on store one two three same then place out = then place out ∙ same place out
+near_on store one two three same then offset out = then offset out ∙ same offset out
 
 -- a range that an installation writes
 pub record IsWork (store : Store) (at n : ℕ) : Type 0 where
-  pub within : (place : ℕ) → ¬ MayChange store place → (place < at) ⊎ (at + n ≤ place)
+  pub within : (offset : ℕ) → ¬ MayChange store offset → (offset < at) ⊎ (at + n ≤ offset)
 
 pub near_torn : (store : Store) (one two three : Image) (at n : ℕ) → IsWork store at n → SameButForWork store one two → SameOutside at n two three → SameButForWork store one three
-near_torn store one two three at n work same torn place out = torn place (work.within place out) ∙ same place out
+near_torn store one two three at n work same torn offset out = torn offset (work.within offset out) ∙ same offset out

@@ -3,14 +3,14 @@ use Rattle.std.proofs.Common.{◌≡◌, ◌⊎◌, inl, inr, ℕ, ◌+◌, ◌<
 use Rattle.std.specs.List.{All, concat, flat_map}
 use Rattle.std.proofs.lemmas.List.{append-nil, nil_from_length}
 use Rattle.byteorder.specs.Endian.{big_number}
-use Rattle.field_grammar.specs.Grammar.{SpelledAtFront}
+use Rattle.field_grammar.specs.Grammar.{SpelledAtStart}
 use Rattle.field_grammar.specs.Fields.{number_bytes}
 use Rattle.field_grammar.specs.NumberLaws.{length_number_bytes}
 use Rattle.disk_model.specs.Image.{Image, range, overlay}
 use Rattle.disk_model.specs.RangeLaws.{same_range}
 use Rattle.disk_model.specs.OverlayLaws.{overlay_inside, overlay_outside, overlay_joined, range_of_overlay, range_beside_overlay}
-use Rattle.disk_layout.specs.Places.{slot_b, bank_at, number_at, longest_manifest}
-use Rattle.disk_layout.specs.Slots.{IsOpen, IsSlot, IsActiveSlot, sequence_of, bank_of, manifest_place_of, manifest_length_of}
+use Rattle.disk_layout.specs.Offsets.{slot_b, bank_at, number_at, longest_manifest}
+use Rattle.disk_layout.specs.Slots.{IsOpen, IsSlot, IsActiveSlot, sequence_of, bank_of, manifest_offset_of, manifest_length_of}
 use Rattle.disk_layout.specs.SlotLaws.{offset_is_slot, number_below}
 use Rattle.disk_layout.specs.SlotBodyLaws.{body_length, says_sequence, says_bank, says_offset, says_length}
 use Rattle.disk_layout.specs.Identity.{identity}
@@ -44,8 +44,8 @@ other_bank_less bank less = omega (arith, less)
 abbrev pub opened : Store → Filling → Image → Image
 opened store progress image = overlay (with_slot store progress.end (manifest_length store) (with_manifest store progress image)) (other_slot (active_slot store)) (0xA5 ∷ [])
 
-pub slot_body_length : (store : Store) (place size : ℕ) → length (slot_body store place size) ≡ 13
-slot_body_length store place size = body_length (active_sequence store + 1) (other_bank (active_bank store)) (record { offset = place; length = size })
+pub slot_body_length : (store : Store) (offset size : ℕ) → length (slot_body store offset size) ≡ 13
+slot_body_length store offset size = body_length (active_sequence store + 1) (other_bank (active_bank store)) (record { offset = offset; length = size })
 
 -- where they lie
 pub record Lies (store : Store) (progress : Filling) : Type 0 where
@@ -102,12 +102,12 @@ module _ (store : Store) (progress : Filling) (image : Image) (lies : Lies store
       ap (opened store progress image) here ∙ overlay_inside (with_slot store progress.end (manifest_length store) (with_manifest store progress image)) other (0xA5 ∷ []) 0 (omega arith)
 
   -- what lies before the banks and outside the other slot stays
-  pub before_kept : (place : ℕ) → place < 8192 → (place < other) ⊎ (other + 29 ≤ place) → opened store progress image place ≡ image place
-  before_kept place early out =
-      overlay_outside (with_slot store progress.end (manifest_length store) (with_manifest store progress image)) other (0xA5 ∷ []) place (elim out [ inl b ↦ inl b | inr a ↦ inr (omega (arith, a)) ])
-      ∙ overlay_outside (with_manifest store progress image) (other + 16) body place (elim out [ inl b ↦ inl (omega (arith, b)) | inr a ↦ inr (omega (arith, a, body_size)) ])
-      ∙ ap (λ (i : Image). i place) joined
-      ∙ overlay_outside image (work + progress.end) text place (inl (omega (arith, early, lies.work)))
+  pub before_kept : (offset : ℕ) → offset < 8192 → (offset < other) ⊎ (other + 29 ≤ offset) → opened store progress image offset ≡ image offset
+  before_kept offset early out =
+      overlay_outside (with_slot store progress.end (manifest_length store) (with_manifest store progress image)) other (0xA5 ∷ []) offset (elim out [ inl b ↦ inl b | inr a ↦ inr (omega (arith, a)) ])
+      ∙ overlay_outside (with_manifest store progress image) (other + 16) body offset (elim out [ inl b ↦ inl (omega (arith, b)) | inr a ↦ inr (omega (arith, a, body_size)) ])
+      ∙ ap (λ (i : Image). i offset) joined
+      ∙ overlay_outside image (work + progress.end) text offset (inl (omega (arith, early, lies.work)))
 
   pub sequence_there : (active_sequence store) < 4294967295 → sequence_of (opened store progress image) other ≡ (active_sequence store) + 1
   sequence_there goes_on =
@@ -116,8 +116,8 @@ module _ (store : Store) (progress : Filling) (image : Image) (lies : Lies store
   pub bank_there : bank_of (opened store progress image) other ≡ other_bank (active_bank store)
   bank_there = says_bank (opened store progress image) other (active_sequence store + 1) (other_bank (active_bank store)) (record { offset = progress.end; length = manifest_length store }) slot_there
 
-  pub place_there : progress.end < 2 ^ 32 → manifest_place_of (opened store progress image) other ≡ progress.end
-  place_there small =
+  pub offset_there : progress.end < 2 ^ 32 → manifest_offset_of (opened store progress image) other ≡ progress.end
+  offset_there small =
       says_offset (opened store progress image) other (active_sequence store + 1) (other_bank (active_bank store)) (record { offset = progress.end; length = manifest_length store }) slot_there small
 
   pub length_there : manifest_length store < 2 ^ 32 → manifest_length_of (opened store progress image) other ≡ manifest_length store
@@ -151,8 +151,8 @@ module _ (store : Store) (progress : Filling) (image : Image) (s : StandingView)
   abbrev now : Image
   now = opened store progress image
 
-  abbrev other_place : ℕ
-  other_place = other_slot (active_slot store)
+  abbrev other_offset : ℕ
+  other_offset = other_slot (active_slot store)
 
   abbrev lies : Lies store progress
   lies = lies_of store progress fits
@@ -169,7 +169,7 @@ module _ (store : Store) (progress : Filling) (image : Image) (s : StandingView)
   goes_on : (active_sequence store) < 4294967295
   goes_on = (store.keeps.begun (λ idle. filling_not_idle progress (sym filling ∙ idle))).goes_on
 
-  slot_apart : (k : ℕ) → k < 29 → ((active_slot store) + k < other_place) ⊎ (other_place + 29 ≤ (active_slot store) + k)
+  slot_apart : (k : ℕ) → k < 29 → ((active_slot store) + k < other_offset) ⊎ (other_offset + 29 ≤ (active_slot store) + k)
   slot_apart k below = slots_apart (active_slot store) k is_slot below
 
   slot_kept : (k : ℕ) → k < 29 → now ((active_slot store) + k) ≡ image ((active_slot store) + k)
@@ -182,16 +182,16 @@ module _ (store : Store) (progress : Filling) (image : Image) (s : StandingView)
       let there : (active_slot store) + 16 + k ≡ (active_slot store) + (16 + k) = omega arith in
       ap now there ∙ slot_kept (16 + k) (omega (arith, below)) ∙ ap image (sym there))) ∙ sym was.by.outline.sequence ∙ was.sequence
 
-  new_sequence : sequence_of now other_place ≡ (active_sequence store) + 1
+  new_sequence : sequence_of now other_offset ≡ (active_sequence store) + 1
   new_sequence = sequence_there store progress image lies goes_on
 
-  new_is_active : IsActiveSlot now other_place
+  new_is_active : IsActiveSlot now other_offset
   new_is_active = record {
     is_slot = other_is_slot (active_slot store) is_slot;
     gate = gate_there store progress image lies;
     greatest = λ slot is is_open. elim (which_slot (active_slot store) slot is_slot is) [
-      | inl e ↦ subst (λ (n : ℕ). sequence_of now n ≤ sequence_of now other_place) (sym e) (omega (arith, kept_sequence, new_sequence))
-      | inr e ↦ subst (λ (n : ℕ). sequence_of now n ≤ sequence_of now other_place) (sym e) (omega arith)
+      | inl e ↦ subst (λ (n : ℕ). sequence_of now n ≤ sequence_of now other_offset) (sym e) (omega (arith, kept_sequence, new_sequence))
+      | inr e ↦ subst (λ (n : ℕ). sequence_of now n ≤ sequence_of now other_offset) (sym e) (omega arith)
     ];
     tie = λ e a_open. elim is_slot [
       | inl a ↦ subst (λ (n : ℕ). sequence_of now n < sequence_of now slot_b) a (subst (λ (n : ℕ). sequence_of now (active_slot store) < sequence_of now n) e (omega (arith, kept_sequence, new_sequence)))
@@ -202,13 +202,13 @@ module _ (store : Store) (progress : Filling) (image : Image) (s : StandingView)
   size_small : store.size ≤ 67108864
   size_small = store.keeps.is_size.1
 
-  pub place_is : manifest_place_of now other_place ≡ progress.end
-  place_is = place_there store progress image lies (omega (arith, fits, size_small))
+  pub offset_is : manifest_offset_of now other_offset ≡ progress.end
+  offset_is = offset_there store progress image lies (omega (arith, fits, size_small))
 
-  pub length_is : manifest_length_of now other_place ≡ manifest_length store
+  pub length_is : manifest_length_of now other_offset ≡ manifest_length store
   length_is = length_there store progress image lies (omega (arith, fits, size_small))
 
-  bank_is : bank_of now other_place ≡ other_bank (active_bank store)
+  bank_is : bank_of now other_offset ≡ other_bank (active_bank store)
   bank_is = bank_there store progress image lies
 
   bank_at_work : bank_at s.identity.bank (other_bank s.bank) ≡ work_at store
@@ -223,36 +223,36 @@ module _ (store : Store) (progress : Filling) (image : Image) (s : StandingView)
   ends : length (bytes_given g) ≡ progress.end
   ends = has.end ∙ ap (λ (f : Filling). f.end) same_far
 
-  manifest_place : manifest_at now s.identity other_place ≡ work_at store + progress.end
-  manifest_place =
-      ap₂ (λ (b : ℕ) (p : ℕ). bank_at s.identity.bank b + p) bank_is place_is ∙ ap (λ (n : ℕ). bank_at n (other_bank (active_bank store)) + progress.end) was.size
+  manifest_offset : manifest_at now s.identity other_offset ≡ work_at store + progress.end
+  manifest_offset =
+      ap₂ (λ (b : ℕ) (p : ℕ). bank_at s.identity.bank b + p) bank_is offset_is ∙ ap (λ (n : ℕ). bank_at n (other_bank (active_bank store)) + progress.end) was.size
 
-  manifest_is : manifest_of now s.identity other_place ≡ concat (manifest_fields (entries_of (map load_of g.loads)))
+  manifest_is : manifest_of now s.identity other_offset ≡ concat (manifest_fields (entries_of (map load_of g.loads)))
   manifest_is =
-      ap₂ (λ (p : ℕ) (n : ℕ). range now p n) manifest_place length_is ∙ manifest_there store progress image lies
+      ap₂ (λ (p : ℕ) (n : ℕ). range now p n) manifest_offset length_is ∙ manifest_there store progress image lies
       ∙ manifest_bytes g.loads progress.loads store.body.items whole (has.loads ∙ ap (λ (f : Filling). f.loads) same_far) has.body
 
   -- with its gate open the other slot holds what was given
-  pub opened_stands : HoldsBy now other_place (configured s (loads_of g))
+  pub opened_stands : HoldsBy now other_offset (configured s (loads_of g))
   opened_stands = record {
     outline = record {
       has_active = record {
-        identity = subst (λ (bytes : List ℕ). SpelledAtFront identity bytes s.identity)
+        identity = subst (λ (bytes : List ℕ). SpelledAtStart identity bytes s.identity)
             (sym (same_range now image 0 75 (λ k below. before_kept store progress image lies (0 + k) (omega (arith, below)) (inl (omega (arith, below, lies.low)))))) was.by.outline.has_active.identity;
         is_active = new_is_active;
       };
       can_be = record {
         is_bank = omega (arith, bank_is, other_bank_less (active_bank store) (number_below store.active.bank));
         short = omega (arith, length_is, long_enough store progress in_range none);
-        within = omega (arith, place_is, length_is, fits, was.size);
+        within = omega (arith, offset_is, length_is, fits, was.size);
       };
       bank = ap other_bank was.bank ∙ sym bank_is;
       sequence = ap (λ (n : ℕ). n + 1) was.sequence ∙ sym new_sequence;
-      manifest = (manifest_spelling (manifest_of now s.identity other_place) (entries_of (map load_of g.loads))).1
+      manifest = (manifest_spelling (manifest_of now s.identity other_offset) (entries_of (map load_of g.loads))).1
           (given_fit g.loads (omega (arith, has.loads, has.few)) has.each whole, manifest_is);
-      lengths = same_total g.loads ∙ ap length (sym given) ∙ ends ∙ sym place_is;
+      lengths = same_total g.loads ∙ ap length (sym given) ∙ ends ∙ sym offset_is;
     };
     headers = headers_first g.loads;
     contents = same_contents g.loads ∙ sym given ∙ sym has.written ∙ ap (λ (f : Filling). range image (work_at store) f.end) same_far ∙ sym (contents_kept store progress image lies)
-        ∙ ap₂ (λ (p : ℕ) (n : ℕ). range now p n) (sym bank_at_work) (sym place_is);
+        ∙ ap₂ (λ (p : ℕ) (n : ℕ). range now p n) (sym bank_at_work) (sym offset_is);
   }

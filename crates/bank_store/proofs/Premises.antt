@@ -27,7 +27,7 @@ idle_fits store disk idle running holds = record {
 pub settled_works : (store : Store) (disk : DiskState) → IsIdle store → IsSettled disk → Fits store disk → Works store disk
 settled_works store disk idle settled fits = record {
   fits = fits;
-  near = λ image told left may place out. ap (λ (i : Image). i place) (same_image left image (sym (settled.only left may) ∙ told));
+  near = λ image told left may offset out. ap (λ (i : Image). i offset) (same_image left image (sym (settled.only left may) ∙ told));
   settled = λ sealed. absurd (idle_not_sealed sealed.0 (sym idle ∙ sealed.1));
 }
 

@@ -4,7 +4,7 @@ use Rattle.field_grammar.specs.Fields.{number_bytes}
 use Rattle.field_grammar.specs.NumberLaws.{length_number_bytes}
 use Rattle.disk_model.specs.Image.{Image, overlay}
 use Rattle.disk_layout.specs.Holds.{StandingView, HoldsBy}
-use Rattle.disk_layout.specs.Slots.{other_slot, manifest_place_of, manifest_length_of}
+use Rattle.disk_layout.specs.Slots.{other_slot, manifest_offset_of, manifest_length_of}
 use Rattle.disk_layout.specs.declared.active.ManifestRange.{ManifestRange}
 use Rattle.bank_store.specs.Store.{active_slot, IsFilling, IsSealedAt, with_gate_open, SameActive, work_at, manifest_length, with_manifest, with_slot}
 use Rattle.bank_store.specs.Given.{Given, HasGiven, configured, loads_of}
@@ -14,7 +14,7 @@ use Rattle.bank_store.specs.declared.stage.Stage.{Stage}
 use Rattle.bank_store.specs.declared.stage.Filling.{Filling}
 use Rattle.bank_store.proofs.Carried.{same_slot, stands_carried}
 use Rattle.bank_store.proofs.Near.{near_on, near_stands}
-use Rattle.bank_store.proofs.Opened.{slot_body_length, opened_stands, place_is, length_is}
+use Rattle.bank_store.proofs.Opened.{slot_body_length, opened_stands, offset_is, length_is}
 use Rattle.bank_store.proofs.Working.{bank_is_work, slot_is_work, near_overlay}
 
 -- the image as it is sealed
@@ -50,7 +50,7 @@ is_ready old new progress image now s g manifest rules sealed offset length fill
       stage = sealed;
       opens = subst (λ (i : Image). HoldsBy i (other_slot (active_slot new)) (configured s (loads_of g))) opened
           (subst (λ (n : ℕ). HoldsBy (with_gate_open old (sealed_image old progress image)) (other_slot n) (configured s (loads_of g))) slot (opened_stands old progress image s g was has filling none fits));
-      offset = ap₂ (λ (i : Image) (n : ℕ). manifest_place_of i (other_slot n)) (sym opened) (sym slot) ∙ place_is old progress image s g was has filling none fits ∙ sym offset;
+      offset = ap₂ (λ (i : Image) (n : ℕ). manifest_offset_of i (other_slot n)) (sym opened) (sym slot) ∙ offset_is old progress image s g was has filling none fits ∙ sym offset;
       length = ap₂ (λ (i : Image) (n : ℕ). manifest_length_of i (other_slot n)) (sym opened) (sym slot) ∙ length_is old progress image s g was has filling none fits ∙ sym length;
     }
   where

@@ -8,7 +8,7 @@ use Rattle.std.proofs.lemmas.List.Folds.{flat_map-map}
 use Rattle.std.proofs.lemmas.List.Elements.{All-nil, All-cons, All-head, All-tail}
 use Rattle.load_base.specs.Config.{FileView, LoadView}
 use Rattle.field_grammar.specs.Fields.{number_bytes}
-use Rattle.disk_layout.specs.Places.{most_loads}
+use Rattle.disk_layout.specs.Offsets.{most_loads}
 use Rattle.disk_layout.specs.Manifest.{LoadEntry, file_entry_fields, load_entry_fields, manifest_fields, FileFits, LoadFits, ManifestFits, total_length, size_of}
 use Rattle.disk_layout.specs.Contents.{file_entry_of, entry_of, entries_of, bytes_of, contents_of_loads, HeaderIsFirst}
 use Rattle.disk_layout.specs.declared.manifest.ManifestFile.{ManifestFile}

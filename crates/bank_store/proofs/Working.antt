@@ -23,9 +23,9 @@ use Rattle.bank_store.proofs.Moments.{adds_none, adds_less, adds_more, adds_join
 -- a part of the other bank
 pub bank_is_work : (store : Store) (at n : ℕ) → work_at store ≤ at → at + n ≤ work_at store + store.size → IsWork store at n
 bank_is_work store at n begins ends = record {
-  within = λ place out. elim (cases_lt place at) [
+  within = λ offset out. elim (cases_lt offset at) [
     | inl before ↦ inl before
-    | inr from ↦ elim (cases_lt place (at + n)) [
+    | inr from ↦ elim (cases_lt offset (at + n)) [
       | inl within ↦ absurd (out (inl (omega (arith, begins, from), omega (arith, ends, within))))
       | inr after ↦ inr after
     ]
@@ -35,9 +35,9 @@ bank_is_work store at n begins ends = record {
 -- a part of the other slot's body
 pub slot_is_work : (store : Store) (at n : ℕ) → store.other_is_open ≡ false → other_slot (active_slot store) < at → at + n ≤ other_slot (active_slot store) + 29 → IsWork store at n
 slot_is_work store at n shut begins ends = record {
-  within = λ place out. elim (cases_lt place at) [
+  within = λ offset out. elim (cases_lt offset at) [
     | inl before ↦ inl before
-    | inr from ↦ elim (cases_lt place (at + n)) [
+    | inr from ↦ elim (cases_lt offset (at + n)) [
       | inl within ↦ absurd (out (inr (shut, omega (arith, begins, from), omega (arith, ends, within))))
       | inr after ↦ inr after
     ]
@@ -68,7 +68,7 @@ holds_still store first disk image s was near =
 
 -- what an installation writes leaves the rest as it was
 pub near_overlay : (store : Store) (image : Image) (at : ℕ) (bytes : List ℕ) → IsWork store at (length bytes) → SameButForWork store image (overlay image at bytes)
-near_overlay store image at bytes work place out = overlay_outside image at bytes place (work.within place out)
+near_overlay store image at bytes work offset out = overlay_outside image at bytes offset (work.within offset out)
 
 -- ---- after a call that is answered
 
@@ -120,6 +120,6 @@ keeps_written old new before after result active gate running tells here near sa
         fits = fits;
         works = λ works. works_on old new before after before active gate tells here (λ image told. near image works told) settled fits works;
         holds = holds;
-        rest = λ image told now later place out. rest_near old image now place (same image now told later) out;
+        rest = λ image told now later offset out. rest_near old image now offset (same image now told later) out;
       };
     }

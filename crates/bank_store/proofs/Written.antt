@@ -20,10 +20,10 @@ shut_written store image at opened is = rw opened (ap (λ (n : ℕ). told_as (ov
 
 -- no bytes change nothing
 nothing_laid : (image : Image) (at : ℕ) (bytes : List ℕ) → length bytes ≡ 0 → image ≡ overlay image at bytes
-nothing_laid image at bytes none = λ i place. sym (overlay_outside image at bytes place (apart place)) i
+nothing_laid image at bytes none = λ i offset. sym (overlay_outside image at bytes offset (apart offset)) i
   where
-    apart : (place : ℕ) → (place < at) ⊎ (at + length bytes ≤ place)
-    apart place = elim (cases_lt place at) [ inl before ↦ inl before | inr from ↦ inr (omega (arith, from, none)) ]
+    apart : (offset : ℕ) → (offset < at) ⊎ (at + length bytes ≤ offset)
+    apart offset = elim (cases_lt offset at) [ inl before ↦ inl before | inr from ↦ inr (omega (arith, from, none)) ]
 
 pub no_piece : (store : Store) (progress : Filling) (image : Image) (bytes : List ℕ) → length bytes ≡ 0 → told_as image ≡ told_as (with_piece store progress bytes image)
 no_piece store progress image bytes none = ap told_as (nothing_laid image (work_at store + progress.end) bytes none)

@@ -1,7 +1,7 @@
 -- What each store keeps to (docs/DISK.md).
 use Rattle.std.specs.Prelude.{◌≡◌, ◌≢◌, ℕ, ◌+◌, ◌*◌, ◌<◌, ◌≤◌, Bool, false, [], length}
 use Rattle.load_base.specs.Listed.{Listed}
-use Rattle.disk_layout.specs.Places.{IsBankSize, most_loads, most_files, longest_manifest}
+use Rattle.disk_layout.specs.Offsets.{IsBankSize, most_loads, most_files, longest_manifest}
 use Rattle.disk_layout.specs.Slots.{IsManifestRange}
 use Rattle.disk_layout.specs.declared.active.Active.{Active}
 use Rattle.disk_layout.specs.declared.active.ManifestRange.{ManifestRange}

@@ -4,7 +4,7 @@ use Rattle.std.specs.Option.{ForSome}
 use Rattle.load_base.specs.Config.{LoadView}
 use Rattle.disk_model.specs.Image.{Image}
 use Rattle.disk_model.specs.State.{DiskState, IsSettled}
-use Rattle.disk_layout.specs.Slots.{IsOpen, other_slot, manifest_place_of, manifest_length_of}
+use Rattle.disk_layout.specs.Slots.{IsOpen, other_slot, manifest_offset_of, manifest_length_of}
 use Rattle.disk_layout.specs.Holds.{StandingView, HoldsBy}
 use Rattle.disk_layout.specs.declared.active.ManifestRange.{ManifestRange}
 use Rattle.bank_store.specs.DiskWrites.{IsRunning}
@@ -26,7 +26,7 @@ pub record HoldsFor (store : Store) (image : Image) (s : StandingView) : Type 0 
   pub bank : s.bank ≡ (active_bank store)
   pub sequence : s.sequence ≡ (active_sequence store)
   pub size : s.identity.bank ≡ store.size
-  pub offset : manifest_place_of image (active_slot store) ≡ store.active.manifest.offset
+  pub offset : manifest_offset_of image (active_slot store) ≡ store.active.manifest.offset
   pub length : manifest_length_of image (active_slot store) ≡ store.active.manifest.length
   pub gate : GateIsAsKept store image
 
@@ -35,7 +35,7 @@ pub record IsReady (store : Store) (image : Image) (s : StandingView) (loads : L
   pub manifest : ManifestRange
   pub stage : IsSealedAt store manifest
   pub opens : HoldsBy (with_gate_open store image) (other_slot (active_slot store)) (configured s loads)
-  pub offset : manifest_place_of (with_gate_open store image) (other_slot (active_slot store)) ≡ manifest.offset
+  pub offset : manifest_offset_of (with_gate_open store image) (other_slot (active_slot store)) ≡ manifest.offset
   pub length : manifest_length_of (with_gate_open store image) (other_slot (active_slot store)) ≡ manifest.length
 
 -- what the disk holds of an installation at this stage: where contents are coming, all that was given; where it is
@@ -60,13 +60,13 @@ pub record Fits (store : Store) (disk : DiskState) : Type 0 where
 
 -- an offset that an installation writes: in the other bank, or, while the other slot is kept as shut, in its body
 abbrev pub MayChange : Store → ℕ → Type 0
-MayChange store place =
-    ((work_at store ≤ place) × (place < work_at store + store.size))
-    ⊎ ((store.other_is_open ≡ false) × (other_slot (active_slot store) < place) × (place < other_slot (active_slot store) + 29))
+MayChange store offset =
+    ((work_at store ≤ offset) × (offset < work_at store + store.size))
+    ⊎ ((store.other_is_open ≡ false) × (other_slot (active_slot store) < offset) × (offset < other_slot (active_slot store) + 29))
 
 -- two images differ only where an installation writes
 abbrev pub SameButForWork : Store → Image → Image → Type 0
-SameButForWork store one other = (place : ℕ) → ¬ MayChange store place → other place ≡ one place
+SameButForWork store one other = (offset : ℕ) → ¬ MayChange store offset → other offset ≡ one offset
 
 -- The premise of each promise on power losses, which each call keeps: the store fits the disk; what a power loss may
 -- leave differs from what is read only where an installation writes; and while the store is sealed, nothing else may be

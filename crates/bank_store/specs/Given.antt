@@ -7,7 +7,7 @@ use Rattle.load_base.specs.Name.{IsName}
 use Rattle.load_base.specs.PartText.{IsPartText}
 use Rattle.field_grammar.specs.Fields.{number_fields}
 use Rattle.disk_model.specs.Image.{Image, range}
-use Rattle.disk_layout.specs.Places.{most_loads, most_files}
+use Rattle.disk_layout.specs.Offsets.{most_loads, most_files}
 use Rattle.disk_layout.specs.Manifest.{file_entry_fields}
 use Rattle.disk_layout.specs.Contents.{file_entry_of, bytes_of, first_name}
 use Rattle.disk_layout.specs.Holds.{StandingView}

@@ -4,7 +4,7 @@ use Rattle.std.specs.Option.{ForSome}
 use Rattle.load_base.specs.Config.{LoadView}
 use Rattle.disk_model.specs.Image.{Image}
 use Rattle.disk_model.specs.State.{DiskState, IsSettled}
-use Rattle.disk_layout.specs.Slots.{IsOpen, other_slot, manifest_place_of, manifest_length_of}
+use Rattle.disk_layout.specs.Slots.{IsOpen, other_slot, manifest_offset_of, manifest_length_of}
 use Rattle.disk_layout.specs.Holds.{StandingView, HoldsConfig, HoldsBy}
 use Rattle.bank_store.specs.DiskWrites.{AddsOnly, IsAnswered, IsRunning}
 use Rattle.bank_store.specs.Store.{active_slot, work_at, IsSealed, IsFilling, IsPrepared, SameActive, Switches, nothing_filled, bytes_appended, manifest_length, with_gate_shut, with_piece, with_manifest, with_slot, with_gate_open}
@@ -20,12 +20,12 @@ IsOldOrNew old new image = HoldsConfig image old ⊎ HoldsConfig image new
 
 -- an offset in the other bank or in the other slot
 abbrev pub IsBeside : Store → ℕ → Type 0
-IsBeside store place =
-    ((work_at store ≤ place) × (place < work_at store + store.size)) ⊎ ((other_slot (active_slot store) ≤ place) × (place < other_slot (active_slot store) + 29))
+IsBeside store offset =
+    ((work_at store ≤ offset) × (offset < work_at store + store.size)) ⊎ ((other_slot (active_slot store) ≤ offset) × (offset < other_slot (active_slot store) + 29))
 
 -- at each other offset the same is read as before
 abbrev pub LeavesRest : Store → DiskState → DiskState → Type 0
-LeavesRest store old new = ForSome old.reads (λ image. ForSome new.reads (λ now. (place : ℕ) → ¬ IsBeside store place → now place ≡ image place))
+LeavesRest store old new = ForSome old.reads (λ image. ForSome new.reads (λ now. (offset : ℕ) → ¬ IsBeside store offset → now offset ≡ image offset))
 
 -- ---- what each call keeps
 
@@ -71,7 +71,7 @@ KeepsNear store old new =
 pub record IsShutFor (store : Store) (image : Image) (s : StandingView) : Type 0 where
   pub by : HoldsBy image (active_slot store) s
   pub shut : ¬ IsOpen image (other_slot (active_slot store))
-  pub offset : manifest_place_of image (active_slot store) ≡ store.active.manifest.offset
+  pub offset : manifest_offset_of image (active_slot store) ≡ store.active.manifest.offset
   pub length : manifest_length_of image (active_slot store) ≡ store.active.manifest.length
 
 -- ---- what a call does that answers Ok

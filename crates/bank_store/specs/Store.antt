@@ -3,7 +3,7 @@ use Rattle.std.specs.Prelude.{◌≡◌, ℕ, ◌+◌, ◌-◌, ◌<◌, ◌≤�
 use Rattle.load_base.specs.Host.{longest_file}
 use Rattle.field_grammar.specs.Fields.{number_bytes}
 use Rattle.disk_model.specs.Image.{Image, overlay}
-use Rattle.disk_layout.specs.Places.{bank_at, longest_manifest, most_loads}
+use Rattle.disk_layout.specs.Offsets.{bank_at, longest_manifest, most_loads}
 use Rattle.disk_layout.specs.Slots.{slot_offset, other_slot, bank_number, other_bank, slot_body_bytes}
 use Rattle.disk_layout.specs.declared.active.Active.{Active}
 use Rattle.disk_layout.specs.declared.active.ManifestRange.{ManifestRange}
@@ -128,9 +128,9 @@ manifest_length store = length store.body.items + 2
 
 -- what the other slot says after its gate, from offset 16 on, once the manifest stands there with so many bytes: the next
 -- sequence number, the other bank, and the manifest's offset and length
-abbrev pub slot_body : Store → (place length : ℕ) → List ℕ
-slot_body store place size =
-    slot_body_bytes (active_sequence store + 1) (other_bank (active_bank store)) (record { offset = place; length = size })
+abbrev pub slot_body : Store → (offset length : ℕ) → List ℕ
+slot_body store offset size =
+    slot_body_bytes (active_sequence store + 1) (other_bank (active_bank store)) (record { offset = offset; length = size })
 
 -- the image with 0 in the other slot's gate, where that is open
 abbrev pub with_gate_shut : Store → Image → Image
@@ -145,8 +145,8 @@ abbrev pub with_manifest : Store → Filling → Image → Image
 with_manifest store progress image = overlay (overlay image (work_at store + progress.end) (number_bytes 2 progress.loads)) (work_at store + progress.end + 2) store.body.items
 
 -- the image with the other slot's body
-abbrev pub with_slot : Store → (place length : ℕ) → Image → Image
-with_slot store place size image = overlay image (other_slot (active_slot store) + 16) (slot_body store place size)
+abbrev pub with_slot : Store → (offset length : ℕ) → Image → Image
+with_slot store offset size image = overlay image (other_slot (active_slot store) + 16) (slot_body store offset size)
 
 -- the image with the other slot's gate open
 abbrev pub with_gate_open : Store → Image → Image

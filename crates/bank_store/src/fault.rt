@@ -22,7 +22,7 @@ pub enum StoreFault {
     #[error("the disk failed")]
     DiskFailed,
     /// Out of memory.
-    #[error("memory is wanting")]
+    #[error("out of memory")]
     Memory,
 }
 

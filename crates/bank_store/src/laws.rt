@@ -5,7 +5,9 @@ ghost use Rattle.disk_model.specs.Moments.{LeavesOnly};
 ghost use Rattle.disk_model.specs.State.{IsSettled};
 ghost use Rattle.disk_layout.specs.DiskReads.{RunsOn};
 ghost use Rattle.disk_layout.specs.Holds.{StandingView, HoldsConfig};
+ghost use Rattle.disk_layout.specs.declared.identity.Identity.{Identity};
 ghost use Rattle.bank_store.specs.DiskWrites.{AddsOnly, IsRunning};
+ghost use Rattle.bank_store.specs.Formatting.{LeavesOldOrFormatted};
 ghost use Rattle.bank_store.specs.Store.{IsIdle};
 ghost use Rattle.bank_store.specs.Fits.{HoldsFor, Fits, Works, InstallsBeside};
 ghost use Rattle.bank_store.specs.Keeps.{Continues, IsOldOrNew};
@@ -13,10 +15,11 @@ ghost use Rattle.bank_store.specs.declared.store.Store.{Store};
 
 use disk_model::Disk;
 
-/// A store in which no installation has begun fits a disk that runs and holds a configuration as the store
-/// keeps it, and works on it where a power loss can leave nothing but what is read. Where a store works beside
-/// a configuration, each image that a power loss may leave now holds it; and calls that add only what holds
-/// it, or what holds it or another, leave only that since their start.
+/// A store in which no installation has begun fits a disk that runs and holds a configuration as
+/// the store keeps it, and works on it where a power loss can leave nothing but what is read. Where
+/// a store works beside a configuration, each image that a power loss may leave now holds it; and
+/// calls that add only what holds it, or what holds it or another, leave only that since their
+/// start.
 pub fn a_settled_disk_works<K: Disk>()
     ensures fits { (store : Store) (disk : K) → IsIdle store → IsRunning (K.state disk)
         → ForSome (K.state disk).reads (λ image. (s : StandingView) × HoldsFor store image s)
@@ -36,9 +39,9 @@ pub fn a_settled_disk_works<K: Disk>()
         → LeavesOnly (K.state old).clock (IsOldOrNew s next) (K.state new) }
 {}
 
-/// A store goes on to fit a disk, and to work on it, over a call of the disk after which it reads the same and
-/// runs, as a read does, where a power loss can leave nothing new; and over the store's own calls that make
-/// none of the disk: `prepare`, `start_load`, `end_file` and `abandon`.
+/// A store goes on to fit a disk, and to work on it, over a call of the disk after which it reads
+/// the same and runs, as a read does, where a power loss can leave nothing new; and over the
+/// store's own calls that make none of the disk: `prepare`, `start_load`, `end_file` and `abandon`.
 pub fn a_store_goes_on_fitting<K: Disk>()
     ensures read_fits { (store : Store) (old new : K) → RunsOn (K.state old) (K.state new)
         → Fits store (K.state old) → Fits store (K.state new) }
@@ -49,4 +52,11 @@ pub fn a_store_goes_on_fitting<K: Disk>()
         → Fits before (K.state disk) → Fits after (K.state disk) }
     ensures continued_works { (before after : Store) (disk : K) → Continues before after
         → Works before (K.state disk) → Works after (K.state disk) }
+{}
+
+/// Before formatting begins a power loss leaves what there was.
+// For the proof: does nothing.
+pub fn an_unformatted_disk_is_as_it_was<K: Disk>()
+    ensures unchanged { (disk : K) (id : Identity)
+        → LeavesOldOrFormatted id (K.state disk) (K.state disk) }
 {}

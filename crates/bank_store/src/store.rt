@@ -5,7 +5,7 @@ ghost use Rattle.load_base.specs.Config.{LoadView};
 ghost use Rattle.disk_model.specs.Image.{Image};
 ghost use Rattle.disk_model.specs.Moments.{LeavesOnly};
 ghost use Rattle.disk_model.specs.State.{HasCause};
-ghost use Rattle.disk_layout.specs.Places.{IsBankSize, most_files};
+ghost use Rattle.disk_layout.specs.Offsets.{IsBankSize, most_files};
 ghost use Rattle.disk_layout.specs.Holds.{StandingView};
 ghost use Rattle.bank_store.specs.declared.fault.StoreFault.TheVariants.{BankFull, SequenceSpent, Memory};
 ghost use Rattle.bank_store.specs.declared.stage.Filling.{Filling};
@@ -15,7 +15,7 @@ ghost use Rattle.bank_store.specs.Bounds.{IsStore};
 use crate::fault::StoreFault;
 use crate::stage::{Filling, Stage};
 use disk_layout::numbers::{u8_bytes, u16_bytes, u32_bytes};
-use disk_layout::places::{LONGEST_MANIFEST, OPEN, SEQUENCE_IN_SLOT};
+use disk_layout::offsets::{LONGEST_MANIFEST, OPEN, SEQUENCE_IN_SLOT};
 use disk_layout::{Active, ManifestRange, SlotFields};
 use disk_model::{Disk, DiskFault};
 use load_base::{Bytes, Name, PartText};
@@ -48,8 +48,8 @@ impl Store {
     ghost use Rattle.bank_store.specs.DiskWrites.{WritesDisk, AddsOnly, TimeGoesOn, IsAnswered, IsRunning};
     ghost use Rattle.disk_layout.specs.Slots.{other_slot};
 
-    /// A store for a disk with banks of `size` bytes on which this is active, with a manifest that lies in its
-    /// bank, and whose other slot is open or not. It takes no memory yet.
+    /// A store for a disk with banks of `size` bytes on which this is active, with a manifest that
+    /// lies in its bank, and whose other slot is open or not. It takes no memory yet.
     pub fn new(alloc: Global, size: u32, active: Active, other_is_open: bool) -> Store
         requires size { IsBankSize size }
         requires manifest { IsManifestRange size active.manifest }
@@ -292,9 +292,9 @@ impl Store {
         disk.write(at + 2, self.body.as_slice())
     }
 
-    // Writes the body of the other slot, all but its gate: that its bank is active with the next sequence number, and where
-    // in it the manifest begins and how many bytes it has.
-    fn write_slot<K: Disk>(&self, disk: &mut K, place: u32, length: u32) -> Result<(), DiskFault>
+    // Writes the body of the other slot, all but its gate: that its bank is active with the next
+    // sequence number, and where in it the manifest begins and how many bytes it has.
+    fn write_slot<K: Disk>(&self, disk: &mut K, offset: u32, length: u32) -> Result<(), DiskFault>
         requires shut { is_other_open self.now ≡ false }
         requires goes_on { active_sequence self.now < 4294967295 }
         requires running { IsRunning (K.state disk.old) }
@@ -302,10 +302,10 @@ impl Store {
         ensures cause { HasCause (K.state disk.old) (K.state disk.new) result }
         ensures near { KeepsNear self.now (K.state disk.old) (K.state disk.new) }
         ensures written { OnOk result (ForSome (K.state disk.old).reads
-            (λ image. (K.state disk.new).reads ≡ Some (with_slot self.now place length image))) }
+            (λ image. (K.state disk.new).reads ≡ Some (with_slot self.now offset length image))) }
     {
         let at = self.other() + SEQUENCE_IN_SLOT;
-        disk.write(at, &self.slot_bytes(place, length))
+        disk.write(at, &self.slot_bytes(offset, length))
     }
 
     // The body of the other slot: the next sequence number, the other bank, and the manifest's range in it.
@@ -323,8 +323,8 @@ impl Store {
         says.encode_body()
     }
 
-    /// Opens the gate of the other slot and syncs. With Ok the new configuration is active, and the store is that
-    /// of the disk on which it does.
+    /// Opens the gate of the other slot and syncs. With Ok the new configuration is active, and the
+    /// store is that of the disk on which it does.
     pub fn activate<K: Disk>(&mut self, disk: &mut K) -> Result<(), StoreFault>
         requires sealed { IsSealed self.old }
         requires running { IsRunning (K.state disk.old) }
@@ -364,8 +364,8 @@ impl Store {
         Ok(())
     }
 
-    /// Gives an installation up. What was written stays in the other bank and is written over by the next one;
-    /// the other slot stays shut. Where none has begun, nothing changes.
+    /// Gives an installation up. What was written stays in the other bank and is written over by
+    /// the next one; the other slot stays shut. Where none has begun, nothing changes.
     #[tactic(auto, using(crate::proofs::Continuing::continues_idle))]
     pub fn abandon(&mut self)
         ensures idle { IsIdle self.new }
@@ -412,7 +412,7 @@ impl Store {
 
     // The offset of the other bank.
     fn work(&self) -> u32
-        ensures place { result ≡ work_at self.now }
+        ensures offset { result ≡ work_at self.now }
         ensures within { result + bank_size_of self.now ≤ 134225920 }
     {
         self.active.bank.other().offset(self.size)

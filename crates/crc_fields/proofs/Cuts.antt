@@ -20,13 +20,13 @@ pub after_one : (width polynomial register byte : ℕ) → register_after width 
 unfolding register_after register_after_bits bits_of
 after_one width polynomial register byte = ap (λ (bits : List ℕ). register_after_bits width polynomial register bits) (append-nil (lowest_bits 8 byte))
 
--- a loop's step over a front of the bytes that are left
-pub after_front : (width polynomial register n : ℕ) (bytes : List ℕ) {front behind : List ℕ} → front ≡ take n bytes → behind ≡ drop n bytes
-    → register_after width polynomial (register_after width polynomial register front) behind ≡ register_after width polynomial register bytes
-after_front width polynomial register n bytes {front} {behind} is_front is_behind =
-    after_append width polynomial register front behind
+-- a loop's step over a prefix of the bytes that are left
+pub after_prefix : (width polynomial register n : ℕ) (bytes : List ℕ) {prefix behind : List ℕ} → prefix ≡ take n bytes → behind ≡ drop n bytes
+    → register_after width polynomial (register_after width polynomial register prefix) behind ≡ register_after width polynomial register bytes
+after_prefix width polynomial register n bytes {prefix} {behind} is_prefix is_behind =
+    after_append width polynomial register prefix behind
     ∙ ap (λ (all : List ℕ). register_after width polynomial register all)
-    (ap (λ (first : List ℕ). first ++ behind) is_front ∙ ap (λ (rest : List ℕ). take n bytes ++ rest) is_behind ∙ take-append-drop n bytes)
+    (ap (λ (first : List ℕ). first ++ behind) is_prefix ∙ ap (λ (rest : List ℕ). take n bytes ++ rest) is_behind ∙ take-append-drop n bytes)
 
 -- a loop's step over bytes
 pub after_more : (width polynomial register : ℕ) (bytes : List ℕ) (i : ℕ) → i < length bytes

@@ -7,7 +7,7 @@ use Rattle.std.proofs.Math.Nat.{zero-div, zero-mul, mul_comm, mul-le-mul_left, p
 use Rattle.crc_fields.specs.CheckSums.{lowest_bits, register_after_bit, register_after_bits}
 use Rattle.crc_fields.specs.WidthLaws.{after_bit_fits}
 
--- the two middle ones of four change places
+-- the two middle ones of four change offsets
 xor_middle : (a b c d : ℕ) → bit_xor (bit_xor a b) (bit_xor c d) ≡ bit_xor (bit_xor a c) (bit_xor b d)
 xor_middle a b c d =
     xor_assoc a b (bit_xor c d)

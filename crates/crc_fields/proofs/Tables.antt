@@ -1,4 +1,4 @@
--- The tables have what they should have, at each of their 256 places.
+-- The tables have what they should have, at each of their 256 offsets.
 use Rattle.std.proofs.Common.{◌≡◌, ℕ, ◌+◌, List, [], ◌∷◌, length, w16, w32, ◌*◌, ◌/◌, ◌%◌, ◌^◌, ◌<◌, get_or, map, refl, sym, ◌∙◌, ap, lit<, arith}
 use Rattle.std.specs.Prelude.{bit_xor}
 use Rattle.std.specs.List.{range_with_len}
@@ -24,7 +24,7 @@ computed_32 : TABLE_32 ≡ map (entry_of 32 0x04C11DB7) (range_with_len 0 256)
 unfolding entry_of register_after_bits register_after_bit lowest_bits
 computed_32 = refl
 
--- the same where a zero byte comes behind the byte
+-- the same where a zero byte comes after the byte
 earlier_of : (width polynomial byte : ℕ) → ℕ
 earlier_of width polynomial byte = register_after_bits width polynomial 0 (lowest_bits 16 (byte * 256))
 

@@ -1,5 +1,5 @@
-//! The two check sums of this project's formats (docs/FORMATS.md), over whole bytes or over pieces: CRC-16/IBM-3740
-//! and CRC-32/BZIP2, as catalogues of check sums name them.
+//! The two check sums of this project's formats (docs/FORMATS.md), over whole bytes or over pieces:
+//! CRC-16/IBM-3740 and CRC-32/BZIP2, as catalogues of check sums name them.
 #![tactic(auto)]
 
 pub mod bitwise;
@@ -38,8 +38,10 @@ pub fn check_sum_laws()
     ensures cut { (width polynomial register : ℕ) (first rest : List ℕ) →
         register_after width polynomial (register_after width polynomial register first) rest
         ≡ register_after width polynomial register (first ++ rest) }
-    ensures crc16_joined { (first rest : List ℕ) → crc16_after (crc16_of first) rest ≡ crc16_of (first ++ rest) }
-    ensures crc32_joined { (first rest : List ℕ) → crc32_after (crc32_of first) rest ≡ crc32_of (first ++ rest) }
+    ensures crc16_joined { (first rest : List ℕ)
+        → crc16_after (crc16_of first) rest ≡ crc16_of (first ++ rest) }
+    ensures crc32_joined { (first rest : List ℕ)
+        → crc32_after (crc32_of first) rest ≡ crc32_of (first ++ rest) }
 
     ensures crc16_fits { (bytes : List ℕ) → crc16_of bytes < 2 ^ 16 }
     ensures crc32_fits { (bytes : List ℕ) → crc32_of bytes < 2 ^ 32 }

@@ -5,9 +5,9 @@ ghost use Rattle.crc_fields.specs.CheckSums.{crc16_of, crc32_of, crc16_after, cr
 use crate::{table_16, table_32};
 use std::marker::Model;
 
-/// A CRC-16 over bytes that come in pieces: polynomial 0x1021, from 0xFFFF, the most significant bit first, no
-/// change at the end (this project's check sums, docs/FORMATS.md). Contracts see it as the check sum of the bytes
-/// given so far.
+/// A CRC-16 over bytes that come in pieces: polynomial 0x1021, from 0xFFFF, the most significant
+/// bit first, no change at the end (this project's check sums, docs/FORMATS.md). Contracts see it
+/// as the check sum of the bytes given so far.
 #[derive(Drop)]
 pub struct Crc16 {
     sum: u16,
@@ -34,7 +34,8 @@ impl Crc16 {
     #[tactic(auto, using(crate::proofs::Cuts::crc16_joined))]
     pub fn update(&mut self, bytes: &[u8])
         ensures next { self.new ≡ crc16_after self.old bytes.now }
-        ensures joined { (given : List ℕ) → self.old ≡ crc16_of given → self.new ≡ crc16_of (given ++ bytes.now) }
+        ensures joined { (given : List ℕ) → self.old ≡ crc16_of given
+            → self.new ≡ crc16_of (given ++ bytes.now) }
     {
         self.sum = table_16::crc16_after(self.sum, bytes);
     }
@@ -47,9 +48,9 @@ impl Crc16 {
     }
 }
 
-/// A CRC-32 over bytes that come in pieces: polynomial 0x04C11DB7, from 0xFFFFFFFF, the most significant bit first,
-/// all bits inverted at the end (this project's check sums, docs/FORMATS.md). Contracts see it as the check sum of
-/// the bytes given so far.
+/// A CRC-32 over bytes that come in pieces: polynomial 0x04C11DB7, from 0xFFFFFFFF, the most
+/// significant bit first, all bits inverted at the end (this project's check sums,
+/// docs/FORMATS.md). Contracts see it as the check sum of the bytes given so far.
 #[derive(Drop)]
 pub struct Crc32 {
     sum: u32,
@@ -76,7 +77,8 @@ impl Crc32 {
     #[tactic(auto, using(crate::proofs::Cuts::crc32_joined))]
     pub fn update(&mut self, bytes: &[u8])
         ensures next { self.new ≡ crc32_after self.old bytes.now }
-        ensures joined { (given : List ℕ) → self.old ≡ crc32_of given → self.new ≡ crc32_of (given ++ bytes.now) }
+        ensures joined { (given : List ℕ) → self.old ≡ crc32_of given
+            → self.new ≡ crc32_of (given ++ bytes.now) }
     {
         self.sum = table_32::crc32_after(self.sum, bytes);
     }

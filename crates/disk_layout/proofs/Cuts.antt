@@ -78,17 +78,17 @@ cut_entries (l ∷ ls) bytes enough =
     ap₂ (λ (e : LoadEntry) (es : List LoadEntry). e ∷ es) (entry_of_cut l bytes (omega (arith, both, enough)))
     (cut_entries ls (drop (size_of l.files) bytes) (omega (arith, length-drop (size_of l.files) bytes, both, enough)))
 
-cut_front : (ls : List LoadEntry) (bytes : List ℕ) → total_length ls ≤ length bytes → contents_of_loads (cut ls bytes) ≡ take (total_length ls) bytes
-cut_front [] bytes enough = refl
-cut_front (l ∷ ls) bytes enough =
+cut_prefix : (ls : List LoadEntry) (bytes : List ℕ) → total_length ls ≤ length bytes → contents_of_loads (cut ls bytes) ≡ take (total_length ls) bytes
+cut_prefix [] bytes enough = refl
+cut_prefix (l ∷ ls) bytes enough =
     let both = total_length-cons l ls in
     let first = cut_files_bytes l.files bytes (omega (arith, both, enough)) in
-    let rest = cut_front ls (drop (size_of l.files) bytes) (omega (arith, length-drop (size_of l.files) bytes, both, enough)) in
+    let rest = cut_prefix ls (drop (size_of l.files) bytes) (omega (arith, length-drop (size_of l.files) bytes, both, enough)) in
     contents_of_loads-cons (cut_load l bytes) (cut ls (drop (size_of l.files) bytes)) ∙ ap₂ (λ (a : List ℕ) (b : List ℕ). a ++ b) first rest
     ∙ sym (take-add (size_of l.files) (total_length ls) bytes) ∙ ap (λ (n : ℕ). take n bytes) (sym both)
 
 pub cut_contents : (ls : List LoadEntry) (bytes : List ℕ) → total_length ls ≡ length bytes → contents_of_loads (cut ls bytes) ≡ bytes
-cut_contents ls bytes exact = cut_front ls bytes (omega (arith, exact)) ∙ ap (λ (n : ℕ). take n bytes) exact ∙ take-length bytes
+cut_contents ls bytes exact = cut_prefix ls bytes (omega (arith, exact)) ∙ ap (λ (n : ℕ). take n bytes) exact ∙ take-length bytes
 
 pub cut_headers : (ls : List LoadEntry) (bytes : List ℕ) → HeadersAreFirst (cut ls bytes)
 cut_headers [] bytes = All-nil (λ (l : LoadView). HeaderIsFirst l)

@@ -4,7 +4,7 @@ use Rattle.std.specs.Prelude.{IfErr}
 use Rattle.field_grammar.specs.Grammar.{IsBytes, Spelled}
 use Rattle.field_grammar.specs.Answers.{answer, Gives}
 use Rattle.disk_layout.specs.Manifest.{ManifestFits, manifest, manifest_view}
-use Rattle.disk_layout.specs.ManifestLaws.{manifest_found, manifest_faulty, fault_has_place}
+use Rattle.disk_layout.specs.ManifestLaws.{manifest_found, manifest_faulty, fault_has_offset}
 use Rattle.disk_layout.specs.ManifestSpelling.{manifest_spelling}
 use Rattle.disk_layout.specs.declared.manifest.Manifest.{Manifest}
 use Rattle.disk_layout.specs.declared.manifest.ManifestFault.{ManifestFault}
@@ -23,18 +23,18 @@ pub is_fitting : (bytes : List ℕ) (result : Result Manifest ManifestFault) →
 is_fitting bytes (Ok m) fit gives = ((manifest_spelling bytes (manifest_view m)).0 (manifest_found bytes (manifest_view m) fit gives)).0
 is_fitting bytes (Err fault) fit gives = tt
 
-wrong_or_memory : (place : ℕ) → Wrong place ≡ Memory → ⊥
-wrong_or_memory place e = cc
+wrong_or_memory : (offset : ℕ) → Wrong offset ≡ Memory → ⊥
+wrong_or_memory offset e = cc
 
 -- what was refused is a fault, or out of memory
 pub is_refused : (bytes : List ℕ) (result : Result Manifest ManifestFault) → IsBytes bytes → GivesManifest bytes result → IfErr result (λ fault. RefusesManifestBytes bytes fault)
 is_refused bytes (Ok m) fit gives = tt
 is_refused bytes (Err Memory) fit gives = tt
-is_refused bytes (Err (Wrong place)) fit (inl wants) = absurd (wrong_or_memory place wants)
-is_refused bytes (Err (Wrong place)) fit (inr refused) =
-    let faulty = manifest_faulty bytes place fit refused in
-    let (other, is, within) = fault_has_place bytes (Wrong place) faulty in
-    (faulty, same place other is within)
+is_refused bytes (Err (Wrong offset)) fit (inl wants) = absurd (wrong_or_memory offset wants)
+is_refused bytes (Err (Wrong offset)) fit (inr refused) =
+    let faulty = manifest_faulty bytes offset fit refused in
+    let (other, is, within) = fault_has_offset bytes (Wrong offset) faulty in
+    (faulty, same offset other is within)
   where
     same : (p q : ℕ) → Wrong p ≡ Wrong q → q ≤ length bytes → p ≤ length bytes
     same p q e within = let here : p ≡ q = cc in rw here within

@@ -3,7 +3,7 @@ use Rattle.std.proofs.Common.{◌≡◌, ℕ, ◌+◌, ◌-◌, ◌<◌, ◌≤�
 use Rattle.byteorder.specs.Endian.{big_number}
 use Rattle.disk_model.specs.Image.{Image, range}
 use Rattle.disk_model.specs.RangeLaws.{byte_of_range, take_range, drop_range}
-use Rattle.disk_layout.specs.Places.{number_at}
+use Rattle.disk_layout.specs.Offsets.{number_at}
 
 -- the number in so many bytes of what was read, and in the image
 pub number_read : (bytes : List ℕ) (image : Image) (at n k size : ℕ) → bytes ≡ range image at n → k + size ≤ n
@@ -19,6 +19,6 @@ pub byte_read : (bytes : List ℕ) (image : Image) (at n k : ℕ) → bytes ≡ 
 byte_read bytes image at n k is within = ap (λ (l : List ℕ). get_or l k 0) is ∙ byte_of_range image at n k within
 
 -- the number in all bytes of what was read, and in the image
-pub front_number_read : (bytes : List ℕ) (image : Image) (at n : ℕ) → bytes ≡ range image at n → big_number n bytes ≡ number_at n image at
+pub prefix_number_read : (bytes : List ℕ) (image : Image) (at n : ℕ) → bytes ≡ range image at n → big_number n bytes ≡ number_at n image at
 unfolding number_at
-front_number_read bytes image at n is = ap (λ (l : List ℕ). big_number n l) is
+prefix_number_read bytes image at n is = ap (λ (l : List ℕ). big_number n l) is

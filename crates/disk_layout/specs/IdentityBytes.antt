@@ -1,6 +1,6 @@
 -- The bytes of an identity, part after part.
 use Rattle.std.specs.Prelude.{ℕ, ◌≤◌}
-use Rattle.disk_layout.specs.Places.{longest_identity}
+use Rattle.disk_layout.specs.Offsets.{longest_identity}
 
 -- len of the cells are written
 abbrev pub IsWritten : ℕ → Type 0

@@ -16,10 +16,10 @@ use Rattle.field_grammar.specs.Fields.{number, short, number_bytes, number_field
 use Rattle.field_grammar.specs.Spelling.{IsSpelledBy}
 use Rattle.field_grammar.specs.NumberLaws.{wide1, wide2, wide4, spelled-number, length_number_bytes}
 use Rattle.field_grammar.specs.TextLaws.{IsShortText, spelled-short, concat_short_fields, concat_number_fields}
-use Rattle.disk_layout.specs.Places.{IsBankSize, is_bank_size, longest_identity}
+use Rattle.disk_layout.specs.Offsets.{IsBankSize, is_bank_size, longest_identity}
 use Rattle.disk_layout.specs.Fields.{sound}
 use Rattle.disk_layout.specs.FieldLaws.{spelled-as, spelled-sound, nothing_wrong, no_fault}
-use Rattle.disk_layout.specs.Identity.{exact_byte, signature, bank_size, ident, check_sum, identity, IsIdentity, identity_front, identity_text, HasIdentity}
+use Rattle.disk_layout.specs.Identity.{exact_byte, signature, bank_size, ident, check_sum, identity, IsIdentity, identity_prefix, identity_text, HasIdentity}
 use Rattle.disk_layout.specs.RangeLaws.{ranges_joined}
 use Rattle.disk_layout.specs.declared.identity.Identity.{Identity}
 
@@ -56,9 +56,9 @@ says_sum before after small = record {
 spelled-bank_size : IsSpelledBy bank_size (number_fields 4) (λ n. IsBankSize n)
 unfolding bank_size
 spelled-bank_size =
-    spelled-as (sound (λ place. place) (number 4) is_bank_size) (number_fields 4) (λ n. (n < 256 ^ 4) × (is_bank_size n ≡ true)) (λ n. IsBankSize n)
+    spelled-as (sound (λ offset. offset) (number 4) is_bank_size) (number_fields 4) (λ n. (n < 256 ^ 4) × (is_bank_size n ≡ true)) (λ n. IsBankSize n)
     (λ n is. (least n is.1, most n is.1)) (λ n is. (omega (arith, is.1), passes n is.0 is.1))
-    (spelled-sound (λ place. place) (number 4) is_bank_size (number_fields 4) (λ n. n < 256 ^ 4) (spelled-number 4 wide4))
+    (spelled-sound (λ offset. offset) (number 4) is_bank_size (number_fields 4) (λ n. n < 256 ^ 4) (spelled-number 4 wide4))
   where
     least : (n : ℕ) → is_bank_size n ≡ true → 4096 ≤ n
     least n e = grind (arith, nat_tests)
@@ -72,10 +72,10 @@ spelled-bank_size =
 spelled-ident : IsSpelledBy ident short_fields IsIdent
 unfolding ident
 spelled-ident =
-    spelled-as (sound (λ place. place) short (λ text. is_none (ident_fault_of text))) short_fields (λ t. IsShortText t × (is_none (ident_fault_of t) ≡ true)) IsIdent
+    spelled-as (sound (λ offset. offset) short (λ text. is_none (ident_fault_of text))) short_fields (λ t. IsShortText t × (is_none (ident_fault_of t) ≡ true)) IsIdent
     (λ t is. (ident_faults.right t).1 (nothing_wrong (ident_fault_of t) is.1))
     (λ t is. ((omega (arith, is.size.1), ident_faults.small t is), no_fault (ident_fault_of t) ((ident_faults.right t).0 is)))
-    (spelled-sound (λ place. place) short (λ text. is_none (ident_fault_of text)) short_fields IsShortText spelled-short)
+    (spelled-sound (λ offset. offset) short (λ text. is_none (ident_fault_of text)) short_fields IsShortText spelled-short)
 
 says_bank_size : (before : List ℕ) (after n : ℕ) → IsBankSize n → Says bank_size before (number_fields 4 n) after n
 says_bank_size before after n is = record { follows = spelled-bank_size.from before after n is }
@@ -114,8 +114,8 @@ signature_is : concat signature_fields ≡ 0x41 ∷ 0x36 ∷ 0x31 ∷ 0x35 ∷ 0
 unfolding number_bytes
 signature_is = refl
 
-before_sum_is : (id : Identity) → before_sum id ≡ identity_front id
-unfolding identity_front
+before_sum_is : (id : Identity) → before_sum id ≡ identity_prefix id
+unfolding identity_prefix
 before_sum_is id =
     rw (signature_is, concat_number_fields 4 id.bank, concat_short_fields id.hw, concat_short_fields id.pos, concat_short_fields id.serial)
     (joined (0x41 ∷ 0x36 ∷ 0x31 ∷ 0x35 ∷ 0 ∷ 1 ∷ []) (number_bytes 4 id.bank) (short_text id.hw) (short_text id.pos) (short_text id.serial))
@@ -123,10 +123,10 @@ before_sum_is id =
     joined : (a b c d e : List ℕ) → (((a ++ b) ++ c) ++ d) ++ e ≡ a ++ (b ++ (c ++ (d ++ e)))
     joined a b c d e = append_assoc ((a ++ b) ++ c) d e ∙ append_assoc (a ++ b) c (d ++ e) ∙ append_assoc a b (c ++ (d ++ e))
 
-fields_are : (id : Identity) → concat (identity_fields id (crc16_of (identity_front id))) ≡ identity_text id
+fields_are : (id : Identity) → concat (identity_fields id (crc16_of (identity_prefix id))) ≡ identity_text id
 unfolding identity_text number_bytes
 fields_are id =
-    let sum : ℕ = crc16_of (identity_front id) in
+    let sum : ℕ = crc16_of (identity_prefix id) in
     let last : concat (number_fields 2 sum ++ []) ≡ number_bytes 2 sum = ap concat (append-nil (number_fields 2 sum)) ∙ concat_number_fields 2 sum in
     rw (concat-append, concat-append, concat-append, concat-append, concat-append, last)
     (joined (concat signature_fields) (concat (number_fields 4 id.bank)) (concat (short_fields id.hw)) (concat (short_fields id.pos)) (concat (short_fields id.serial)) (number_bytes 2 sum)
@@ -136,10 +136,10 @@ fields_are id =
     joined a b c d e f =
         sym (append_assoc (((a ++ b) ++ c) ++ d) e f ∙ append_assoc ((a ++ b) ++ c) d (e ++ f) ∙ append_assoc (a ++ b) c (d ++ (e ++ f)) ∙ append_assoc a b (c ++ (d ++ (e ++ f))))
 
-says_identity : (id : Identity) (after : ℕ) → IsIdentity id → crc16_of (identity_front id) < 2 ^ 16 → Says identity [] (identity_fields id (crc16_of (identity_front id))) after id
+says_identity : (id : Identity) (after : ℕ) → IsIdentity id → crc16_of (identity_prefix id) < 2 ^ 16 → Says identity [] (identity_fields id (crc16_of (identity_prefix id))) after id
 unfolding identity
 says_identity id after is small =
-    let sum : Says check_sum (before_sum id) (number_fields 2 (crc16_of (identity_front id))) (0 + after) tt =
+    let sum : Says check_sum (before_sum id) (number_fields 2 (crc16_of (identity_prefix id))) (0 + after) tt =
     subst (λ (before : List ℕ). Says check_sum (before_sum id) (number_fields 2 (crc16_of before)) (0 + after) tt) (before_sum_is id)
     (says_sum (before_sum id) (0 + after) (rw (before_sum_is id) small)) in
     behind _ _ [] signature_fields _ after tt id (says_signature [] _)
@@ -147,10 +147,10 @@ says_identity id after is small =
     (behind _ _ _ (short_fields id.hw) _ after id.hw id (says_ident _ _ id.hw is.hw)
     (behind _ _ _ (short_fields id.pos) _ after id.pos id (says_ident _ _ id.pos is.pos)
     (behind _ _ _ (short_fields id.serial) _ after id.serial id (says_ident _ _ id.serial is.serial)
-    (behind _ _ _ (number_fields 2 (crc16_of (identity_front id))) [] after tt id sum (says_all _ after id))))))
+    (behind _ _ _ (number_fields 2 (crc16_of (identity_prefix id))) [] after tt id sum (says_all _ after id))))))
 
 pub identity_is_short : (id : Identity) → IsIdentity id → length (identity_text id) ≤ longest_identity
-unfolding identity_text identity_front
+unfolding identity_text identity_prefix
 identity_is_short id is =
     let hw = is.hw.size.1 in
     let pos = is.pos.size.1 in
@@ -158,13 +158,13 @@ identity_is_short id is =
     simp (length-append, length_number_bytes) (omega (arith, hw, pos, serial))
 
 -- where the text of an identity stands at the start of a disk, the disk has it
-pub has_identity : (image : Image) (id : Identity) → IsIdentity id → crc16_of (identity_front id) < 2 ^ 16 → range image 0 (length (identity_text id)) ≡ identity_text id → HasIdentity image id
+pub has_identity : (image : Image) (id : Identity) → IsIdentity id → crc16_of (identity_prefix id) < 2 ^ 16 → range image 0 (length (identity_text id)) ≡ identity_text id → HasIdentity image id
 has_identity image id is small stands =
     let n : ℕ = length (identity_text id) in
     let rest : List ℕ = range image n (longest_identity - n) in
     let whole : range image 0 longest_identity ≡ identity_text id ++ rest =
     ap (λ (m : ℕ). range image 0 m) (sum_is n (identity_is_short id is)) ∙ sym (ranges_joined image 0 n n (longest_identity - n) (omega arith)) ∙ ap (λ (l : List ℕ). l ++ rest) stands in (
-      identity_fields id (crc16_of (identity_front id)),
+      identity_fields id (crc16_of (identity_prefix id)),
       rest,
       whole ∙ ap (λ (l : List ℕ). l ++ rest) (sym (fields_are id)),
       (says_identity id (length rest) is small).follows,

@@ -10,7 +10,7 @@ pub mod IdentityLaws
 pub mod Manifest
 pub mod ManifestLaws
 pub mod ManifestSpelling
-pub mod Places
+pub mod Offsets
 pub mod RangeLaws
 pub mod Reading
 pub mod SlotBodyLaws

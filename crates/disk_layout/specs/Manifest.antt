@@ -7,7 +7,7 @@ use Rattle.load_base.specs.PartText.{IsPartText}
 use Rattle.load_base.specs.Verdicts.{name_fault_of, part_text_fault_of}
 use Rattle.field_grammar.specs.Grammar.{Grammar, Fault, give, pair, mapped, ended, times, ◌>>=◌, ◌>>◌}
 use Rattle.field_grammar.specs.Fields.{number, raw, short, number_fields, short_fields}
-use Rattle.disk_layout.specs.Places.{most_loads, most_files}
+use Rattle.disk_layout.specs.Offsets.{most_loads, most_files}
 use Rattle.disk_layout.specs.Fields.{sound}
 use Rattle.disk_layout.specs.declared.manifest.Manifest.{Manifest}
 use Rattle.disk_layout.specs.declared.manifest.ManifestFault.{ManifestFault}
@@ -119,5 +119,5 @@ pub record ManifestFits (loads : List LoadEntry) : Type 0 where
 
 -- the bytes are no manifest from this offset on, or out of memory
 abbrev pub RefusesManifestBytes : List ℕ → ManifestFault → Type 0
-RefusesManifestBytes bytes (Wrong place) = Fault manifest bytes (Wrong place) × (place ≤ length bytes)
+RefusesManifestBytes bytes (Wrong offset) = Fault manifest bytes (Wrong offset) × (offset ≤ length bytes)
 RefusesManifestBytes bytes Memory = Unit {0}

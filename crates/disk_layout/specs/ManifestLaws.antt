@@ -10,100 +10,100 @@ use Rattle.field_grammar.specs.Grammar.{Grammar, give, seq, pair, mapped, times,
 use Rattle.field_grammar.specs.Answers.{answer}
 use Rattle.field_grammar.specs.declared.fault.FieldFault.{FieldFault}
 use Rattle.field_grammar.specs.ExactLaws.{ends_at_end, ends_last, ends_before, answer_is_spelled, answer_is_fault, spelled_whole, decided}
-use Rattle.disk_layout.specs.Places.{most_loads, most_files}
+use Rattle.disk_layout.specs.Offsets.{most_loads, most_files}
 use Rattle.disk_layout.specs.Fields.{sound}
 use Rattle.disk_layout.specs.Manifest.{LoadEntry, manifest, counted_loads, counted_files, to_load, to_file, load_count, load_entry, file_entry, file_count, file_name, file_length, part}
 use Rattle.disk_layout.specs.declared.manifest.ManifestFault.{ManifestFault}
 use Rattle.disk_layout.specs.declared.manifest.ManifestFault.TheVariants.{Wrong, Memory}
 
 -- wherever the format stops, the fault has an offset within the bytes
-record HasPlaces {A : Type 0} (g : Grammar ManifestFault A) : Type 0 where
+record HasOffsets {A : Type 0} (g : Grammar ManifestFault A) : Type 0 where
   each : (before : List ℕ) (fields : List (List ℕ)) (rest : List ℕ) (fault : ManifestFault) → Stops g before fields rest fault
-      → (place : ℕ) × (fault ≡ Wrong place) × (place ≤ length before + (length (concat fields) + length rest))
+      → (offset : ℕ) × (fault ≡ Wrong offset) × (offset ≤ length before + (length (concat fields) + length rest))
 
-places_give : {A : Type 0} (x : A) → HasPlaces (give x)
-places_give x = record { each = λ before fields rest fault stops. absurd stops }
+offsets_give : {A : Type 0} (x : A) → HasOffsets (give x)
+offsets_give x = record { each = λ before fields rest fault stops. absurd stops }
 
-places_seq : {A B : Type 0} (g : Grammar ManifestFault A) (k : A → Grammar ManifestFault B) → HasPlaces g → ((x : A) → HasPlaces (k x)) → HasPlaces (seq g k)
-places_seq g k one two = record {
+offsets_seq : {A B : Type 0} (g : Grammar ManifestFault A) (k : A → Grammar ManifestFault B) → HasOffsets g → ((x : A) → HasOffsets (k x)) → HasOffsets (seq g k)
+offsets_seq g k one two = record {
   each = λ before fields rest fault stops. elim stops [
     | inl first ↦ one.each before fields rest fault first
     | inr later ↦
         let (x, taken, others, parts, follows, last) = later in
-        let (place, is, within) = (two x).each (before ++ concat taken) others rest fault last in
+        let (offset, is, within) = (two x).each (before ++ concat taken) others rest fault last in
         let sizes : length (concat fields) ≡ length (concat taken) + length (concat others) =
         ap (λ (f : List (List ℕ)). length (concat f)) parts ∙ ap length (concat-append taken others) ∙ length-append (concat taken) (concat others) in
-        (place, is, omega (arith, within, sizes, length-append before (concat taken)))
+        (offset, is, omega (arith, within, sizes, length-append before (concat taken)))
   ];
 }
 
-places_mapped : {A B : Type 0} (f : A → B) (g : Grammar ManifestFault A) → HasPlaces g → HasPlaces (mapped f g)
-places_mapped f g one = places_seq g _ one (λ x. places_give (f x))
+offsets_mapped : {A B : Type 0} (f : A → B) (g : Grammar ManifestFault A) → HasOffsets g → HasOffsets (mapped f g)
+offsets_mapped f g one = offsets_seq g _ one (λ x. offsets_give (f x))
 
-places_pair : {A B : Type 0} (g : Grammar ManifestFault A) (h : Grammar ManifestFault B) → HasPlaces g → HasPlaces h → HasPlaces (pair g h)
-places_pair g h one two = places_seq g _ one (λ x. places_seq h _ two (λ y. places_give (x, y)))
+offsets_pair : {A B : Type 0} (g : Grammar ManifestFault A) (h : Grammar ManifestFault B) → HasOffsets g → HasOffsets h → HasOffsets (pair g h)
+offsets_pair g h one two = offsets_seq g _ one (λ x. offsets_seq h _ two (λ y. offsets_give (x, y)))
 
-places_times : {A : Type 0} (n : ℕ) (g : Grammar ManifestFault A) → HasPlaces g → HasPlaces (times n g)
+offsets_times : {A : Type 0} (n : ℕ) (g : Grammar ManifestFault A) → HasOffsets g → HasOffsets (times n g)
 unfolding times
-places_times zero g one = places_give []
-places_times (suc n) g one = places_seq g _ one (λ x. places_seq (times n g) _ (places_times n g one) (λ xs. places_give (x ∷ xs)))
+offsets_times zero g one = offsets_give []
+offsets_times (suc n) g one = offsets_seq g _ one (λ x. offsets_seq (times n g) _ (offsets_times n g one) (λ xs. offsets_give (x ∷ xs)))
 
-places_sound : {A : Type 0} (g : Grammar FieldFault A) (test : A → Bool) → HasPlaces (sound Wrong g test)
-places_sound g test = record {
+offsets_sound : {A : Type 0} (g : Grammar FieldFault A) (test : A → Bool) → HasOffsets (sound Wrong g test)
+offsets_sound g test = record {
   each = λ before fields rest fault stops. elim stops [
     | inl none ↦ absurd none
     | inr found ↦
-        let (front_is, taken, others, parts, follows, later) = found in
-        let here : length front_is ≤ length before + (length (concat fields) + length rest) = rw (← follows.1) (omega arith) in
+        let (prefix_is, taken, others, parts, follows, later) = found in
+        let here : length prefix_is ≤ length before + (length (concat fields) + length rest) = rw (← follows.1) (omega arith) in
         elim later [
-          | inl short ↦ (length front_is, sym short.2, here)
+          | inl short ↦ (length prefix_is, sym short.2, here)
           | inr tested ↦ elim tested.5 [
-            | inl wrong ↦ (length front_is, sym wrong.2, here)
+            | inl wrong ↦ (length prefix_is, sym wrong.2, here)
             | inr given ↦ absurd given.5
           ]
         ]
   ];
 }
 
-places_ended : HasPlaces (ended Wrong)
-places_ended = record {
+offsets_ended : HasOffsets (ended Wrong)
+offsets_ended = record {
   each = λ before fields rest fault stops. elim stops [
     | inl none ↦ absurd none
     | inr found ↦
-        let (front_is, taken, others, parts, follows, later) = found in
-        let here : length front_is ≤ length before + (length (concat fields) + length rest) = rw (← follows.1) (omega arith) in
-        elim later [ inl none ↦ absurd none | inr tested ↦ (length front_is, sym tested.5.2, here) ]
+        let (prefix_is, taken, others, parts, follows, later) = found in
+        let here : length prefix_is ≤ length before + (length (concat fields) + length rest) = rw (← follows.1) (omega arith) in
+        elim later [ inl none ↦ absurd none | inr tested ↦ (length prefix_is, sym tested.5.2, here) ]
   ];
 }
 
-places_file : HasPlaces file_entry
+offsets_file : HasOffsets file_entry
 unfolding file_entry file_name file_length
-places_file =
-    places_mapped to_file (pair file_name file_length)
-    (places_pair file_name file_length (places_sound short (λ text. is_none (name_fault_of text))) (places_sound (number 4) (λ n. nat_le n longest_file)))
+offsets_file =
+    offsets_mapped to_file (pair file_name file_length)
+    (offsets_pair file_name file_length (offsets_sound short (λ text. is_none (name_fault_of text))) (offsets_sound (number 4) (λ n. nat_le n longest_file)))
 
-places_load : HasPlaces load_entry
+offsets_load : HasOffsets load_entry
 unfolding load_entry part file_count
-places_load =
-    places_mapped to_load (pair part counted_files)
-    (places_pair part counted_files (places_sound (raw 15) (λ text. is_none (part_text_fault_of text)))
-    (places_seq file_count _ (places_sound (number 2) (λ n. nat_le 1 n && nat_le n most_files)) (λ count. places_times count file_entry places_file)))
+offsets_load =
+    offsets_mapped to_load (pair part counted_files)
+    (offsets_pair part counted_files (offsets_sound (raw 15) (λ text. is_none (part_text_fault_of text)))
+    (offsets_seq file_count _ (offsets_sound (number 2) (λ n. nat_le 1 n && nat_le n most_files)) (λ count. offsets_times count file_entry offsets_file)))
 
-places_manifest : HasPlaces manifest
+offsets_manifest : HasOffsets manifest
 unfolding manifest load_count
-places_manifest =
-    places_seq counted_loads _ (places_seq load_count _ (places_sound (number 2) (λ n. nat_le n most_loads)) (λ count. places_times count load_entry places_load))
-    (λ loads. places_seq (ended Wrong) _ places_ended (λ u. places_give loads))
+offsets_manifest =
+    offsets_seq counted_loads _ (offsets_seq load_count _ (offsets_sound (number 2) (λ n. nat_le n most_loads)) (λ count. offsets_times count load_entry offsets_load))
+    (λ loads. offsets_seq (ended Wrong) _ offsets_ended (λ u. offsets_give loads))
 
 -- a fault of a manifest has an offset within the bytes
-pub fault_has_place : (bytes : List ℕ) (fault : ManifestFault) → Fault manifest bytes fault → (place : ℕ) × (fault ≡ Wrong place) × (place ≤ length bytes)
-fault_has_place bytes fault faulty =
+pub fault_has_offset : (bytes : List ℕ) (fault : ManifestFault) → Fault manifest bytes fault → (offset : ℕ) × (fault ≡ Wrong offset) × (offset ≤ length bytes)
+fault_has_offset bytes fault faulty =
     let (fields, rest, parts, stops) = faulty in
-    let (place, is, within) = places_manifest.each [] fields rest fault stops in
-    (place, is, omega (arith, within, ap length parts ∙ length-append (concat fields) rest))
+    let (offset, is, within) = offsets_manifest.each [] fields rest fault stops in
+    (offset, is, omega (arith, within, ap length parts ∙ length-append (concat fields) rest))
 
-wrong_is_no_want : (place : ℕ) → Wrong place ≢ Memory
-wrong_is_no_want place e = cc
+wrong_is_no_want : (offset : ℕ) → Wrong offset ≢ Memory
+wrong_is_no_want offset e = cc
 
 -- a manifest ends its bytes
 pub manifest_ends : EndsTheBytes manifest
@@ -117,13 +117,13 @@ pub manifest_found : (bytes : List ℕ) (loads : List LoadEntry) → IsBytes byt
 manifest_found bytes loads fit e = spelled_whole manifest bytes loads manifest_ends (answer_is_spelled manifest bytes loads fit e)
 
 -- an offset at which they are refused is their fault
-pub manifest_faulty : (bytes : List ℕ) (place : ℕ) → IsBytes bytes → answer manifest bytes ≡ Err (Wrong place) → Fault manifest bytes (Wrong place)
-manifest_faulty bytes place fit e = answer_is_fault manifest bytes (Wrong place) fit e
+pub manifest_faulty : (bytes : List ℕ) (offset : ℕ) → IsBytes bytes → answer manifest bytes ≡ Err (Wrong offset) → Fault manifest bytes (Wrong offset)
+manifest_faulty bytes offset fit e = answer_is_fault manifest bytes (Wrong offset) fit e
 
 -- they are not refused because it is out of memory
 pub manifest_never_wants : (bytes : List ℕ) → IsBytes bytes → answer manifest bytes ≡ Err Memory → ⊥
 manifest_never_wants bytes fit e =
-    let found = fault_has_place bytes Memory (answer_is_fault manifest bytes Memory fit e) in
+    let found = fault_has_offset bytes Memory (answer_is_fault manifest bytes Memory fit e) in
     wrong_is_no_want found.0 (sym found.1)
 
 -- bytes are one manifest, or fail at one fault

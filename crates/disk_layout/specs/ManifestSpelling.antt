@@ -18,7 +18,7 @@ use Rattle.field_grammar.specs.DecoderLaws.{spelling_is, spelled_by}
 use Rattle.field_grammar.specs.NumberLaws.{wide2, wide4, spelled-number, spelled-raw}
 use Rattle.field_grammar.specs.PlacedLaws.{placed-ended}
 use Rattle.field_grammar.specs.TextLaws.{IsShortText, spelled-short}
-use Rattle.disk_layout.specs.Places.{most_loads, most_files}
+use Rattle.disk_layout.specs.Offsets.{most_loads, most_files}
 use Rattle.disk_layout.specs.Fields.{sound}
 use Rattle.disk_layout.specs.FieldLaws.{spelled-as, spelled-sound, nothing_wrong, no_fault}
 use Rattle.disk_layout.specs.Manifest.{LoadEntry, manifest, counted_loads, counted_files, to_load, to_file, load_count, load_entry, file_entry, file_count, file_name, file_length, part, file_entry_fields, load_entry_fields, manifest_fields, FileFits, LoadFits, ManifestFits}

@@ -7,8 +7,8 @@ use Rattle.field_grammar.specs.Fields.{number_bytes, number_in}
 use Rattle.field_grammar.specs.NumberLaws.{length_number_bytes, wide4}
 use Rattle.disk_model.specs.Image.{Image, range}
 use Rattle.disk_model.specs.RangeLaws.{byte_of_range, take_range, drop_range}
-use Rattle.disk_layout.specs.Places.{number_at}
-use Rattle.disk_layout.specs.Slots.{HasBody, slot_body_bytes, sequence_of, bank_of, manifest_place_of, manifest_length_of}
+use Rattle.disk_layout.specs.Offsets.{number_at}
+use Rattle.disk_layout.specs.Slots.{HasBody, slot_body_bytes, sequence_of, bank_of, manifest_offset_of, manifest_length_of}
 use Rattle.disk_layout.specs.declared.active.ManifestRange.{ManifestRange}
 
 -- a part of what stands there
@@ -17,19 +17,19 @@ part_is image at n k m bytes is within =
     sym (ap (λ (l : List ℕ). take m (drop k l)) (sym is) ∙ ap (take m) (drop_range image at n k) ∙ take_range image (at + k) _ m (omega (arith, within)))
 
 -- a number among other bytes
-number_part : (image : Image) (at n k value : ℕ) (front rest bytes : List ℕ) → range image at n ≡ bytes → bytes ≡ front ++ (number_bytes 4 value ++ rest) → length front ≡ k → k + 4 ≤ n → value < 2 ^ 32
+number_part : (image : Image) (at n k value : ℕ) (prefix rest bytes : List ℕ) → range image at n ≡ bytes → bytes ≡ prefix ++ (number_bytes 4 value ++ rest) → length prefix ≡ k → k + 4 ≤ n → value < 2 ^ 32
     → number_at 4 image (at + k) ≡ value
 unfolding number_at number_in
-number_part image at n k value front rest bytes is parts long within small =
+number_part image at n k value prefix rest bytes is parts long within small =
     let four = number_bytes 4 value in
-    let dropped : drop k bytes ≡ four ++ rest = ap (drop k) parts ∙ drop_at front (four ++ rest) k long in
+    let dropped : drop k bytes ≡ four ++ rest = ap (drop k) parts ∙ drop_at prefix (four ++ rest) k long in
     let taken : take 4 (four ++ rest) ≡ four = take_at four rest 4 (length_number_bytes 4 value) in
     ap (big_number 4) (part_is image at n k 4 bytes is within ∙ ap (take 4) dropped ∙ taken) ∙ wide4.again value small
 
 -- a byte among other bytes
-byte_part : (image : Image) (at n k value : ℕ) (front rest bytes : List ℕ) → range image at n ≡ bytes → bytes ≡ front ++ value ∷ rest → length front ≡ k → k < n → image (at + k) ≡ value
-byte_part image at n k value front rest bytes is parts long within =
-    sym (byte_of_range image at n k within) ∙ ap (λ (l : List ℕ). get_or l k 0) (is ∙ parts) ∙ ap (λ (m : ℕ). get_or (front ++ value ∷ rest) m 0) (sym long) ∙ get_or-append_seam front value rest 0
+byte_part : (image : Image) (at n k value : ℕ) (prefix rest bytes : List ℕ) → range image at n ≡ bytes → bytes ≡ prefix ++ value ∷ rest → length prefix ≡ k → k < n → image (at + k) ≡ value
+byte_part image at n k value prefix rest bytes is parts long within =
+    sym (byte_of_range image at n k within) ∙ ap (λ (l : List ℕ). get_or l k 0) (is ∙ parts) ∙ ap (λ (m : ℕ). get_or (prefix ++ value ∷ rest) m 0) (sym long) ∙ get_or-append_seam prefix value rest 0
 
 pub body_length : (sequence bank : ℕ) (manifest : ManifestRange) → length (slot_body_bytes sequence bank manifest) ≡ 13
 body_length sequence bank manifest =
@@ -64,7 +64,7 @@ module _ (image : Image) (at sequence bank : ℕ) (manifest : ManifestRange) (th
   pub says_bank : bank_of image at ≡ bank
   says_bank = ap image (omega arith) ∙ byte_part image (at + 16) 13 4 bank one (two ++ three) body there (simp append_assoc) (length_number_bytes 4 sequence) (omega arith)
 
-  pub says_offset : manifest.offset < 2 ^ 32 → manifest_place_of image at ≡ manifest.offset
+  pub says_offset : manifest.offset < 2 ^ 32 → manifest_offset_of image at ≡ manifest.offset
   says_offset small =
       ap (λ (n : ℕ). number_at 4 image n) (omega arith)
       ∙ number_part image (at + 16) 13 5 manifest.offset (one ++ (bank ∷ [])) three body there (simp append_assoc)

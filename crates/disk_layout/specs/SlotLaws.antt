@@ -2,7 +2,7 @@
 use Rattle.std.proofs.Common.{◌≡◌, ℕ, ◌<◌, ◌≤◌, ◌⊎◌, inl, inr, refl, sym, ◌∙◌, subst, arith}
 use Rattle.std.proofs.lemmas.Bool.{cases_lt, cases_eq}
 use Rattle.disk_model.specs.Image.{Image}
-use Rattle.disk_layout.specs.Places.{slot_a, slot_b}
+use Rattle.disk_layout.specs.Offsets.{slot_a, slot_b}
 use Rattle.disk_layout.specs.Slots.{IsOpen, IsSlot, IsActiveSlot, sequence_of, slot_offset, bank_number}
 use Rattle.disk_layout.specs.declared.active.Slot.{Slot}
 use Rattle.disk_layout.specs.declared.active.Slot.TheVariants as slots

@@ -2,7 +2,7 @@
 use Rattle.std.specs.Prelude.{◌≡◌, ◌⊎◌, ℕ, ◌+◌, ◌-◌, ◌<◌, ◌≤◌, List, [], ◌∷◌, ◌++◌}
 use Rattle.field_grammar.specs.Fields.{number_bytes}
 use Rattle.disk_model.specs.Image.{Image, range}
-use Rattle.disk_layout.specs.Places.{slot_a, slot_b, longest_manifest, number_at}
+use Rattle.disk_layout.specs.Offsets.{slot_a, slot_b, longest_manifest, number_at}
 use Rattle.disk_layout.specs.declared.active.Slot.{Slot}
 use Rattle.disk_layout.specs.declared.active.Slot.TheVariants as slots
 use Rattle.disk_layout.specs.declared.active.Bank.{Bank}
@@ -45,8 +45,8 @@ abbrev pub bank_of : Image → ℕ → ℕ
 bank_of image slot = image (slot + 20)
 
 -- where its manifest begins, counted from the bank's start
-abbrev pub manifest_place_of : Image → ℕ → ℕ
-manifest_place_of image slot = number_at 4 image (slot + 21)
+abbrev pub manifest_offset_of : Image → ℕ → ℕ
+manifest_offset_of image slot = number_at 4 image (slot + 21)
 
 -- the bytes of its manifest
 abbrev pub manifest_length_of : Image → ℕ → ℕ
@@ -67,7 +67,7 @@ pub record IsSlotAt (image : Image) (at : ℕ) (slot : SlotFields) : Type 0 wher
   pub gate : slot.gate ≡ image at
   pub sequence : slot.sequence ≡ sequence_of image at
   pub bank : slot.bank ≡ bank_of image at
-  pub offset : slot.manifest.offset ≡ manifest_place_of image at
+  pub offset : slot.manifest.offset ≡ manifest_offset_of image at
   pub length : slot.manifest.length ≡ manifest_length_of image at
 
 -- What a slot says can be on a disk with banks of this size: its bank is one of the two, and its manifest isn't too

@@ -1,9 +1,9 @@
 //! The slots and the banks of a disk, and what is active on it (docs/DISK.md).
 ghost use Rattle.std.specs.Prelude.{◌≡◌, ◌+◌, ◌<◌, ◌≤◌, IfSome, IfNone};
-ghost use Rattle.disk_layout.specs.Places.{IsBankSize, bank_at};
+ghost use Rattle.disk_layout.specs.Offsets.{IsBankSize, bank_at};
 ghost use Rattle.disk_layout.specs.Slots.{slot_offset, other_slot, bank_number, other_bank};
 
-use crate::places::{BANKS, SLOT_A, SLOT_B};
+use crate::offsets::{BANKS, SLOT_A, SLOT_B};
 
 /// One of the two slots of a disk, which name a bank and its manifest.
 #[derive(Clone, Copy, Debug, PartialEq, Eq)]

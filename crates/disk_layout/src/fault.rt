@@ -13,24 +13,24 @@ use thiserror::Error;
 pub enum RecoverFault {
     /// V1: the disk begins with no identity; the first offset at which it can't go on. Whatever is wrong
     /// with an Ident, that is the offset of its length.
-    #[error("no identity stands at place {0}")]
+    #[error("no identity, from offset {0} on")]
     NotFormatted(u64),
     /// V2: neither slot is open.
     #[error("neither slot is open")]
     NoOpenSlot,
     /// V3: what the active slot says can't be; the offset of its bank, of the manifest's length, or of the
     /// manifest's offset, where the manifest passes the bank.
-    #[error("the ruling slot can't be right at place {0}")]
+    #[error("the active slot is wrong at offset {0}")]
     BadSlot(u64),
     /// V4: the manifest isn't in its form; the first offset at which it can't go on. Where the files'
     /// lengths don't add up to the manifest's offset in its bank, the offset where the manifest begins.
-    #[error("the manifest can't be right at place {0}")]
+    #[error("the manifest is wrong at offset {0}")]
     BadManifest(u64),
     /// The disk failed.
     #[error("the disk failed")]
     DiskFailed,
     /// Out of memory.
-    #[error("memory is wanting")]
+    #[error("out of memory")]
     Memory,
 }
 

@@ -1,12 +1,12 @@
-//! Who a target is, and how that stands at the front of its disk.
+//! Who a target is, and how that stands at the prefix of its disk.
 ghost use Rattle.std.specs.Prelude.{◌≡◌, ◌≤◌, length, IfOk, IfErr};
-ghost use Rattle.field_grammar.specs.Grammar.{SpelledAtFront, Fault};
-ghost use Rattle.disk_layout.specs.Places.{IsBankSize, longest_identity};
-ghost use Rattle.disk_layout.specs.Identity.{IsIdentity, identity_text, fault_place, exact_byte, signature, bank_size, ident, check_sum, identity};
+ghost use Rattle.field_grammar.specs.Grammar.{SpelledAtStart, Fault};
+ghost use Rattle.disk_layout.specs.Offsets.{IsBankSize, longest_identity};
+ghost use Rattle.disk_layout.specs.Identity.{IsIdentity, identity_text, fault_offset, exact_byte, signature, bank_size, ident, check_sum, identity};
 ghost use Rattle.disk_layout.specs.Reading.{Parses};
 
 use crate::identity_bytes::IdentityBytes;
-use crate::places::{LARGEST_BANK, SMALLEST_BANK};
+use crate::offsets::{LARGEST_BANK, SMALLEST_BANK};
 use crc_fields::crc16;
 use field_codec::{FieldFault, Reader};
 use load_base::Ident;
@@ -22,13 +22,13 @@ pub struct Identity {
 }
 
 impl Identity {
-    /// The identity at the front of these bytes, or the first byte offset at which they can't go on.
-    pub fn decode(front: &[u8]) -> Result<Identity, u64>
-        ensures found { IfOk result (λ id. SpelledAtFront identity front.now id) }
+    /// The identity at the prefix of these bytes, or the first byte offset at which they can't go on.
+    pub fn decode(prefix: &[u8]) -> Result<Identity, u64>
+        ensures found { IfOk result (λ id. SpelledAtStart identity prefix.now id) }
         ensures size { IfOk result (λ id. IsBankSize id.bank) }
-        ensures refused { IfErr result (λ place. Fault identity front.now place) }
+        ensures refused { IfErr result (λ offset. Fault identity prefix.now offset) }
     {
-        read_identity(&mut Reader::new(front))
+        read_identity(&mut Reader::new(prefix))
     }
 
     /// The bytes of this identity, at most 75, which are read as it again
@@ -79,9 +79,9 @@ fn read_signature(reader: &mut Reader) -> Result<(), u64>
 fn read_byte(reader: &mut Reader, byte: u8) -> Result<(), u64>
     ensures { Parses (λ unit. unit) (exact_byte byte) reader.old result reader.new }
 {
-    let place = reader.place() as u64;
-    let found = reader.take_u8().map_err(place_of)?;
-    if found == byte { Ok(()) } else { Err(place) }
+    let offset = reader.place() as u64;
+    let found = reader.take_u8().map_err(offset_of)?;
+    if found == byte { Ok(()) } else { Err(offset) }
 }
 
 #[tactic(auto, unfolding(crate::specs::Identity::bank_size))]
@@ -89,10 +89,10 @@ fn read_bank_size(reader: &mut Reader) -> Result<u32, u64>
     ensures parses { Parses (λ size. size) bank_size reader.old result reader.new }
     ensures size { IfOk result (λ size. IsBankSize size) }
 {
-    let place = reader.place() as u64;
+    let offset = reader.place() as u64;
     match reader.take_u32() {
         Ok(size) if SMALLEST_BANK <= size && size <= LARGEST_BANK => Ok(size),
-        _ => Err(place),
+        _ => Err(offset),
     }
 }
 
@@ -100,13 +100,13 @@ fn read_bank_size(reader: &mut Reader) -> Result<u32, u64>
 fn read_ident(reader: &mut Reader) -> Result<Ident, u64>
     ensures { Parses (λ text. text) ident reader.old result reader.new }
 {
-    let place = reader.place() as u64;
+    let offset = reader.place() as u64;
     let Ok(text) = reader.take_short() else {
-        return Err(place);
+        return Err(offset);
     };
     match Ident::read(text) {
         Ok(ident) => Ok(ident),
-        Err(_) => Err(place),
+        Err(_) => Err(offset),
     }
 }
 
@@ -114,16 +114,16 @@ fn read_ident(reader: &mut Reader) -> Result<Ident, u64>
 fn read_check_sum(reader: &mut Reader) -> Result<(), u64>
     ensures { Parses (λ unit. unit) check_sum reader.old result reader.new }
 {
-    let place = reader.place() as u64;
+    let offset = reader.place() as u64;
     let sum = crc16(reader.before());
-    let said = reader.take_u16().map_err(place_of)?;
-    if said == sum { Ok(()) } else { Err(place) }
+    let said = reader.take_u16().map_err(offset_of)?;
+    if said == sum { Ok(()) } else { Err(offset) }
 }
 
-fn place_of(fault: FieldFault) -> u64
-    ensures { result ≡ fault_place fault }
+fn offset_of(fault: FieldFault) -> u64
+    ensures { result ≡ fault_offset fault }
 {
     match fault {
-        FieldFault::Short(place) | FieldFault::BadPad(place) => place,
+        FieldFault::Short(offset) | FieldFault::BadPad(offset) => offset,
     }
 }

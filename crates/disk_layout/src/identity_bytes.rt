@@ -1,12 +1,12 @@
 //! The bytes of an identity, as they are written.
 ghost use Rattle.std.specs.Prelude.{◌≡◌, ◌+◌, ◌≤◌, [], ◌++◌, length};
 ghost use Rattle.field_grammar.specs.Fields.{short_text};
-ghost use Rattle.disk_layout.specs.Identity.{IsIdentity, identity_front, identity_text};
-ghost use Rattle.disk_layout.specs.Places.{IsBankSize, longest_identity};
+ghost use Rattle.disk_layout.specs.Identity.{IsIdentity, identity_prefix, identity_text};
+ghost use Rattle.disk_layout.specs.Offsets.{IsBankSize, longest_identity};
 
 use crate::Identity;
 use crate::numbers::{u8_bytes, u16_bytes, u32_bytes};
-use crate::places::LONGEST_IDENTITY;
+use crate::offsets::LONGEST_IDENTITY;
 use crc_fields::crc16;
 use std::marker::Model;
 
@@ -37,29 +37,29 @@ impl IdentityBytes {
         ensures fits { IsIdentity identity.now }
         ensures short { length result ≤ longest_identity }
     {
-        let mut front = IdentityBytes::before_sum(identity);
-        let sum = crc16(front.as_slice());
-        front.put(&u16_bytes(sum));
-        front
+        let mut prefix = IdentityBytes::before_sum(identity);
+        let sum = crc16(prefix.as_slice());
+        prefix.put(&u16_bytes(sum));
+        prefix
     }
 
-    #[tactic(auto, unfolding(crate::specs::Identity::identity_front))]
+    #[tactic(auto, unfolding(crate::specs::Identity::identity_prefix))]
     fn before_sum(identity: &Identity) -> IdentityBytes
         requires { IsBankSize identity.now.bank }
-        ensures front { result ≡ identity_front identity.now }
+        ensures prefix { result ≡ identity_prefix identity.now }
         ensures short { length result + 2 ≤ longest_identity }
         ensures fits { IsIdentity identity.now }
     {
-        let mut front = IdentityBytes {
+        let mut prefix = IdentityBytes {
             cells: [0; LONGEST_IDENTITY],
             len: 0,
         };
-        front.put(&[0x41, 0x36, 0x31, 0x35, 0, 1]);
-        front.put(&u32_bytes(identity.bank));
-        front.put_short(identity.hw.as_slice());
-        front.put_short(identity.pos.as_slice());
-        front.put_short(identity.serial.as_slice());
-        front
+        prefix.put(&[0x41, 0x36, 0x31, 0x35, 0, 1]);
+        prefix.put(&u32_bytes(identity.bank));
+        prefix.put_short(identity.hw.as_slice());
+        prefix.put_short(identity.pos.as_slice());
+        prefix.put_short(identity.serial.as_slice());
+        prefix
     }
 
     fn put_short(&mut self, text: &[u8])

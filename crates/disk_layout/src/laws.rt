@@ -3,9 +3,9 @@ ghost use Rattle.std.specs.Prelude.{◌≡◌, ◌⊎◌, ◌↔◌, ◌<◌, �
 ghost use Rattle.std.specs.List.{concat};
 ghost use Rattle.disk_model.specs.Image.{Image, IsOfBytes, range};
 ghost use Rattle.field_grammar.specs.Grammar.{IsBytes, IsDecided, Spelled, Fault};
-ghost use Rattle.disk_layout.specs.Places.{IsBankSize, longest_identity, longest_manifest, most_loads, most_files, slot_a, slot_b, bank_at, number_at};
+ghost use Rattle.disk_layout.specs.Offsets.{IsBankSize, longest_identity, longest_manifest, most_loads, most_files, slot_a, slot_b, bank_at, number_at};
 ghost use Rattle.disk_layout.specs.Identity.{IsIdentity, identity_text, HasIdentity};
-ghost use Rattle.disk_layout.specs.Slots.{IsOpen, HasBody, sequence_of, bank_of, manifest_place_of, manifest_length_of};
+ghost use Rattle.disk_layout.specs.Slots.{IsOpen, HasBody, sequence_of, bank_of, manifest_offset_of, manifest_length_of};
 ghost use Rattle.disk_layout.specs.Manifest.{LoadEntry, ManifestFits, manifest, manifest_fields};
 ghost use Rattle.disk_layout.specs.Holds.{StandingView, Outline, outline_of, HasOutline, HoldsBy, HoldsConfig, HasDiskFault};
 ghost use Rattle.disk_layout.specs.declared.active.ManifestRange.{ManifestRange};
@@ -14,10 +14,10 @@ ghost use Rattle.disk_layout.specs.declared.identity.Identity.{Identity};
 ghost use Rattle.disk_layout.specs.declared.manifest.ManifestFault.{ManifestFault};
 ghost use Rattle.disk_layout.specs.declared.manifest.ManifestFault.TheVariants.{Wrong};
 
-use crate::places::{
+use crate::offsets::{
     BANK_IN_SLOT, BANKS, LARGEST_BANK, LENGTH_IN_SLOT, LONGEST_IDENTITY, LONGEST_MANIFEST,
-    MOST_FILES, MOST_LOADS, OPEN, PLACE_IN_SLOT, SEQUENCE_IN_SLOT, SLOT_A, SLOT_B, SLOT_LENGTH,
-    SMALLEST_BANK,
+    MANIFEST_OFFSET_IN_SLOT, MOST_FILES, MOST_LOADS, OPEN, SEQUENCE_IN_SLOT, SLOT_A, SLOT_B,
+    SLOT_LENGTH, SMALLEST_BANK,
 };
 use crc_fields::check_sum_laws;
 
@@ -33,8 +33,8 @@ pub fn an_image_holds_one_configuration()
         → HasDiskFault image g → f ≡ g }
 {}
 
-/// The text of an identity has at most 75 bytes, and where it stands at the start of a disk, the disk has that
-/// identity.
+/// The text of an identity has at most 75 bytes, and where it stands at the start of a disk, the
+/// disk has that identity.
 pub fn an_identity_is_read_again()
     ensures short { (id : Identity) → IsIdentity id → length (identity_text id) ≤ longest_identity }
     ensures read { (image : Image) (id : Identity) → IsIdentity id
@@ -52,7 +52,7 @@ pub fn a_slot_is_read_again()
         → HasBody image at sequence bank manifest → bank_of image at ≡ bank }
     ensures offset { (image : Image) (at sequence bank : ℕ) (manifest : ManifestRange)
         → HasBody image at sequence bank manifest → manifest.offset < 2 ^ 32
-        → manifest_place_of image at ≡ manifest.offset }
+        → manifest_offset_of image at ≡ manifest.offset }
     ensures length { (image : Image) (at sequence bank : ℕ) (manifest : ManifestRange)
         → HasBody image at sequence bank manifest → manifest.length < 2 ^ 32
         → manifest_length_of image at ≡ manifest.length }
@@ -65,19 +65,19 @@ pub fn an_outline_is_filled()
         → (s : StandingView) × HoldsBy image slot s × (outline_of s ≡ o) }
 {}
 
-/// Bytes are one manifest, or fail at one of their offsets or at their end, and never because it is out of memory. Loads
-/// have one manifest. The lemmas of `specs/ManifestLaws.antt` and `specs/ManifestSpelling.antt` say the same to
-/// proofs.
+/// Bytes are one manifest, or fail at one of their offsets or at their end, and never because it is
+/// out of memory. Loads have one manifest. The lemmas of `specs/ManifestLaws.antt` and
+/// `specs/ManifestSpelling.antt` say the same to proofs.
 pub fn a_manifest_is_decided()
     ensures decided { (bytes : List ℕ) → IsBytes bytes → IsDecided manifest bytes }
     ensures spelling { (bytes : List ℕ) (loads : List LoadEntry)
         → Spelled manifest bytes loads
         ↔ (ManifestFits loads × (bytes ≡ concat (manifest_fields loads))) }
-    ensures a_place { (bytes : List ℕ) (fault : ManifestFault) → Fault manifest bytes fault
-        → (place : ℕ) × (fault ≡ Wrong place) × (place ≤ length bytes) }
+    ensures an_offset { (bytes : List ℕ) (fault : ManifestFault) → Fault manifest bytes fault
+        → (offset : ℕ) × (fault ≡ Wrong offset) × (offset ≤ length bytes) }
 {}
 
-/// The constants of [`crate::places`] are those of the layout.
+/// The constants of [`crate::offsets`] are those of the layout: one clause for each.
 pub fn constants_are_those_of_the_layout()
     ensures identity { LONGEST_IDENTITY ≡ longest_identity }
     ensures bank_size { (size : ℕ)
@@ -87,8 +87,8 @@ pub fn constants_are_those_of_the_layout()
     ensures sequence { (image : Image) (slot : ℕ)
         → sequence_of image slot ≡ number_at 4 image (slot + SEQUENCE_IN_SLOT) }
     ensures bank { (image : Image) (slot : ℕ) → bank_of image slot ≡ image (slot + BANK_IN_SLOT) }
-    ensures place { (image : Image) (slot : ℕ)
-        → manifest_place_of image slot ≡ number_at 4 image (slot + PLACE_IN_SLOT) }
+    ensures offset { (image : Image) (slot : ℕ)
+        → manifest_offset_of image slot ≡ number_at 4 image (slot + MANIFEST_OFFSET_IN_SLOT) }
     ensures length { (image : Image) (slot : ℕ)
         → manifest_length_of image slot ≡ number_at 4 image (slot + LENGTH_IN_SLOT) }
     ensures slot_length { LENGTH_IN_SLOT + 4 ≡ SLOT_LENGTH }

@@ -8,7 +8,7 @@ mod identity_bytes;
 mod laws;
 mod manifest;
 pub mod numbers;
-pub mod places;
+pub mod offsets;
 mod printing;
 mod slot;
 mod standing;

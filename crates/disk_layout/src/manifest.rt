@@ -5,7 +5,7 @@ ghost use Rattle.field_grammar.specs.Answers.{answer, Decodes, Gives};
 ghost use Rattle.disk_layout.specs.Manifest.{ManifestFits, RefusesManifestBytes, entry_view, manifest_view, load_count, part, file_count, file_name, file_length, file_entry, load_entry, manifest};
 ghost use Rattle.disk_layout.specs.declared.manifest.ManifestFault.TheVariants.{Wrong, Memory};
 
-use crate::places::{MOST_FILES, MOST_LOADS};
+use crate::offsets::{MOST_FILES, MOST_LOADS};
 use field_codec::Reader;
 use load_base::{LONGEST_FILE, List, Name, NoMemory, PartText};
 use std::alloc::Global;

@@ -11,7 +11,8 @@ impl Printed for RecoverFault {
 
     ghost longest = { 23 };
 
-    /// `V1 OFFSET`, `V2`, `V3 OFFSET` or `V4 OFFSET`. A failure of the disk is told otherwise, and has no text here.
+    /// `V1 OFFSET`, `V2`, `V3 OFFSET` or `V4 OFFSET`. A failure of the disk is told otherwise, and
+    /// has no text here.
     fn text(&self, alloc: Global) -> Result<Text, NoMemory> {
         match *self {
             RecoverFault::NotFormatted(offset) => coded(alloc, b"V1", &[offset]),

@@ -1,17 +1,17 @@
 //! What a slot of a disk says, and how it stands there.
-ghost use Rattle.std.specs.Prelude.{◌≡◌, ℕ, length};
+ghost use Rattle.std.specs.Prelude.{◌≡◌, ◌↔◌, ◌≤◌, ℕ, length, IsTrue};
 ghost use Rattle.disk_model.specs.Image.{Image, range};
 ghost use Rattle.disk_layout.specs.Slots.{IsSlotAt, slot_body_bytes};
 
 use crate::ManifestRange;
 use crate::numbers::u32_bytes;
-use crate::places::SLOT_LENGTH;
+use crate::offsets::{OPEN, SLOT_LENGTH};
 use byteorder::{BigEndian, ByteOrder};
 
 /// What a slot says, whatever that is.
 #[derive(Clone, Copy, Debug, PartialEq, Eq)]
 pub struct SlotFields {
-    /// The slot is open exactly where this is [`crate::places::OPEN`].
+    /// The slot is open exactly where this is [`crate::offsets::OPEN`].
     pub gate: u8,
     pub sequence: u32,
     /// The number of the bank that it names, which may be none.
@@ -36,6 +36,15 @@ impl SlotFields {
                 length: BigEndian::read_u32(&bytes[25..29]),
             },
         }
+    }
+
+    /// Whether slot A, which says this, is active: it is open, and slot B isn't both open and of a greater
+    /// sequence.
+    pub fn is_active_over(&self, b: &SlotFields) -> bool
+        ensures { IsTrue result ↔ ((self.now.gate ≡ OPEN)
+            × (b.now.gate ≡ OPEN → b.now.sequence ≤ self.now.sequence)) }
+    {
+        self.gate == OPEN && (b.gate != OPEN || b.sequence <= self.sequence)
     }
 
     /// The body of a slot that says this, from its sequence number on, which is read as it again

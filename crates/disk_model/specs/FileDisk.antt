@@ -5,7 +5,7 @@ use Rattle.disk_model.specs.declared.file.FileDisk.{FileDisk}
 
 -- the name of its file
 abbrev pub name_of : {R File Folder : Type 0} → FileDisk R File Folder → List ℕ
-name_of disk = disk.name.now
+name_of disk = disk.file.name.now
 
 -- what contracts see of it: nothing of the file
 abbrev pub state_of : {R File Folder : Type 0} → FileDisk R File Folder → DiskState

@@ -5,7 +5,7 @@ use Rattle.disk_model.specs.Image.{Image, SameOutside, range, overlay}
 use Rattle.disk_model.specs.State.{DiskState, IsSettled, Closed, KeepsPower, OnlyReads, Torn, Elapses}
 use Rattle.disk_model.specs.Moments.{LeavesOnly}
 use Rattle.disk_model.specs.declared.disk.DiskFault.{DiskFault}
-use Rattle.disk_model.specs.OverlayLaws.{place_cases, laid_inside, laid_outside}
+use Rattle.disk_model.specs.OverlayLaws.{offset_cases, laid_inside, laid_outside}
 
 -- at the start of a call; `only` is the law `only_now`
 pub started : (disk : DiskState) (P : Image → Type 0) → ((t u : ℕ) (image : Image) → disk.clock ≤ t → disk.between t u image → disk.now image)
@@ -115,27 +115,27 @@ closed_goes_on old new at n result closed elapses = elapses_more old new (Torn a
 
 -- where nothing differs, tearing leaves what was there
 pub torn_nowhere : (at : ℕ) (images : Image → Type 0) (image : Image) → Torn at 0 images image → images image
-torn_nowhere at images image torn = subst images (λ i place. same place i) torn.was
+torn_nowhere at images image torn = subst images (λ i offset. same offset i) torn.was
   where
-    same : (place : ℕ) → torn.before place ≡ image place
-    same place = elim (place_cases at 0 place) [ inl out ↦ sym (torn.same place out) | inr within ↦ absurd (omega (arith, within.1)) ]
+    same : (offset : ℕ) → torn.before offset ≡ image offset
+    same offset = elim (offset_cases at 0 offset) [ inl out ↦ sym (torn.same offset out) | inr within ↦ absurd (omega (arith, within.1)) ]
 
 -- a range of no bytes is closed
 pub closed_nowhere : (disk : DiskState) (at : ℕ) → Closed disk at 0
 closed_nowhere disk at = record { each = λ old new may same. torn_nowhere at disk.now new (record { before = old; was = may; same = same }) }
 
-apart_of_both : (at n next m place : ℕ) → next ≡ at + n → (place < at) ⊎ (at + n ≤ place) → (place < next) ⊎ (next + m ≤ place) → (place < at) ⊎ (at + (n + m) ≤ place)
-apart_of_both at n next m place follows (inl before) out = inl before
-apart_of_both at n next m place follows (inr after) (inl early) = absurd (omega (arith, follows, after, early))
-apart_of_both at n next m place follows (inr after) (inr late) = inr (omega (arith, follows, late))
+apart_of_both : (at n next m offset : ℕ) → next ≡ at + n → (offset < at) ⊎ (at + n ≤ offset) → (offset < next) ⊎ (next + m ≤ offset) → (offset < at) ⊎ (at + (n + m) ≤ offset)
+apart_of_both at n next m offset follows (inl before) out = inl before
+apart_of_both at n next m offset follows (inr after) (inl early) = absurd (omega (arith, follows, after, early))
+apart_of_both at n next m offset follows (inr after) (inr late) = inr (omega (arith, follows, late))
 
 -- two closed ranges, of which the second begins where the first ends, are one
 pub closed_joined : (disk : DiskState) (at n next m : ℕ) → next ≡ at + n → Closed disk at n → Closed disk next m → Closed disk at (n + m)
 closed_joined disk at n next m follows first second = record {
   each = λ old new may same.
-      let rest : SameOutside next m (overlay old at (range new at n)) new = λ place out. elim (place_cases at n place) [
-        | inl apart ↦ same place (apart_of_both at n next m place follows apart out) ∙ sym (laid_outside old new at n place apart)
-        | inr within ↦ sym (laid_inside old new at n place within.0 within.1)
+      let rest : SameOutside next m (overlay old at (range new at n)) new = λ offset out. elim (offset_cases at n offset) [
+        | inl apart ↦ same offset (apart_of_both at n next m offset follows apart out) ∙ sym (laid_outside old new at n offset apart)
+        | inr within ↦ sym (laid_inside old new at n offset within.0 within.1)
       ] in
       second.each (overlay old at (range new at n)) new (first.each old (overlay old at (range new at n)) may (laid_outside old new at n)) rest;
 }
@@ -143,7 +143,7 @@ closed_joined disk at n next m follows first second = record {
 -- a part of a closed range is closed
 pub closed_within : (disk : DiskState) (at n from m : ℕ) → at ≤ from → from + m ≤ at + n → Closed disk at n → Closed disk from m
 closed_within disk at n from m begins ends closed = record {
-  each = λ old new may same. closed.each old new may (λ place out. same place (elim out [ inl before ↦ inl (omega (arith, begins, before)) | inr after ↦ inr (omega (arith, ends, after)) ]));
+  each = λ old new may same. closed.each old new may (λ offset out. same offset (elim out [ inl before ↦ inl (omega (arith, begins, before)) | inr after ↦ inr (omega (arith, ends, after)) ]));
 }
 
 -- a settled disk stays so over reads

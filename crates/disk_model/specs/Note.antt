@@ -6,10 +6,10 @@ use Rattle.disk_model.specs.declared.note.Call.TheVariants.{Write, Sync, Restart
 use Rattle.disk_model.specs.declared.note.Note.{Note}
 
 -- where a call writes
-abbrev pub place_of : Call → ℕ
-place_of (Write at bytes) = at
-place_of Sync = 0
-place_of Restart = 0
+abbrev pub offset_of : Call → ℕ
+offset_of (Write at bytes) = at
+offset_of Sync = 0
+offset_of Restart = 0
 
 -- how many bytes
 abbrev pub size_of : Call → ℕ
@@ -24,7 +24,7 @@ laid (Write at bytes) false image = image
 laid Sync done image = image
 laid Restart done image = image
 
--- the ranges that may hold anything, each a place and a length, after a call, by those before
+-- the ranges that may hold anything, each an offset and a length, after a call, by those before
 abbrev pub opened : Call → Bool → List (ℕ × ℕ) → List (ℕ × ℕ)
 opened (Write at bytes) done ranges = (at, length bytes.items) ∷ ranges
 opened Sync true ranges = []

@@ -2,7 +2,7 @@
 use Rattle.std.specs.Prelude.{◌≡◌, ◌⊎◌, ℕ, ◌+◌, ◌<◌, ◌≤◌, Bool, true, List, [], ◌∷◌, ◌++◌, length, take, drop, fold, Some}
 use Rattle.disk_model.specs.Image.{Image, image_of}
 use Rattle.disk_model.specs.State.{DiskState, Torn}
-use Rattle.disk_model.specs.Note.{place_of, size_of, image_after, ranges_after}
+use Rattle.disk_model.specs.Note.{offset_of, size_of, image_after, ranges_after}
 use Rattle.load_base.specs.Listed.{Listed}
 use Rattle.disk_model.specs.declared.note.Call.{Call}
 use Rattle.disk_model.specs.declared.note.Call.TheVariants.{Write, Sync, Restart}
@@ -18,18 +18,18 @@ open_ranges notes = fold ranges_after [] notes
 
 -- outside each of these ranges
 abbrev pub OutsideAll : List (ℕ × ℕ) → ℕ → Type 0
-OutsideAll [] place = Unit {0}
-OutsideAll (range ∷ ranges) place = ((place < range.0) ⊎ (range.0 + range.1 ≤ place)) × OutsideAll ranges place
+OutsideAll [] offset = Unit {0}
+OutsideAll (range ∷ ranges) offset = ((offset < range.0) ⊎ (range.0 + range.1 ≤ offset)) × OutsideAll ranges offset
 
 -- An image that a power loss may leave after these calls: what a read gives, but for the ranges that were written since
 -- the last sync or restart, which may hold anything.
 pub record MayLeave (first : List ℕ) (notes : List Note) (image : Image) : Type 0 where
-  pub agrees : (place : ℕ) → OutsideAll (open_ranges notes) place → image place ≡ replayed first notes place
+  pub agrees : (offset : ℕ) → OutsideAll (open_ranges notes) offset → image offset ≡ replayed first notes offset
 
 -- What a power loss may leave until the next of these calls has ended: where it writes, anything.
 abbrev pub UntilNext : List Note → (Image → Type 0) → Image → Type 0
 UntilNext [] images = images
-UntilNext (next ∷ later) images = Torn (place_of next.call) (size_of next.call) images
+UntilNext (next ∷ later) images = Torn (offset_of next.call) (size_of next.call) images
 
 -- what a power loss might have left after so many calls, of those from one number to another, or inside the next
 pub record MightHaveLeft (first : List ℕ) (notes : List Note) (from to : ℕ) (image : Image) : Type 0 where

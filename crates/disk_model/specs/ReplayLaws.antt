@@ -9,11 +9,11 @@ use Rattle.disk_model.specs.Replay.{replayed, MayLeave, UntilNext, MightHaveLeft
 use Rattle.disk_model.specs.declared.note.Note.{Note}
 
 -- what it holds is an image that a power loss may leave
-pub held_may_leave : (first : List ℕ) (notes : List Note) (held : List ℕ) → ((place : ℕ) → slice_index held place ≡ replayed first notes place)
+pub held_may_leave : (first : List ℕ) (notes : List Note) (held : List ℕ) → ((offset : ℕ) → slice_index held offset ≡ replayed first notes offset)
     → (image : Image) → ◌≡◌ {A = Option Image} (Some (image_of held)) (Some image) → MayLeave first notes image
 held_may_leave first notes held same image told =
     let is : image_of held ≡ image = cc in
-    record { agrees = λ place out. ap (λ (m : Image). m place) (sym is) ∙ same place }
+    record { agrees = λ offset out. ap (λ (m : Image). m offset) (sym is) ∙ same offset }
 
 -- after the last call there is no next one
 pub at_the_end : (first : List ℕ) (notes : List Note) (calls : ℕ) (image : Image) → length notes ≤ calls

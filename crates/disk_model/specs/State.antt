@@ -30,7 +30,7 @@ pub record DiskState : Type 1 where
 pub record IsSettled (disk : DiskState) : Type 0 where
   pub only : (image : Image) → disk.now image → disk.reads ≡ Some image
 
--- so many places from this one on may hold anything after a power loss
+-- so many offsets from this one on may hold anything after a power loss
 pub record Closed (disk : DiskState) (at n : ℕ) : Type 0 where
   pub each : (old new : Image) → disk.now old → SameOutside at n old new → disk.now new
 
@@ -57,7 +57,7 @@ pub record OnlyReads (old new : DiskState) : Type 0 where
   pub keeps : (t u : ℕ) (image : Image) → old.between t u image → new.between t u image
   pub closed : KeepsClosed old new
 
--- so many bytes from a place on may be anything, and the rest is that of an image that was there
+-- so many bytes from an offset on may be anything, and the rest is that of an image that was there
 pub record Torn (at n : ℕ) (images : Image → Type 0) (image : Image) : Type 0 where
   pub before : Image
   pub was : images before

@@ -29,7 +29,8 @@ pub trait Disk {
     fn read(&mut self, at: u32, buf: &mut [u8]) -> Result<(), DiskFault>
         requires running { (state self.old).stopped ≡ false }
         requires within { at + length buf.old ≤ SIZE }
-        ensures bytes { OnOk result ((image : Image) → (state self.old).reads ≡ Some image → buf.new ≡ range image at (length buf.old)) }
+        ensures bytes { OnOk result ((image : Image) → (state self.old).reads ≡ Some image
+            → buf.new ≡ range image at (length buf.old)) }
         ensures kept { OnOk result ((state self.new).reads ≡ (state self.old).reads) }
         ensures only_reads { OnlyReads (state self.old) (state self.new) }
         ensures cause { HasCause (state self.old) (state self.new) result };
@@ -38,10 +39,12 @@ pub trait Disk {
     fn write(&mut self, at: u32, bytes: &[u8]) -> Result<(), DiskFault>
         requires running { (state self.old).stopped ≡ false }
         requires within { at + length bytes.now ≤ SIZE }
-        ensures bytes { OnOk result ((image : Image) → (state self.old).reads ≡ Some image → (state self.new).reads ≡ Some (overlay image at bytes.now)) }
+        ensures bytes { OnOk result ((image : Image) → (state self.old).reads ≡ Some image
+            → (state self.new).reads ≡ Some (overlay image at bytes.now)) }
         ensures torn { OnOk result (Closed (state self.new) at (length bytes.now)) }
         ensures closed { KeepsClosed (state self.old) (state self.new) }
-        ensures elapses { Elapses (state self.old) (state self.new) (Torn at (length bytes.now) (state self.old).now) result }
+        ensures elapses { Elapses (state self.old) (state self.new)
+            (Torn at (length bytes.now) (state self.old).now) result }
         ensures cause { HasCause (state self.old) (state self.new) result };
 
     /// Makes what was written survive a power loss.
@@ -59,19 +62,25 @@ pub trait Disk {
         ensures cause { HasCause (state self.old) (state self.new) result };
 
     /// What is read is an image.
-    ghost reads_now: { (disk : Self) (image : Image) → (state disk).reads ≡ Some image → (state disk).now image };
+    ghost reads_now: { (disk : Self) (image : Image) → (state disk).reads ≡ Some image
+        → (state disk).now image };
 
     /// This moment is one of those at this value of the clock.
-    ghost counts_now: { (disk : Self) (t u : ℕ) (image : Image) → t ≤ (state disk).clock → (state disk).clock ≤ u → (state disk).now image → (state disk).between t u image };
+    ghost counts_now: { (disk : Self) (t u : ℕ) (image : Image) → t ≤ (state disk).clock
+        → (state disk).clock ≤ u → (state disk).now image → (state disk).between t u image };
 
     /// Since this value of the clock there is no other moment.
-    ghost only_now: { (disk : Self) (t u : ℕ) (image : Image) → (state disk).clock ≤ t → (state disk).between t u image → (state disk).now image };
+    ghost only_now: { (disk : Self) (t u : ℕ) (image : Image) → (state disk).clock ≤ t
+        → (state disk).between t u image → (state disk).now image };
 
     /// A longer time has more images.
-    ghost wider: { (disk : Self) (s t u v : ℕ) (image : Image) → s ≤ t → u ≤ v → (state disk).between t u image → (state disk).between s v image };
+    ghost wider: { (disk : Self) (s t u v : ℕ) (image : Image) → s ≤ t → u ≤ v
+        → (state disk).between t u image → (state disk).between s v image };
 
     /// Each image of a time is one of its first part or of its second.
-    ghost splits: { (disk : Self) (t u v : ℕ) (image : Image) → t ≤ u → u ≤ v → (state disk).between t v image → (state disk).between t u image ⊎ (state disk).between u v image };
+    ghost splits: { (disk : Self) (t u v : ℕ) (image : Image) → t ≤ u → u ≤ v
+        → (state disk).between t v image
+        → (state disk).between t u image ⊎ (state disk).between u v image };
 }
 
 // Counts a refusal, which stops the disk.

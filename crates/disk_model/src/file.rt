@@ -6,19 +6,21 @@ ghost use Rattle.disk_model.specs.State.{untold_reads};
 
 use crate::disk::refuse;
 use crate::{Disk, DiskFault};
-use load_base::FaultCount;
+use load_base::{FaultCount, read_some};
 use std::fs::{OpenFile, OpenOptions};
 use std::io::{self, ErrorKind, Read, Seek, SeekFrom, Write};
 use std::rt::Files;
 
-/// A disk in a file. The file is opened at the first call, and made where it is missing; bytes past its
-/// end read as zero. An error of the system is a fault of the disk, and closes the file. `restart` writes
-/// out what the file holds and closes it, so the next call opens it anew.
+/// A disk in a file; bytes past its end read as zero. The file is opened for reading until the first write,
+/// which makes it where it is missing; until then a missing file reads as zeros. An error of the system is a
+/// fault of the disk, and closes the file. `restart` writes out what the file holds and closes it, so the
+/// next call opens it anew.
+///
+/// Once the system couldn't write out what it holds, it may have lost it while it still reads it: from then
+/// on each call fails, of this disk and also after a restart.
 #[derive(Drop)]
 pub struct FileDisk<'r, R: Files> {
-    rt: &'r R,
-    name: &'r str,
-    file: Option<R::File>,
+    file: DiskFile<'r, R>,
     clock: u64,
     faults: FaultCount,
     stopped: bool,
@@ -34,9 +36,14 @@ impl<'r, R: Files> FileDisk<'r, R> {
         ensures no_faults { ((state_of result).faults ≡ 0) × ((state_of result).refusals ≡ 0) }
     {
         FileDisk {
-            rt,
-            name,
-            file: None,
+            file: DiskFile {
+                rt,
+                name,
+                open: None,
+                writable: false,
+                is_new: false,
+                is_lost: false,
+            },
             clock: 0,
             faults: FaultCount::new(),
             stopped: false,
@@ -60,30 +67,32 @@ impl<R: Files> Disk for FileDisk<'_, R> {
     ghost splits = { λ d t u v image from to is. inl is };
 
     fn read(&mut self, at: u32, buf: &mut [u8]) -> Result<(), DiskFault> {
-        let outcome = read_at(self.rt, self.name, &mut self.file, at, buf);
+        let outcome = self.file.read_at(at, buf);
         answer(outcome, &mut self.faults, &mut self.stopped)
     }
 
     fn write(&mut self, at: u32, bytes: &[u8]) -> Result<(), DiskFault> {
-        let outcome = write_at(
-            self.rt,
-            self.name,
-            &mut self.file,
-            &mut self.clock,
-            at,
-            bytes,
-        );
+        let outcome = match advance(&mut self.clock) {
+            Ok(()) => self.file.write_at(at, bytes),
+            Err(fault) => Err(fault),
+        };
         answer(outcome, &mut self.faults, &mut self.stopped)
     }
 
     fn sync(&mut self) -> Result<(), DiskFault> {
-        let outcome = sync(self.rt, self.name, &mut self.file, &mut self.clock);
+        let outcome = match advance(&mut self.clock) {
+            Ok(()) => self.file.sync(),
+            Err(fault) => Err(fault),
+        };
         answer(outcome, &mut self.faults, &mut self.stopped)
     }
 
     fn restart(&mut self) -> Result<(), DiskFault> {
-        let outcome = sync(self.rt, self.name, &mut self.file, &mut self.clock);
-        self.file = None;
+        let outcome = match advance(&mut self.clock) {
+            Ok(()) => self.file.sync(),
+            Err(fault) => Err(fault),
+        };
+        self.file.open = None;
         answer(outcome, &mut self.faults, &mut self.stopped)
     }
 }
@@ -124,71 +133,127 @@ fn answer(
     }
 }
 
-// The file, opened where it isn't open. It is closed at an error, and otherwise put back.
-//
-// Where standard output is closed the system gives its descriptor to the next file that is opened, and output would
-// go into the disk. A clone's descriptor is 3 at least.
-fn take_file<R: Files>(rt: &R, name: &str, file: &mut Option<R::File>) -> io::Result<R::File> {
-    match file.take() {
-        Some(open) => Ok(open),
-        None => {
+// The file of a disk. At an error it is closed.
+#[derive(Drop)]
+struct DiskFile<'r, R: Files> {
+    rt: &'r R,
+    name: &'r str,
+    open: Option<R::File>,
+    // Whether it is open for writing too.
+    writable: bool,
+    // Whether its folder may not have its name yet after a power loss.
+    is_new: bool,
+    // Whether what was written may be lost.
+    is_lost: bool,
+}
+
+impl<R: Files> DiskFile<'_, R> {
+    // What lies after the file's end, or in no file, reads as zero.
+    fn read_at(&mut self, at: u32, buf: &mut [u8]) -> io::Result<()> {
+        buf.fill(0);
+        let Some(mut file) = self.take()? else {
+            return Ok(());
+        };
+        file.seek(SeekFrom::Start(u64::from(at)))?;
+        fill_from(&mut file, buf)?;
+        self.open = Some(file);
+        Ok(())
+    }
+
+    fn write_at(&mut self, at: u32, bytes: &[u8]) -> io::Result<()> {
+        let mut file = self.take_writable()?;
+        file.seek(SeekFrom::Start(u64::from(at)))?;
+        file.write_all(bytes)?;
+        self.open = Some(file);
+        Ok(())
+    }
+
+    // Writes out what the file holds, and its name in its folder where that is new.
+    fn sync(&mut self) -> io::Result<()> {
+        let Some(file) = self.take()? else {
+            return Ok(());
+        };
+        let written = self.write_out(&file);
+        self.is_lost = written.is_err();
+        written?;
+        self.is_new = false;
+        self.open = Some(file);
+        Ok(())
+    }
+
+    fn write_out(&self, file: &R::File) -> io::Result<()> {
+        file.sync_all()?;
+        if self.is_new {
             let mut how = OpenOptions::new();
-            how.read(true).write(true).create(true);
-            rt.open_file(&how, name)?.try_clone()
+            how.read(true);
+            self.rt.open_file(&how, folder_of(self.name))?.sync_all()?;
         }
+        Ok(())
+    }
+
+    // The open file, opened for reading where it isn't open; None where there is none of this name.
+    fn take(&mut self) -> io::Result<Option<R::File>> {
+        if self.is_lost {
+            return Err(io::Error::from(ErrorKind::Other));
+        }
+        if let Some(file) = self.open.take() {
+            return Ok(Some(file));
+        }
+        self.writable = false;
+        let mut how = OpenOptions::new();
+        how.read(true);
+        match self.opened(&how) {
+            Ok(file) => Ok(Some(file)),
+            Err(fault) if fault.kind() == ErrorKind::NotFound => Ok(None),
+            Err(fault) => Err(fault),
+        }
+    }
+
+    // The file open for writing too, made where there is none of this name.
+    fn take_writable(&mut self) -> io::Result<R::File> {
+        if self.is_lost {
+            return Err(io::Error::from(ErrorKind::Other));
+        }
+        if self.writable {
+            if let Some(file) = self.open.take() {
+                return Ok(file);
+            }
+        }
+        self.open = None;
+        self.writable = true;
+        let mut how = OpenOptions::new();
+        how.read(true).write(true);
+        match self.opened(&how) {
+            Err(fault) if fault.kind() == ErrorKind::NotFound => {
+                self.is_new = true;
+                how.create_new(true);
+                self.opened(&how)
+            }
+            opened => opened,
+        }
+    }
+
+    // Where standard output is closed the system gives its descriptor to the next file that is
+    // opened, and output would go into the disk. A clone's descriptor is 3 at least.
+    fn opened(&self, how: &OpenOptions) -> io::Result<R::File> {
+        self.rt.open_file(how, self.name)?.try_clone()
     }
 }
 
-fn read_at<R: Files>(
-    rt: &R,
-    name: &str,
-    file: &mut Option<R::File>,
-    at: u32,
-    buf: &mut [u8],
-) -> io::Result<()> {
-    let mut open = take_file(rt, name, file)?;
-    open.seek(SeekFrom::Start(u64::from(at)))?;
-    fill_from(&mut open, buf)?;
-    *file = Some(open);
-    Ok(())
+// The folder in which the file of this name lies.
+fn folder_of(name: &str) -> &str {
+    match name.rsplit_once('/') {
+        Some(("", _)) => "/",
+        Some((folder, _)) => folder,
+        None => ".",
+    }
 }
 
-fn write_at<R: Files>(
-    rt: &R,
-    name: &str,
-    file: &mut Option<R::File>,
-    clock: &mut u64,
-    at: u32,
-    bytes: &[u8],
-) -> io::Result<()>
-    ensures later { clock.old ≤ clock.new }
-    ensures advances { OnOk result (clock.old < clock.new) }
-{
-    advance(clock)?;
-    let mut open = take_file(rt, name, file)?;
-    open.seek(SeekFrom::Start(u64::from(at)))?;
-    open.write_all(bytes)?;
-    *file = Some(open);
-    Ok(())
-}
-
-fn sync<R: Files>(rt: &R, name: &str, file: &mut Option<R::File>, clock: &mut u64) -> io::Result<()>
-    ensures later { clock.old ≤ clock.new }
-    ensures advances { OnOk result (clock.old < clock.new) }
-{
-    advance(clock)?;
-    let open = take_file(rt, name, file)?;
-    open.sync_all()?;
-    *file = Some(open);
-    Ok(())
-}
-
-// Reads until the buffer is full or the file ends. What isn't read is zero.
+// Reads until the buffer is full or the file ends.
 fn fill_from<F: Read>(file: &mut F, buf: &mut [u8]) -> io::Result<()> {
-    buf.fill(0);
     let mut filled = 0;
     while filled < buf.len() {
-        let count = file.read(&mut buf[filled..])?;
+        let count = read_some(file, &mut buf[filled..])?;
         if count == 0 {
             break;
         }

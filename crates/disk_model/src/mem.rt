@@ -25,7 +25,8 @@ pub struct MemDisk {
     faults: FaultCount,
     refusals: FaultCount,
     stopped: bool,
-    ghost same: { (place : ℕ) → slice_index bytes.items place ≡ replayed first.items notes.items place },
+    ghost same: { (offset : ℕ)
+        → slice_index bytes.items offset ≡ replayed first.items notes.items offset },
 }
 
 impl MemDisk {
@@ -34,15 +35,18 @@ impl MemDisk {
     /// A disk with these bytes from offset 0 on, that has not failed.
     pub fn new(alloc: Global, bytes: &[u8]) -> Result<MemDisk, NoMemory>
         requires { length bytes.now ≤ SIZE }
+        // It reads as these bytes, a power loss leaves nothing else, and no call failed.
         ensures reads { IfOk result (λ disk. (state_of disk).reads ≡ Some (image_of bytes.now)) }
         ensures only_image { IfOk result (λ disk. IsSettled (state_of disk)) }
         ensures running { IfOk result (λ disk. (state_of disk).stopped ≡ false) }
-        ensures no_faults { IfOk result (λ disk. ((state_of disk).faults ≡ 0) × ((state_of disk).refusals ≡ 0)) }
-        ensures failing { IfOk result (λ disk. (calls_of disk).failing ≡ []) }
-        ensures bytes { IfOk result (λ disk. contents_of disk ≡ bytes.now) }
-        ensures first { IfOk result (λ disk. first_of disk ≡ bytes.now) }
-        ensures no_notes { IfOk result (λ disk. notes_of disk ≡ []) }
-        ensures next { IfOk result (λ disk. (calls_of disk).next ≡ 1) }
+        ensures no_faults { IfOk result (λ disk.
+            ((state_of disk).faults ≡ 0) × ((state_of disk).refusals ≡ 0)) }
+
+        // What it shows of itself.
+        ensures bytes { IfOk result (λ disk.
+            (contents_of disk ≡ bytes.now) × (first_of disk ≡ bytes.now) × (notes_of disk ≡ [])) }
+        ensures calls { IfOk result (λ disk.
+            ((calls_of disk).failing ≡ []) × ((calls_of disk).next ≡ 1)) }
     {
         let mut first = Bytes::new(alloc);
         first.extend(bytes)?;
@@ -62,15 +66,18 @@ impl MemDisk {
 
     /// Lets the call of the disk with this number fail; calls count from 1.
     pub fn fail_at(&mut self, call: u32) -> Result<(), NoMemory>
-        ensures ok { OnOk result ((calls_of self.new).failing ≡ (calls_of self.old).failing ++ call ∷ []) }
+        ensures ok { OnOk result
+            ((calls_of self.new).failing ≡ (calls_of self.old).failing ++ call ∷ []) }
         ensures err { OnErr result ((calls_of self.new).failing ≡ (calls_of self.old).failing) }
         ensures next { (calls_of self.new).next ≡ (calls_of self.old).next }
+
+        // Nothing else changes.
         ensures unchanged { IsUnchanged self.old self.new }
-        ensures reads { (state_of self.new).reads ≡ (state_of self.old).reads }
         ensures only_reads { OnlyReads (state_of self.old) (state_of self.new) }
+        ensures reads { (state_of self.new).reads ≡ (state_of self.old).reads }
         ensures stopped { (state_of self.new).stopped ≡ (state_of self.old).stopped }
-        ensures faults { (state_of self.new).faults ≡ (state_of self.old).faults }
-        ensures refusals { (state_of self.new).refusals ≡ (state_of self.old).refusals }
+        ensures counts { ((state_of self.new).faults ≡ (state_of self.old).faults)
+            × ((state_of self.new).refusals ≡ (state_of self.old).refusals) }
     {
         self.calls.fail_at(call)
     }
@@ -95,9 +102,12 @@ impl MemDisk {
     /// leave now or might have left before.
     pub fn notes(&self) -> &[Note]
         ensures notes { result.now ≡ notes_of self.now }
-        ensures replayed { (place : ℕ) → image_of (contents_of self.now) place ≡ replayed (first_of self.now) (notes_of self.now) place }
-        ensures now { (image : Image) → (state_of self.now).now image ↔ MayLeave (first_of self.now) (notes_of self.now) image }
-        ensures between { (t u : ℕ) (image : Image) → (state_of self.now).between t u image ↔ MightHaveLeft (first_of self.now) (notes_of self.now) t u image }
+        ensures replayed { (offset : ℕ) → image_of (contents_of self.now) offset
+            ≡ replayed (first_of self.now) (notes_of self.now) offset }
+        ensures now { (image : Image) → (state_of self.now).now image
+            ↔ MayLeave (first_of self.now) (notes_of self.now) image }
+        ensures between { (t u : ℕ) (image : Image) → (state_of self.now).between t u image
+            ↔ MightHaveLeft (first_of self.now) (notes_of self.now) t u image }
         ensures clock { (state_of self.now).clock ≡ length (notes_of self.now) }
     {
         self.notes.as_slice()
@@ -109,7 +119,8 @@ impl MemDisk {
         ensures counts { CountsCall self.old self.new result }
         ensures notes { NotesCall call self.old self.new result }
         ensures settled { OnOk result (IsSettled (state_of self.new)) }
-        ensures elapses { Elapses (state_of self.old) (state_of self.new) (state_of self.old).now result }
+        ensures elapses { Elapses (state_of self.old) (state_of self.new)
+            (state_of self.old).now result }
         ensures cause { HasCause (state_of self.old) (state_of self.new) result }
     {
         let fails = self.calls.count_call();
@@ -147,7 +158,8 @@ impl Disk for MemDisk {
         requires within { at + length buf.old ≤ SIZE }
         ensures counts { CountsCall self.old self.new result }
         ensures unchanged { IsUnchanged self.old self.new }
-        ensures bytes { OnOk result ((image : Image) → (state_of self.old).reads ≡ Some image → buf.new ≡ range image at (length buf.old)) }
+        ensures bytes { OnOk result ((image : Image) → (state_of self.old).reads ≡ Some image
+            → buf.new ≡ range image at (length buf.old)) }
         ensures kept { OnOk result ((state_of self.new).reads ≡ (state_of self.old).reads) }
         ensures only_reads { OnlyReads (state_of self.old) (state_of self.new) }
         ensures cause { HasCause (state_of self.old) (state_of self.new) result }
@@ -165,10 +177,12 @@ impl Disk for MemDisk {
         requires within { at + length bytes.now ≤ SIZE }
         ensures counts { CountsCall self.old self.new result }
         ensures notes { NotesWrite at bytes.now self.old self.new result }
-        ensures bytes { OnOk result ((image : Image) → (state_of self.old).reads ≡ Some image → (state_of self.new).reads ≡ Some (overlay image at bytes.now)) }
+        ensures bytes { OnOk result ((image : Image) → (state_of self.old).reads ≡ Some image
+            → (state_of self.new).reads ≡ Some (overlay image at bytes.now)) }
         ensures torn { OnOk result (Closed (state_of self.new) at (length bytes.now)) }
         ensures closed { KeepsClosed (state_of self.old) (state_of self.new) }
-        ensures elapses { Elapses (state_of self.old) (state_of self.new) (Torn at (length bytes.now) (state_of self.old).now) result }
+        ensures elapses { Elapses (state_of self.old) (state_of self.new)
+            (Torn at (length bytes.now) (state_of self.old).now) result }
         ensures cause { HasCause (state_of self.old) (state_of self.new) result }
     {
         let fails = self.calls.count_call();
@@ -190,7 +204,8 @@ impl Disk for MemDisk {
         ensures notes { NotesCall Call.Sync self.old self.new result }
         ensures kept { OnOk result ((state_of self.new).reads ≡ (state_of self.old).reads) }
         ensures settled { OnOk result (IsSettled (state_of self.new)) }
-        ensures elapses { Elapses (state_of self.old) (state_of self.new) (state_of self.old).now result }
+        ensures elapses { Elapses (state_of self.old) (state_of self.new)
+            (state_of self.old).now result }
         ensures cause { HasCause (state_of self.old) (state_of self.new) result }
     {
         self.settle(Call::Sync)
@@ -200,7 +215,8 @@ impl Disk for MemDisk {
         ensures counts { CountsCall self.old self.new result }
         ensures notes { NotesCall Call.Restart self.old self.new result }
         ensures settled { OnOk result (IsSettled (state_of self.new)) }
-        ensures elapses { Elapses (state_of self.old) (state_of self.new) (state_of self.old).now result }
+        ensures elapses { Elapses (state_of self.old) (state_of self.new)
+            (state_of self.old).now result }
         ensures cause { HasCause (state_of self.old) (state_of self.new) result }
     {
         self.settle(Call::Restart)
@@ -229,7 +245,8 @@ fn note_write(
 ) -> Result<(), NoMemory>
     requires { at + length bytes.now ≤ SIZE }
     ensures noted { OnOk result (AddsWrite notes.old.items notes.new.items at bytes.now done) }
-    ensures written { OnOk result (OnTrue done ((place : ℕ) → slice_index held.new.items place ≡ overlay (image_of held.old.items) at bytes.now place)) }
+    ensures written { OnOk result (OnTrue done ((offset : ℕ) → slice_index held.new.items offset
+        ≡ overlay (image_of held.old.items) at bytes.now offset)) }
     ensures unwritten { OnOk result (OnFalse done (held.new.items ≡ held.old.items)) }
     ensures not_noted { OnErr result (notes.new.items ≡ notes.old.items) }
     ensures err { OnErr result (held.new.items ≡ held.old.items) }
@@ -248,7 +265,8 @@ fn note_write(
 
 fn overwrite(to: &mut Vec<u8>, at: usize, bytes: &[u8]) -> Result<(), AllocError>
     requires { at + length bytes.now ≤ SIZE }
-    ensures ok { OnOk result ((place : ℕ) → slice_index to.new.items place ≡ overlay (image_of to.old.items) at bytes.now place) }
+    ensures ok { OnOk result ((offset : ℕ)
+        → slice_index to.new.items offset ≡ overlay (image_of to.old.items) at bytes.now offset) }
     ensures err { OnErr result (to.new.items ≡ to.old.items) }
 {
     lengthen(to, at + bytes.len())?;
@@ -259,7 +277,8 @@ fn overwrite(to: &mut Vec<u8>, at: usize, bytes: &[u8]) -> Result<(), AllocError
 // Zeros come after the end, as they are read there.
 fn lengthen(to: &mut Vec<u8>, len: usize) -> Result<(), AllocError>
     ensures len { OnOk result (len ≤ length to.new.items) }
-    ensures same { OnOk result ((place : ℕ) → slice_index to.new.items place ≡ slice_index to.old.items place) }
+    ensures same { OnOk result
+        ((offset : ℕ) → slice_index to.new.items offset ≡ slice_index to.old.items offset) }
     ensures err { OnErr result (to.new.items ≡ to.old.items) }
 {
     if len > to.len() {
@@ -270,8 +289,10 @@ fn lengthen(to: &mut Vec<u8>, len: usize) -> Result<(), AllocError>
 
 fn paste(to: &mut [u8], at: usize, bytes: &[u8])
     requires { at + length bytes.now ≤ length to.old }
-    ensures inside { (k : ℕ) → k < length bytes.now → slice_index to.new (at + k) ≡ slice_index bytes.now k }
-    ensures outside { (place : ℕ) → (place < at) ⊎ (at + length bytes.now ≤ place) → slice_index to.new place ≡ slice_index to.old place }
+    ensures inside { (k : ℕ) → k < length bytes.now
+        → slice_index to.new (at + k) ≡ slice_index bytes.now k }
+    ensures outside { (offset : ℕ) → (offset < at) ⊎ (at + length bytes.now ≤ offset)
+        → slice_index to.new offset ≡ slice_index to.old offset }
 {
     to[at..at + bytes.len()].copy_from_slice(bytes);
 }

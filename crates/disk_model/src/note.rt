@@ -4,7 +4,7 @@ use load_base::Bytes;
 /// A call that may change what a power loss leaves.
 #[derive(Drop)]
 pub enum Call {
-    /// These bytes, from place `at` on.
+    /// These bytes, from offset `at` on.
     Write { at: u32, bytes: Bytes },
     Sync,
     Restart,

@@ -9,8 +9,8 @@ use std::marker::Model;
 // The longest range that is torn.
 const LONGEST: usize = 16;
 
-/// A disk that syncs before each write, so that its last range alone is unsynced, and that tears this range when it
-/// is restarted: it becomes zeros.
+/// A disk that syncs before each write, so that its last range alone is unsynced, and that tears
+/// this range when it is restarted: it becomes zeros.
 #[derive(Drop)]
 pub(crate) struct Tearing<K: Disk + Drop> {
     inner: K,
@@ -48,7 +48,8 @@ impl<K: Disk + Drop> Tearing<K> {
     // Tears the range that was written last, which adds no image.
     fn tear(&mut self) -> Result<(), DiskFault>
         requires running { (K.state self.old.inner).stopped ≡ false }
-        ensures no_image { Elapses (K.state self.old.inner) (K.state self.new.inner) (K.state self.old.inner).now result }
+        ensures no_image { Elapses (K.state self.old.inner) (K.state self.new.inner)
+            (K.state self.old.inner).now result }
         ensures cause { HasCause (K.state self.old.inner) (K.state self.new.inner) result }
     {
         let zeros = [0; LONGEST];
@@ -111,9 +112,11 @@ impl<K: Disk + Drop> Disk for Tearing<K> {
 fn write_synced<K: Disk>(disk: &mut K, at: u32, bytes: &[u8]) -> Result<(), DiskFault>
     requires running { (K.state disk.old).stopped ≡ false }
     requires within { at + length bytes.now ≤ SIZE }
-    ensures bytes { OnOk result ((image : Image) → (K.state disk.old).reads ≡ Some image → (K.state disk.new).reads ≡ Some (overlay image at bytes.now)) }
+    ensures bytes { OnOk result ((image : Image) → (K.state disk.old).reads ≡ Some image
+        → (K.state disk.new).reads ≡ Some (overlay image at bytes.now)) }
     ensures torn { OnOk result (Closed (K.state disk.new) at (length bytes.now)) }
-    ensures elapses { Elapses (K.state disk.old) (K.state disk.new) (Torn at (length bytes.now) (K.state disk.old).now) result }
+    ensures elapses { Elapses (K.state disk.old) (K.state disk.new)
+        (Torn at (length bytes.now) (K.state disk.old).now) result }
     ensures cause { HasCause (K.state disk.old) (K.state disk.new) result }
 {
     disk.sync()?;

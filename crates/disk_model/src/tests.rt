@@ -8,7 +8,7 @@ use std::fs;
 use std::test::Fail;
 
 // The first eight bytes of a disk.
-fn front<K: Disk>(disk: &mut K) -> Result<[u8; 8], DiskFault>
+fn prefix<K: Disk>(disk: &mut K) -> Result<[u8; 8], DiskFault>
     requires { (K.state disk.old).stopped ≡ false }
     ensures { (K.state disk.new).stopped ≡ is_err result }
 {
@@ -17,7 +17,8 @@ fn front<K: Disk>(disk: &mut K) -> Result<[u8; 8], DiskFault>
     Ok(bytes)
 }
 
-// The notes of a disk: `w`, its offset and its bytes, `s` or `r` for each call, and `!` after one that wasn't done.
+// The notes of a disk: `w`, its offset and its bytes, `s` or `r` for each call, and `!` after one
+// that wasn't done.
 fn notes_of(alloc: Global, disk: &MemDisk) -> Result<Bytes, Fail> {
     let mut text = Bytes::new(alloc);
     for note in disk.notes() {
@@ -50,7 +51,7 @@ fn five_calls<K: Disk>(disk: &mut K) -> Result<(), DiskFault>
     disk.write(6, &[])?;
     disk.sync()?;
     disk.write(4, &[8, 9])?;
-    front(disk)?;
+    prefix(disk)?;
     Ok(())
 }
 
@@ -59,7 +60,7 @@ fn a_disk_in_memory_keeps_what_was_written(rt: HostRuntime) -> Result<(), Fail> 
     let mut disk = MemDisk::new(rt.alloc(), &[1, 2, 3])?;
     five_calls(&mut disk)?;
     disk.restart()?;
-    assert_eq!(rt; front(&mut disk)?, [1, 7, 3, 0, 8, 9, 0, 0]);
+    assert_eq!(rt; prefix(&mut disk)?, [1, 7, 3, 0, 8, 9, 0, 0]);
     assert_eq!(rt; disk.first_bytes(), [1, 2, 3].as_slice());
     assert_eq!(rt; disk.as_slice(), [1, 7, 3, 0, 8, 9].as_slice());
     Ok(())
@@ -99,18 +100,18 @@ fn a_torn_range_is_zeros(rt: HostRuntime) -> Result<(), Fail> {
     disk.write(3, &[9])?;
     disk.write(1, &[7, 8])?;
     disk.restart()?;
-    assert_eq!(rt; front(&mut disk)?, [1, 0, 0, 9, 5, 0, 0, 0]);
+    assert_eq!(rt; prefix(&mut disk)?, [1, 0, 0, 9, 5, 0, 0, 0]);
     Ok(())
 }
 
-// Writes over three openings of a file, the first of which makes it.
+// Writes over two openings of a file, the first of which makes it.
 fn write_file(rt: &HostRuntime, name: &str) -> Result<[u8; 8], DiskFault> {
     let mut disk = FileDisk::new(rt, name);
     disk.write(3, &[5, 6])?;
     disk.sync()?;
     disk.restart()?;
     disk.write(0, &[1])?;
-    front(&mut disk)
+    prefix(&mut disk)
 }
 
 // The last bytes of a disk in a file, and those from its end on.
@@ -125,7 +126,9 @@ fn ends(rt: &HostRuntime, name: &str) -> Result<[u8; 6], DiskFault> {
 #[test]
 fn a_disk_in_a_file_reads_what_was_written(rt: HostRuntime) -> Result<(), Fail> {
     let name = "a_disk_in_a_file.disk";
-    assert_eq!(rt; front(&mut FileDisk::new(&rt, name))?, [0; 8]);
+    assert_eq!(rt; prefix(&mut FileDisk::new(&rt, name))?, [0; 8]);
+    assert_eq!(rt; FileDisk::new(&rt, name).sync(), Ok(()));
+    assert!(rt; fs::read(&rt, name).is_err());
     assert_eq!(rt; write_file(&rt, name)?, [1, 0, 0, 5, 6, 0, 0, 0]);
     assert_eq!(rt; ends(&rt, name)?, [6, 0, 0, 0, 0, 0]);
     assert_eq!(rt; fs::read(&rt, name)?.as_slice(), [1, 0, 0, 5, 6].as_slice());
@@ -135,12 +138,14 @@ fn a_disk_in_a_file_reads_what_was_written(rt: HostRuntime) -> Result<(), Fail> 
 
 #[test]
 fn a_folder_is_no_disk(rt: HostRuntime) -> Result<(), Fail> {
-    assert_eq!(rt; front(&mut FileDisk::new(&rt, ".")), Err(DiskFault::Failed));
+    assert_eq!(rt;
+        prefix(&mut FileDisk::new(&rt, ".")),
+        Err(DiskFault::Failed)
+    );
     assert_eq!(rt;
         write_file(&rt, "no_such_folder/a.disk"),
         Err(DiskFault::Failed)
     );
-    assert_eq!(rt; FileDisk::new(&rt, ".").sync(), Err(DiskFault::Failed));
-    assert_eq!(rt; FileDisk::new(&rt, ".").restart(), Err(DiskFault::Failed));
+    assert_eq!(rt; write_file(&rt, "."), Err(DiskFault::Failed));
     Ok(())
 }

@@ -34,10 +34,10 @@ number_ok : (n : ℕ) (c d : Cursor) (v : ℕ) → read (number n) c ≡ Ok (v, 
 unfolding number number_in
 number_ok n c d v e =
     let (x, taken, given) = then_ok (read (raw n) c) (λ x. Ok (number_in n x.0, x.1)) (v, d) e in
-    let (fits, bytes, place) = raw_ok n c x.1 x.0 taken in
+    let (fits, bytes, offset) = raw_ok n c x.1 x.0 taken in
     let whole = big_from-take 0 n n c.rest (omega arith) in
     let both = same_pair (number_in n x.0, x.1) (v, d) given in
-    (fits, sym (ap (λ (p : ℕ × Cursor). p.0) both) ∙ (ap (number_in n) bytes ∙ whole), sym (ap (λ (p : ℕ × Cursor). p.1) both) ∙ place)
+    (fits, sym (ap (λ (p : ℕ × Cursor). p.0) both) ∙ (ap (number_in n) bytes ∙ whole), sym (ap (λ (p : ℕ × Cursor). p.1) both) ∙ offset)
 
 number_err : (n : ℕ) (c : Cursor) (f : FieldFault) → read (number n) c ≡ Err f → IsShort n c f
 unfolding number
@@ -92,9 +92,9 @@ short_err c f e =
       | inl first ↦ let few = number_err 1 c inner first in (omega (arith, few.0), sym same ∙ ap (text_fault (length c.before)) few.1)
       | inr later ↦
           let (x, taken, failed) = later in
-          let (fits, size, place) = number_ok 1 c x.1 x.0 taken in
+          let (fits, size, offset) = number_ok 1 c x.1 x.0 taken in
           let few = raw_err x.0 x.1 inner failed in
-          let left : length x.1.rest ≡ length c.rest - 1 = rw place (length-drop 1 c.rest) in
+          let left : length x.1.rest ≡ length c.rest - 1 = rw offset (length-drop 1 c.rest) in
           (omega (arith, few.0, left, size), sym same ∙ ap (text_fault (length c.before)) few.1)
     ]
 
@@ -112,9 +112,9 @@ text_and_pad_err n c f e =
       | inl refused ↦ inl (raw_err n c f refused)
       | inr later ↦
           let (x, taken, failed) = later in
-          let (fits, bytes, place) = raw_ok n c x.1 x.0 taken in
+          let (fits, bytes, offset) = raw_ok n c x.1 x.0 taken in
           elim (then_err (read (pad n) x.1) (λ y. Ok (x.0, y.1)) f failed) [
-            | inl refused ↦ inr (fits, subst (λ (d : Cursor). IsPadFault n d f) place (pad_err n x.1 f refused))
+            | inl refused ↦ inr (fits, subst (λ (d : Cursor). IsPadFault n d f) offset (pad_err n x.1 f refused))
             | inr given ↦ absurd (never (x.0, given.0.1) f given.2)
           ]
     ]
@@ -151,7 +151,7 @@ padded_err c f e =
       | inl first ↦ let few = number_err 2 c inner first in inl (omega (arith, few.0), sym same ∙ ap named few.1)
       | inr later ↦
           let (x, taken, failed) = later in
-          let (fits, size, place) = number_ok 2 c x.1 x.0 taken in
-          let there : read (text_and_pad (number_in 2 c.rest)) (advanced 2 c) ≡ Err inner = subst (λ (d : Cursor). read (text_and_pad (number_in 2 c.rest)) d ≡ Err inner) place (subst (λ (n : ℕ). read (text_and_pad n) x.1 ≡ Err inner) size failed) in
+          let (fits, size, offset) = number_ok 2 c x.1 x.0 taken in
+          let there : read (text_and_pad (number_in 2 c.rest)) (advanced 2 c) ≡ Err inner = subst (λ (d : Cursor). read (text_and_pad (number_in 2 c.rest)) d ≡ Err inner) offset (subst (λ (n : ℕ). read (text_and_pad n) x.1 ≡ Err inner) size failed) in
           subst (IsPaddedFault c) same (part_is_whole c inner fits (text_and_pad_err (number_in 2 c.rest) (advanced 2 c) inner there))
     ]

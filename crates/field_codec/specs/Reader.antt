@@ -1,7 +1,8 @@
 -- What a reader's calls go over, and what they refuse.
-use Rattle.std.specs.Prelude.{◌≡◌, ℕ, ◌+◌, ◌%◌, ◌<◌, List, ◌++◌, ◌⊎◌, length, slice_index}
+use Rattle.std.specs.Prelude.{◌≡◌, ℕ, ◌+◌, ◌%◌, ◌<◌, List, [], ◌∷◌, ◌++◌, ◌⊎◌, length, slice_index}
 use Rattle.field_grammar.specs.Cursor.{Cursor, cursor_at, advanced}
 use Rattle.field_grammar.specs.Fields.{number_in}
+use Rattle.field_grammar.specs.Grammar.{HasNoZero}
 use Rattle.field_grammar.specs.declared.fault.FieldFault.{FieldFault}
 use Rattle.field_grammar.specs.declared.fault.FieldFault.TheVariants.{Short, BadPad}
 
@@ -11,7 +12,7 @@ Passes passed old new = (old.rest ≡ passed ++ new.rest) × (new.before ≡ old
 
 -- the same of two positions in bytes
 abbrev pub PassesAt : List ℕ → ℕ → ℕ → List ℕ → Type 0
-PassesAt bytes place end passed = Passes passed (cursor_at bytes place) (cursor_at bytes end)
+PassesAt bytes offset end passed = Passes passed (cursor_at bytes offset) (cursor_at bytes end)
 
 -- N bytes don't fit there, and the fault has the offset where they should begin
 abbrev pub IsShort : ℕ → Cursor → FieldFault → Type 0
@@ -38,3 +39,11 @@ abbrev pub IsPaddedFault : Cursor → FieldFault → Type 0
 IsPaddedFault c fault =
     let n = number_in 2 c.rest in
     IsShort (padded_size c.rest) c fault ⊎ IsBadPad n (advanced (2 + n) c) fault
+
+-- a text, and the zero that ends it
+abbrev pub zero_ended_text : List ℕ → List ℕ
+zero_ended_text text = text ++ 0 ∷ []
+
+-- no zero is left there to end a text
+abbrev pub IsUnended : Cursor → FieldFault → Type 0
+IsUnended c fault = HasNoZero c.rest × (fault ≡ Short (length c.before))

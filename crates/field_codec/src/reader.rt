@@ -1,8 +1,11 @@
-ghost use Rattle.std.specs.Prelude.{◌≡◌, ◌≤◌, ◌++◌, ◌%◌, ◌⊎◌, length, drop, IfOk, IfErr, OnOk, OnErr};
+ghost use Rattle.std.specs.Prelude.{◌≡◌, ◌+◌, ◌==◌, ◌≤◌, ◌++◌, ◌%◌, ◌⊎◌, length, drop, IfOk, IfErr, OnOk, OnErr};
+ghost use Rattle.std.specs.List.{position};
 ghost use Rattle.field_grammar.specs.Cursor.{cursor_at, advanced};
 ghost use Rattle.field_grammar.specs.Answers.{Reads, ReadsAt};
 ghost use Rattle.field_grammar.specs.Fields.{number, number_bytes, raw, pad, padded, padded_parts, short, short_parts, text_fault, short_text, padded_text, pad_bytes};
-ghost use Rattle.field_codec.specs.Reader.{Passes, PassesAt, IsShort, IsPadFault, IsPaddedFault, short_size};
+ghost use Rattle.field_grammar.specs.Grammar.{zero_ended};
+ghost use Rattle.field_grammar.specs.declared.fault.FieldFault.TheVariants.{Short};
+ghost use Rattle.field_codec.specs.Reader.{zero_ended_text, IsUnended, Passes, PassesAt, IsShort, IsPadFault, IsPaddedFault, short_size};
 
 use byteorder::{BigEndian, ByteOrder};
 use field_grammar::FieldFault;
@@ -16,7 +19,7 @@ use std::marker::Model;
 #[derive(Drop)]
 pub struct Reader<'a> {
     bytes: &'a [u8],
-    place: usize,
+    offset: usize,
 }
 
 impl<'a> Model for Reader<'a> {
@@ -25,9 +28,9 @@ impl<'a> Model for Reader<'a> {
 
     ghost Value = { Cursor };
 
-    ghost view = { λ r. cursor_at r.bytes.now r.place };
+    ghost view = { λ r. cursor_at r.bytes.now r.offset };
 
-    ghost invariant = { λ r. r.place ≤ length r.bytes.now };
+    ghost invariant = { λ r. r.offset ≤ length r.bytes.now };
 }
 
 impl<'a> Reader<'a> {
@@ -37,28 +40,35 @@ impl<'a> Reader<'a> {
     pub fn new(bytes: &'a [u8]) -> Reader<'a>
         ensures { result ≡ start bytes.now }
     {
-        Reader { bytes, place: 0 }
+        Reader { bytes, offset: 0 }
     }
 
     /// The offset of the reader in the bytes, from 0.
     pub fn place(&self) -> usize
         ensures { result ≡ length self.now.before }
     {
-        self.place
+        self.offset
     }
 
     /// How many bytes are left.
     pub fn left(&self) -> usize
         ensures { result ≡ length self.now.rest }
     {
-        self.bytes.len() - self.place
+        self.bytes.len() - self.offset
+    }
+
+    /// How many bytes there are, before the reader and after it.
+    pub fn len(&self) -> usize
+        ensures { result ≡ length self.now.before + length self.now.rest }
+    {
+        self.bytes.len()
     }
 
     /// The bytes that were read so far.
     pub fn before(&self) -> &'a [u8]
         ensures { result.now ≡ self.now.before }
     {
-        &self.bytes[..self.place]
+        &self.bytes[..self.offset]
     }
 
     /// The next `count` bytes.
@@ -69,8 +79,8 @@ impl<'a> Reader<'a> {
         ensures same { OnErr result (self.new ≡ self.old) }
         ensures reads { Reads (λ bytes. bytes.now) (raw count) self.old result self.new }
     {
-        let (bytes, place) = raw_at(self.bytes, self.place, count)?;
-        self.place = place;
+        let (bytes, offset) = raw_at(self.bytes, self.offset, count)?;
+        self.offset = offset;
         Ok(bytes)
     }
 
@@ -81,8 +91,8 @@ impl<'a> Reader<'a> {
         ensures same { OnErr result (self.new ≡ self.old) }
         ensures reads { Reads (λ value. value) (number 1) self.old result self.new }
     {
-        let (value, place) = u8_at(self.bytes, self.place)?;
-        self.place = place;
+        let (value, offset) = u8_at(self.bytes, self.offset)?;
+        self.offset = offset;
         Ok(value)
     }
 
@@ -93,8 +103,8 @@ impl<'a> Reader<'a> {
         ensures same { OnErr result (self.new ≡ self.old) }
         ensures reads { Reads (λ value. value) (number 2) self.old result self.new }
     {
-        let (value, place) = u16_at(self.bytes, self.place)?;
-        self.place = place;
+        let (value, offset) = u16_at(self.bytes, self.offset)?;
+        self.offset = offset;
         Ok(value)
     }
 
@@ -105,8 +115,8 @@ impl<'a> Reader<'a> {
         ensures same { OnErr result (self.new ≡ self.old) }
         ensures reads { Reads (λ value. value) (number 4) self.old result self.new }
     {
-        let (value, place) = u32_at(self.bytes, self.place)?;
-        self.place = place;
+        let (value, offset) = u32_at(self.bytes, self.offset)?;
+        self.offset = offset;
         Ok(value)
     }
 
@@ -117,8 +127,8 @@ impl<'a> Reader<'a> {
         ensures same { OnErr result (self.new ≡ self.old) }
         ensures reads { Reads (λ value. value) (number 8) self.old result self.new }
     {
-        let (value, place) = u64_at(self.bytes, self.place)?;
-        self.place = place;
+        let (value, offset) = u64_at(self.bytes, self.offset)?;
+        self.offset = offset;
         Ok(value)
     }
 
@@ -130,8 +140,8 @@ impl<'a> Reader<'a> {
         ensures same { OnErr result (self.new ≡ self.old) }
         ensures reads { Reads (λ unit. unit) (pad size) self.old result self.new }
     {
-        let ((), place) = pad_at(self.bytes, self.place, size)?;
-        self.place = place;
+        let ((), offset) = pad_at(self.bytes, self.offset, size)?;
+        self.offset = offset;
         Ok(())
     }
 
@@ -143,8 +153,8 @@ impl<'a> Reader<'a> {
         ensures same { OnErr result (self.new ≡ self.old) }
         ensures reads { Reads (λ text. text.now) padded self.old result self.new }
     {
-        let (text, place) = padded_at(self.bytes, self.place)?;
-        self.place = place;
+        let (text, offset) = padded_at(self.bytes, self.offset)?;
+        self.offset = offset;
         Ok(text)
     }
 
@@ -156,160 +166,194 @@ impl<'a> Reader<'a> {
         ensures same { OnErr result (self.new ≡ self.old) }
         ensures reads { Reads (λ text. text.now) short self.old result self.new }
     {
-        let (text, place) = short_at(self.bytes, self.place)?;
-        self.place = place;
+        let (text, offset) = short_at(self.bytes, self.offset)?;
+        self.offset = offset;
+        Ok(text)
+    }
+
+    /// A text up to a zero byte, and the zero. Where no zero is left, the fault has the offset where
+    /// the text begins.
+    pub fn take_zero_ended(&mut self) -> Result<&'a [u8], FieldFault>
+        ensures ok { IfOk result (λ text. Passes (zero_ended_text text.now) self.old self.new) }
+        ensures err { IfErr result (IsUnended self.old) }
+        ensures same { OnErr result (self.new ≡ self.old) }
+        ensures reads { Reads (λ text. text.now) (zero_ended Short) self.old result self.new }
+    {
+        let (text, offset) = zero_ended_at(self.bytes, self.offset)?;
+        self.offset = offset;
         Ok(text)
     }
 }
 
-#[tactic(auto, unfolding(field_grammar::specs::Fields::raw))]
-fn raw_at(bytes: &[u8], place: usize, count: usize) -> Result<(&[u8], usize), FieldFault>
-    requires { place ≤ length bytes.now }
-    ensures ok { IfOk result (λ x. PassesAt bytes.now place x.1 x.0.now) }
-    ensures len { IfOk result (λ x. length x.0.now ≡ count) }
-    ensures err { IfErr result (IsShort count (cursor_at bytes.now place)) }
-    ensures reads { ReadsAt (λ b. b.now) (raw count) bytes.now place result }
+fn first_zero(bytes: &[u8]) -> Option<usize>
+    ensures { result ≡ position (λ byte. byte == 0) bytes.now }
 {
-    if bytes.len() - place < count {
-        return Err(FieldFault::Short(place as u64));
+    bytes.iter().position(|byte| *byte == 0)
+}
+
+fn zero_ended_at(bytes: &[u8], offset: usize) -> Result<(&[u8], usize), FieldFault>
+    requires { offset ≤ length bytes.now }
+    ensures ok { IfOk result (λ x. PassesAt bytes.now offset x.1 (zero_ended_text x.0.now)) }
+    ensures err { IfErr result (IsUnended (cursor_at bytes.now offset)) }
+    ensures reads { ReadsAt (λ text. text.now) (zero_ended Short) bytes.now offset result }
+{
+    match first_zero(&bytes[offset..]) {
+        Some(size) => {
+            let end = offset + size;
+            Ok((&bytes[offset..end], end + 1))
+        }
+        None => Err(FieldFault::Short(offset as u64)),
     }
-    let end = place + count;
-    Ok((&bytes[place..end], end))
+}
+
+#[tactic(auto, unfolding(field_grammar::specs::Fields::raw))]
+fn raw_at(bytes: &[u8], offset: usize, count: usize) -> Result<(&[u8], usize), FieldFault>
+    requires { offset ≤ length bytes.now }
+    ensures ok { IfOk result (λ x. PassesAt bytes.now offset x.1 x.0.now) }
+    ensures len { IfOk result (λ x. length x.0.now ≡ count) }
+    ensures err { IfErr result (IsShort count (cursor_at bytes.now offset)) }
+    ensures reads { ReadsAt (λ b. b.now) (raw count) bytes.now offset result }
+{
+    if bytes.len() - offset < count {
+        return Err(FieldFault::Short(offset as u64));
+    }
+    let end = offset + count;
+    Ok((&bytes[offset..end], end))
 }
 
 #[tactic(auto, using(crate::proofs::Passing::u8_passes), unfolding(field_grammar::specs::Fields::number, field_grammar::specs::Fields::number_in, field_grammar::specs::Fields::number_bytes))]
-fn u8_at(bytes: &[u8], place: usize) -> Result<(u8, usize), FieldFault>
-    requires { place ≤ length bytes.now }
-    ensures ok { IfOk result (λ x. PassesAt bytes.now place x.1 (number_bytes 1 x.0)) }
-    ensures err { IfErr result (IsShort 1 (cursor_at bytes.now place)) }
-    ensures reads { ReadsAt (λ n. n) (number 1) bytes.now place result }
+fn u8_at(bytes: &[u8], offset: usize) -> Result<(u8, usize), FieldFault>
+    requires { offset ≤ length bytes.now }
+    ensures ok { IfOk result (λ x. PassesAt bytes.now offset x.1 (number_bytes 1 x.0)) }
+    ensures err { IfErr result (IsShort 1 (cursor_at bytes.now offset)) }
+    ensures reads { ReadsAt (λ n. n) (number 1) bytes.now offset result }
 {
-    let (b, place) = raw_at(bytes, place, 1)?;
-    Ok((b[0], place))
+    let (b, offset) = raw_at(bytes, offset, 1)?;
+    Ok((b[0], offset))
 }
 
 #[tactic(auto, using(crate::proofs::Passing::u16_passes), unfolding(field_grammar::specs::Fields::number, field_grammar::specs::Fields::number_in, field_grammar::specs::Fields::number_bytes))]
-fn u16_at(bytes: &[u8], place: usize) -> Result<(u16, usize), FieldFault>
-    requires { place ≤ length bytes.now }
-    ensures ok { IfOk result (λ x. PassesAt bytes.now place x.1 (number_bytes 2 x.0)) }
-    ensures err { IfErr result (IsShort 2 (cursor_at bytes.now place)) }
-    ensures reads { ReadsAt (λ n. n) (number 2) bytes.now place result }
+fn u16_at(bytes: &[u8], offset: usize) -> Result<(u16, usize), FieldFault>
+    requires { offset ≤ length bytes.now }
+    ensures ok { IfOk result (λ x. PassesAt bytes.now offset x.1 (number_bytes 2 x.0)) }
+    ensures err { IfErr result (IsShort 2 (cursor_at bytes.now offset)) }
+    ensures reads { ReadsAt (λ n. n) (number 2) bytes.now offset result }
 {
-    let (b, place) = raw_at(bytes, place, 2)?;
-    Ok((BigEndian::read_u16(b), place))
+    let (b, offset) = raw_at(bytes, offset, 2)?;
+    Ok((BigEndian::read_u16(b), offset))
 }
 
 #[tactic(auto, using(crate::proofs::Passing::u32_passes), unfolding(field_grammar::specs::Fields::number, field_grammar::specs::Fields::number_in, field_grammar::specs::Fields::number_bytes))]
-fn u32_at(bytes: &[u8], place: usize) -> Result<(u32, usize), FieldFault>
-    requires { place ≤ length bytes.now }
-    ensures ok { IfOk result (λ x. PassesAt bytes.now place x.1 (number_bytes 4 x.0)) }
-    ensures err { IfErr result (IsShort 4 (cursor_at bytes.now place)) }
-    ensures reads { ReadsAt (λ n. n) (number 4) bytes.now place result }
+fn u32_at(bytes: &[u8], offset: usize) -> Result<(u32, usize), FieldFault>
+    requires { offset ≤ length bytes.now }
+    ensures ok { IfOk result (λ x. PassesAt bytes.now offset x.1 (number_bytes 4 x.0)) }
+    ensures err { IfErr result (IsShort 4 (cursor_at bytes.now offset)) }
+    ensures reads { ReadsAt (λ n. n) (number 4) bytes.now offset result }
 {
-    let (b, place) = raw_at(bytes, place, 4)?;
-    Ok((BigEndian::read_u32(b), place))
+    let (b, offset) = raw_at(bytes, offset, 4)?;
+    Ok((BigEndian::read_u32(b), offset))
 }
 
 #[tactic(auto, using(crate::proofs::Passing::u64_passes), unfolding(field_grammar::specs::Fields::number, field_grammar::specs::Fields::number_in, field_grammar::specs::Fields::number_bytes))]
-fn u64_at(bytes: &[u8], place: usize) -> Result<(u64, usize), FieldFault>
-    requires { place ≤ length bytes.now }
-    ensures ok { IfOk result (λ x. PassesAt bytes.now place x.1 (number_bytes 8 x.0)) }
-    ensures err { IfErr result (IsShort 8 (cursor_at bytes.now place)) }
-    ensures reads { ReadsAt (λ n. n) (number 8) bytes.now place result }
+fn u64_at(bytes: &[u8], offset: usize) -> Result<(u64, usize), FieldFault>
+    requires { offset ≤ length bytes.now }
+    ensures ok { IfOk result (λ x. PassesAt bytes.now offset x.1 (number_bytes 8 x.0)) }
+    ensures err { IfErr result (IsShort 8 (cursor_at bytes.now offset)) }
+    ensures reads { ReadsAt (λ n. n) (number 8) bytes.now offset result }
 {
-    let (b, place) = raw_at(bytes, place, 8)?;
-    Ok((BigEndian::read_u64(b), place))
+    let (b, offset) = raw_at(bytes, offset, 8)?;
+    Ok((BigEndian::read_u64(b), offset))
 }
 
 #[tactic(auto, unfolding(field_grammar::specs::Fields::pad))]
-fn pad_part_at(bytes: &[u8], place: usize, size: usize) -> Result<((), usize), FieldFault>
-    requires { place ≤ length bytes.now }
-    ensures { ReadsAt (λ u. u) (pad size) bytes.now place result }
+fn pad_part_at(bytes: &[u8], offset: usize, size: usize) -> Result<((), usize), FieldFault>
+    requires { offset ≤ length bytes.now }
+    ensures { ReadsAt (λ u. u) (pad size) bytes.now offset result }
 {
-    let (b, end) = raw_at(bytes, place, size % 2)?;
+    let (b, end) = raw_at(bytes, offset, size % 2)?;
     if size % 2 == 1 && b[0] != 0 {
-        return Err(FieldFault::BadPad(place as u64));
+        return Err(FieldFault::BadPad(offset as u64));
     }
     Ok(((), end))
 }
 
 #[tactic(auto, using(crate::proofs::Passing::pad_passes, crate::proofs::Refusing::pad_err))]
-fn pad_at(bytes: &[u8], place: usize, size: usize) -> Result<((), usize), FieldFault>
-    requires { place ≤ length bytes.now }
-    ensures ok { IfOk result (λ x. PassesAt bytes.now place x.1 (pad_bytes size)) }
-    ensures err { IfErr result (IsPadFault size (cursor_at bytes.now place)) }
-    ensures reads { ReadsAt (λ u. u) (pad size) bytes.now place result }
+fn pad_at(bytes: &[u8], offset: usize, size: usize) -> Result<((), usize), FieldFault>
+    requires { offset ≤ length bytes.now }
+    ensures ok { IfOk result (λ x. PassesAt bytes.now offset x.1 (pad_bytes size)) }
+    ensures err { IfErr result (IsPadFault size (cursor_at bytes.now offset)) }
+    ensures reads { ReadsAt (λ u. u) (pad size) bytes.now offset result }
 {
-    let ((), end) = pad_part_at(bytes, place, size)?;
+    let ((), end) = pad_part_at(bytes, offset, size)?;
     Ok(((), end))
 }
 
 // A fault of a text's part, as one of the text that begins at this offset.
-fn text_fault(fault: FieldFault, place: usize) -> FieldFault
-    ensures { result ≡ text_fault place fault }
+fn text_fault(fault: FieldFault, offset: usize) -> FieldFault
+    ensures { result ≡ text_fault offset fault }
 {
     match fault {
-        FieldFault::Short(_) => FieldFault::Short(place as u64),
+        FieldFault::Short(_) => FieldFault::Short(offset as u64),
         FieldFault::BadPad(part) => FieldFault::BadPad(part),
     }
 }
 
 #[tactic(auto, unfolding(field_grammar::specs::Fields::padded_parts))]
-fn padded_parts_at(bytes: &[u8], place: usize) -> Result<(&[u8], usize), FieldFault>
-    requires { place ≤ length bytes.now }
-    ensures { ReadsAt (λ b. b.now) padded_parts bytes.now place result }
+fn padded_parts_at(bytes: &[u8], offset: usize) -> Result<(&[u8], usize), FieldFault>
+    requires { offset ≤ length bytes.now }
+    ensures { ReadsAt (λ b. b.now) padded_parts bytes.now offset result }
 {
-    let (n, place) = u16_at(bytes, place)?;
-    let (text, place) = raw_at(bytes, place, n as usize)?;
-    let ((), place) = pad_part_at(bytes, place, n as usize)?;
-    Ok((text, place))
+    let (n, offset) = u16_at(bytes, offset)?;
+    let (text, offset) = raw_at(bytes, offset, n as usize)?;
+    let ((), offset) = pad_part_at(bytes, offset, n as usize)?;
+    Ok((text, offset))
 }
 
 #[tactic(auto, unfolding(field_grammar::specs::Fields::short_parts))]
-fn short_parts_at(bytes: &[u8], place: usize) -> Result<(&[u8], usize), FieldFault>
-    requires { place ≤ length bytes.now }
-    ensures { ReadsAt (λ b. b.now) short_parts bytes.now place result }
+fn short_parts_at(bytes: &[u8], offset: usize) -> Result<(&[u8], usize), FieldFault>
+    requires { offset ≤ length bytes.now }
+    ensures { ReadsAt (λ b. b.now) short_parts bytes.now offset result }
 {
-    let (n, place) = u8_at(bytes, place)?;
-    let (text, place) = raw_at(bytes, place, n as usize)?;
-    Ok((text, place))
+    let (n, offset) = u8_at(bytes, offset)?;
+    let (text, offset) = raw_at(bytes, offset, n as usize)?;
+    Ok((text, offset))
 }
 
 #[tactic(auto, unfolding(field_grammar::specs::Fields::padded))]
-fn padded_as_one(bytes: &[u8], place: usize) -> Result<(&[u8], usize), FieldFault>
-    requires { place ≤ length bytes.now }
-    ensures { ReadsAt (λ b. b.now) padded bytes.now place result }
+fn padded_as_one(bytes: &[u8], offset: usize) -> Result<(&[u8], usize), FieldFault>
+    requires { offset ≤ length bytes.now }
+    ensures { ReadsAt (λ b. b.now) padded bytes.now offset result }
 {
-    padded_parts_at(bytes, place).map_err(|fault| text_fault(fault, place))
+    padded_parts_at(bytes, offset).map_err(|fault| text_fault(fault, offset))
 }
 
 #[tactic(auto, using(crate::proofs::Passing::padded_passes, crate::proofs::Refusing::padded_err))]
-fn padded_at(bytes: &[u8], place: usize) -> Result<(&[u8], usize), FieldFault>
-    requires { place ≤ length bytes.now }
-    ensures ok { IfOk result (λ x. PassesAt bytes.now place x.1 (padded_text x.0.now)) }
-    ensures err { IfErr result (IsPaddedFault (cursor_at bytes.now place)) }
-    ensures reads { ReadsAt (λ b. b.now) padded bytes.now place result }
+fn padded_at(bytes: &[u8], offset: usize) -> Result<(&[u8], usize), FieldFault>
+    requires { offset ≤ length bytes.now }
+    ensures ok { IfOk result (λ x. PassesAt bytes.now offset x.1 (padded_text x.0.now)) }
+    ensures err { IfErr result (IsPaddedFault (cursor_at bytes.now offset)) }
+    ensures reads { ReadsAt (λ b. b.now) padded bytes.now offset result }
 {
-    let (text, end) = padded_as_one(bytes, place)?;
+    let (text, end) = padded_as_one(bytes, offset)?;
     Ok((text, end))
 }
 
 #[tactic(auto, unfolding(field_grammar::specs::Fields::short))]
-fn short_as_one(bytes: &[u8], place: usize) -> Result<(&[u8], usize), FieldFault>
-    requires { place ≤ length bytes.now }
-    ensures { ReadsAt (λ b. b.now) short bytes.now place result }
+fn short_as_one(bytes: &[u8], offset: usize) -> Result<(&[u8], usize), FieldFault>
+    requires { offset ≤ length bytes.now }
+    ensures { ReadsAt (λ b. b.now) short bytes.now offset result }
 {
-    short_parts_at(bytes, place).map_err(|fault| text_fault(fault, place))
+    short_parts_at(bytes, offset).map_err(|fault| text_fault(fault, offset))
 }
 
 #[tactic(auto, using(crate::proofs::Passing::short_passes, crate::proofs::Refusing::short_err))]
-fn short_at(bytes: &[u8], place: usize) -> Result<(&[u8], usize), FieldFault>
-    requires { place ≤ length bytes.now }
-    ensures ok { IfOk result (λ x. PassesAt bytes.now place x.1 (short_text x.0.now)) }
-    ensures err { IfErr result (IsShort (short_size (drop place bytes.now))
-        (cursor_at bytes.now place)) }
-    ensures reads { ReadsAt (λ b. b.now) short bytes.now place result }
+fn short_at(bytes: &[u8], offset: usize) -> Result<(&[u8], usize), FieldFault>
+    requires { offset ≤ length bytes.now }
+    ensures ok { IfOk result (λ x. PassesAt bytes.now offset x.1 (short_text x.0.now)) }
+    ensures err { IfErr result (IsShort (short_size (drop offset bytes.now))
+        (cursor_at bytes.now offset)) }
+    ensures reads { ReadsAt (λ b. b.now) short bytes.now offset result }
 {
-    let (text, end) = short_as_one(bytes, place)?;
+    let (text, end) = short_as_one(bytes, offset)?;
     Ok((text, end))
 }

@@ -33,6 +33,15 @@ fn reads_texts(rt: HostRuntime) {
 }
 
 #[test]
+fn reads_texts_that_a_zero_ends(rt: HostRuntime) {
+    let mut reader = Reader::new(b"AB\0\0C");
+    assert_eq!(rt; reader.take_zero_ended(), Ok(b"AB".as_slice()));
+    assert_eq!(rt; reader.take_zero_ended(), Ok(b"".as_slice()));
+    assert_eq!(rt; reader.take_zero_ended(), Err(FieldFault::Short(4)));
+    assert_eq!(rt; (reader.place(), reader.len()), (4, 5));
+}
+
+#[test]
 fn refuses_a_text_where_it_begins(rt: HostRuntime) {
     let padded: [(&[u8], FieldFault); 5] = [
         (&[], FieldFault::Short(0)),

@@ -15,15 +15,15 @@ Reads view g old (Err e) new = (read g old ≡ Err e) × (new ≡ old)
 
 -- The same of a function that is given bytes and a position, and answers the position after.
 abbrev pub ReadsAt : {F T X : Type 0} → (T → X) → Grammar F X → List ℕ → ℕ → Result (T × ℕ) F → Type 0
-ReadsAt view g bytes place (Ok x) = (x.1 ≤ length bytes) × (read g (cursor_at bytes place) ≡ Ok (view x.0, cursor_at bytes x.1))
-ReadsAt view g bytes place (Err e) = read g (cursor_at bytes place) ≡ Err e
+ReadsAt view g bytes offset (Ok x) = (x.1 ≤ length bytes) × (read g (cursor_at bytes offset) ≡ Ok (view x.0, cursor_at bytes x.1))
+ReadsAt view g bytes offset (Err e) = read g (cursor_at bytes offset) ≡ Err e
 
 -- The same of a function that may want memory: nothing is said of its reader after a refusal.
 abbrev pub Decodes : {F T X : Type 0} → F → (T → X) → Grammar F X → Cursor → Result T F → Cursor → Type 0
 Decodes memory view g old (Ok x) new = read g old ≡ Ok (view x, new)
 Decodes memory view g old (Err e) new = (e ≡ memory) ⊎ (read g old ≡ Err e)
 
--- The answer, seen by view, is this one, unless memory was wanting.
+-- The answer, seen by view, is this one, unless it was out of memory.
 abbrev pub Gives : {F T X : Type 0} → F → (T → X) → Result T F → Result X F → Type 0
 Gives memory view (Ok x) r = r ≡ Ok (view x)
 Gives memory view (Err e) r = (e ≡ memory) ⊎ (r ≡ Err e)

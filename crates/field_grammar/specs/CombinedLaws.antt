@@ -82,8 +82,8 @@ spelled-expected g wanted wrong s P one fits = record {
 -- a value that a verdict makes of another, which determines it
 pub spelled-judged : {F A B : Type 0} (g : Grammar F A) (verdict : ℕ → A → Result B F) (back : B → A) (s : A → List (List ℕ)) (P : A → Type 0) (Q : B → Type 0)
     → IsSpelledBy g s P
-    → ((place : ℕ) (x : A) (y : B) → P x → verdict place x ≡ Ok y → (x ≡ back y) × Q y)
-    → ((place : ℕ) (y : B) → Q y → P (back y) × (verdict place (back y) ≡ Ok y))
+    → ((offset : ℕ) (x : A) (y : B) → P x → verdict offset x ≡ Ok y → (x ≡ back y) × Q y)
+    → ((offset : ℕ) (y : B) → Q y → P (back y) × (verdict offset (back y) ≡ Ok y))
     → IsSpelledBy (judged g verdict) (λ y. s (back y)) Q
 spelled-judged g verdict back s P Q one there again = record {
   to = λ before fields after value follows.

@@ -13,7 +13,7 @@ start bytes = record { before = []; rest = bytes }
 
 -- the position in the bytes that has N of them before it
 abbrev pub cursor_at : List ℕ → ℕ → Cursor
-cursor_at bytes place = record { before = take place bytes; rest = drop place bytes }
+cursor_at bytes offset = record { before = take offset bytes; rest = drop offset bytes }
 
 -- n bytes further on
 abbrev pub advanced : ℕ → Cursor → Cursor

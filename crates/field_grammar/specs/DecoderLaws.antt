@@ -3,10 +3,10 @@ use Rattle.std.proofs.Common.{◌≡◌, ℕ, List, [], length, Result, Ok, Err,
 use Rattle.std.proofs.lemmas.List.{append-nil, nil_from_length}
 use Rattle.std.specs.Prelude.{IfOk, IfErr}
 use Rattle.std.specs.List.{concat}
-use Rattle.field_grammar.specs.Grammar.{Grammar, IsBytes, Spelled, SpelledAtFront, Fault, EndsTheBytes}
+use Rattle.field_grammar.specs.Grammar.{Grammar, IsBytes, Spelled, SpelledAtStart, Fault, EndsTheBytes}
 use Rattle.field_grammar.specs.Answers.{answer, Gives}
 use Rattle.field_grammar.specs.Spelling.{SpellsWhole}
-use Rattle.field_grammar.specs.ExactLaws.{answer-spelled, answer-fault, answer_is_spelled, answer_is_fault, spelled_at_front, spelled_whole}
+use Rattle.field_grammar.specs.ExactLaws.{answer-spelled, answer-fault, answer_is_spelled, answer_is_fault, spelled_at_start, spelled_whole}
 
 -- two answers to one question
 gives_also : {F T X : Type 0} (memory : F) (view : T → X) (r : Result T F) (a b : Result X F) → Gives memory view r a → a ≡ b → Gives memory view r b
@@ -29,15 +29,15 @@ faulty memory view g bytes r gives f fault = gives_also memory view r (answer g 
 -- ---- values at the start of bytes
 
 -- what was read is spelled at the start
-pub found_at_front : {F T X : Type 0} (memory : F) (view : T → X) (g : Grammar F X) (bytes : List ℕ) (r : Result T F) → IsBytes bytes
-    → Gives memory view r (answer g bytes) → IfOk r (λ x. SpelledAtFront g bytes (view x))
-found_at_front memory view g bytes (Err e) fit gives = tt
-found_at_front memory view g bytes (Ok x) fit gives = answer_is_spelled g bytes (view x) fit gives
+pub found_at_start : {F T X : Type 0} (memory : F) (view : T → X) (g : Grammar F X) (bytes : List ℕ) (r : Result T F) → IsBytes bytes
+    → Gives memory view r (answer g bytes) → IfOk r (λ x. SpelledAtStart g bytes (view x))
+found_at_start memory view g bytes (Err e) fit gives = tt
+found_at_start memory view g bytes (Ok x) fit gives = answer_is_spelled g bytes (view x) fit gives
 
 -- what is spelled at the start is read
-pub only_at_front : {F T X : Type 0} (memory : F) (view : T → X) (g : Grammar F X) (bytes : List ℕ) (r : Result T F)
-    → Gives memory view r (answer g bytes) → (v : X) → SpelledAtFront g bytes v → Gives memory view r (Ok v)
-only_at_front memory view g bytes r gives v spelled = gives_also memory view r (answer g bytes) (Ok v) gives (answer-spelled g bytes v spelled)
+pub only_at_start : {F T X : Type 0} (memory : F) (view : T → X) (g : Grammar F X) (bytes : List ℕ) (r : Result T F)
+    → Gives memory view r (answer g bytes) → (v : X) → SpelledAtStart g bytes v → Gives memory view r (Ok v)
+only_at_start memory view g bytes r gives v spelled = gives_also memory view r (answer g bytes) (Ok v) gives (answer-spelled g bytes v spelled)
 
 -- ---- values of whole bytes
 
@@ -50,7 +50,7 @@ found memory view g bytes (Ok x) ends fit gives = spelled_whole g bytes (view x)
 -- what is spelled is read
 pub only : {F T X : Type 0} (memory : F) (view : T → X) (g : Grammar F X) (bytes : List ℕ) (r : Result T F)
     → Gives memory view r (answer g bytes) → (v : X) → Spelled g bytes v → Gives memory view r (Ok v)
-only memory view g bytes r gives v spelled = only_at_front memory view g bytes r gives v (spelled_at_front g bytes v spelled)
+only memory view g bytes r gives v spelled = only_at_start memory view g bytes r gives v (spelled_at_start g bytes v spelled)
 
 -- ---- values of whole bytes that have one spelling each
 

@@ -1,7 +1,7 @@
 -- The fields that this project's formats share (docs/FORMATS.md).
 use Rattle.std.specs.Prelude.{ℕ, ◌/◌, ◌%◌, List, [], ◌∷◌, ◌++◌, length, replicate, ◌==◌, slice_index, Result}
 use Rattle.byteorder.specs.Endian.{big_number, big_bytes}
-use Rattle.field_grammar.specs.Grammar.{Grammar, give, check, field, front, renamed, judged, ◌>>=◌, ◌>>◌}
+use Rattle.field_grammar.specs.Grammar.{Grammar, give, check, field, prefix, renamed, judged, ◌>>=◌, ◌>>◌}
 use Rattle.field_grammar.specs.declared.fault.FieldFault.{FieldFault}
 use Rattle.field_grammar.specs.declared.fault.FieldFault.TheVariants.{Short, BadPad}
 
@@ -30,7 +30,7 @@ number n = do
 -- what fills a text of N bytes up to an even number: one byte, which is zero, or none
 unfoldable pub pad : ℕ → Grammar FieldFault (Unit {0})
 pad n = do
-  before ← front
+  before ← prefix
   bytes ← raw (n % 2)
   check (slice_index bytes 0 == 0) (BadPad (length before))
 
@@ -50,13 +50,13 @@ short_parts = do
 
 -- a fault of a text's part as one of the text that begins at this offset
 abbrev pub text_fault : ℕ → FieldFault → FieldFault
-text_fault place (Short part) = Short place
-text_fault place (BadPad part) = BadPad part
+text_fault offset (Short part) = Short offset
+text_fault offset (BadPad part) = BadPad part
 
 -- the same format, short where it begins whichever of its parts is short
 abbrev pub as_one : Grammar FieldFault (List ℕ) → Grammar FieldFault (List ℕ)
 as_one g = do
-  before ← front
+  before ← prefix
   renamed (text_fault (length before)) g
 
 -- a padded text, which is short where it begins
@@ -84,7 +84,7 @@ judged_padded named verdict = do
 -- nothing, where half of the offset is the word at which a pointer says that a section begins
 unfoldable pub section : {F : Type 0} → (ℕ → F) → ℕ → Grammar F (Unit {0})
 section wrong said = do
-  before ← front
+  before ← prefix
   check (said == length before / 2) (wrong (length before / 2))
 
 -- ---- such fields as they are written

@@ -23,7 +23,7 @@ pub data Grammar : Type 0 → Type 0 → Type 1 where
   -- a field of the bytes up to a zero, and the zero; where there is none, the fault of the offset where it begins
   zero_ended : {F : Type 0} → (ℕ → F) → Grammar F (List ℕ)
   -- no field: the value is all that was read so far
-  front : {F : Type 0} → Grammar F (List ℕ)
+  prefix : {F : Type 0} → Grammar F (List ℕ)
   -- no field: the value is how many bytes are left
   left : {F : Type 0} → Grammar F ℕ
   -- one format, and after it another that may depend on what the first says
@@ -63,7 +63,7 @@ expected g wanted wrong = do
 -- what a verdict makes of a value and of the position where it begins: another value, or a fault
 abbrev pub judged : {F A B : Type 0} → Grammar F A → (ℕ → A → Result B F) → Grammar F B
 judged g verdict = do
-  before ← front
+  before ← prefix
   x ← g
   judge (verdict (length before) x)
 
@@ -78,17 +78,17 @@ sized g bytes_of wrong = do
 -- a value after a number that is due to how many bytes the two take
 abbrev pub measured : {F A : Type 0} → Grammar F ℕ → (ℕ → ℕ) → F → Grammar F A → Grammar F A
 measured g due wrong item = do
-  start ← front
+  start ← prefix
   said ← g
   x ← item
-  stop ← front
+  stop ← prefix
   check (said == due (length stop - length start)) wrong
   give x
 
 -- a test that the bytes end here, and the fault of the offset where they go on
 abbrev pub ended : {F : Type 0} → (ℕ → F) → Grammar F (Unit {0})
 ended more = do
-  before ← front
+  before ← prefix
   size ← left
   check (size == 0) (more (length before))
 
@@ -144,7 +144,7 @@ read (check b f) c = if b then Ok (tt, c) else Err f
 read (choose b x y) c = if b then read x c else read y c
 read (field short n) c = field_at short n c
 read (zero_ended short) c = zero_ended_at short c (before_zero c.rest)
-read front c = Ok (c.before, c)
+read prefix c = Ok (c.before, c)
 read left c = Ok (length c.rest, c)
 read (seq g k) c = read g c then (λ x. read (k x.0) x.1)
 read (renamed m g) c = result_map_both (λ x. x) m (read g c)
@@ -164,7 +164,7 @@ Follows (check b f) before fields after value = (fields ≡ []) × (b ≡ true)
 Follows (choose b x y) before fields after value = MatchBool b (Follows x before fields after value) (Follows y before fields after value)
 Follows (field short n) before fields after value = (fields ≡ value ∷ []) × (length value ≡ n) × IsBytes value
 Follows (zero_ended short) before fields after value = (fields ≡ (value ++ 0 ∷ []) ∷ []) × HasNoZero value × IsBytes value
-Follows front before fields after value = (fields ≡ []) × (before ≡ value)
+Follows prefix before fields after value = (fields ≡ []) × (before ≡ value)
 Follows left before fields after value = (fields ≡ []) × (after ≡ value)
 Follows (seq {A = A} g k) before fields after value =
     (x : A) × (first : List (List ℕ)) × (others : List (List ℕ)) × (fields ≡ first ++ others)
@@ -180,7 +180,7 @@ Stops (check b f) before fields rest fault = (fields ≡ []) × (b ≡ false) ×
 Stops (choose b x y) before fields rest fault = MatchBool b (Stops x before fields rest fault) (Stops y before fields rest fault)
 Stops (field short n) before fields rest fault = (fields ≡ []) × (length rest < n) × (short (length before) ≡ fault)
 Stops (zero_ended short) before fields rest fault = (fields ≡ []) × HasNoZero rest × (short (length before) ≡ fault)
-Stops front before fields rest fault = ⊥
+Stops prefix before fields rest fault = ⊥
 Stops left before fields rest fault = ⊥
 Stops (seq {A = A} g k) before fields rest fault =
     Stops g before fields rest fault
@@ -215,8 +215,8 @@ abbrev pub Spelled : {F A : Type 0} → Grammar F A → List ℕ → A → Type 
 Spelled g bytes value = (fields : List (List ℕ)) × (bytes ≡ concat fields) × Follows g [] fields 0 value
 
 -- The bytes begin with fields that follow the format and say this value, and may go on after them.
-abbrev pub SpelledAtFront : {F A : Type 0} → Grammar F A → List ℕ → A → Type 0
-SpelledAtFront g bytes value =
+abbrev pub SpelledAtStart : {F A : Type 0} → Grammar F A → List ℕ → A → Type 0
+SpelledAtStart g bytes value =
     (fields : List (List ℕ)) × (rest : List ℕ) × (bytes ≡ concat fields ++ rest) × Follows g [] fields (length rest) value
 
 -- The bytes begin with fields that follow the format so far, and the first test that fails comes after
@@ -229,10 +229,10 @@ pub record EndsTheBytes {F A : Type 0} (g : Grammar F A) : Type 0 where
   pub at_end : (before : List ℕ) (fields : List (List ℕ)) (after : ℕ) (value : A) → Follows g before fields after value → after ≡ 0
 
 -- The bytes begin with a spelling of one value, or fail with one fault, and never both.
-pub record IsDecidedAtFront {F A : Type 0} (g : Grammar F A) (bytes : List ℕ) : Type 0 where
-  pub one_or_other : ((value : A) × SpelledAtFront g bytes value) ⊎ ((fault : F) × Fault g bytes fault)
-  pub not_both : (value : A) (fault : F) → SpelledAtFront g bytes value → Fault g bytes fault → ⊥
-  pub one_value : (x y : A) → SpelledAtFront g bytes x → SpelledAtFront g bytes y → x ≡ y
+pub record IsDecidedAtStart {F A : Type 0} (g : Grammar F A) (bytes : List ℕ) : Type 0 where
+  pub one_or_other : ((value : A) × SpelledAtStart g bytes value) ⊎ ((fault : F) × Fault g bytes fault)
+  pub not_both : (value : A) (fault : F) → SpelledAtStart g bytes value → Fault g bytes fault → ⊥
+  pub one_value : (x y : A) → SpelledAtStart g bytes x → SpelledAtStart g bytes y → x ≡ y
   pub one_fault : (e f : F) → Fault g bytes e → Fault g bytes f → e ≡ f
 
 -- The bytes spell one value, or fail with one fault, and never both.

@@ -6,7 +6,7 @@ use Rattle.std.proofs.lemmas.Bool.{ltb-false, ltb-true, lt-ltb}
 use Rattle.std.proofs.lemmas.List.{append-nil, take-append-drop, length-append, length-take}
 use Rattle.std.proofs.lemmas.List.Folds.{concat-append}
 use Rattle.field_grammar.specs.Cursor.{Cursor, advanced, at, behind}
-use Rattle.field_grammar.specs.Grammar.{Grammar, give, judge, check, choose, field, zero_ended, front, left, seq, renamed, read, Follows, Stops, Took, Stopped, IsBytes, zero_ended_at, before_zero}
+use Rattle.field_grammar.specs.Grammar.{Grammar, give, judge, check, choose, field, zero_ended, prefix, left, seq, renamed, read, Follows, Stops, Took, Stopped, IsBytes, zero_ended_at, before_zero}
 use Rattle.field_grammar.specs.StepLaws.{IsBytes-take, IsBytes-behind, said, same_value, then_ok, then_err, guard_ok, guard_err, renamed_ok, renamed_err, field_at-append, zero_ended_at-append, split_at_zero}
 
 -- ---- from fields to what is read
@@ -20,7 +20,7 @@ what_follows_is_read (choose true x y) before fields rest value h = what_follows
 what_follows_is_read (choose false x y) before fields rest value h = what_follows_is_read y before fields rest value h
 what_follows_is_read (field short n) before fields rest value h = rw (h.0, append-nil) (field_at-append short n before value rest h.1)
 what_follows_is_read (zero_ended short) before fields rest value h = rw (h.0, append-nil) (zero_ended_at-append short before value rest h.1)
-what_follows_is_read front before fields rest value h = rw (h.0, h.1, append-nil) refl
+what_follows_is_read prefix before fields rest value h = rw (h.0, h.1, append-nil) refl
 what_follows_is_read left before fields rest value h = rw (h.0, h.1, append-nil) refl
 what_follows_is_read (seq g k) before fields rest value h =
     let (x, first, others, parts, follows, later) = h in
@@ -41,7 +41,7 @@ what_stops_is_refused (field short n) before fields rest fault h =
     let few : ltb (length rest) n ≡ true = lt-ltb _ _ h.1 in
     rw (h.0, few, h.2) refl
 what_stops_is_refused (zero_ended short) before fields rest fault h = rw (h.0, h.1, h.2) refl
-what_stops_is_refused front before fields rest fault h = absurd h
+what_stops_is_refused prefix before fields rest fault h = absurd h
 what_stops_is_refused left before fields rest fault h = absurd h
 what_stops_is_refused (seq g k) before fields rest fault h =
     elim h [
@@ -97,7 +97,7 @@ what_is_read_follows (field short n) c d value fit e =
       follows = (refl, omega (arith, length-take n c.rest), IsBytes-take n c.rest fit);
     })
 what_is_read_follows (zero_ended short) c d value fit e = took_zero_ended short c d value (before_zero c.rest) fit refl e
-what_is_read_follows front c d value fit e = took_none front c d c.before value (refl, refl) e
+what_is_read_follows prefix c d value fit e = took_none prefix c d c.before value (refl, refl) e
 what_is_read_follows left c d value fit e = took_none left c d (length c.rest) value (refl, refl) e
 what_is_read_follows (seq g k) c d value fit e =
     let (x, first, second) = then_ok (read g c) (λ x. read (k x.0) x.1) (value, d) e in
@@ -139,7 +139,7 @@ what_is_refused_stops (field short n) c fault fit e =
     let few = guard_err (ltb (length c.rest) n) (short (length c.before)) fault (take n c.rest, advanced n c) e in
     stopped_here (field short n) c fault (refl, ltb-true _ _ few.0, few.1)
 what_is_refused_stops (zero_ended short) c fault fit e = stopped_zero_ended short c fault (before_zero c.rest) refl e
-what_is_refused_stops front c fault fit e = absurd cc
+what_is_refused_stops prefix c fault fit e = absurd cc
 what_is_refused_stops left c fault fit e = absurd cc
 what_is_refused_stops (seq g k) c fault fit e =
     elim (then_err (read g c) (λ x. read (k x.0) x.1) fault e) [

@@ -12,60 +12,60 @@ use Rattle.field_grammar.specs.Grammar.{Grammar, read, times, listed, ◌then◌
 -- ---- N values of one kind
 
 -- the values that were read so far before those that are read yet
-abbrev pub with_front : {F A : Type 0} → List A → Result (List A × Cursor) F → Result (List A × Cursor) F
-with_front so_far r = r then (λ x. Ok (so_far ++ x.0, x.1))
+abbrev pub with_prefix : {F A : Type 0} → List A → Result (List A × Cursor) F → Result (List A × Cursor) F
+with_prefix so_far r = r then (λ x. Ok (so_far ++ x.0, x.1))
 
 regroup : {F A : Type 0} (so_far : List A) (x : A) (r : Result (List A × Cursor) F)
-    → with_front so_far (r then (λ xs. Ok (x ∷ xs.0, xs.1))) ≡ with_front (so_far ++ x ∷ []) r
+    → with_prefix so_far (r then (λ xs. Ok (x ∷ xs.0, xs.1))) ≡ with_prefix (so_far ++ x ∷ []) r
 regroup so_far x (Ok xs) = ap (λ (l : List _). Ok (l, xs.1)) (sym (append_assoc so_far (x ∷ []) xs.0))
 regroup so_far x (Err f) = refl
 
 -- one more value
 times_more : {F A : Type 0} (g : Grammar F A) (so_far : List A) (n : ℕ) (c d : Cursor) (x : A)
-    → read g c ≡ Ok (x, d) → with_front so_far (read (times (suc n) g) c) ≡ with_front (so_far ++ x ∷ []) (read (times n g) d)
+    → read g c ≡ Ok (x, d) → with_prefix so_far (read (times (suc n) g) c) ≡ with_prefix (so_far ++ x ∷ []) (read (times n g) d)
 unfolding times
 times_more g so_far n c d x here = rw here (regroup so_far x (read (times n g) d))
 
 -- a fault in place of one more
-times_stop : {F A : Type 0} (g : Grammar F A) (so_far : List A) (n : ℕ) (c : Cursor) (f : F) → read g c ≡ Err f → with_front so_far (read (times (suc n) g) c) ≡ Err f
+times_stop : {F A : Type 0} (g : Grammar F A) (so_far : List A) (n : ℕ) (c : Cursor) (f : F) → read g c ≡ Err f → with_prefix so_far (read (times (suc n) g) c) ≡ Err f
 unfolding times
 times_stop g so_far n c f here = rw here refl
 
 -- no more
-times_none : {F A : Type 0} (g : Grammar F A) (so_far : List A) (c : Cursor) → with_front so_far (read (times 0 g) c) ≡ Ok (so_far, c)
+times_none : {F A : Type 0} (g : Grammar F A) (so_far : List A) (c : Cursor) → with_prefix so_far (read (times 0 g) c) ≡ Ok (so_far, c)
 unfolding times
 times_none g so_far c = ap (λ (l : List _). Ok (l, c)) (append-nil so_far)
 
 -- the loop goes on
 pub goes_on : {F A : Type 0} (g : Grammar F A) (so_far : List A) (count i : ℕ) (c d : Cursor) (x : A) (total : Result (List A × Cursor) F)
-    → i < count → read g c ≡ Ok (x, d) → with_front so_far (read (times (count - i) g) c) ≡ total → with_front (so_far ++ x ∷ []) (read (times (count - (i + 1)) g) d) ≡ total
+    → i < count → read g c ≡ Ok (x, d) → with_prefix so_far (read (times (count - i) g) c) ≡ total → with_prefix (so_far ++ x ∷ []) (read (times (count - (i + 1)) g) d) ≡ total
 goes_on g so_far count i c d x total lt here yet =
     let more : suc (count - (i + 1)) ≡ count - i = omega arith in
-    sym (times_more g so_far (count - (i + 1)) c d x here) ∙ (ap (λ (n : ℕ). with_front so_far (read (times n g) c)) more ∙ yet)
+    sym (times_more g so_far (count - (i + 1)) c d x here) ∙ (ap (λ (n : ℕ). with_prefix so_far (read (times n g) c)) more ∙ yet)
 
 -- the same where the values are seen by a view
 pub goes_on_seen : {F A X : Type 0} (g : Grammar F A) (view : X → A) (items more : List X) (count i : ℕ) (c d : Cursor) (x : X) (total : Result (List A × Cursor) F)
-    → more ≡ items ++ x ∷ [] → i < count → read g c ≡ Ok (view x, d) → with_front (map view items) (read (times (count - i) g) c) ≡ total
-    → with_front (map view more) (read (times (count - (i + 1)) g) d) ≡ total
+    → more ≡ items ++ x ∷ [] → i < count → read g c ≡ Ok (view x, d) → with_prefix (map view items) (read (times (count - i) g) c) ≡ total
+    → with_prefix (map view more) (read (times (count - (i + 1)) g) d) ≡ total
 goes_on_seen g view items more count i c d x total pushed lt here yet =
     rw (pushed, map_push view items x) (goes_on g (map view items) count i c d (view x) total lt here yet)
 
 -- the loop ends with a fault
 pub ends : {F A : Type 0} (g : Grammar F A) (so_far : List A) (count i : ℕ) (c : Cursor) (f : F) (total : Result (List A × Cursor) F)
-    → i < count → read g c ≡ Err f → with_front so_far (read (times (count - i) g) c) ≡ total → total ≡ Err f
+    → i < count → read g c ≡ Err f → with_prefix so_far (read (times (count - i) g) c) ≡ total → total ≡ Err f
 ends g so_far count i c f total lt here yet =
     let more : count - i ≡ suc (count - (i + 1)) = omega arith in
-    sym yet ∙ (ap (λ (n : ℕ). with_front so_far (read (times n g) c)) more ∙ times_stop g so_far (count - (i + 1)) c f here)
+    sym yet ∙ (ap (λ (n : ℕ). with_prefix so_far (read (times n g) c)) more ∙ times_stop g so_far (count - (i + 1)) c f here)
 
 -- the loop is done
 pub is_done : {F A : Type 0} (g : Grammar F A) (so_far : List A) (count i : ℕ) (c : Cursor) (total : Result (List A × Cursor) F)
-    → count ≤ i → with_front so_far (read (times (count - i) g) c) ≡ total → total ≡ Ok (so_far, c)
+    → count ≤ i → with_prefix so_far (read (times (count - i) g) c) ≡ total → total ≡ Ok (so_far, c)
 is_done g so_far count i c total le yet =
     let none : count - i ≡ 0 = omega arith in
-    sym yet ∙ (ap (λ (n : ℕ). with_front so_far (read (times n g) c)) none ∙ times_none g so_far c)
+    sym yet ∙ (ap (λ (n : ℕ). with_prefix so_far (read (times n g) c)) none ∙ times_none g so_far c)
 
 -- the loop begins with nothing read
-pub begins : {F A : Type 0} (r : Result (List A × Cursor) F) → with_front [] r ≡ r
+pub begins : {F A : Type 0} (r : Result (List A × Cursor) F) → with_prefix [] r ≡ r
 begins (Ok x) = refl
 begins (Err f) = refl
 

@@ -2,7 +2,7 @@
 use Rattle.std.proofs.Common.{◌≡◌, ℕ, suc, ◌≤◌, true, false, ltb, Option, Some, None, List, [], ◌++◌, length, take, Ok, Err, refl, sym, ap, subst, ◌∙◌, append_assoc, arith}
 use Rattle.std.proofs.lemmas.List.{append-nil, take-append-drop, length-append}
 use Rattle.field_grammar.specs.Cursor.{Cursor, advanced}
-use Rattle.field_grammar.specs.Grammar.{Grammar, give, judge, check, choose, field, zero_ended, front, left, seq, renamed, read, zero_ended_at, before_zero, MovesOn}
+use Rattle.field_grammar.specs.Grammar.{Grammar, give, judge, check, choose, field, zero_ended, prefix, left, seq, renamed, read, zero_ended_at, before_zero, MovesOn}
 use Rattle.field_grammar.specs.StepLaws.{said, same_value, then_ok, guard_ok, renamed_ok}
 
 stays_there : (c : Cursor) → MovesOn c c
@@ -39,7 +39,7 @@ moves_on (field short n) c d value e =
     let fits = guard_ok (ltb (length c.rest) n) (short (length c.before)) (take n c.rest, advanced n c) (value, d) e in
     subst (λ (p : List ℕ × Cursor). MovesOn c p.1) fits.1 (advances n c)
 moves_on (zero_ended short) c d value e = zero_ended_moves short c d value (before_zero c.rest) e
-moves_on {F = F} front c d value e = steps_to {F = F} c c d c.before value (stays_there c) e
+moves_on {F = F} prefix c d value e = steps_to {F = F} c c d c.before value (stays_there c) e
 moves_on {F = F} left c d value e = steps_to {F = F} c c d (length c.rest) value (stays_there c) e
 moves_on (seq g k) c d value e =
     let (x, first, second) = then_ok (read g c) (λ x. read (k x.0) x.1) (value, d) e in
@@ -47,8 +47,8 @@ moves_on (seq g k) c d value e =
 moves_on (renamed m g) c d value e = moves_on g c d value (renamed_ok m (read g c) (value, d) e)
 
 -- the position isn't before the one where the reading began
-pub place_goes_on : {F A : Type 0} (g : Grammar F A) (c d : Cursor) (value : A) → read g c ≡ Ok (value, d) → length c.before ≤ length d.before
-place_goes_on g c d value e =
+pub offset_goes_on : {F A : Type 0} (g : Grammar F A) (c d : Cursor) (value : A) → read g c ≡ Ok (value, d) → length c.before ≤ length d.before
+offset_goes_on g c d value e =
     let moves = moves_on g c d value e in
     omega (arith, ap length moves.behind, length-append c.before moves.passed)
 

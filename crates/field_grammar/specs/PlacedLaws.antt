@@ -4,7 +4,7 @@ use Rattle.std.proofs.Common.{◌≡◌, ℕ, ◌+◌, List, [], ◌++◌, lengt
 use Rattle.std.specs.List.{concat}
 use Rattle.std.proofs.lemmas.Bool.{eqb-true, eq-eqb}
 use Rattle.std.proofs.lemmas.List.{append-nil}
-use Rattle.field_grammar.specs.Grammar.{Grammar, give, seq, front, left, renamed, ◌>>◌, sized, ended, Follows}
+use Rattle.field_grammar.specs.Grammar.{Grammar, give, seq, prefix, left, renamed, ◌>>◌, sized, ended, Follows}
 use Rattle.field_grammar.specs.Spelling.{IsPlacedBy, IsSpelledBy}
 
 -- ---- to and from formats that don't look
@@ -84,9 +84,9 @@ placed-renamed m g s P one = record {
 -- ---- tests of the offset, of the bytes before and of how many are left
 
 -- what was read so far
-pub placed-front : {F A : Type 0} (k : List ℕ → Grammar F A) (t : List ℕ → List ℕ → A → List (List ℕ)) (Q : List ℕ → List ℕ → ℕ → A → Type 0)
-    → ((b : List ℕ) → IsPlacedBy (k b) (t b) (Q b)) → IsPlacedBy (seq front k) (λ before y. t before before y) (λ before after y. Q before before after y)
-placed-front k t Q two = record {
+pub placed-prefix : {F A : Type 0} (k : List ℕ → Grammar F A) (t : List ℕ → List ℕ → A → List (List ℕ)) (Q : List ℕ → List ℕ → ℕ → A → Type 0)
+    → ((b : List ℕ) → IsPlacedBy (k b) (t b) (Q b)) → IsPlacedBy (seq prefix k) (λ before y. t before before y) (λ before after y. Q before before after y)
+placed-prefix k t Q two = record {
   to = λ before fields after value follows.
       let (b, first, others, parts, fb, fy) = follows in
       let a = (two b).to (before ++ concat first) others after value fy in

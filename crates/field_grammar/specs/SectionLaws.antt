@@ -24,8 +24,8 @@ pub size_padded : (text : List ℕ) → size_of (padded_fields text) ≡ 2 + len
 size_padded text = simp (length-append, append-nil, length_number_bytes, length_pad_bytes) (omega arith)
 
 -- the position after fields
-pub place_behind : (before : List ℕ) (f s : List (List ℕ)) → f ≡ s → length (before ++ concat f) ≡ length before + size_of s
-place_behind before f s same = length-append before (concat f) ∙ ap (λ (g : List (List ℕ)). length before + size_of g) same
+pub offset_after : (before : List ℕ) (f s : List (List ℕ)) → f ≡ s → length (before ++ concat f) ≡ length before + size_of s
+offset_after before f s same = length-append before (concat f) ∙ ap (λ (g : List (List ℕ)). length before + size_of g) same
 
 -- ---- sections
 

@@ -21,12 +21,12 @@ IsBytes-take n bytes fit i =
     ]
 
 -- what stands after a part of bytes is bytes
-pub IsBytes-behind : (front rest : List ℕ) → IsBytes (front ++ rest) → IsBytes rest
-IsBytes-behind front rest fit = subst IsBytes (drop_at front rest (length front) refl) (IsBytes-drop (length front) (front ++ rest) fit)
+pub IsBytes-behind : (prefix rest : List ℕ) → IsBytes (prefix ++ rest) → IsBytes rest
+IsBytes-behind prefix rest fit = subst IsBytes (drop_at prefix rest (length prefix) refl) (IsBytes-drop (length prefix) (prefix ++ rest) fit)
 
 -- n bytes further on in the same bytes
-pub advanced-cursor_at : (n place : ℕ) (bytes : List ℕ) → advanced n (cursor_at bytes place) ≡ cursor_at bytes (place + n)
-advanced-cursor_at n place bytes = rw (take-add place n bytes, drop-drop n place bytes) refl
+pub advanced-cursor_at : (n offset : ℕ) (bytes : List ℕ) → advanced n (cursor_at bytes offset) ≡ cursor_at bytes (offset + n)
+advanced-cursor_at n offset bytes = rw (take-add offset n bytes, drop-drop n offset bytes) refl
 
 -- ---- one step after another
 

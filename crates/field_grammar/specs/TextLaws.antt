@@ -36,7 +36,7 @@ pub spelled-pad : (n : ℕ) → IsSpelledBy (pad n) (λ u. pad_bytes n ∷ []) (
 unfolding pad raw pad_bytes
 spelled-pad n = record {
   to = λ before fields after value follows.
-      let (place, f1, o1, parts, h1, (b, f2, o2, parts2, h2, h3)) = follows in
+      let (offset, f1, o1, parts, h1, (b, f2, o2, parts2, h2, h3)) = follows in
       let is : b ≡ replicate (n % 2) 0 = zeros b n h2.1 (eqb-true _ _ h3.1) in
       (rw (parts, parts2, h1.0, h2.0, h3.0, is) refl, tt);
   from = λ before after value fits. (
@@ -108,7 +108,7 @@ spelled-short_parts = record {
 spelled-as_one : (g : Grammar _ (List ℕ)) (s : List ℕ → List (List ℕ)) (P : List ℕ → Type 0) → IsSpelledBy g s P → IsSpelledBy (as_one g) s P
 spelled-as_one g s P one = record {
   to = λ before fields after value follows.
-      let (place, first, others, parts, h1, h2) = follows in
+      let (offset, first, others, parts, h1, h2) = follows in
       let a = one.to (before ++ concat first) others after value h2 in
       (rw (parts, h1.0) a.0, a.1);
   from = λ before after value fits. (before, [], s value, refl, (refl, refl), one.from (before ++ []) after value fits);
@@ -128,18 +128,18 @@ spelled-short = spelled-as_one short_parts short_fields IsShortText spelled-shor
 
 -- The verdict accepts the bytes of the values that fit and no others, wherever they stand.
 pub record Judges {F B : Type 0} (verdict : ℕ → List ℕ → Result B F) (back : B → List ℕ) (Q : B → Type 0) : Type 0 where
-  pub there : (place : ℕ) (bytes : List ℕ) (value : B) → IsBytes bytes → verdict place bytes ≡ Ok value → (bytes ≡ back value) × Q value
-  pub again : (place : ℕ) (value : B) → Q value → IsBytes (back value) × (verdict place (back value) ≡ Ok value)
+  pub there : (offset : ℕ) (bytes : List ℕ) (value : B) → IsBytes bytes → verdict offset bytes ≡ Ok value → (bytes ≡ back value) × Q value
+  pub again : (offset : ℕ) (value : B) → Q value → IsBytes (back value) × (verdict offset (back value) ≡ Ok value)
 
 spelled-judged_raw : {F B : Type 0} (named : FieldFault → F) (verdict : ℕ → List ℕ → Result B F) (back : B → List ℕ) (Q : B → Type 0) (n : ℕ)
     → Judges verdict back Q → IsSpelledBy (judged (renamed named (raw n)) verdict) (λ y. back y ∷ []) (λ y. (length (back y) ≡ n) × Q y)
 spelled-judged_raw named verdict back Q n judges =
     spelled-judged (renamed named (raw n)) verdict back (λ b. b ∷ []) (λ b. (length b ≡ n) × IsBytes b) (λ y. (length (back y) ≡ n) × Q y) (spelled-renamed named (raw n) (λ b. b ∷ []) (λ b. (length b ≡ n) × IsBytes b) (spelled-raw n))
-    (λ place b y fits e.
-    let t = judges.there place b y fits.1 e in
+    (λ offset b y fits e.
+    let t = judges.there offset b y fits.1 e in
     (t.0, (sym (ap length t.0) ∙ fits.0, t.1)))
-    (λ place y fits.
-    let t = judges.again place y fits.1 in
+    (λ offset y fits.
+    let t = judges.again offset y fits.1 in
     ((fits.0, t.0), t.1))
 
 -- a judged short text is spelled by its length and its bytes

@@ -1,7 +1,7 @@
 ghost use Rattle.std.specs.Prelude.{◌≡◌, ◌++◌, ℕ, List, length};
 ghost use Rattle.std.specs.List.{concat};
 ghost use Rattle.field_grammar.specs.Cursor.{Cursor, at, behind};
-ghost use Rattle.field_grammar.specs.Grammar.{IsBytes, EndsTheBytes, IsDecided, IsDecidedAtFront, Follows, Stops, Took, Stopped, MovesOn, read};
+ghost use Rattle.field_grammar.specs.Grammar.{IsBytes, EndsTheBytes, IsDecided, IsDecidedAtStart, Follows, Stops, Took, Stopped, MovesOn, read};
 
 /// A format whose bytes say values of one type, or are refused with faults of another. It has no
 /// code: the laws that hold of all formats are stated over it.
@@ -30,7 +30,8 @@ pub fn reading_is_exact<G: Format>()
         → read G.grammar from ≡ Ok (value, to) → MovesOn from to }
     // What stops is refused.
     ensures stops { (before : List ℕ) (fields : List (List ℕ)) (rest : List ℕ) (fault : G.Fault)
-        → Stops G.grammar before fields rest fault → read G.grammar (at before fields rest) ≡ Err fault }
+        → Stops G.grammar before fields rest fault
+        → read G.grammar (at before fields rest) ≡ Err fault }
     // What is refused stops there.
     ensures refused { (from : Cursor) (fault : G.Fault) → IsBytes from.rest
         → read G.grammar from ≡ Err fault → Stopped G.grammar from fault }
@@ -38,8 +39,8 @@ pub fn reading_is_exact<G: Format>()
 
 /// Whatever the bytes, they begin with a spelling of one value in the format, or fail it with one
 /// fault.
-pub fn front_is_decided<G: Format>()
-    ensures { (bytes : List ℕ) → IsBytes bytes → IsDecidedAtFront G.grammar bytes }
+pub fn prefix_is_decided<G: Format>()
+    ensures { (bytes : List ℕ) → IsBytes bytes → IsDecidedAtStart G.grammar bytes }
 {}
 
 /// Whatever the bytes, they spell one value in the format, or fail it with one fault, where the
@@ -83,7 +84,7 @@ mod tests {
     #[tactic(auto, using(crate::specs::ExactLaws::ends_at_end))]
     fn laws_hold_of_a_format(_rt: HostRuntime) {
         reading_is_exact::<Number>();
-        front_is_decided::<Number>();
+        prefix_is_decided::<Number>();
         whole_is_decided::<Nothing>();
     }
 }

@@ -8,4 +8,4 @@ mod format;
 
 pub use fault::FieldFault;
 pub use fields::fields_are_decided;
-pub use format::{Format, front_is_decided, reading_is_exact, whole_is_decided};
+pub use format::{Format, prefix_is_decided, reading_is_exact, whole_is_decided};

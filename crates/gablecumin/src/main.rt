@@ -1,5 +1,5 @@
-//! The program: runs its words over standard output, the files of the current folder and the disk in the file `target.disk` of the current
-//! folder, and exits with the status of the run.
+//! The program: runs its words over standard output, the files of the current folder and the disk
+//! in the file `target.disk` of the current folder, and exits with the status of the run.
 #![tactic(auto)]
 
 use disk_model::FileDisk;

@@ -169,7 +169,8 @@ fn part_of(bytes: &[u8], offset: u64) -> Result<PartNumber, SectionFault>
 
 // ---- the end
 
-/// Tests that nothing is left, and then that the check sum `said`, which was read, is `found`, which was computed.
+/// Tests that nothing is left, and then that the check sum `said`, which was read, is `found`,
+/// which was computed.
 #[tactic(auto, unfolding(crate::specs::Sections::end))]
 pub fn test_end(reader: &mut Reader, said: u16, found: u16) -> Result<(), SectionFault>
     ensures { Decodes Memory (λ u. u) (end said found) reader.old result reader.new }

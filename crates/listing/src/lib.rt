@@ -15,9 +15,9 @@ use load_base::{Bytes, Load, NoMemory, StoredFile};
 use printed_text::{put_hex_16, put_number};
 use std::alloc::Global;
 
-/// The listing of a configuration, in lines that end with a line feed: the target, its active bank with the sequence
-/// number, how many loads there are, and each load with its files, of which each has its length in bytes and its
-/// CRC-16.
+/// The listing of a configuration, in lines that end with a line feed: the target, its active bank
+/// with the sequence number, how many loads there are, and each load with its files, of which each
+/// has its length in bytes and its CRC-16.
 pub fn listing_text(alloc: Global, standing: &Standing) -> Result<Bytes, NoMemory>
     ensures { IfOk result (λ text. text.items ≡ listing (standing_view standing.now)) }
 {
@@ -60,7 +60,8 @@ fn put_count(alloc: Global, out: &mut Bytes, loads: usize) -> Result<(), NoMemor
 }
 
 fn put_loads(alloc: Global, out: &mut Bytes, loads: &[Load]) -> Result<(), NoMemory>
-    ensures { OnOk result (out.new.items ≡ out.old.items ++ flat_map load_lines (map load_view loads.now)) }
+    ensures { OnOk result
+        (out.new.items ≡ out.old.items ++ flat_map load_lines (map load_view loads.now)) }
 {
     for load in loads {
         put_load(alloc, out, load)?;
@@ -90,7 +91,8 @@ fn put_load_line(alloc: Global, out: &mut Bytes, load: &Load) -> Result<(), NoMe
 }
 
 fn put_files(alloc: Global, out: &mut Bytes, files: &[StoredFile]) -> Result<(), NoMemory>
-    ensures { OnOk result (out.new.items ≡ out.old.items ++ flat_map file_line (map file_view files.now)) }
+    ensures { OnOk result
+        (out.new.items ≡ out.old.items ++ flat_map file_line (map file_view files.now)) }
 {
     for file in files {
         put_file(alloc, out, file)?;

@@ -17,7 +17,8 @@ use crate::{Ident, List, Name, PartText, Text};
 #[tactic(auto, using(crate::specs::VerdictLaws::name_faults, crate::specs::VerdictLaws::text_faults, crate::specs::VerdictLaws::ident_faults, crate::specs::VerdictLaws::part_text_faults, crate::specs::TextLaws::name_is_text, crate::specs::TextLaws::ident_is_text, crate::specs::TextLaws::part_text_is_text))]
 pub fn text_laws()
     ensures names { TellsFaults name_fault_of IsName IsNameFault }
-    ensures texts { TellsFaults text_fault_of IsText (λ bytes fault. (fault ≢ Memory) × IsTextFault bytes fault) }
+    ensures texts { TellsFaults text_fault_of IsText (λ bytes fault.
+        (fault ≢ Memory) × IsTextFault bytes fault) }
     ensures idents { TellsFaults ident_fault_of IsIdent IsIdentFault }
     ensures part_texts { TellsFaults part_text_fault_of IsPartText IsPartTextFault }
     ensures name_is_text { (bytes : Items ℕ) → IsName bytes → IsText bytes }
@@ -28,10 +29,14 @@ pub fn text_laws()
 /// Names, Idents, part texts and texts are equal where their bytes are.
 #[tactic(auto, using(crate::specs::EqualityLaws::equal_bytes))]
 pub fn equality_laws()
-    ensures names { (one other : Items ℕ) → Decides (⟦<Name as PartialEq>⟧.eq one other) (one ≡ other) }
-    ensures idents { (one other : Items ℕ) → Decides (⟦<Ident as PartialEq>⟧.eq one other) (one ≡ other) }
-    ensures part_texts { (one other : Items ℕ) → Decides (⟦<PartText as PartialEq>⟧.eq one other) (one ≡ other) }
-    ensures texts { (one other : Items ℕ) → Decides (⟦<Text as PartialEq>⟧.eq one other) (one ≡ other) }
+    ensures names { (one other : Items ℕ)
+        → Decides (⟦<Name as PartialEq>⟧.eq one other) (one ≡ other) }
+    ensures idents { (one other : Items ℕ)
+        → Decides (⟦<Ident as PartialEq>⟧.eq one other) (one ≡ other) }
+    ensures part_texts { (one other : Items ℕ)
+        → Decides (⟦<PartText as PartialEq>⟧.eq one other) (one ≡ other) }
+    ensures texts { (one other : Items ℕ)
+        → Decides (⟦<Text as PartialEq>⟧.eq one other) (one ≡ other) }
 {}
 
 /// Two lists are equal where their members are the same, if members are equal where they are the same. Their
@@ -39,5 +44,6 @@ pub fn equality_laws()
 #[tactic(auto, using(crate::specs::EqualityLaws::equal_lists))]
 pub fn list_equality_law<T: PartialEq>()
     ensures { ((x y : T) → Decides (T.eq x y) (x ≡ y))
-        → (one other : Listed T) → Decides (⟦<List<T> as PartialEq>⟧.eq one other) (one.items ≡ other.items) }
+        → (one other : Listed T)
+        → Decides (⟦<List<T> as PartialEq>⟧.eq one other) (one.items ≡ other.items) }
 {}

@@ -22,7 +22,8 @@ impl<T: Drop> From<AllocFailed<T>> for NoMemory {
 
 /// A list that can reserve spare capacity, so that later pushes take no memory.
 ///
-/// A contract sees it as its members, `items`, and its spare capacity, `spare`: this many pushes take no memory.
+/// A contract sees it as its members, `items`, and its spare capacity, `spare`: this many pushes
+/// take no memory.
 #[derive(Drop)]
 pub struct List<T> {
     inner: Vec<T>,

@@ -16,7 +16,8 @@ pub(crate) struct Written {
     pub(crate) bytes: Bytes,
 }
 
-/// A host in memory, of which calls can be set to fail. It keeps all that was written; the last of a name counts.
+/// A host in memory, of which calls can be set to fail. It keeps all that was written; the last of
+/// a name counts.
 #[derive(Drop)]
 pub struct MemHost {
     alloc: Global,
@@ -46,7 +47,8 @@ impl MemHost {
 
     /// Lets the call of `read` or `write` with this number fail; calls count from 1, over both.
     pub fn fail_at(&mut self, call: u32) -> Result<(), NoMemory>
-        ensures ok { OnOk result ((calls_of self.new).failing ≡ (calls_of self.old).failing ++ call ∷ []) }
+        ensures ok { OnOk result
+            ((calls_of self.new).failing ≡ (calls_of self.old).failing ++ call ∷ []) }
         ensures err { OnErr result ((calls_of self.new).failing ≡ (calls_of self.old).failing) }
         ensures next { (calls_of self.new).next ≡ (calls_of self.old).next }
         ensures files { files_of self.new ≡ files_of self.old }
@@ -84,7 +86,8 @@ impl Host for MemHost {
     }
 
     fn write(&mut self, name: &[u8], bytes: &[u8]) -> Result<(), WriteFault>
-        ensures file { WritesFile (Some (files_of self.old)) (Some (files_of self.new)) name.now bytes.now result }
+        ensures file { WritesFile (Some (files_of self.old))
+            (Some (files_of self.new)) name.now bytes.now result }
         ensures cause { HasWriteCause (faults_of self.old) (faults_of self.new) result }
         ensures fails { IsErrOf result WriteFault.Failed ↔ IsSetToFail (calls_of self.old) }
         ensures counts { CountsCall (calls_of self.old) (calls_of self.new) }

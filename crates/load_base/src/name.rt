@@ -101,7 +101,8 @@ impl Hash for Name {
 
     ghost hash_input = { λ name. fed.slice fed.u8 name };
 
-    ghost respects_eq = { λ one other same. ap (fed.slice fed.u8) ((bytes_decides one other).0 same) };
+    ghost respects_eq = { λ one other same. ap (fed.slice fed.u8)
+        ((bytes_decides one other).0 same) };
 
     fn hash<H: Hasher>(&self, state: &mut H) {
         self.as_slice().hash(state);

@@ -55,7 +55,8 @@ impl MemSink {
 
     /// Lets the call of `put` with this number fail; calls count from 1.
     pub fn fail_at(&mut self, call: u32) -> Result<(), NoMemory>
-        ensures ok { OnOk result ((calls_of self.new).failing ≡ (calls_of self.old).failing ++ call ∷ []) }
+        ensures ok { OnOk result
+            ((calls_of self.new).failing ≡ (calls_of self.old).failing ++ call ∷ []) }
         ensures err { OnErr result ((calls_of self.new).failing ≡ (calls_of self.old).failing) }
         ensures next { (calls_of self.new).next ≡ (calls_of self.old).next }
         ensures bytes { bytes_put self.new ≡ bytes_put self.old }
@@ -81,7 +82,8 @@ impl Sink for MemSink {
     ghost faults = { faults_of };
 
     fn put(&mut self, bytes: &[u8]) -> Result<(), WriteFault>
-        ensures content { Puts (Some (bytes_put self.old)) (Some (bytes_put self.new)) bytes.now result }
+        ensures content { Puts (Some (bytes_put self.old))
+            (Some (bytes_put self.new)) bytes.now result }
         ensures cause { HasWriteCause (faults_of self.old) (faults_of self.new) result }
         ensures fails { IsErrOf result WriteFault.Failed ↔ IsSetToFail (calls_of self.old) }
         ensures counts { CountsCall (calls_of self.old) (calls_of self.new) }

@@ -4,7 +4,7 @@ ghost use Rattle.load_base.specs.Host.{WritesFile};
 ghost use Rattle.load_base.specs.Sink.{HasWriteCause};
 
 use crate::host::{Host, LONGEST_FILE, ReadFault};
-use crate::{Bytes, FaultCount, NoMemory, WriteFault};
+use crate::{Bytes, FaultCount, NoMemory, WriteFault, read_some};
 use std::alloc::Global;
 use std::io::{self, ErrorKind, Read};
 use std::rt::Files;
@@ -85,7 +85,7 @@ fn read_whole<F: Read>(file: &mut F, alloc: Global) -> Result<Bytes, ReadFault>
     let mut bytes = Bytes::new(alloc);
     let mut piece = [0; PIECE];
     for _ in 0..=LONGEST_FILE {
-        let Ok(count) = file.read(&mut piece) else {
+        let Ok(count) = read_some(file, &mut piece) else {
             return Err(ReadFault::Failed);
         };
         if count == 0 {

@@ -151,7 +151,8 @@ fn there_and_back<R: Files>(rt: &R, alloc: Global, count: usize) -> Option<ReadF
     }
 }
 
-// A file in folders that are missing, a folder in place of a file, a file in place of a folder, and the longest file.
+// A file in folders that are missing, a folder in place of a file, a file in place of a folder, and
+// the longest file.
 #[test]
 fn the_files_of_the_system(rt: HostRuntime) -> Result<(), Fail> {
     let mut host = StdHost::new(&rt);

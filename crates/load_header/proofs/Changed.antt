@@ -78,8 +78,8 @@ spelled_size h bytes spells =
 
 -- ---- another load CRC
 
-front_is : (h : HeaderView) (bytes : List ℕ) → HeaderSpells h bytes → take (length bytes - 4) bytes ≡ before_load_crc h
-front_is h bytes spells =
+prefix_is : (h : HeaderView) (bytes : List ℕ) → HeaderSpells h bytes → take (length bytes - 4) bytes ≡ before_load_crc h
+prefix_is h bytes spells =
     let is : bytes ≡ before_load_crc h ++ number_bytes 4 h.load_crc = spells.1 ∙ whole h in
     let size : length bytes - 4 ≡ length (before_load_crc h) =
     omega (arith, ap (λ (l : List ℕ). length l) is, length-append (before_load_crc h) (number_bytes 4 h.load_crc), length_number_bytes 4 h.load_crc) in
@@ -88,7 +88,7 @@ front_is h bytes spells =
 pub ends_in_load_crc : (h : HeaderView) (bytes : List ℕ) → HeaderSpells h bytes → bytes ≡ take (length bytes - 4) bytes ++ number_bytes 4 h.load_crc
 ends_in_load_crc h bytes spells =
     let is : bytes ≡ before_load_crc h ++ number_bytes 4 h.load_crc = spells.1 ∙ whole h in
-    is ∙ ap (λ (l : List ℕ). l ++ number_bytes 4 h.load_crc) (sym (front_is h bytes spells))
+    is ∙ ap (λ (l : List ℕ). l ++ number_bytes 4 h.load_crc) (sym (prefix_is h bytes spells))
 
 same_covered : (h : HeaderView) (crc : ℕ) → covered_fields (with_load_crc h crc) ≡ covered_fields h
 unfolding covered_fields sections_fields identity_fields targets_fields all_files_fields type_fields header_size pointers_of
@@ -96,8 +96,8 @@ same_covered h crc = refl
 
 pub same_before_load_crc : (h : HeaderView) (crc : ℕ) (bytes others : List ℕ) → HeaderSpells h bytes → HeaderSpells (with_load_crc h crc) others → take (length bytes - 4) bytes ≡ take (length others - 4) others
 same_before_load_crc h crc bytes others one other =
-    front_is h bytes one
-    ∙ (ap (λ (c : List (List ℕ)). concat c ++ number_bytes 2 (crc16_of (concat c))) (sym (same_covered h crc)) ∙ sym (front_is (with_load_crc h crc) others other))
+    prefix_is h bytes one
+    ∙ (ap (λ (c : List (List ℕ)). concat c ++ number_bytes 2 (crc16_of (concat c))) (sym (same_covered h crc)) ∙ sym (prefix_is (with_load_crc h crc) others other))
 
 -- ---- other numbers
 

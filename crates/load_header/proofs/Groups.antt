@@ -10,7 +10,7 @@ use Rattle.part_number.specs.PartNumber.{IsPartNumberText}
 use Rattle.field_grammar.specs.Spelling.{size_of, IsPlacedBy}
 use Rattle.field_grammar.specs.Fields.{number_fields, padded_fields}
 use Rattle.field_grammar.specs.PlacedLaws.{placed-renamed}
-use Rattle.field_grammar.specs.SectionLaws.{place_behind}
+use Rattle.field_grammar.specs.SectionLaws.{offset_after}
 use Rattle.header_sections.specs.Sections.{user_data}
 use Rattle.header_sections.specs.SectionFields.{texts_fields, user_fields, IsUserData}
 use Rattle.header_sections.specs.SectionLaws.{placed-user_data, placed-end}
@@ -28,39 +28,39 @@ Identity = List ℕ × List ℕ × ℕ
 abbrev pub identity_parts : Identity → List (List ℕ)
 identity_parts v = padded_fields v.0 ++ (padded_fields v.1 ++ number_fields 2 v.2)
 
-pub record IsIdentity (places : Pointers) (before : List ℕ) (v : Identity) : Type 0 where
-  pub part_offset : places.part ≡ length before / 2
+pub record IsIdentity (offsets : Pointers) (before : List ℕ) (v : Identity) : Type 0 where
+  pub part_offset : offsets.part ≡ length before / 2
   pub part : IsPartNumberText v.0
-  pub type_offset : places.type_name ≡ (length before + size_of (padded_fields v.0)) / 2
+  pub type_offset : offsets.type_name ≡ (length before + size_of (padded_fields v.0)) / 2
   pub type_name : IsText v.1
   pub type_id : v.2 < 2 ^ 16
 
-pub placed-identity : (places : Pointers) → IsPlacedBy (identity places) (λ before. identity_parts) (λ before after v. IsIdentity places before v)
+pub placed-identity : (offsets : Pointers) → IsPlacedBy (identity offsets) (λ before. identity_parts) (λ before after v. IsIdentity offsets before v)
 unfolding identity
-placed-identity places = record {
+placed-identity offsets = record {
   to = λ before fields after value follows.
       let (u0, f0, o0, e0, h0, (number, f1, o1, e1, h1, (u2, f2, o2, e2, h2, (title, f3, o3, e3, h3, (id, f4, o4, e4, h4, last))))) = follows in
       let b1 : List ℕ = before ++ concat f0 in
       let b2 : List ℕ = b1 ++ concat f1 in
-      let a0 = (placed-section 1 places.part).to before f0 (length (concat o0) + after) u0 h0 in
+      let a0 = (placed-section 1 offsets.part).to before f0 (length (concat o0) + after) u0 h0 in
       let a1 = spelled-part.to b1 f1 (length (concat o1) + after) number h1 in
-      let a2 = (placed-section 2 places.type_name).to b2 f2 (length (concat o2) + after) u2 h2 in
+      let a2 = (placed-section 2 offsets.type_name).to b2 f2 (length (concat o2) + after) u2 h2 in
       let a3 = spelled-text.to (b2 ++ concat f2) f3 (length (concat o3) + after) title h3 in
       let a4 = spelled-u16.to ((b2 ++ concat f2) ++ concat f3) f4 (length (concat o4) + after) id h4 in
-      let size : length b2 ≡ length before + size_of (padded_fields number) = omega (arith, place_behind before f0 [] a0.0, place_behind b1 f1 (padded_fields number) a1.0) in
+      let size : length b2 ≡ length before + size_of (padded_fields number) = omega (arith, offset_after before f0 [] a0.0, offset_after b1 f1 (padded_fields number) a1.0) in
       let is : Identity = (number, title, id) in
       let whole : fields ≡ identity_parts is = rw (e0, e1, e2, e3, e4, last.0, a0.0, a1.0, a2.0, a3.0, a4.0) refl in
-      let fits : IsIdentity places before is = record { part_offset = a0.1; part = a1.1; type_offset = a2.1 ∙ ap (λ (n : ℕ). n / 2) size; type_name = a3.1; type_id = a4.1 } in
-      subst (λ (v : Identity). (fields ≡ identity_parts v) × IsIdentity places before v) last.1 (whole, fits);
+      let fits : IsIdentity offsets before is = record { part_offset = a0.1; part = a1.1; type_offset = a2.1 ∙ ap (λ (n : ℕ). n / 2) size; type_name = a3.1; type_id = a4.1 } in
+      subst (λ (v : Identity). (fields ≡ identity_parts v) × IsIdentity offsets before v) last.1 (whole, fits);
   from = λ before after value fits.
       let b2 : List ℕ = (before ++ []) ++ concat (padded_fields value.0) in
-      let size : length b2 ≡ length before + size_of (padded_fields value.0) = omega (arith, place_behind before [] [] refl, place_behind (before ++ []) (padded_fields value.0) (padded_fields value.0) refl) in
+      let size : length b2 ≡ length before + size_of (padded_fields value.0) = omega (arith, offset_after before [] [] refl, offset_after (before ++ []) (padded_fields value.0) (padded_fields value.0) refl) in
       let type_part : List (List ℕ) = padded_fields value.1 ++ number_fields 2 value.2 in (
         tt,
         [],
         identity_parts value,
         refl,
-        (placed-section 1 places.part).from before _ tt fits.part_offset,
+        (placed-section 1 offsets.part).from before _ tt fits.part_offset,
         (
           value.0,
           padded_fields value.0,
@@ -72,7 +72,7 @@ placed-identity places = record {
             [],
             type_part,
             refl,
-            (placed-section 2 places.type_name).from b2 _ tt (fits.type_offset ∙ ap (λ (n : ℕ). n / 2) (sym size)),
+            (placed-section 2 offsets.type_name).from b2 _ tt (fits.type_offset ∙ ap (λ (n : ℕ). n / 2) (sym size)),
             (
               value.1,
               padded_fields value.1,
@@ -94,36 +94,36 @@ Targets = List (List ℕ) × List HardwareAtView
 abbrev pub targets_parts : Targets → List (List ℕ)
 targets_parts v = texts_fields v.0 ++ positions_fields v.1
 
-pub record AreTargets (places : Pointers) (before : List ℕ) (v : Targets) : Type 0 where
-  pub hardware_offset : places.hardware ≡ length before / 2
+pub record AreTargets (offsets : Pointers) (before : List ℕ) (v : Targets) : Type 0 where
+  pub hardware_offset : offsets.hardware ≡ length before / 2
   pub hardware : AreTexts v.0
-  pub positions_offset : places.positions ≡ (length before + size_of (texts_fields v.0)) / 2
+  pub positions_offset : offsets.positions ≡ (length before + size_of (texts_fields v.0)) / 2
   pub positions : (length v.1 < 2 ^ 16) × AllByRecursion IsHardwareAt v.1
 
-pub placed-targets : (places : Pointers) → IsPlacedBy (targets places) (λ before. targets_parts) (λ before after v. AreTargets places before v)
+pub placed-targets : (offsets : Pointers) → IsPlacedBy (targets offsets) (λ before. targets_parts) (λ before after v. AreTargets offsets before v)
 unfolding targets
-placed-targets places = record {
+placed-targets offsets = record {
   to = λ before fields after value follows.
       let (u0, f0, o0, e0, h0, (hardware, f1, o1, e1, h1, (u2, f2, o2, e2, h2, (list, f3, o3, e3, h3, last)))) = follows in
       let b1 : List ℕ = before ++ concat f0 in
       let b2 : List ℕ = b1 ++ concat f1 in
-      let a0 = (placed-section 3 places.hardware).to before f0 (length (concat o0) + after) u0 h0 in
+      let a0 = (placed-section 3 offsets.hardware).to before f0 (length (concat o0) + after) u0 h0 in
       let a1 = spelled-texts.to b1 f1 (length (concat o1) + after) hardware h1 in
-      let a2 = (placed-section 4 places.positions).to b2 f2 (length (concat o2) + after) u2 h2 in
+      let a2 = (placed-section 4 offsets.positions).to b2 f2 (length (concat o2) + after) u2 h2 in
       let a3 = spelled-positions.to (b2 ++ concat f2) f3 (length (concat o3) + after) list h3 in
-      let size : length b2 ≡ length before + size_of (texts_fields hardware) = omega (arith, place_behind before f0 [] a0.0, place_behind b1 f1 (texts_fields hardware) a1.0) in
+      let size : length b2 ≡ length before + size_of (texts_fields hardware) = omega (arith, offset_after before f0 [] a0.0, offset_after b1 f1 (texts_fields hardware) a1.0) in
       let is : Targets = (hardware, list) in
       let whole : fields ≡ targets_parts is = rw (e0, e1, e2, e3, last.0, a0.0, a1.0, a2.0, a3.0, append-nil) refl in
-      let fits : AreTargets places before is = record { hardware_offset = a0.1; hardware = a1.1; positions_offset = a2.1 ∙ ap (λ (n : ℕ). n / 2) size; positions = a3.1 } in
-      subst (λ (v : Targets). (fields ≡ targets_parts v) × AreTargets places before v) last.1 (whole, fits);
+      let fits : AreTargets offsets before is = record { hardware_offset = a0.1; hardware = a1.1; positions_offset = a2.1 ∙ ap (λ (n : ℕ). n / 2) size; positions = a3.1 } in
+      subst (λ (v : Targets). (fields ≡ targets_parts v) × AreTargets offsets before v) last.1 (whole, fits);
   from = λ before after value fits.
       let b2 : List ℕ = (before ++ []) ++ concat (texts_fields value.0) in
-      let size : length b2 ≡ length before + size_of (texts_fields value.0) = omega (arith, place_behind before [] [] refl, place_behind (before ++ []) (texts_fields value.0) (texts_fields value.0) refl) in (
+      let size : length b2 ≡ length before + size_of (texts_fields value.0) = omega (arith, offset_after before [] [] refl, offset_after (before ++ []) (texts_fields value.0) (texts_fields value.0) refl) in (
         tt,
         [],
         targets_parts value,
         refl,
-        (placed-section 3 places.hardware).from before _ tt fits.hardware_offset,
+        (placed-section 3 offsets.hardware).from before _ tt fits.hardware_offset,
         (
           value.0,
           texts_fields value.0,
@@ -135,7 +135,7 @@ placed-targets places = record {
             [],
             positions_fields value.1,
             refl,
-            (placed-section 4 places.positions).from b2 _ tt (fits.positions_offset ∙ ap (λ (n : ℕ). n / 2) (sym size)),
+            (placed-section 4 offsets.positions).from b2 _ tt (fits.positions_offset ∙ ap (λ (n : ℕ). n / 2) (sym size)),
             (value.1, positions_fields value.1, [], sym (append-nil (positions_fields value.1)), spelled-positions.from _ _ value.1 fits.positions, (refl, refl)),
           ),
         ),
@@ -150,43 +150,43 @@ AllFiles = List FileEntry × List FileEntry
 abbrev pub all_files_parts : AllFiles → List (List ℕ)
 all_files_parts v = files_fields v.0 ++ files_fields v.1
 
-pub record AreFiles (places : Pointers) (before : List ℕ) (v : AllFiles) : Type 0 where
-  pub data_offset : places.data_files ≡ length before / 2
+pub record AreFiles (offsets : Pointers) (before : List ℕ) (v : AllFiles) : Type 0 where
+  pub data_offset : offsets.data_files ≡ length before / 2
   pub data_files : AllByRecursion IsHeaderFile v.0
-  pub support_offset : places.support_files ≡ (length before + size_of (files_fields v.0)) / 2
+  pub support_offset : offsets.support_files ≡ (length before + size_of (files_fields v.0)) / 2
   pub support_files : AllByRecursion IsHeaderFile v.1
   pub few : length v.0 + length v.1 ≤ 255
 
-pub placed-all_files : (places : Pointers) → IsPlacedBy (all_files places) (λ before. all_files_parts) (λ before after v. AreFiles places before v)
+pub placed-all_files : (offsets : Pointers) → IsPlacedBy (all_files offsets) (λ before. all_files_parts) (λ before after v. AreFiles offsets before v)
 unfolding all_files
-placed-all_files places = record {
+placed-all_files offsets = record {
   to = λ before fields after value follows.
       let (first, f1, o1, e1, h1, (support, f2, o2, e2, h2, last)) = follows in
-      let a1 = (placed-files 5 places.data_files 0).to before f1 (length (concat o1) + after) first h1 in
-      let a2 = (placed-files 6 places.support_files (length first)).to (before ++ concat f1) f2 (length (concat o2) + after) support h2 in
+      let a1 = (placed-files 5 offsets.data_files 0).to before f1 (length (concat o1) + after) first h1 in
+      let a2 = (placed-files 6 offsets.support_files (length first)).to (before ++ concat f1) f2 (length (concat o2) + after) support h2 in
       let is : AllFiles = (first, support) in
       let whole : fields ≡ all_files_parts is = rw (e1, e2, last.0, a1.0, a2.0, append-nil) refl in
-      let fits : AreFiles places before is = record {
+      let fits : AreFiles offsets before is = record {
         data_offset = a1.1.0;
         data_files = a1.1.2;
-        support_offset = a2.1.0 ∙ ap (λ (n : ℕ). n / 2) (place_behind before f1 (files_fields first) a1.0);
+        support_offset = a2.1.0 ∙ ap (λ (n : ℕ). n / 2) (offset_after before f1 (files_fields first) a1.0);
         support_files = a2.1.2;
         few = a2.1.1;
       } in
-      subst (λ (v : AllFiles). (fields ≡ all_files_parts v) × AreFiles places before v) last.1 (whole, fits);
+      subst (λ (v : AllFiles). (fields ≡ all_files_parts v) × AreFiles offsets before v) last.1 (whole, fits);
   from = λ before after value fits.
-      let size = place_behind before (files_fields value.0) (files_fields value.0) refl in (
+      let size = offset_after before (files_fields value.0) (files_fields value.0) refl in (
         value.0,
         files_fields value.0,
         files_fields value.1,
         refl,
-        (placed-files 5 places.data_files 0).from before _ value.0 (fits.data_offset, omega (arith, fits.few), fits.data_files),
+        (placed-files 5 offsets.data_files 0).from before _ value.0 (fits.data_offset, omega (arith, fits.few), fits.data_files),
         (
           value.1,
           files_fields value.1,
           [],
           sym (append-nil (files_fields value.1)),
-          (placed-files 6 places.support_files (length value.0)).from (before ++ concat (files_fields value.0)) _ value.1 (fits.support_offset ∙ ap (λ (n : ℕ). n / 2) (sym size), fits.few, fits.support_files),
+          (placed-files 6 offsets.support_files (length value.0)).from (before ++ concat (files_fields value.0)) _ value.1 (fits.support_offset ∙ ap (λ (n : ℕ). n / 2) (sym size), fits.few, fits.support_files),
           (refl, refl),
         ),
       );
@@ -257,47 +257,47 @@ Tail = List ℕ × ℕ
 abbrev pub tail_parts : List ℕ → Tail → List (List ℕ)
 tail_parts before v = user_fields v.0 ++ (number_fields 2 0 ++ sums_parts ((before ++ concat (user_fields v.0)) ++ concat (number_fields 2 0)) v.1)
 
-pub record IsTail (places : Pointers) (before : List ℕ) (after : ℕ) (v : Tail) : Type 0 where
-  pub user_offset : places.user ≡ length before / 2
+pub record IsTail (offsets : Pointers) (before : List ℕ) (after : ℕ) (v : Tail) : Type 0 where
+  pub user_offset : offsets.user ≡ length before / 2
   pub user : IsUserData v.0
-  pub check_offset : places.check_value ≡ (length before + size_of (user_fields v.0)) / 2
+  pub check_offset : offsets.check_value ≡ (length before + size_of (user_fields v.0)) / 2
   pub load_crc : v.1 < 2 ^ 32
   pub none : after ≡ 0
 
-pub placed-tail : (places : Pointers) → IsPlacedBy (tail places) tail_parts (λ before after v. IsTail places before after v)
+pub placed-tail : (offsets : Pointers) → IsPlacedBy (tail offsets) tail_parts (λ before after v. IsTail offsets before after v)
 unfolding tail
-placed-tail places = record {
+placed-tail offsets = record {
   to = λ before fields after value follows.
       let (user, f1, o1, e1, h1, (u2, f2, o2, e2, h2, (load, f3, o3, e3, h3, last))) = follows in
-      let a1 = (placed-user places.user).to before f1 (length (concat o1) + after) user h1 in
-      let a2 = (placed-no_check_value places.check_value).to (before ++ concat f1) f2 (length (concat o2) + after) u2 h2 in
+      let a1 = (placed-user offsets.user).to before f1 (length (concat o1) + after) user h1 in
+      let a2 = (placed-no_check_value offsets.check_value).to (before ++ concat f1) f2 (length (concat o2) + after) u2 h2 in
       let a3 = placed-check_sums.to ((before ++ concat f1) ++ concat f2) f3 (length (concat o3) + after) load h3 in
       let is : Tail = (user, load) in
       let whole : fields ≡ tail_parts before is = rw (e1, e2, e3, last.0, a3.0, a1.0, a2.0) refl in
       let none : after ≡ 0 = omega (arith, a3.1.1) in
-      let fits : IsTail places before after is = record {
+      let fits : IsTail offsets before after is = record {
         user_offset = a1.1.0;
         user = a1.1.1;
-        check_offset = a2.1 ∙ ap (λ (n : ℕ). n / 2) (place_behind before f1 (user_fields user) a1.0);
+        check_offset = a2.1 ∙ ap (λ (n : ℕ). n / 2) (offset_after before f1 (user_fields user) a1.0);
         load_crc = a3.1.0;
         none = none;
       } in
-      subst (λ (v : Tail). (fields ≡ tail_parts before v) × IsTail places before after v) last.1 (whole, fits);
+      subst (λ (v : Tail). (fields ≡ tail_parts before v) × IsTail offsets before after v) last.1 (whole, fits);
   from = λ before after value fits.
       let b1 : List ℕ = before ++ concat (user_fields value.0) in
       let b2 : List ℕ = b1 ++ concat (number_fields 2 0) in
-      let size = place_behind before (user_fields value.0) (user_fields value.0) refl in (
+      let size = offset_after before (user_fields value.0) (user_fields value.0) refl in (
         value.0,
         user_fields value.0,
         number_fields 2 0 ++ sums_parts b2 value.1,
         refl,
-        (placed-user places.user).from before _ value.0 (fits.user_offset, fits.user),
+        (placed-user offsets.user).from before _ value.0 (fits.user_offset, fits.user),
         (
           tt,
           number_fields 2 0,
           sums_parts b2 value.1,
           refl,
-          (placed-no_check_value places.check_value).from b1 _ tt (fits.check_offset ∙ ap (λ (n : ℕ). n / 2) (sym size)),
+          (placed-no_check_value offsets.check_value).from b1 _ tt (fits.check_offset ∙ ap (λ (n : ℕ). n / 2) (sym size)),
           (value.1, sums_parts b2 value.1, [], refl, placed-check_sums.from b2 _ value.1 (fits.load_crc, omega (arith, fits.none)), (refl, refl)),
         ),
       );

@@ -118,18 +118,18 @@ placed-beginning =
 pub head_to : (before : List ℕ) (fields : List (List ℕ)) (after : ℕ) (value : Head) → Follows head before fields after value → (fields ≡ head_fields (40 + after) value.0 value.1) × IsHead after value
 unfolding head head_fields
 head_to before fields after value follows =
-    let (said, f1, o1, e1, h1, (flags, f3, o3, e3, h3, (places, f4, o4, e4, h4, last))) = follows in
+    let (said, f1, o1, e1, h1, (flags, f3, o3, e3, h3, (offsets, f4, o4, e4, h4, last))) = follows in
     let p1 = placed-beginning.to before f1 (length (concat o1) + after) said h1 in
     let p3 = spelled-u16.to (before ++ concat f1) f3 (length (concat o3) + after) flags h3 in
-    let p4 = spelled-pointers.to ((before ++ concat f1) ++ concat f3) f4 (length (concat o4) + after) places h4 in
-    let others : o1 ≡ number_fields 2 flags ++ pointers_fields places = rw (e3, e4, last.0, p3.0, p4.0, append-nil) refl in
-    let more : length (concat o1) ≡ 34 = ap (λ (o : List (List ℕ)). length (concat o)) others ∙ size_behind flags places in
+    let p4 = spelled-pointers.to ((before ++ concat f1) ++ concat f3) f4 (length (concat o4) + after) offsets h4 in
+    let others : o1 ≡ number_fields 2 flags ++ pointers_fields offsets = rw (e3, e4, last.0, p3.0, p4.0, append-nil) refl in
+    let more : length (concat o1) ≡ 34 = ap (λ (o : List (List ℕ)). length (concat o)) others ∙ size_behind flags offsets in
     let twice : 2 * said ≡ 40 + after = omega (arith, p1.1.1, more) in
     let half : said ≡ (40 + after) / 2 = omega (arith, twice) in
-    let is : Head = (flags, places) in
-    let parts : fields ≡ number_fields 4 said ++ (number_fields 2 0x8004 ++ (number_fields 2 flags ++ pointers_fields places)) = rw (e1, p1.0, others) refl in
-    let whole : fields ≡ number_fields 4 ((40 + after) / 2) ++ (number_fields 2 0x8004 ++ (number_fields 2 flags ++ pointers_fields places)) =
-    subst (λ (n : ℕ). fields ≡ number_fields 4 n ++ (number_fields 2 0x8004 ++ (number_fields 2 flags ++ pointers_fields places))) half parts in
+    let is : Head = (flags, offsets) in
+    let parts : fields ≡ number_fields 4 said ++ (number_fields 2 0x8004 ++ (number_fields 2 flags ++ pointers_fields offsets)) = rw (e1, p1.0, others) refl in
+    let whole : fields ≡ number_fields 4 ((40 + after) / 2) ++ (number_fields 2 0x8004 ++ (number_fields 2 flags ++ pointers_fields offsets)) =
+    subst (λ (n : ℕ). fields ≡ number_fields 4 n ++ (number_fields 2 0x8004 ++ (number_fields 2 flags ++ pointers_fields offsets))) half parts in
     let fits : IsHead after is = record { size = omega (arith, half, p1.1.0); whole = omega (arith, half, twice); flags = p3.1; pointers = p4.1 } in
     subst (λ (v : Head). (fields ≡ number_fields 4 ((40 + after) / 2) ++ (number_fields 2 0x8004 ++ (number_fields 2 v.0 ++ pointers_fields v.1))) × IsHead after v) last.1 (whole, fits)
 

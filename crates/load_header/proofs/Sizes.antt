@@ -37,7 +37,7 @@ even_type : (h : HeaderView) → size_of (type_fields h) % 2 ≡ 0
 unfolding type_fields
 even_type h = omega (arith, size_more (padded_fields h.type_name) (number_fields 2 h.type_id), size_number 2 h.type_id, even_padded h.type_name)
 
--- every section begins at an even place
+-- every section begins at an even offset
 pub even_offset : (h : HeaderView) → length h.user % 2 ≡ 0 → check_offset h % 2 ≡ 0
 even_offset h even =
     omega (arith, even, even_padded h.part, even_type h, even_texts h.hardware, even_positions h.positions, even_files h.data_files, even_files h.support_files, size_user h.user)

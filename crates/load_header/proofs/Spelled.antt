@@ -8,7 +8,7 @@ use Rattle.crc_fields.specs.CheckSums.{crc16_of}
 use Rattle.field_grammar.specs.Grammar.{Follows}
 use Rattle.field_grammar.specs.Spelling.{size_of, IsPlacedBy, SpellsWhole}
 use Rattle.field_grammar.specs.Fields.{number_fields, padded_fields}
-use Rattle.field_grammar.specs.SectionLaws.{size_more, size_number, place_behind}
+use Rattle.field_grammar.specs.SectionLaws.{size_more, size_number, offset_after}
 use Rattle.header_sections.specs.SectionFields.{texts_fields, user_fields, IsUserData}
 use Rattle.header_sections.specs.SizeLaws.{size_user}
 use Rattle.load_header.specs.Header.{HeaderView, limit, head, header}
@@ -82,13 +82,13 @@ size_tail before v =
 
 -- the fields of a header, group by group, where the head and the check sums stand as they are read
 abbrev group_fields : ℕ → Pointers → HeaderView → List ℕ → List (List ℕ)
-group_fields size places h before =
-    head_fields size h.flags places ++ (identity_parts (what_of h) ++ (targets_parts (whom_of h) ++ (all_files_parts (files_of h) ++ tail_parts before (stop_of h))))
+group_fields size offsets h before =
+    head_fields size h.flags offsets ++ (identity_parts (what_of h) ++ (targets_parts (whom_of h) ++ (all_files_parts (files_of h) ++ tail_parts before (stop_of h))))
 
 -- what stands before the tail
-abbrev front_of : ℕ → Pointers → HeaderView → List ℕ
-front_of size places h =
-    (((([] ++ []) ++ concat (head_fields size h.flags places)) ++ concat (identity_parts (what_of h))) ++ concat (targets_parts (whom_of h))) ++ concat (all_files_parts (files_of h))
+abbrev prefix_of : ℕ → Pointers → HeaderView → List ℕ
+prefix_of size offsets h =
+    (((([] ++ []) ++ concat (head_fields size h.flags offsets)) ++ concat (identity_parts (what_of h))) ++ concat (targets_parts (whom_of h))) ++ concat (all_files_parts (files_of h))
 
 joined : (a b c d e f : List (List ℕ)) → ((((([] ++ []) ++ concat a) ++ concat b) ++ concat c) ++ concat d ++ concat e) ++ concat f ≡ concat (a ++ (b ++ (c ++ (d ++ (e ++ f)))))
 joined a b c d e f = simp (concat-append, append_assoc) refl
@@ -97,7 +97,7 @@ regrouped : (a b c d e f g : List (List ℕ)) → a ++ (b ++ (c ++ (d ++ (e ++ (
 regrouped a b c d e f g = simp append_assoc refl
 
 -- these are the fields of the header
-groups_are : (h : HeaderView) → group_fields (header_size h) (pointers_of h) h (front_of (header_size h) (pointers_of h) h) ≡ header_fields h
+groups_are : (h : HeaderView) → group_fields (header_size h) (pointers_of h) h (prefix_of (header_size h) (pointers_of h) h) ≡ header_fields h
 unfolding header_fields covered_fields sections_fields identity_fields targets_fields all_files_fields type_fields
 groups_are h =
     let a : List (List ℕ) = head_fields (header_size h) h.flags (pointers_of h) in
@@ -139,9 +139,9 @@ size_rest h before =
     let whole : size_of (a ++ (b ++ (c ++ d))) ≡ size_of a + (size_of b + (size_of c + size_of d)) = omega (arith, size_more a (b ++ (c ++ d)), size_more b (c ++ d), size_more c d) in
     omega (arith, whole, size_identity h, size_targets h, size_files h, size_tail before (stop_of h))
 
-same_front : (f0 f1 f2 f3 f4 a b c d : List (List ℕ)) → f0 ≡ [] → f1 ≡ a → f2 ≡ b → f3 ≡ c → f4 ≡ d
+same_prefix : (f0 f1 f2 f3 f4 a b c d : List (List ℕ)) → f0 ≡ [] → f1 ≡ a → f2 ≡ b → f3 ≡ c → f4 ≡ d
     → (((([] ++ concat f0) ++ concat f1) ++ concat f2) ++ concat f3) ++ concat f4 ≡ (((([] ++ []) ++ concat a) ++ concat b) ++ concat c) ++ concat d
-same_front f0 f1 f2 f3 f4 a b c d z0 z1 z2 z3 z4 = rw (z0, z1, z2, z3, z4) refl
+same_prefix f0 f1 f2 f3 f4 a b c d z0 z1 z2 z3 z4 = rw (z0, z1, z2, z3, z4) refl
 
 header_to : (fields : List (List ℕ)) (after : ℕ) (value : HeaderView) → Follows header [] fields after value → (fields ≡ header_fields value) × IsHeader value × (after ≡ 0)
 unfolding header pointers_of
@@ -161,11 +161,11 @@ header_to fields after value follows =
     let is : HeaderView = made start what whom parts stop in
     let none : after ≡ 0 = omega (arith, a5.1.none) in
     let said : ℕ = 40 + (length (concat o1) + after) in
-    let s1 : length b1 ≡ 40 = omega (arith, place_behind [] f0 [] a0.0, place_behind b0 f1 (head_fields said start.0 start.1) a1.0, size_head said start.0 start.1) in
-    let s2 : length b2 ≡ hardware_offset is = omega (arith, s1, place_behind b1 f2 (identity_parts what) a2.0, size_identity is) in
-    let s3 : length b3 ≡ data_offset is = omega (arith, s2, place_behind b2 f3 (targets_parts whom) a3.0, size_targets is) in
-    let s4 : length b4 ≡ user_offset is = omega (arith, s3, place_behind b3 f4 (all_files_parts parts) a4.0, size_files is) in
-    let places : start.1 ≡ pointers_of is = same_pointers _ _ _ _ _ _ _ _ _ _ _ _ _ _ _ _
+    let s1 : length b1 ≡ 40 = omega (arith, offset_after [] f0 [] a0.0, offset_after b0 f1 (head_fields said start.0 start.1) a1.0, size_head said start.0 start.1) in
+    let s2 : length b2 ≡ hardware_offset is = omega (arith, s1, offset_after b1 f2 (identity_parts what) a2.0, size_identity is) in
+    let s3 : length b3 ≡ data_offset is = omega (arith, s2, offset_after b2 f3 (targets_parts whom) a3.0, size_targets is) in
+    let s4 : length b4 ≡ user_offset is = omega (arith, s3, offset_after b3 f4 (all_files_parts parts) a4.0, size_files is) in
+    let offsets : start.1 ≡ pointers_of is = same_pointers _ _ _ _ _ _ _ _ _ _ _ _ _ _ _ _
     (a2.1.part_offset ∙ half (length b1) 40 s1)
     (a2.1.type_offset ∙ half (length b1 + size_of (padded_fields what.0)) (type_offset is) (omega (arith, s1)))
     (a3.1.hardware_offset ∙ half (length b2) (hardware_offset is) s2)
@@ -177,14 +177,14 @@ header_to fields after value follows =
     let others : o1 ≡ rest_fields is b4 =
     follow_on o1 f2 f3 f4 f5 o2 o3 o4 o5 (identity_parts what) (targets_parts whom) (all_files_parts parts) (tail_parts b4 stop) e2 a2.0 e3 a3.0 e4 a4.0 e5 a5.0 last.0 in
     let total : said ≡ header_size is = omega (arith, ap (λ (o : List (List ℕ)). size_of o) others, size_rest is b4, none) in
-    let front : b4 ≡ front_of said start.1 is =
-    same_front f0 f1 f2 f3 f4 (head_fields said start.0 start.1) (identity_parts what) (targets_parts whom) (all_files_parts parts) a0.0 a1.0 a2.0 a3.0 a4.0 in
+    let prefix : b4 ≡ prefix_of said start.1 is =
+    same_prefix f0 f1 f2 f3 f4 (head_fields said start.0 start.1) (identity_parts what) (targets_parts whom) (all_files_parts parts) a0.0 a1.0 a2.0 a3.0 a4.0 in
     let grouped : fields ≡ group_fields said start.1 is b4 =
     e0 ∙ (ap (λ (f : List (List ℕ)). f ++ o0) a0.0 ∙ (e1 ∙ (ap (λ (f : List (List ℕ)). f ++ o1) a1.0 ∙ ap (λ (o : List (List ℕ)). head_fields said start.0 start.1 ++ o) others))) in
-    let placed : fields ≡ group_fields said start.1 is (front_of said start.1 is) = grouped ∙ ap (λ (b : List ℕ). group_fields said start.1 is b) front in
-    let sized : fields ≡ group_fields (header_size is) start.1 is (front_of (header_size is) start.1 is) = subst (λ (n : ℕ). fields ≡ group_fields n start.1 is (front_of n start.1 is)) total placed in
-    let pointed : fields ≡ group_fields (header_size is) (pointers_of is) is (front_of (header_size is) (pointers_of is) is) =
-    subst (λ (p : Pointers). fields ≡ group_fields (header_size is) p is (front_of (header_size is) p is)) places sized in
+    let placed : fields ≡ group_fields said start.1 is (prefix_of said start.1 is) = grouped ∙ ap (λ (b : List ℕ). group_fields said start.1 is b) prefix in
+    let sized : fields ≡ group_fields (header_size is) start.1 is (prefix_of (header_size is) start.1 is) = subst (λ (n : ℕ). fields ≡ group_fields n start.1 is (prefix_of n start.1 is)) total placed in
+    let pointed : fields ≡ group_fields (header_size is) (pointers_of is) is (prefix_of (header_size is) (pointers_of is) is) =
+    subst (λ (p : Pointers). fields ≡ group_fields (header_size is) p is (prefix_of (header_size is) p is)) offsets sized in
     let whole : fields ≡ header_fields is = pointed ∙ groups_are is in
     let first : size_of o0 ≡ 40 + size_of o1 =
     omega (arith, ap (λ (o : List (List ℕ)). size_of o) e1, size_more f1 o1, ap (λ (f : List (List ℕ)). size_of f) a1.0, size_head said start.0 start.1) in
@@ -234,8 +234,8 @@ header_from : (value : HeaderView) → IsHeader value → Follows header [] (hea
 unfolding header pointers_of
 header_from value fits =
     let size : ℕ = header_size value in
-    let places : Pointers = pointers_of value in
-    let a : List (List ℕ) = head_fields size value.flags places in
+    let offsets : Pointers = pointers_of value in
+    let a : List (List ℕ) = head_fields size value.flags offsets in
     let b : List (List ℕ) = identity_parts (what_of value) in
     let c : List (List ℕ) = targets_parts (whom_of value) in
     let d : List (List ℕ) = all_files_parts (files_of value) in
@@ -246,34 +246,34 @@ header_from value fits =
     let e : List (List ℕ) = tail_parts b4 (stop_of value) in
     let rest : List (List ℕ) = b ++ (c ++ (d ++ e)) in
     let after : ℕ = length (concat rest) + 0 in
-    let start : Head = (value.flags, places) in
-    let s1 : length b1 ≡ 40 = omega (arith, place_behind ([] ++ []) a a refl, size_head size value.flags places) in
-    let s2 : length b2 ≡ hardware_offset value = omega (arith, s1, place_behind b1 b b refl, size_identity value) in
-    let s3 : length b3 ≡ data_offset value = omega (arith, s2, place_behind b2 c c refl, size_targets value) in
-    let s4 : length b4 ≡ user_offset value = omega (arith, s3, place_behind b3 d d refl, size_files value) in
+    let start : Head = (value.flags, offsets) in
+    let s1 : length b1 ≡ 40 = omega (arith, offset_after ([] ++ []) a a refl, size_head size value.flags offsets) in
+    let s2 : length b2 ≡ hardware_offset value = omega (arith, s1, offset_after b1 b b refl, size_identity value) in
+    let s3 : length b3 ≡ data_offset value = omega (arith, s2, offset_after b2 c c refl, size_targets value) in
+    let s4 : length b4 ≡ user_offset value = omega (arith, s3, offset_after b3 d d refl, size_files value) in
     let total : 40 + after ≡ size = omega (arith, size_rest value b4) in
-    let whole : size_of (a ++ rest) ≡ size = omega (arith, size_more a rest, size_head size value.flags places, total) in
+    let whole : size_of (a ++ rest) ≡ size = omega (arith, size_more a rest, size_head size value.flags offsets, total) in
     let is_head : IsHead after start = record {
       size = omega (arith, total, fits.size);
       whole = omega (arith, total, even_size value fits);
       flags = fits.flags;
       pointers = pointers_fit value fits;
     } in
-    let head_follows = subst (λ (n : ℕ). Follows head ([] ++ []) (head_fields n value.flags places) after start) total (head_from ([] ++ []) after start is_head) in
-    let is_identity : IsIdentity places b1 (what_of value) = record {
+    let head_follows = subst (λ (n : ℕ). Follows head ([] ++ []) (head_fields n value.flags offsets) after start) total (head_from ([] ++ []) after start is_head) in
+    let is_identity : IsIdentity offsets b1 (what_of value) = record {
       part_offset = half 40 (length b1) (sym s1);
       part = fits.part;
       type_offset = half (type_offset value) (length b1 + size_of (padded_fields value.part)) (omega (arith, s1));
       type_name = fits.type_name;
       type_id = fits.type_id;
     } in
-    let are_targets : AreTargets places b2 (whom_of value) = record {
+    let are_targets : AreTargets offsets b2 (whom_of value) = record {
       hardware_offset = half (hardware_offset value) (length b2) (sym s2);
       hardware = fits.hardware;
       positions_offset = half (positions_offset value) (length b2 + size_of (texts_fields value.hardware)) (omega (arith, s2));
       positions = (fits.positions_count, fits.positions);
     } in
-    let are_files : AreFiles places b3 (files_of value) = record {
+    let are_files : AreFiles offsets b3 (files_of value) = record {
       data_offset = half (data_offset value) (length b3) (sym s3);
       data_files = fits.data_files;
       support_offset = half (support_offset value) (length b3 + size_of (files_fields value.data_files)) (omega (arith, s3));
@@ -281,7 +281,7 @@ header_from value fits =
       few = fits.files;
     } in
     let is_user : IsUserData value.user = record { bytes = fits.user; even = fits.user_even; size = user_small value fits } in
-    let is_tail : IsTail places b4 (0 + 0) (stop_of value) = record {
+    let is_tail : IsTail offsets b4 (0 + 0) (stop_of value) = record {
       user_offset = half (user_offset value) (length b4) (sym s4);
       user = is_user;
       check_offset = half (check_offset value) (length b4 + size_of (user_fields value.user)) (omega (arith, s4));
@@ -305,20 +305,20 @@ header_from value fits =
           b,
           c ++ (d ++ e),
           refl,
-          (placed-identity places).from b1 _ (what_of value) is_identity,
+          (placed-identity offsets).from b1 _ (what_of value) is_identity,
           (
             whom_of value,
             c,
             d ++ e,
             refl,
-            (placed-targets places).from b2 _ (whom_of value) are_targets,
+            (placed-targets offsets).from b2 _ (whom_of value) are_targets,
             (
               files_of value,
               d,
               e,
               refl,
-              (placed-all_files places).from b3 _ (files_of value) are_files,
-              (stop_of value, e, [], sym (append-nil e), (placed-tail places).from b4 (0 + 0) (stop_of value) is_tail, (refl, refl)),
+              (placed-all_files offsets).from b3 _ (files_of value) are_files,
+              (stop_of value, e, [], sym (append-nil e), (placed-tail offsets).from b4 (0 + 0) (stop_of value) is_tail, (refl, refl)),
             ),
           ),
         ),

@@ -11,9 +11,9 @@ ends-check_sums : EndsTheBytes check_sums
 unfolding check_sums
 ends-check_sums = ends_last _ _ (λ before. ends_last _ _ (λ said. ends_last _ _ (λ load_crc. ends_before _ _ (ends_renamed refused (end said (crc16_of before)) (ends-end said (crc16_of before))))))
 
-ends-tail : (places : Pointers) → EndsTheBytes (tail places)
+ends-tail : (offsets : Pointers) → EndsTheBytes (tail offsets)
 unfolding tail
-ends-tail places = ends_last _ _ (λ user. ends_last _ _ (λ none. ends_before _ _ ends-check_sums))
+ends-tail offsets = ends_last _ _ (λ user. ends_last _ _ (λ none. ends_before _ _ ends-check_sums))
 
 pub ends-header : EndsTheBytes header
 unfolding header

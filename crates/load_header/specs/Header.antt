@@ -1,7 +1,7 @@
 -- Load headers (docs/FORMATS.md).
 use Rattle.std.specs.Prelude.{ℕ, ◌+◌, ◌/◌, List, [], length, map, nat_le, ◌==◌, Bool, ◌&&◌}
 use Rattle.crc_fields.specs.CheckSums.{crc16_of}
-use Rattle.field_grammar.specs.Grammar.{Grammar, give, check, front, left, renamed, times, listed, ◌>>=◌, ◌>>◌}
+use Rattle.field_grammar.specs.Grammar.{Grammar, give, check, prefix, left, renamed, times, listed, ◌>>=◌, ◌>>◌}
 use Rattle.field_grammar.specs.Fields.{number}
 use Rattle.field_grammar.specs.declared.fault.FieldFault.{FieldFault}
 use Rattle.field_grammar.specs.declared.fault.FieldFault.TheVariants as fields
@@ -109,17 +109,17 @@ unfoldable pub head : Grammar HeaderFault (ℕ × Pointers)
 head = do
   _ ← shared (start 0x8004)
   flags ← u16
-  places ← pointers
-  give (flags, places)
+  offsets ← pointers
+  give (flags, offsets)
 
 -- ---- what the load is, and what it is for
 
 -- the part number, the name of the type and its number
 unfoldable pub identity : Pointers → Grammar HeaderFault (List ℕ × List ℕ × ℕ)
-identity places = do
-  shared (section_at 1 places.part)
+identity offsets = do
+  shared (section_at 1 offsets.part)
   number ← shared part
-  shared (section_at 2 places.type_name)
+  shared (section_at 2 offsets.type_name)
   type_name ← shared text
   id ← u16
   give (number, type_name, id)
@@ -139,10 +139,10 @@ positions = do
 
 -- the hardware that the load is for, and its positions
 unfoldable pub targets : Pointers → Grammar HeaderFault (List (List ℕ) × List HardwareAtView)
-targets places = do
-  shared (section_at 3 places.hardware)
+targets offsets = do
+  shared (section_at 3 offsets.hardware)
   hardware ← counted_texts
-  shared (section_at 4 places.positions)
+  shared (section_at 4 offsets.positions)
   at ← positions
   give (hardware, at)
 
@@ -187,9 +187,9 @@ files which said others = do
 
 -- the data files and the support files
 unfoldable pub all_files : Pointers → Grammar HeaderFault (List FileEntry × List FileEntry)
-all_files places = do
-  data_files ← files 5 places.data_files 0
-  support_files ← files 6 places.support_files (length data_files)
+all_files offsets = do
+  data_files ← files 5 offsets.data_files 0
+  support_files ← files 6 offsets.support_files (length data_files)
   give (data_files, support_files)
 
 -- ---- the end
@@ -204,7 +204,7 @@ no_check_value said = do
 -- The CRC-16 of all before it and the CRC-32 of the load, and nothing after them. The CRC-16 is compared last.
 unfoldable pub check_sums : Grammar HeaderFault ℕ
 check_sums = do
-  before ← front
+  before ← prefix
   said ← u16
   load_crc ← u32
   shared (end said (crc16_of before))
@@ -212,9 +212,9 @@ check_sums = do
 
 -- the user data and the check sum of the load
 unfoldable pub tail : Pointers → Grammar HeaderFault (List ℕ × ℕ)
-tail places = do
-  user ← shared (user_data 7 places.user)
-  no_check_value places.check_value
+tail offsets = do
+  user ← shared (user_data 7 offsets.user)
+  no_check_value offsets.check_value
   load_crc ← check_sums
   give (user, load_crc)
 

@@ -88,7 +88,7 @@ pointers_fields p =
 
 -- the head of a header of `size` bytes
 unfoldable pub head_fields : ℕ → ℕ → Pointers → List (List ℕ)
-head_fields size flags places = number_fields 4 (size / 2) ++ (number_fields 2 0x8004 ++ (number_fields 2 flags ++ pointers_fields places))
+head_fields size flags offsets = number_fields 4 (size / 2) ++ (number_fields 2 0x8004 ++ (number_fields 2 flags ++ pointers_fields offsets))
 
 unfoldable pub identity_fields : HeaderView → List (List ℕ)
 identity_fields h = padded_fields h.part ++ type_fields h

@@ -77,8 +77,8 @@ impl From<FieldFault> for HeaderFault {
 
     fn from(field: FieldFault) -> HeaderFault {
         match field {
-            FieldFault::Short(place) => HeaderFault::Short(place),
-            FieldFault::BadPad(place) => HeaderFault::Pad(place),
+            FieldFault::Short(offset) => HeaderFault::Short(offset),
+            FieldFault::BadPad(offset) => HeaderFault::Pad(offset),
         }
     }
 }
@@ -88,8 +88,8 @@ impl From<SectionFault> for HeaderFault {
 
     fn from(piece: SectionFault) -> HeaderFault {
         match piece {
-            SectionFault::Short(place) => HeaderFault::Short(place),
-            SectionFault::Pad(place) => HeaderFault::Pad(place),
+            SectionFault::Short(offset) => HeaderFault::Short(offset),
+            SectionFault::Pad(offset) => HeaderFault::Pad(offset),
             SectionFault::Length { said, found } => HeaderFault::Length { said, found },
             SectionFault::Version(found) => HeaderFault::Version(found),
             SectionFault::Pointer {
@@ -110,7 +110,7 @@ impl From<SectionFault> for HeaderFault {
                 place: offset,
                 fault,
             },
-            SectionFault::Rest(place) => HeaderFault::Rest(place),
+            SectionFault::Rest(offset) => HeaderFault::Rest(offset),
             SectionFault::Sum { said, found } => HeaderFault::HeaderCrc { said, found },
             SectionFault::Memory => HeaderFault::Memory,
         }

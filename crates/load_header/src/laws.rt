@@ -19,7 +19,8 @@ pub fn header_laws()
     ensures one_spelling { (h : HeaderView) (bytes others : List ℕ) → HeaderSpells h bytes
         → HeaderSpells h others → bytes ≡ others }
 
-    // The length of its bytes, which depends on none of its numbers; other numbers that fit their fields keep it a header.
+    // The length of its bytes, which depends on none of its numbers; other numbers that fit their
+    // fields keep it a header.
     ensures length { (h : HeaderView) (bytes : List ℕ) → HeaderSpells h bytes
         → length bytes ≡ header_size h }
     ensures same_size { (g h : HeaderView) → HaveSameTexts g h → header_size g ≡ header_size h }

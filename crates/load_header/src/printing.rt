@@ -14,7 +14,7 @@ impl Printed for HeaderFault {
     /// H1 to H15 and the fields, as in `H4 5 39 38`, and a nested fault in its place, as in `H12 50 N3 2`.
     fn text(&self, alloc: Global) -> Result<Text, NoMemory> {
         match *self {
-            HeaderFault::Short(place) => coded(alloc, b"H1", &[place]),
+            HeaderFault::Short(offset) => coded(alloc, b"H1", &[offset]),
             HeaderFault::Length { said, found } => coded(alloc, b"H2", &[said, found]),
             HeaderFault::Version(found) => coded(alloc, b"H3", &[found]),
             HeaderFault::Pointer {
@@ -22,7 +22,7 @@ impl Printed for HeaderFault {
                 said,
                 expected,
             } => coded(alloc, b"H4", &[which, said, expected]),
-            HeaderFault::Pad(place) => coded(alloc, b"H5", &[place]),
+            HeaderFault::Pad(offset) => coded(alloc, b"H5", &[offset]),
             HeaderFault::Part(fault) => nested(alloc, b"H6", &[], &fault),
             HeaderFault::CheckValuePresent => coded(alloc, b"H7", &[]),
             HeaderFault::Distance(file) => coded(alloc, b"H8", &[file]),
@@ -32,7 +32,7 @@ impl Printed for HeaderFault {
             HeaderFault::Name { place, fault } => nested(alloc, b"H12", &[place], &fault),
             HeaderFault::Text { place, fault } => nested(alloc, b"H13", &[place], &fault),
             HeaderFault::TooMany(found) => coded(alloc, b"H14", &[found]),
-            HeaderFault::Rest(place) => coded(alloc, b"H15", &[place]),
+            HeaderFault::Rest(offset) => coded(alloc, b"H15", &[offset]),
             HeaderFault::Memory => Ok(Text::empty(alloc)),
         }
     }

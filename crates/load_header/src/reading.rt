@@ -261,7 +261,7 @@ fn read_entries(
     Ok(files)
 }
 
-#[tactic(auto, using(field_grammar::specs::MoveLaws::place_goes_on), unfolding(crate::specs::Header::file_entry))]
+#[tactic(auto, using(field_grammar::specs::MoveLaws::offset_goes_on), unfolding(crate::specs::Header::file_entry))]
 fn read_entry(
     alloc: Global,
     reader: &mut Reader,

@@ -55,14 +55,14 @@ fn outcome(alloc: Global, bytes: &[u8]) -> Result<Text, NoMemory> {
 }
 
 /// Puts a byte at an offset.
-fn change(bytes: &mut [u8], place: usize, byte: u8) {
-    if place < bytes.len() {
-        bytes[place] = byte;
+fn change(bytes: &mut [u8], offset: usize, byte: u8) {
+    if offset < bytes.len() {
+        bytes[offset] = byte;
     }
 }
 
 /// The first N bytes.
-fn front(bytes: &[u8], size: usize) -> &[u8] {
+fn prefix(bytes: &[u8], size: usize) -> &[u8] {
     if size <= bytes.len() {
         &bytes[..size]
     } else {
@@ -83,7 +83,7 @@ fn mend(bytes: &mut [u8]) {
 /// header is refused with.
 #[test]
 fn each_changed_byte_has_its_refusal(rt: HostRuntime) -> Result<(), NoMemory> {
-    for (place, byte, mended, text) in [
+    for (offset, byte, mended, text) in [
         (121, 0xFF, false, &b""[..]),
         (6, 0xFF, true, b""),
         (7, 0x20, false, b"H10 28738 37420"),
@@ -109,18 +109,22 @@ fn each_changed_byte_has_its_refusal(rt: HostRuntime) -> Result<(), NoMemory> {
         (115, 0x20, true, b"H7"),
     ] {
         let mut bytes = app_header();
-        change(&mut bytes, place, byte);
+        change(&mut bytes, offset, byte);
         if mended {
             mend(&mut bytes);
         }
-        assert_eq!(rt; outcome(rt.alloc(), &bytes)?.as_slice(), text, "at {place}");
+        assert_eq!(rt;
+            outcome(rt.alloc(), &bytes)?.as_slice(),
+            text,
+            "at {offset}"
+        );
     }
     Ok(())
 }
 
 #[test]
 fn later_files_are_counted_on(rt: HostRuntime) -> Result<(), NoMemory> {
-    for (place, byte, text) in [
+    for (offset, byte, text) in [
         (130, 0x01, &b"H8 2"[..]),
         (163, 0xFF, b"H14 257"),
         (154, 0x01, b"H9 2"),
@@ -130,9 +134,13 @@ fn later_files_are_counted_on(rt: HostRuntime) -> Result<(), NoMemory> {
         (203, 0xFF, b"H7"),
     ] {
         let mut bytes = NAV;
-        change(&mut bytes, place, byte);
+        change(&mut bytes, offset, byte);
         mend(&mut bytes);
-        assert_eq!(rt; outcome(rt.alloc(), &bytes)?.as_slice(), text, "at {place}");
+        assert_eq!(rt;
+            outcome(rt.alloc(), &bytes)?.as_slice(),
+            text,
+            "at {offset}"
+        );
     }
     Ok(())
 }
@@ -146,8 +154,8 @@ fn lengths_are_tested_first_and_the_rest_before_the_check_sum(
     longer[..122].copy_from_slice(&app);
     longer[3] = 62;
     for (bytes, text) in [
-        (front(&app, 3), &b"H1 0"[..]),
-        (front(&app, 121), b"H2 61 121"),
+        (prefix(&app, 3), &b"H1 0"[..]),
+        (prefix(&app, 121), b"H2 61 121"),
         (&longer, b"H15 122"),
         (&[0; 65_536], b"H2 0 65536"),
         (&[0; 65_537], b"H11"),
@@ -190,8 +198,8 @@ fn files(alloc: Global, count: usize, length: u32) -> Result<List<FileEntry>, He
     Ok(files)
 }
 
-/// The bytes of a header that fits, which are read as one with as many files of each kind; none where it doesn't
-/// fit.
+/// The bytes of a header that fits, which are read as one with as many files of each kind; none
+/// where it doesn't fit.
 fn there_and_back(alloc: Global, header: &LoadHeader) -> Result<Bytes, HeaderFault> {
     if !header.fits() {
         return Ok(Bytes::new(alloc));

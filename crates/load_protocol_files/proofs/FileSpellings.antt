@@ -10,7 +10,7 @@ use Rattle.field_grammar.specs.Spelling.{IsSpelledBy, IsPlacedBy, SpellsWhole}
 use Rattle.field_grammar.specs.NumberLaws.{wide4, spelled-number, length_number_bytes}
 use Rattle.field_grammar.specs.CombinedLaws.{spelled-renamed, spelled-expected}
 use Rattle.field_grammar.specs.PlacedLaws.{placed, placed-as, placed-sized, placed-before, placed-ended}
-use Rattle.field_grammar.specs.ExactLaws.{whole_one_value, not_both, answer-spelled, spelled_at_front, decided, ends_at_end, ends_before, ends_last}
+use Rattle.field_grammar.specs.ExactLaws.{whole_one_value, not_both, answer-spelled, spelled_at_start, decided, ends_at_end, ends_before, ends_last}
 use Rattle.field_grammar.specs.DecoderLaws.{found_spelling, only_spelling, spelled_by, spelling_is}
 use Rattle.load_protocol_files.specs.Faults.{named}
 use Rattle.load_protocol_files.specs.declared.fault.FileFault.{FileFault}
@@ -124,8 +124,8 @@ one_spelling_of {A = A} body s P one =
     record {
       one_spelling = λ value bytes others is other. is.1.written ∙ sym other.1.written;
       one_value = λ value other bytes is same. whole_one_value (file body) bytes value other (spelled value bytes is) (spelled other bytes same);
-      read_again = λ value bytes is. answer-spelled (file body) bytes value (spelled_at_front (file body) bytes value (spelled value bytes is));
-      no_fault = λ value bytes fault is faulty. not_both (file body) bytes value fault (spelled_at_front (file body) bytes value (spelled value bytes is)) faulty;
+      read_again = λ value bytes is. answer-spelled (file body) bytes value (spelled_at_start (file body) bytes value (spelled value bytes is));
+      no_fault = λ value bytes fault is faulty. not_both (file body) bytes value fault (spelled_at_start (file body) bytes value (spelled value bytes is)) faulty;
     }
 
 ends-file : {A : Type 0} (body : Grammar FileFault A) → EndsTheBytes (file body)

@@ -8,12 +8,12 @@ use Rattle.load_protocol_files.specs.declared.fault.FileFault.TheVariants as fau
 
 -- Memory has no text
 abbrev pub file_fault_text : FileFault → List ℕ
-file_fault_text (faults.Short place) = coded (codes "U1") (place ∷ [])
+file_fault_text (faults.Short offset) = coded (codes "U1") (offset ∷ [])
 file_fault_text (faults.Length said found) = coded (codes "U2") (said ∷ found ∷ [])
 file_fault_text (faults.Version found) = coded (codes "U3") (found ∷ [])
-file_fault_text (faults.Digits place) = coded (codes "U4") (place ∷ [])
-file_fault_text (faults.Rest place) = coded (codes "U5") (place ∷ [])
-file_fault_text (faults.Name place fault) = nested (coded (codes "U6") (place ∷ [])) (name_fault_text fault)
-file_fault_text (faults.Part place fault) = nested (coded (codes "U7") (place ∷ [])) (part_fault_text fault)
-file_fault_text (faults.Text place fault) = nested (coded (codes "U8") (place ∷ [])) (text_fault_text fault)
+file_fault_text (faults.Digits offset) = coded (codes "U4") (offset ∷ [])
+file_fault_text (faults.Rest offset) = coded (codes "U5") (offset ∷ [])
+file_fault_text (faults.Name offset fault) = nested (coded (codes "U6") (offset ∷ [])) (name_fault_text fault)
+file_fault_text (faults.Part offset fault) = nested (coded (codes "U7") (offset ∷ [])) (part_fault_text fault)
+file_fault_text (faults.Text offset fault) = nested (coded (codes "U8") (offset ∷ [])) (text_fault_text fault)
 file_fault_text faults.Memory = []

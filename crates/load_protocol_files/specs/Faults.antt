@@ -6,5 +6,5 @@ use Rattle.load_protocol_files.specs.declared.fault.FileFault.TheVariants.{Short
 
 -- A field that doesn't fit. No field of these files has a pad.
 abbrev pub named : FieldFault → FileFault
-named (fields.Short place) = Short place
-named (fields.BadPad place) = Short place
+named (fields.Short offset) = Short offset
+named (fields.BadPad offset) = Short offset

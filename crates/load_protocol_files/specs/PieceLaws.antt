@@ -109,7 +109,7 @@ pub spelled-ratio : IsSpelledBy ratio ratio_fields (λ n. n ≤ 100)
 unfolding ratio ratio_digits
 spelled-ratio = record {
   to = λ before fields after value follows.
-      let (place, f1, o1, parts1, h1, (b, f2, o2, parts2, h2, (u, f3, o3, parts3, h3, last))) = follows in
+      let (offset, f1, o1, parts1, h1, (b, f2, o2, parts2, h2, (u, f3, o3, parts3, h3, last))) = follows in
       let r = (spelled-raw 3).to (before ++ concat f1) f2 (length (concat o2) + after) b h2 in
       let d = ratio_of_digits b r.1.0 h3.1 in
       let whole : fields ≡ b ∷ [] = rw (parts1, h1.0, parts2, parts3, h3.0, last.0, r.0) refl in

@@ -1,7 +1,7 @@
 -- The pieces that all protocol files are made of (docs/FORMATS.md).
 use Rattle.std.specs.List.{flat_map}
 use Rattle.std.specs.Prelude.{ℕ, ◌+◌, ◌-◌, ◌*◌, ◌/◌, ◌%◌, List, [], ◌∷◌, ◌++◌, length, slice_index, Bool, nat_le, ◌&&◌, Result}
-use Rattle.field_grammar.specs.Grammar.{Grammar, give, check, front, renamed, times, ◌>>=◌, ◌>>◌}
+use Rattle.field_grammar.specs.Grammar.{Grammar, give, check, prefix, renamed, times, ◌>>=◌, ◌>>◌}
 use Rattle.field_grammar.specs.Fields.{number, raw, judged_short, number_fields}
 use Rattle.load_base.specs.Verdicts.{verdict, name_fault_of, text_fault_of}
 use Rattle.part_number.specs.Verdicts.{part_fault_of}
@@ -16,13 +16,13 @@ u16 = renamed named (number 2)
 -- ---- texts
 
 abbrev pub text_verdict : ℕ → List ℕ → Result (List ℕ) FileFault
-text_verdict place bytes = verdict (faults.Text place) (text_fault_of bytes) bytes
+text_verdict offset bytes = verdict (faults.Text offset) (text_fault_of bytes) bytes
 
 abbrev pub name_verdict : ℕ → List ℕ → Result (List ℕ) FileFault
-name_verdict place bytes = verdict (faults.Name place) (name_fault_of bytes) bytes
+name_verdict offset bytes = verdict (faults.Name offset) (name_fault_of bytes) bytes
 
 abbrev pub part_verdict : ℕ → List ℕ → Result (List ℕ) FileFault
-part_verdict place bytes = verdict (faults.Part place) (part_fault_of bytes) bytes
+part_verdict offset bytes = verdict (faults.Part offset) (part_fault_of bytes) bytes
 
 -- a short text
 unfoldable pub text : Grammar FileFault (List ℕ)
@@ -52,7 +52,7 @@ is_ratio b = is_digit (slice_index b 0) && is_digit (slice_index b 1) && is_digi
 -- a ratio, as three digits
 unfoldable pub ratio : Grammar FileFault ℕ
 ratio = do
-  before ← front
+  before ← prefix
   bytes ← renamed named (raw 3)
   check (is_ratio bytes) (faults.Digits (length before))
   give (ratio_value bytes)

@@ -7,7 +7,7 @@ use field_codec::FieldFault;
 use load_base::{NameFault, NoMemory, TextFault};
 use part_number::PartFault;
 
-/// Why bytes are no protocol file: the first fault that is met from left to right. A place is a byte
+/// Why bytes are no protocol file: the first fault that is met from left to right. A offset is a byte
 /// offset; that of a name, a part number or a text is of its first byte, after its length.
 #[derive(Clone, Copy, Debug, PartialEq, Eq)]
 pub enum FileFault {
@@ -45,7 +45,7 @@ impl From<FieldFault> for FileFault {
 
     fn from(field: FieldFault) -> FileFault {
         match field {
-            FieldFault::Short(place) | FieldFault::BadPad(place) => FileFault::Short(place),
+            FieldFault::Short(offset) | FieldFault::BadPad(offset) => FileFault::Short(offset),
         }
     }
 }

@@ -14,11 +14,11 @@ impl Printed for FileFault {
     /// U1 to U8 and the fields, and a nested fault in its place, as in `U7 10 P1 14`.
     fn text(&self, alloc: Global) -> Result<Text, NoMemory> {
         match *self {
-            FileFault::Short(place) => coded(alloc, b"U1", &[place]),
+            FileFault::Short(offset) => coded(alloc, b"U1", &[offset]),
             FileFault::Length { said, found } => coded(alloc, b"U2", &[said, found]),
             FileFault::Version(found) => coded(alloc, b"U3", &[u64::from(found)]),
-            FileFault::Digits(place) => coded(alloc, b"U4", &[place]),
-            FileFault::Rest(place) => coded(alloc, b"U5", &[place]),
+            FileFault::Digits(offset) => coded(alloc, b"U4", &[offset]),
+            FileFault::Rest(offset) => coded(alloc, b"U5", &[offset]),
             FileFault::Name { place, fault } => nested(alloc, b"U6", &[place], &fault),
             FileFault::Part { place, fault } => nested(alloc, b"U7", &[place], &fault),
             FileFault::Text { place, fault } => nested(alloc, b"U8", &[place], &fault),

@@ -43,15 +43,19 @@ pub(crate) trait ProtocolFile: Drop {
 
     ghost spelled: { IsSpelledBy body fields Fits };
 
-    ghost small: { (it : Self) → IsWritable it → Fits (view it) → 6 + length (concat (fields (view it))) < 2 ^ 32 };
+    ghost small: { (it : Self) → IsWritable it → Fits (view it)
+        → 6 + length (concat (fields (view it))) < 2 ^ 32 };
 }
 
 /// The file that the bytes spell, or their first fault from left to right.
 pub(crate) fn decode<F: ProtocolFile>(alloc: Global, bytes: &[u8]) -> Result<F, FileFault>
     ensures found { IfOk result (λ it. FileSpells F.fields F.Fits (F.view it) bytes.now) }
-    ensures only { (v : F.Value) → FileSpells F.fields F.Fits v bytes.now → Gives Memory F.view result (Ok v) }
-    ensures refused { IfErr result (λ fault. (fault ≡ Memory) ⊎ Fault (file F.body) bytes.now fault) }
-    ensures faulty { (fault : FileFault) → Fault (file F.body) bytes.now fault → Gives Memory F.view result (Err fault) }
+    ensures only { (v : F.Value) → FileSpells F.fields F.Fits v bytes.now
+        → Gives Memory F.view result (Ok v) }
+    ensures refused { IfErr result (λ fault.
+        (fault ≡ Memory) ⊎ Fault (file F.body) bytes.now fault) }
+    ensures faulty { (fault : FileFault) → Fault (file F.body) bytes.now fault
+        → Gives Memory F.view result (Err fault) }
 {
     read_file::<F>(alloc, bytes)
 }

@@ -31,7 +31,8 @@ impl Lci {
         ensures found { IfOk result (λ v. LciSpells v bytes.now) }
         ensures only { (v : Lci) → LciSpells v bytes.now → Gives Memory (λ v. v) result (Ok v) }
         ensures refused { IfErr result (λ e. (e ≡ Memory) ⊎ Fault lci bytes.now e) }
-        ensures faulty { (f : FileFault) → Fault lci bytes.now f → Gives Memory (λ v. v) result (Err f) }
+        ensures faulty { (f : FileFault) → Fault lci bytes.now f
+            → Gives Memory (λ v. v) result (Err f) }
     {
         file::decode(alloc, bytes)
     }

@@ -52,7 +52,8 @@ impl Lcl {
         ensures found { IfOk result (λ v. LclSpells (lcl_view v) bytes.now) }
         ensures only { (v : LclView) → LclSpells v bytes.now → Gives Memory lcl_view result (Ok v) }
         ensures refused { IfErr result (λ e. (e ≡ Memory) ⊎ Fault lcl bytes.now e) }
-        ensures faulty { (f : FileFault) → Fault lcl bytes.now f → Gives Memory lcl_view result (Err f) }
+        ensures faulty { (f : FileFault) → Fault lcl bytes.now f
+            → Gives Memory lcl_view result (Err f) }
     {
         file::decode(alloc, bytes)
     }
@@ -125,7 +126,8 @@ fn hardware_list_of(
     count: u16,
     reader: &mut Reader,
 ) -> Result<List<Hardware>, FileFault>
-    ensures { Decodes Memory (λ list. map hardware_view list.items) (times count hardware) reader.old result reader.new }
+    ensures { Decodes Memory (λ list. map hardware_view list.items)
+        (times count hardware) reader.old result reader.new }
 {
     let mut list = List::new(alloc);
     for _ in 0..count {
@@ -142,7 +144,8 @@ fn have_few_parts(list: &[Hardware]) -> bool
 
 // How many bytes the hardware takes, up to the greatest `u64`.
 fn size_of_list(list: &[Hardware]) -> u64
-    ensures { result ≡ min (length (concat (flat_map hardware_fields (map hardware_view list.now)))) (2 ^ 64 - 1) }
+    ensures { result ≡ min (length (concat (flat_map hardware_fields (map hardware_view list.now))))
+        (2 ^ 64 - 1) }
 {
     let mut size = 0u64;
     for hardware in list {
@@ -153,7 +156,8 @@ fn size_of_list(list: &[Hardware]) -> u64
 
 #[tactic(auto, using(crate::specs::LclLaws::hardware_size))]
 fn size_of_hardware(hardware: &Hardware) -> u64
-    ensures { result ≡ min (length (concat (hardware_fields (hardware_view hardware.now)))) (2 ^ 64 - 1) }
+    ensures { result
+        ≡ min (length (concat (hardware_fields (hardware_view hardware.now)))) (2 ^ 64 - 1) }
 {
     let texts = hardware.name.as_slice().len() + hardware.serial.as_slice().len();
     size_of_parts(hardware.parts.as_slice()).saturating_add(4 + texts as u64)
@@ -194,7 +198,8 @@ fn hardware_of(alloc: Global, reader: &mut Reader) -> Result<Hardware, FileFault
 
 #[tactic(auto, using(field_grammar::specs::LoopLaws::goes_on, field_grammar::specs::LoopLaws::ends, field_grammar::specs::LoopLaws::is_done, field_grammar::specs::LoopLaws::begins))]
 fn parts_of(alloc: Global, count: u16, reader: &mut Reader) -> Result<List<Part>, FileFault>
-    ensures { Decodes Memory (λ parts. parts.items) (times count installed) reader.old result reader.new }
+    ensures { Decodes Memory (λ parts. parts.items)
+        (times count installed) reader.old result reader.new }
 {
     let mut parts = List::new(alloc);
     for _ in 0..count {
@@ -220,7 +225,8 @@ fn installed_of(alloc: Global, reader: &mut Reader) -> Result<Part, FileFault>
 fn put_hardware_list(out: &mut Writer, list: &[Hardware]) -> Result<(), NoMemory>
     requires { All (λ h. length h.parts.items ≤ 65535) list.now }
     ensures fits { OnOk result (All (λ h. HardwareFits (hardware_view h)) list.now) }
-    ensures ok { OnOk result (out.new ≡ out.old ++ concat (flat_map hardware_fields (map hardware_view list.now))) }
+    ensures ok { OnOk result
+        (out.new ≡ out.old ++ concat (flat_map hardware_fields (map hardware_view list.now))) }
 {
     for hardware in list {
         put_hardware(out, hardware)?;
@@ -232,7 +238,8 @@ fn put_hardware_list(out: &mut Writer, list: &[Hardware]) -> Result<(), NoMemory
 fn put_hardware(out: &mut Writer, hardware: &Hardware) -> Result<(), NoMemory>
     requires { length hardware.now.parts.items ≤ 65535 }
     ensures fits { OnOk result (HardwareFits (hardware_view hardware.now)) }
-    ensures ok { OnOk result (out.new ≡ out.old ++ concat (hardware_fields (hardware_view hardware.now))) }
+    ensures ok { OnOk result
+        (out.new ≡ out.old ++ concat (hardware_fields (hardware_view hardware.now))) }
 {
     put_text(out, &hardware.name)?;
     put_text(out, &hardware.serial)?;

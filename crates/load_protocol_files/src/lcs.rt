@@ -39,7 +39,8 @@ impl Lcs {
         ensures found { IfOk result (λ v. LcsSpells v bytes.now) }
         ensures only { (v : Lcs) → LcsSpells v bytes.now → Gives Memory (λ v. v) result (Ok v) }
         ensures refused { IfErr result (λ e. (e ≡ Memory) ⊎ Fault lcs bytes.now e) }
-        ensures faulty { (f : FileFault) → Fault lcs bytes.now f → Gives Memory (λ v. v) result (Err f) }
+        ensures faulty { (f : FileFault) → Fault lcs bytes.now f
+            → Gives Memory (λ v. v) result (Err f) }
     {
         file::decode(alloc, bytes)
     }

@@ -31,7 +31,8 @@ impl Lui {
         ensures found { IfOk result (λ v. LuiSpells v bytes.now) }
         ensures only { (v : Lui) → LuiSpells v bytes.now → Gives Memory (λ v. v) result (Ok v) }
         ensures refused { IfErr result (λ e. (e ≡ Memory) ⊎ Fault lui bytes.now e) }
-        ensures faulty { (f : FileFault) → Fault lui bytes.now f → Gives Memory (λ v. v) result (Err f) }
+        ensures faulty { (f : FileFault) → Fault lui bytes.now f
+            → Gives Memory (λ v. v) result (Err f) }
     {
         file::decode(alloc, bytes)
     }

@@ -38,7 +38,8 @@ impl Lur {
         ensures found { IfOk result (λ v. LurSpells (lur_view v) bytes.now) }
         ensures only { (v : LurView) → LurSpells v bytes.now → Gives Memory lur_view result (Ok v) }
         ensures refused { IfErr result (λ e. (e ≡ Memory) ⊎ Fault lur bytes.now e) }
-        ensures faulty { (f : FileFault) → Fault lur bytes.now f → Gives Memory lur_view result (Err f) }
+        ensures faulty { (f : FileFault) → Fault lur bytes.now f
+            → Gives Memory lur_view result (Err f) }
     {
         file::decode(alloc, bytes)
     }
@@ -97,7 +98,8 @@ impl ProtocolFile for Lur {
 
 #[tactic(auto, using(field_grammar::specs::LoopLaws::goes_on, field_grammar::specs::LoopLaws::ends, field_grammar::specs::LoopLaws::is_done, field_grammar::specs::LoopLaws::begins))]
 fn loads_of(alloc: Global, count: u16, reader: &mut Reader) -> Result<List<Wanted>, FileFault>
-    ensures { Decodes Memory (λ loads. loads.items) (times count wanted) reader.old result reader.new }
+    ensures { Decodes Memory (λ loads. loads.items)
+        (times count wanted) reader.old result reader.new }
 {
     let mut loads = List::new(alloc);
     for _ in 0..count {

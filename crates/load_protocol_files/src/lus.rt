@@ -58,7 +58,8 @@ impl Lus {
         ensures found { IfOk result (λ v. LusSpells (lus_view v) bytes.now) }
         ensures only { (v : LusView) → LusSpells v bytes.now → Gives Memory lus_view result (Ok v) }
         ensures refused { IfErr result (λ e. (e ≡ Memory) ⊎ Fault lus bytes.now e) }
-        ensures faulty { (f : FileFault) → Fault lus bytes.now f → Gives Memory lus_view result (Err f) }
+        ensures faulty { (f : FileFault) → Fault lus bytes.now f
+            → Gives Memory lus_view result (Err f) }
     {
         file::decode(alloc, bytes)
     }
@@ -129,7 +130,8 @@ impl ProtocolFile for Lus {
 }
 
 fn counted_loads_of(alloc: Global, reader: &mut Reader) -> Result<List<LoadStatus>, FileFault>
-    ensures { Decodes Memory (λ loads. loads.items) (counted load_status) reader.old result reader.new }
+    ensures { Decodes Memory (λ loads. loads.items)
+        (counted load_status) reader.old result reader.new }
 {
     let count = reader.take_u16()?;
     let loads = loads_of(alloc, count, reader)?;
@@ -138,7 +140,8 @@ fn counted_loads_of(alloc: Global, reader: &mut Reader) -> Result<List<LoadStatu
 
 #[tactic(auto, using(field_grammar::specs::LoopLaws::goes_on, field_grammar::specs::LoopLaws::ends, field_grammar::specs::LoopLaws::is_done, field_grammar::specs::LoopLaws::begins))]
 fn loads_of(alloc: Global, count: u16, reader: &mut Reader) -> Result<List<LoadStatus>, FileFault>
-    ensures { Decodes Memory (λ loads. loads.items) (times count load_status) reader.old result reader.new }
+    ensures { Decodes Memory (λ loads. loads.items)
+        (times count load_status) reader.old result reader.new }
 {
     let mut loads = List::new(alloc);
     for _ in 0..count {

@@ -48,20 +48,23 @@ pub(crate) fn text_of(alloc: Global, reader: &mut Reader) -> Result<Text, FileFa
     ensures { Decodes Memory (λ text. text) text reader.old result reader.new }
 {
     let size = reader.take_u8()?;
-    let place = reader.place() as u64;
+    let offset = reader.place() as u64;
     let bytes = reader.take_raw(size as usize)?;
-    let text = judge_text(alloc, place, bytes)?;
+    let text = judge_text(alloc, offset, bytes)?;
     Ok(text)
 }
 
 #[tactic(auto, using(load_base::specs::VerdictLaws::read_judged, load_base::specs::VerdictLaws::refused_judged))]
-fn judge_text(alloc: Global, place: u64, bytes: &[u8]) -> Result<Text, FileFault>
-    ensures { Gives Memory (λ text. text) result (text_verdict place bytes.now) }
+fn judge_text(alloc: Global, offset: u64, bytes: &[u8]) -> Result<Text, FileFault>
+    ensures { Gives Memory (λ text. text) result (text_verdict offset bytes.now) }
 {
     match Text::read(alloc, bytes) {
         Ok(text) => Ok(text),
         Err(TextFault::Memory) => Err(FileFault::Memory),
-        Err(fault) => Err(FileFault::Text { place, fault }),
+        Err(fault) => Err(FileFault::Text {
+            place: offset,
+            fault,
+        }),
     }
 }
 
@@ -71,19 +74,22 @@ pub(crate) fn name_of(reader: &mut Reader) -> Result<Name, FileFault>
     ensures { Decodes Memory (λ name. name) name reader.old result reader.new }
 {
     let size = reader.take_u8()?;
-    let place = reader.place() as u64;
+    let offset = reader.place() as u64;
     let bytes = reader.take_raw(size as usize)?;
-    let name = judge_name(place, bytes)?;
+    let name = judge_name(offset, bytes)?;
     Ok(name)
 }
 
 #[tactic(auto, using(load_base::specs::VerdictLaws::read_judged, load_base::specs::VerdictLaws::refused_judged))]
-fn judge_name(place: u64, bytes: &[u8]) -> Result<Name, FileFault>
-    ensures { result ≡ name_verdict place bytes.now }
+fn judge_name(offset: u64, bytes: &[u8]) -> Result<Name, FileFault>
+    ensures { result ≡ name_verdict offset bytes.now }
 {
     match Name::read(bytes) {
         Ok(name) => Ok(name),
-        Err(fault) => Err(FileFault::Name { place, fault }),
+        Err(fault) => Err(FileFault::Name {
+            place: offset,
+            fault,
+        }),
     }
 }
 
@@ -93,19 +99,22 @@ pub(crate) fn part_of(reader: &mut Reader) -> Result<PartNumber, FileFault>
     ensures { Decodes Memory (λ part. part) part reader.old result reader.new }
 {
     let size = reader.take_u8()?;
-    let place = reader.place() as u64;
+    let offset = reader.place() as u64;
     let bytes = reader.take_raw(size as usize)?;
-    let part = judge_part(place, bytes)?;
+    let part = judge_part(offset, bytes)?;
     Ok(part)
 }
 
 #[tactic(auto, using(load_base::specs::VerdictLaws::read_judged, load_base::specs::VerdictLaws::refused_judged))]
-fn judge_part(place: u64, bytes: &[u8]) -> Result<PartNumber, FileFault>
-    ensures { result ≡ part_verdict place bytes.now }
+fn judge_part(offset: u64, bytes: &[u8]) -> Result<PartNumber, FileFault>
+    ensures { result ≡ part_verdict offset bytes.now }
 {
     match PartNumber::read(bytes) {
         Ok(part) => Ok(part),
-        Err(fault) => Err(FileFault::Part { place, fault }),
+        Err(fault) => Err(FileFault::Part {
+            place: offset,
+            fault,
+        }),
     }
 }
 
@@ -114,11 +123,11 @@ fn judge_part(place: u64, bytes: &[u8]) -> Result<PartNumber, FileFault>
 pub(crate) fn ratio_of(reader: &mut Reader) -> Result<u8, FileFault>
     ensures { Decodes Memory (λ ratio. ratio) ratio reader.old result reader.new }
 {
-    let place = reader.place() as u64;
+    let offset = reader.place() as u64;
     let bytes = reader.take_raw(3)?;
     match value_of_digits(bytes) {
         Some(value) => Ok(value),
-        None => Err(FileFault::Digits(place)),
+        None => Err(FileFault::Digits(offset)),
     }
 }
 

@@ -151,10 +151,10 @@ fn the_first_fault_of_a_changed_request_is_told(rt: HostRuntime) -> Result<(), N
         (13, 0x00, b"U6 9 N3 4"),
         (25, 0x20, b"U7 17 P3 8"),
     ];
-    for (place, byte, text) in rows {
+    for (offset, byte, text) in rows {
         let mut bytes = LUR;
-        if place < bytes.len() {
-            bytes[place] = byte;
+        if offset < bytes.len() {
+            bytes[offset] = byte;
         }
         let fault = told(rt.alloc(), Lur::decode(rt.alloc(), &bytes))?;
         assert_eq!(rt; fault.as_slice(), text);
@@ -171,10 +171,10 @@ fn the_first_fault_of_a_changed_status_is_told(rt: HostRuntime) -> Result<(), No
         (44, 0xff, b"U4 44"),
         (49, 0x01, b"U1 50"),
     ];
-    for (place, byte, text) in rows {
+    for (offset, byte, text) in rows {
         let mut bytes = LAST_LUS;
-        if place < bytes.len() {
-            bytes[place] = byte;
+        if offset < bytes.len() {
+            bytes[offset] = byte;
         }
         let fault = told(rt.alloc(), Lus::decode(rt.alloc(), &bytes))?;
         assert_eq!(rt; fault.as_slice(), text);
@@ -189,10 +189,10 @@ fn the_first_fault_of_a_changed_list_is_told(rt: HostRuntime) -> Result<(), NoMe
         (35, 0x01, b"U5 37"),
         (45, 0xcd, b"U8 36 X2 9"),
     ];
-    for (place, byte, text) in rows {
+    for (offset, byte, text) in rows {
         let mut bytes = LCL;
-        if place < bytes.len() {
-            bytes[place] = byte;
+        if offset < bytes.len() {
+            bytes[offset] = byte;
         }
         let fault = told(rt.alloc(), Lcl::decode(rt.alloc(), &bytes))?;
         assert_eq!(rt; fault.as_slice(), text);

@@ -14,26 +14,26 @@ use Rattle.disk_layout.specs.declared.fault.RecoverFault.TheVariants.{NotFormatt
 pub not_of_disk : (fault : RecoverFault) → fault ≢ DiskFailed → fault ≢ Memory → ¬ IsOfDisk fault
 not_of_disk DiskFailed disk memory is = disk refl
 not_of_disk Memory disk memory is = memory refl
-not_of_disk (NotFormatted place) disk memory is = is
+not_of_disk (NotFormatted offset) disk memory is = is
 not_of_disk NoOpenSlot disk memory is = is
-not_of_disk (BadSlot place) disk memory is = is
-not_of_disk (BadManifest place) disk memory is = is
+not_of_disk (BadSlot offset) disk memory is = is
+not_of_disk (BadManifest offset) disk memory is = is
 
 -- a refusal that isn't of the disk or of memory names the condition that fails
 pub names_the_condition : (image : Image) (fault : RecoverFault) → ¬ IsOfDisk fault → Refuses image fault → HasDiskFault image fault
-names_the_condition image (NotFormatted place) other refuses = refuses
+names_the_condition image (NotFormatted offset) other refuses = refuses
 names_the_condition image NoOpenSlot other refuses = refuses
-names_the_condition image (BadSlot place) other refuses = refuses
-names_the_condition image (BadManifest place) other refuses = refuses
+names_the_condition image (BadSlot offset) other refuses = refuses
+names_the_condition image (BadManifest offset) other refuses = refuses
 names_the_condition image DiskFailed other refuses = absurd (other tt)
 names_the_condition image Memory other refuses = absurd (other tt)
 
 -- and leaves the disk running
 pub leaves_running : (old new : DiskState) (fault : RecoverFault) → ¬ IsOfDisk fault → RunsOnAfter old new fault → RunsOn old new
-leaves_running old new (NotFormatted place) other runs = runs
+leaves_running old new (NotFormatted offset) other runs = runs
 leaves_running old new NoOpenSlot other runs = runs
-leaves_running old new (BadSlot place) other runs = runs
-leaves_running old new (BadManifest place) other runs = runs
+leaves_running old new (BadSlot offset) other runs = runs
+leaves_running old new (BadManifest offset) other runs = runs
 leaves_running old new DiskFailed other runs = absurd (other tt)
 leaves_running old new Memory other runs = absurd (other tt)
 

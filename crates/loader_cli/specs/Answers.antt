@@ -2,13 +2,16 @@
 use Rattle.std.specs.Prelude.{ℕ, List, codes}
 use Rattle.loader_cli.specs.Texts.{refused_words, refused_input, disk_fault, host_fault, no_configuration}
 use Rattle.loader_cli.specs.declared.answer.Answer.{Answer}
-use Rattle.loader_cli.specs.declared.answer.Answer.TheVariants.{Done, RefusedWords, Absent, TooLong, RefusedInput, HostFault, DiskFault, NoConfiguration}
+use Rattle.loader_cli.specs.declared.answer.Answer.TheVariants.{Done, Findings, RefusedWords, Absent, TooLong, TooLongFile, TooLarge, RefusedInput, HostFault, DiskFault, NoConfiguration}
 
 abbrev pub status_of : Answer → ℕ
 status_of (Done text) = 0
+status_of (Findings text) = 1
 status_of RefusedWords = 2
 status_of (Absent name) = 3
 status_of (TooLong name) = 3
+status_of (TooLongFile name) = 3
+status_of (TooLarge folder) = 3
 status_of (RefusedInput name fault) = 3
 status_of HostFault = 4
 status_of DiskFault = 5
@@ -16,9 +19,12 @@ status_of (NoConfiguration fault) = 8
 
 abbrev pub text_of : Answer → List ℕ
 text_of (Done text) = text.items
+text_of (Findings text) = text.items
 text_of RefusedWords = refused_words
 text_of (Absent name) = refused_input name.now (codes "absent")
 text_of (TooLong name) = refused_input name.now (codes "toolong")
+text_of (TooLongFile name) = refused_input name.items (codes "toolong")
+text_of (TooLarge folder) = refused_input folder.now (codes "toolarge")
 text_of (RefusedInput name fault) = refused_input name.now fault
 text_of HostFault = host_fault
 text_of DiskFault = disk_fault

@@ -21,6 +21,8 @@ pub data CommandView : Type 0 where
   format : (id : Identity) → CommandView
   -- `show FILE`, for a file of this kind
   show : (kind : ShownKind) (file : List ℕ) → CommandView
+  -- `check FOLDER`
+  check : (folder : List ℕ) → CommandView
 
 -- 1 to 150 bytes 0x21 to 0x7E
 abbrev pub IsWord : List ℕ → Type 0
@@ -39,6 +41,7 @@ abbrev pub IsCommand : List (List ℕ) → CommandView → Type 0
 IsCommand words list = words ≡ codes "list" ∷ []
 IsCommand words (format id) = (words ≡ codes "format" ∷ id.hw ∷ id.pos ∷ id.serial ∷ decimal id.bank ∷ []) × IsIdentity id
 IsCommand words (show kind file) = (words ≡ codes "show" ∷ file ∷ []) × IsWord file × IsNameOf kind file
+IsCommand words (check folder) = (words ≡ codes "check" ∷ folder ∷ []) × IsWord folder
 
 -- the arguments are no command of this sort
 abbrev pub IsNo : (CommandView → Type 0) → List (List ℕ) → Type 0
@@ -52,20 +55,24 @@ abbrev pub UsesDisk : CommandView → Type 0
 UsesDisk list = Unit {0}
 UsesDisk (format id) = Unit {0}
 UsesDisk (show kind file) = ⊥
+UsesDisk (check folder) = ⊥
 
 -- it writes to the disk
 abbrev pub WritesDisk : CommandView → Type 0
 WritesDisk list = ⊥
 WritesDisk (format id) = Unit {0}
 WritesDisk (show kind file) = ⊥
+WritesDisk (check folder) = ⊥
 
 -- it reads files of the host
 abbrev pub UsesHost : CommandView → Type 0
 UsesHost list = ⊥
 UsesHost (format id) = ⊥
 UsesHost (show kind file) = Unit {0}
+UsesHost (check folder) = Unit {0}
 
 abbrev pub command_view : Command → CommandView
 command_view commands.List = list
 command_view (commands.Format identity) = format identity
 command_view (commands.Show kind file) = show kind file.now
+command_view (commands.Check folder) = check folder.now

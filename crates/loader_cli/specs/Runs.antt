@@ -1,22 +1,27 @@
 -- What a run of the program prints, its status, and the cause of each (docs/PROMISES.md).
-use Rattle.std.specs.Prelude.{◌≡◌, ℕ, ◌<◌, ◌≤◌, List, length, true, false, Option, Some, None, take, codes}
+use Rattle.std.specs.Prelude.{◌≡◌, ◌≢◌, ℕ, ◌<◌, ◌≤◌, List, [], length, true, false, Option, Some, None, take, codes, ◌⊎◌}
+use Rattle.std.specs.Option.{ForSome}
 use Rattle.load_base.specs.Counts.{Rose}
 use Rattle.load_base.specs.Host.{Files, longest_file}
 use Rattle.load_base.specs.Sink.{IsExtended}
+use Rattle.media_check.specs.Findings.{findings_of}
+use Rattle.media_check.specs.HostNames.{host_media, Reading, whole_reading}
+use Rattle.media_check.specs.Openings.{CanRead, IsTooLong, IsTooLarge}
+use Rattle.media_check.specs.Sets.{SetView, lists_in, set_in}
 use Rattle.shown_files.specs.Shown.{HasFields, HasFault}
 use Rattle.shown_files.specs.declared.kind.ShownKind.{ShownKind}
 use Rattle.disk_model.specs.Image.{Image}
 use Rattle.disk_model.specs.State.{DiskState, IsSettled}
 use Rattle.bank_store.specs.Formatting.{formatted, KeepsRest}
 use Rattle.disk_layout.specs.declared.identity.Identity.{Identity}
-use Rattle.disk_layout.specs.Places.{IsBankSize}
+use Rattle.disk_layout.specs.Offsets.{IsBankSize}
 use Rattle.disk_layout.specs.DiskReads.{IsOfDisk, RunsOn}
 use Rattle.disk_layout.specs.Holds.{StandingView, HoldsConfig, HasDiskFault}
 use Rattle.disk_layout.specs.declared.fault.RecoverFault.{RecoverFault}
 use Rattle.listing.specs.Listing.{listing}
-use Rattle.loader_cli.specs.Commands.{CommandView, IsCommand, IsNo, IsAny}
-use Rattle.loader_cli.specs.Commands.CommandView.{list, format, show}
-use Rattle.loader_cli.specs.Texts.{formatted_line, refused_words, refused_input, disk_fault, host_fault, no_configuration}
+use Rattle.loader_cli.specs.Commands.{IsCommand, IsNo, IsAny}
+use Rattle.loader_cli.specs.Commands.CommandView.{list, format, show, check}
+use Rattle.loader_cli.specs.Texts.{formatted_line, findings_text, refused_words, refused_input, disk_fault, host_fault, no_configuration}
 use Rattle.loader_cli.specs.declared.top_call.Ended.{Ended}
 
 -- ---- `list`
@@ -75,6 +80,33 @@ pub data Shows (kind : ShownKind) (files : Option Files) (before after : ℕ) (n
   -- 4: the host failed in this call
   host_failed : Rose before after → status ≡ 4 → text ≡ host_fault → Shows kind files before after name status text
 
+-- ---- `check FOLDER`
+
+-- the status and the text for this set
+pub data Finds (set : SetView) (status : ℕ) (text : List ℕ) : Type 0 where
+  -- 0: it has no finding
+  clean : findings_of set ≡ [] → status ≡ 0 → text ≡ findings_text [] → Finds set status text
+  -- 1: it has these
+  faulty_set : findings_of set ≢ [] → status ≡ 1 → text ≡ findings_text (findings_of set) → Finds set status text
+
+-- what is read of the set in a folder of a host with these files
+abbrev pub reading_of : (folder : List ℕ) → Files → Reading
+reading_of folder files = whole_reading folder (lists_in (host_media files folder) 1)
+
+-- the status, the text, and what it says of the host's files and of its faults before and after
+pub data Checks (folder : List ℕ) (files : Option Files) (before after : ℕ) (status : ℕ) (text : List ℕ) : Type 0 where
+  -- the folder has this set, which can be read
+  opened : (set : SetView) → ForSome files (λ told. CanRead told (reading_of folder told) × (set ≡ set_in (host_media told folder))) → Finds set status text
+      → Checks folder files before after status text
+  -- 3: this is the first file that is too long
+  long_file : (name : List ℕ) → ForSome files (λ told. IsTooLong told (reading_of folder told) name) → status ≡ 3 → text ≡ refused_input name (codes "toolong")
+      → Checks folder files before after status text
+  -- 3: the listed files are too large together, before one is too long
+  large_set : ForSome files (λ told. IsTooLarge told (reading_of folder told)) → status ≡ 3 → text ≡ refused_input folder (codes "toolarge")
+      → Checks folder files before after status text
+  -- 4: the host failed in this call
+  set_unread : Rose before after → status ≡ 4 → text ≡ host_fault → Checks folder files before after status text
+
 -- ---- a run
 
 -- What a command works on: its arguments, the disk before and after, and the host's files and faults.
@@ -102,6 +134,8 @@ pub data Says (work : Work) (status : ℕ) (text : List ℕ) : Type 0 where
   formats : (id : Identity) → IsCommand work.words (format id) → Formats work.disk work.disk_after id status text → Says work status text
   shows : (kind : ShownKind) (file : List ℕ) → IsCommand work.words (show kind file)
       → Shows kind work.files work.host_faults work.host_faults_after file status text → Says work status text
+  checks : (folder : List ℕ) → IsCommand work.words (check folder)
+      → Checks folder work.files work.host_faults work.host_faults_after status text → Says work status text
 
 -- how a run ends
 pub data Ends (run : Run) (ended : Ended) : Type 0 where
@@ -112,3 +146,24 @@ pub data Ends (run : Run) (ended : Ended) : Type 0 where
       → Rose run.sink_faults run.sink_faults_after → ended.status ≡ 7 → Ends run ended
   -- 6: out of memory
   no_memory : ended.status ≡ 6 → Ends run ended
+
+-- ---- where a run can't but succeed
+
+-- The arguments check the set in this folder, which the host has with these files, which can be read and has no finding,
+-- and neither host nor sink fails in the run.
+pub record ChecksCleanSet (run : Run) (folder : List ℕ) (told : Files) : Type 0 where
+  pub asked : IsCommand run.work.words (check folder)
+  pub files : run.work.files ≡ Some told
+  pub readable : CanRead told (reading_of folder told)
+  pub clean : findings_of (set_in (host_media told folder)) ≡ []
+  pub host_answers : ¬ Rose run.work.host_faults run.work.host_faults_after
+  pub sink_answers : ¬ Rose run.sink_faults run.sink_faults_after
+
+-- exactly `findings 0` went out, with status 0, or it is out of memory
+abbrev pub FindsNothing : Run → Ended → Type 0
+FindsNothing run ended = (ended.status ≡ 6) ⊎ ((ended.status ≡ 0) × IsExtended run.output run.output_after (findings_text []))
+
+-- how a run ends, and where it can't but succeed
+pub record EndsAsPromised (run : Run) (ended : Ended) : Type 0 where
+  pub ends : Ends run ended
+  pub finds_nothing : (folder : List ℕ) (told : Files) → ChecksCleanSet run folder told → FindsNothing run ended

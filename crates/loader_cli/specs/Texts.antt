@@ -1,14 +1,32 @@
 -- The lines that are printed beside listings and fields (docs/FORMATS.md, "Printed text").
-use Rattle.std.specs.Prelude.{ℕ, List, [], ◌∷◌, ◌++◌, codes}
+use Rattle.std.specs.Prelude.{ℕ, List, [], ◌∷◌, ◌++◌, length, codes}
 use Rattle.std.specs.Fmt.{decimal}
+use Rattle.std.specs.List.{flat_map}
 use Rattle.printed_text.specs.Lines.{line}
 use Rattle.disk_layout.specs.Faults.{recover_fault_text}
 use Rattle.disk_layout.specs.declared.identity.Identity.{Identity}
 use Rattle.disk_layout.specs.declared.fault.RecoverFault.{RecoverFault}
+use Rattle.media_check.specs.declared.finding.Finding.{Finding}
 
 -- `formatted HW POS SERIAL BANK`, with the bank size
 abbrev pub formatted_line : Identity → List ℕ
 formatted_line id = line (codes "formatted" ∷ id.hw ∷ id.pos ∷ id.serial ∷ decimal id.bank ∷ [])
+
+-- ---- findings
+
+-- the detail of a finding, where it has one
+abbrev pub detail_words : List ℕ → List (List ℕ)
+detail_words [] = []
+detail_words (byte ∷ bytes) = (byte ∷ bytes) ∷ []
+
+-- `finding KIND MEMBER FILE`, and the detail after it
+unfoldable pub finding_line : Finding → List ℕ
+finding_line finding =
+    line (codes "finding" ∷ (codes "M" ++ decimal finding.kind) ∷ decimal finding.member ∷ finding.file ∷ detail_words finding.detail)
+
+-- a line for each finding, and `findings N`
+abbrev pub findings_text : List Finding → List ℕ
+findings_text findings = flat_map finding_line findings ++ line (codes "findings" ∷ decimal (length findings) ∷ [])
 
 -- ---- refusals
 

@@ -12,12 +12,18 @@ use std::alloc::Global;
 pub(crate) enum Answer<'w> {
     /// What was asked for, as it is printed.
     Done(Bytes),
+    /// What is wrong with a media set, as it is printed.
+    Findings(Bytes),
     /// The arguments are no command.
     RefusedWords,
     /// There is no file of this name.
     Absent(&'w [u8]),
     /// The file of this name has too many bytes.
     TooLong(&'w [u8]),
+    /// The same of a file of a media set.
+    TooLongFile(Bytes),
+    /// The files of the media set in this folder have too many bytes together.
+    TooLarge(&'w [u8]),
     /// The file of this name fails at the fault of this text.
     RefusedInput { name: &'w [u8], fault: Text },
     HostFault,
@@ -32,8 +38,10 @@ impl Answer<'_> {
     {
         match self {
             Answer::Done(_) => 0,
+            Answer::Findings(_) => 1,
             Answer::RefusedWords => 2,
             Answer::Absent(_) | Answer::TooLong(_) | Answer::RefusedInput { .. } => 3,
+            Answer::TooLongFile(_) | Answer::TooLarge(_) => 3,
             Answer::HostFault => 4,
             Answer::DiskFault => 5,
             Answer::NoConfiguration(_) => 8,
@@ -45,10 +53,12 @@ impl Answer<'_> {
         ensures { IfOk result (λ text. text.items ≡ text_of self.entry) }
     {
         match self {
-            Answer::Done(text) => Ok(text),
+            Answer::Done(text) | Answer::Findings(text) => Ok(text),
             Answer::RefusedWords => copy_of(alloc, b"refused words\n"),
             Answer::Absent(name) => refused_text(alloc, name, b"absent"),
             Answer::TooLong(name) => refused_text(alloc, name, b"toolong"),
+            Answer::TooLongFile(name) => refused_text(alloc, name.as_slice(), b"toolong"),
+            Answer::TooLarge(folder) => refused_text(alloc, folder, b"toolarge"),
             Answer::RefusedInput { name, fault } => refused_text(alloc, name, fault.as_slice()),
             Answer::HostFault => copy_of(alloc, b"host fault\n"),
             Answer::DiskFault => copy_of(alloc, b"disk fault\n"),

@@ -1,14 +1,14 @@
 //! The commands.
 ghost use Rattle.std.specs.Prelude.{◌≡◌, ◌≢◌, ◌↔◌, ◌<◌, ◌^◌, ℕ, IsTrue, IfSome, IfNone};
 ghost use Rattle.std.specs.Fmt.{decimal};
-ghost use Rattle.disk_layout.specs.Places.{IsBankSize};
+ghost use Rattle.disk_layout.specs.Offsets.{IsBankSize};
 ghost use Rattle.disk_layout.specs.declared.identity.Identity.{Identity};
 ghost use Rattle.shown_files.specs.Kinds.{IsNameOf};
-ghost use Rattle.loader_cli.specs.Commands.CommandView.{show};
+ghost use Rattle.loader_cli.specs.Commands.CommandView.{show, check};
 ghost use Rattle.loader_cli.specs.Commands.{IsAny, IsCommand, IsNo, IsWord, NamesTarget, command_view, texts_of};
 
 use disk_layout::Identity;
-use disk_layout::places::{LARGEST_BANK, SMALLEST_BANK};
+use disk_layout::offsets::{LARGEST_BANK, SMALLEST_BANK};
 use itoa::Buffer;
 use load_base::Ident;
 use shown_files::ShownKind;
@@ -22,12 +22,15 @@ pub(crate) enum Command<'w> {
     Format(Identity),
     /// `show FILE`: print the fields of a file of this kind, which the end of FILE tells.
     Show { kind: ShownKind, file: &'w str },
+    /// `check FOLDER`: find all that is wrong with the media set in this folder.
+    Check { folder: &'w str },
 }
 
 impl<'w> Command<'w> {
     /// The command; `None` where the arguments are none.
     pub(crate) fn read(words: &'w [String]) -> Option<Command<'w>>
-        ensures some { IfSome result (λ command. IsCommand (texts_of words.now) (command_view command)) }
+        ensures some { IfSome result (λ command.
+            IsCommand (texts_of words.now) (command_view command)) }
         ensures none { IfNone result (IsNo IsAny (texts_of words.now)) }
     {
         match words {
@@ -39,6 +42,7 @@ impl<'w> Command<'w> {
                 }
             }
             [word, file] if is_text(word.as_str(), "show") => show_of(file.as_str()),
+            [word, folder] if is_text(word.as_str(), "check") => check_of(folder.as_str()),
             _ => None,
         }
     }
@@ -46,8 +50,10 @@ impl<'w> Command<'w> {
 
 // The command `show` for a file of this name.
 fn show_of(file: &str) -> Option<Command<'_>>
-    ensures some { IfSome result (λ command. (kind : ShownKind) × (command_view command ≡ show kind file.now) × IsWord file.now × IsNameOf kind file.now) }
-    ensures none { IfNone result ((kind : ShownKind) → ¬ (IsWord file.now × IsNameOf kind file.now)) }
+    ensures some { IfSome result (λ command. (kind : ShownKind)
+        × (command_view command ≡ show kind file.now) × IsWord file.now × IsNameOf kind file.now) }
+    ensures none { IfNone result
+        ((kind : ShownKind) → ¬ (IsWord file.now × IsNameOf kind file.now)) }
 {
     if !is_word(file.as_bytes()) {
         return None;
@@ -56,10 +62,24 @@ fn show_of(file: &str) -> Option<Command<'_>>
     Some(Command::Show { kind, file })
 }
 
+// The command `check` for this folder.
+fn check_of(folder: &str) -> Option<Command<'_>>
+    ensures some { IfSome result (λ command.
+        (command_view command ≡ check folder.now) × IsWord folder.now) }
+    ensures none { IfNone result (¬ IsWord folder.now) }
+{
+    if is_word(folder.as_bytes()) {
+        Some(Command::Check { folder })
+    } else {
+        None
+    }
+}
+
 // The target that these arguments name.
 fn target(hw: &str, pos: &str, serial: &str, bank: &str) -> Option<Identity>
     ensures some { IfSome result (λ id. NamesTarget hw.now pos.now serial.now bank.now id) }
-    ensures none { IfNone result ((id : Identity) → ¬ NamesTarget hw.now pos.now serial.now bank.now id) }
+    ensures none { IfNone result
+        ((id : Identity) → ¬ NamesTarget hw.now pos.now serial.now bank.now id) }
 {
     let Ok(hw) = Ident::read(hw.as_bytes()) else {
         return None;

@@ -1,9 +1,11 @@
 //! The top call: what the program does on its arguments, what it prints, and the status with which it ends.
 //!
-//! Start from [`run`]. The commands and statuses are those of README.md, the printed texts those of docs/FORMATS.md.
+//! Start from [`run`]. The commands and statuses are those of README.md, the printed texts those of
+//! docs/FORMATS.md.
 #![tactic(auto)]
 
 mod answer;
+mod check;
 mod command;
 mod show;
 mod text;
@@ -14,5 +16,9 @@ pub use listing::listing_text;
 pub use recovery;
 pub use top_call::{Ended, run};
 
+#[cfg(test)]
+mod check_tests;
+#[cfg(test)]
+mod set_vectors;
 #[cfg(test)]
 mod tests;

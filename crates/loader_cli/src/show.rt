@@ -16,7 +16,8 @@ pub(crate) fn show<'w, H: Host>(
     file: &'w str,
 ) -> Result<Answer<'w>, NoMemory>
     ensures shows { IfOk result (λ answer.
-        Shows kind (H.files host.old) (H.faults host.old) (H.faults host.new) file.now (status_of answer) (text_of answer)) }
+        Shows kind (H.files host.old) (H.faults host.old) (H.faults host.new) file.now
+        (status_of answer) (text_of answer)) }
     ensures kept { H.files host.new ≡ H.files host.old }
 {
     let name = file.as_bytes();
@@ -35,7 +36,8 @@ fn show_bytes<'w>(
     name: &'w [u8],
     bytes: &[u8],
 ) -> Result<Answer<'w>, NoMemory>
-    ensures { IfOk result (λ answer. ShowsBytes kind name.now bytes.now (status_of answer) (text_of answer)) }
+    ensures { IfOk result (λ answer.
+        ShowsBytes kind name.now bytes.now (status_of answer) (text_of answer)) }
 {
     match shown_files::show(alloc, kind, bytes)? {
         Shown::Fields(text) => Ok(Answer::Done(text)),

@@ -1,20 +1,20 @@
 //! The top call.
 ghost use Rattle.std.specs.Prelude.{◌≡◌, false, IfOk};
-ghost use Rattle.disk_model.specs.Moments.{LeavesOnly};
 ghost use Rattle.disk_model.specs.State.{OnlyReads};
-ghost use Rattle.disk_layout.specs.Places.{IsBankSize};
+ghost use Rattle.disk_layout.specs.Offsets.{IsBankSize};
 ghost use Rattle.disk_layout.specs.declared.identity.Identity.{Identity};
-ghost use Rattle.bank_store.specs.Formatting.{WhileFormatting};
+ghost use Rattle.bank_store.specs.Formatting.{LeavesOldOrFormatted};
 ghost use Rattle.loader_cli.specs.Answers.{status_of, text_of};
 ghost use Rattle.loader_cli.specs.Commands.{texts_of, IsCommand, IsNo, UsesDisk, WritesDisk, UsesHost};
 ghost use Rattle.loader_cli.specs.Commands.CommandView.{format as format_command};
-ghost use Rattle.loader_cli.specs.Runs.{Lists, Formats, Says, Ends};
+ghost use Rattle.loader_cli.specs.Runs.{Run, Lists, Formats, Says, EndsAsPromised};
 
 use crate::answer::Answer;
+use crate::check::check;
 use crate::command::Command;
 use crate::show::show;
 use crate::text::formatted_text;
-use bank_store::{StoreFault, format};
+use bank_store::{StoreFault, an_unformatted_disk_is_as_it_was, format};
 use disk_layout::Identity;
 use disk_model::Disk;
 use listing::listing_text;
@@ -31,8 +31,9 @@ const OUTPUT_FAILED: u8 = 7;
 /// | status | when |
 /// |---|---|
 /// | 0 | what was asked for was printed |
+/// | 1 | `check` found something |
 /// | 2 | the arguments are no command |
-/// | 3 | an input is absent, too long or not in its grammar |
+/// | 3 | an input is absent, too long or not in its grammar, or a media set is too large |
 /// | 4 | the host failed |
 /// | 5 | the disk failed |
 /// | 6 | out of memory |
@@ -43,11 +44,12 @@ pub struct Ended {
     pub status: u8,
 }
 
-/// Runs the program on its arguments: `list`, `format HW POS SERIAL BANK`, or `show FILE` with the name of a file of
-/// one of the kinds of [`shown_files::ShownKind`]. The output goes out in one piece at the end.
+/// Runs the program on its arguments: `list`, `format HW POS SERIAL BANK`, `show FILE` with the
+/// name of a file of one of the kinds of [`shown_files::ShownKind`], or `check FOLDER`. The output
+/// goes out in one piece at the end.
 ///
-/// Only `list` and `format` use the disk, and only `format` writes. While it does, a power loss leaves what there was
-/// but for the gates of the two slots, or a disk that holds nothing, or the formatted one.
+/// Only `list` and `format` use the disk, and only `format` writes. While it does, a power loss
+/// leaves the old configuration whole, or a disk that holds nothing, or the formatted one.
 pub fn run<H: Host, O: Sink, K: Disk>(
     alloc: Global,
     words: &[String],
@@ -56,8 +58,9 @@ pub fn run<H: Host, O: Sink, K: Disk>(
     disk: &mut K,
 ) -> Ended
     requires { (K.state disk.old).stopped ≡ false }
-    // The status with its cause, and exactly the text that goes out.
-    ensures ends { Ends (record {
+    // The status with its cause, and exactly the text that goes out; `check` of a set that can be
+    // read and has no finding succeeds where nothing fails, but for out of memory.
+    ensures ends { EndsAsPromised (record {
       work = record {
         words = texts_of words.now;
         disk = K.state disk.old;
@@ -73,12 +76,13 @@ pub fn run<H: Host, O: Sink, K: Disk>(
     }) result }
     // What is touched by no command but those that use it.
     ensures disk_untouched { IsNo UsesDisk (texts_of words.now) → disk.new ≡ disk.old }
-    ensures only_reads { IsNo WritesDisk (texts_of words.now) → OnlyReads (K.state disk.old) (K.state disk.new) }
+    ensures only_reads { IsNo WritesDisk (texts_of words.now)
+        → OnlyReads (K.state disk.old) (K.state disk.new) }
     ensures host_untouched { IsNo UsesHost (texts_of words.now) → host.new ≡ host.old }
     ensures files_kept { H.files host.new ≡ H.files host.old }
     // What a power loss leaves.
     ensures while_formatting { (id : Identity) → IsCommand (texts_of words.now) (format_command id)
-        → LeavesOnly (K.state disk.old).clock (WhileFormatting (K.state disk.old).now id) (K.state disk.new) }
+        → LeavesOldOrFormatted id (K.state disk.old) (K.state disk.new) }
 {
     let Ok(answer) = answer(alloc, words, host, disk) else {
         return Ended {
@@ -119,23 +123,26 @@ fn answer<'w, H: Host, K: Disk>(
       host_faults_after = H.faults host.new;
     }) (status_of answer) (text_of answer)) }
     ensures disk_untouched { IsNo UsesDisk (texts_of words.now) → disk.new ≡ disk.old }
-    ensures only_reads { IsNo WritesDisk (texts_of words.now) → OnlyReads (K.state disk.old) (K.state disk.new) }
+    ensures only_reads { IsNo WritesDisk (texts_of words.now)
+        → OnlyReads (K.state disk.old) (K.state disk.new) }
     ensures host_untouched { IsNo UsesHost (texts_of words.now) → host.new ≡ host.old }
     ensures files_kept { H.files host.new ≡ H.files host.old }
     ensures while_formatting { (id : Identity) → IsCommand (texts_of words.now) (format_command id)
-        → LeavesOnly (K.state disk.old).clock (WhileFormatting (K.state disk.old).now id) (K.state disk.new) }
+        → LeavesOldOrFormatted id (K.state disk.old) (K.state disk.new) }
 {
     match Command::read(words) {
         None => Ok(Answer::RefusedWords),
         Some(Command::List) => list(alloc, disk),
         Some(Command::Format(identity)) => format_disk(alloc, disk, &identity),
         Some(Command::Show { kind, file }) => show(alloc, host, kind, file),
+        Some(Command::Check { folder }) => check(alloc, host, folder),
     }
 }
 
 fn list<'w, K: Disk>(alloc: Global, disk: &mut K) -> Result<Answer<'w>, NoMemory>
     requires { (K.state disk.old).stopped ≡ false }
-    ensures says { IfOk result (λ answer. Lists (K.state disk.old) (K.state disk.new) (status_of answer) (text_of answer)) }
+    ensures says { IfOk result (λ answer.
+        Lists (K.state disk.old) (K.state disk.new) (status_of answer) (text_of answer)) }
     ensures only_reads { OnlyReads (K.state disk.old) (K.state disk.new) }
 {
     match recover(alloc, disk) {
@@ -156,12 +163,16 @@ fn format_disk<'w, K: Disk>(
     requires running { (K.state disk.old).stopped ≡ false }
     requires bank_size { IsBankSize identity.now.bank }
     ensures says { IfOk result (λ answer.
-        Formats (K.state disk.old) (K.state disk.new) identity.now (status_of answer) (text_of answer)) }
-    ensures while_formatting { LeavesOnly (K.state disk.old).clock (WhileFormatting (K.state disk.old).now identity.now)
+        Formats (K.state disk.old) (K.state disk.new) identity.now (status_of answer)
+        (text_of answer)) }
+    ensures while_formatting { LeavesOldOrFormatted identity.now (K.state disk.old)
         (K.state disk.new) }
 {
+    an_unformatted_disk_is_as_it_was::<K>();
+    // Made first: once the disk is written, memory may not be what is lacking for saying so.
+    let line = formatted_text(alloc, identity)?;
     match format(disk, identity) {
-        Ok(()) => Ok(Answer::Done(formatted_text(alloc, identity)?)),
+        Ok(()) => Ok(Answer::Done(line)),
         Err(StoreFault::DiskFailed) => Ok(Answer::DiskFault),
         // Nothing else refuses formatting.
         Err(_) => Err(NoMemory),

@@ -78,7 +78,7 @@ abbrev pub identity_parts : Identity → List (List ℕ)
 identity_parts v = identity_fields v.0 v.1 v.2
 
 pub record IsIdentity (said : ℕ) (before : List ℕ) (v : Identity) : Type 0 where
-  pub place : said ≡ length before / 2
+  pub offset : said ≡ length before / 2
   pub set : IsPartNumberText v.0
   pub member : IsMembership (v.1, v.2)
 
@@ -92,13 +92,13 @@ placed-identity said = record {
       let a2 = spelled-membership.to ((before ++ concat f0) ++ concat f1) f2 (length (concat o2) + after) which h2 in
       let is : Identity = (set, which.0, which.1) in
       let whole : fields ≡ identity_parts is = rw (e0, e1, e2, last.0, a0.0, a1.0, a2.0) refl in
-      subst (λ (v : Identity). (fields ≡ identity_parts v) × IsIdentity said before v) last.1 (whole, record { place = a0.1; set = a1.1; member = a2.1 });
+      subst (λ (v : Identity). (fields ≡ identity_parts v) × IsIdentity said before v) last.1 (whole, record { offset = a0.1; set = a1.1; member = a2.1 });
   from = λ before after value fits. (
     tt,
     [],
     identity_parts value,
     refl,
-    (placed-section 1 said).from before _ tt fits.place,
+    (placed-section 1 said).from before _ tt fits.offset,
     (
       value.0,
       padded_fields value.0,

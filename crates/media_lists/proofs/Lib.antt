@@ -2,7 +2,7 @@ pub mod PathEnds
 pub mod Whole
 pub mod Seen
 pub mod PathLaws
-pub mod PathFronts
+pub mod PathPrefixes
 pub mod Texts
 pub mod Pieces
 pub mod Sizes

@@ -51,16 +51,16 @@ list_to : {E : Type 0} (version : ℕ) (body : ℕ → Grammar ListFault E) (nam
     → (fields ≡ list_fields version f value) × IsMediaList P name_of f value × (after ≡ 0)
 unfolding media_list list_fields covered_fields sections_fields list_size pointers_of
 list_to {E = E} version body name_of f P small has fields after value follows =
-    let (u0, f0, o0, e0, h0, (places, f1, o1, e1, h1, (what, f2, o2, e2, h2, (list, f3, o3, e3, h3, (user, f4, o4, e4, h4, last))))) = follows in
+    let (u0, f0, o0, e0, h0, (offsets, f1, o1, e1, h1, (what, f2, o2, e2, h2, (list, f3, o3, e3, h3, (user, f4, o4, e4, h4, last))))) = follows in
     let b0 : List ℕ = [] ++ concat f0 in
     let b1 : List ℕ = b0 ++ concat f1 in
     let b2 : List ℕ = b1 ++ concat f2 in
     let b3 : List ℕ = b2 ++ concat f3 in
     let a0 = placed-limit.to [] f0 (length (concat o0) + after) u0 h0 in
-    let a1 = head_to version small b0 f1 (length (concat o1) + after) places h1 in
-    let a2 = (placed-identity places.set).to b1 f2 (length (concat o2) + after) what h2 in
-    let a3 = (placed-entries (body what.2) name_of f (P what.2) has.even (has.spelled what.2) places.entries).to b2 f3 (length (concat o3) + after) list h3 in
-    let a4 = (placed-tail places.user).to b3 f4 (length (concat o4) + after) user h4 in
+    let a1 = head_to version small b0 f1 (length (concat o1) + after) offsets h1 in
+    let a2 = (placed-identity offsets.set).to b1 f2 (length (concat o2) + after) what h2 in
+    let a3 = (placed-entries (body what.2) name_of f (P what.2) has.even (has.spelled what.2) offsets.entries).to b2 f3 (length (concat o3) + after) list h3 in
+    let a4 = (placed-tail offsets.user).to b3 f4 (length (concat o4) + after) user h4 in
     let v : ListView E = record { set = what.0; member = what.1; members = what.2; entries = list; user = user } in
     let w : List (List ℕ) = identity_parts what in
     let l : List (List ℕ) = entries_fields f list in
@@ -75,21 +75,21 @@ list_to {E = E} version body name_of f P small has fields after value follows =
     let rest : length (concat o1) ≡ size_of w + (size_of l + (size_of u + 2)) =
     ap (λ (o : List (List ℕ)). size_of o) others ∙ omega (arith, two, size_more w (l ++ (u ++ sum)), size_more l (u ++ sum), size_more u sum) in
     let size : 20 + (length (concat o1) + after) ≡ list_size f v = omega (arith, rest, done) in
-    let place0 : length b0 ≡ 0 = rw a0.0 refl in
-    let place1 : length b1 ≡ 20 = length-append b0 (concat f1) ∙ omega (arith, place0, ap (λ (f : List (List ℕ)). size_of f) a1.0, size_head version (20 + (length (concat o1) + after)) places) in
-    let place2 : length b2 ≡ entries_offset v = length-append b1 (concat f2) ∙ omega (arith, place1, ap (λ (f : List (List ℕ)). size_of f) a2.0) in
-    let place3 : length b3 ≡ user_offset f v = length-append b2 (concat f3) ∙ omega (arith, place2, ap (λ (f : List (List ℕ)). size_of f) a3.0) in
-    let set_is : places.set ≡ 10 = a2.1.place ∙ ap (λ (n : ℕ). n / 2) place1 in
-    let entries_is : places.entries ≡ entries_offset v / 2 = a3.1.0 ∙ ap (λ (n : ℕ). n / 2) place2 in
-    let user_is : places.user ≡ user_offset f v / 2 = a4.1.0.0 ∙ ap (λ (n : ℕ). n / 2) place3 in
-    let places_are : places ≡ pointers_of f v = same_pointers places 10 (entries_offset v / 2) (user_offset f v / 2) set_is entries_is user_is in
+    let offset0 : length b0 ≡ 0 = rw a0.0 refl in
+    let offset1 : length b1 ≡ 20 = length-append b0 (concat f1) ∙ omega (arith, offset0, ap (λ (f : List (List ℕ)). size_of f) a1.0, size_head version (20 + (length (concat o1) + after)) offsets) in
+    let offset2 : length b2 ≡ entries_offset v = length-append b1 (concat f2) ∙ omega (arith, offset1, ap (λ (f : List (List ℕ)). size_of f) a2.0) in
+    let offset3 : length b3 ≡ user_offset f v = length-append b2 (concat f3) ∙ omega (arith, offset2, ap (λ (f : List (List ℕ)). size_of f) a3.0) in
+    let set_is : offsets.set ≡ 10 = a2.1.offset ∙ ap (λ (n : ℕ). n / 2) offset1 in
+    let entries_is : offsets.entries ≡ entries_offset v / 2 = a3.1.0 ∙ ap (λ (n : ℕ). n / 2) offset2 in
+    let user_is : offsets.user ≡ user_offset f v / 2 = a4.1.0.0 ∙ ap (λ (n : ℕ). n / 2) offset3 in
+    let offsets_are : offsets ≡ pointers_of f v = same_pointers offsets 10 (entries_offset v / 2) (user_offset f v / 2) set_is entries_is user_is in
     let h : List (List ℕ) = head_fields version (list_size f v) (pointers_of f v) in
-    let head_is : f1 ≡ h = a1.0 ∙ (ap (λ (n : ℕ). head_fields version n places) size ∙ ap (λ (p : Pointers). head_fields version (list_size f v) p) places_are) in
+    let head_is : f1 ≡ h = a1.0 ∙ (ap (λ (n : ℕ). head_fields version n offsets) size ∙ ap (λ (p : Pointers). head_fields version (list_size f v) p) offsets_are) in
     let before_is : b3 ++ concat u ≡ concat (h ++ (w ++ (l ++ u))) = rw (a0.0, head_is, a2.0, a3.0) (all_before h w l u) in
     let parts : fields ≡ h ++ (w ++ (l ++ (u ++ sum))) = e0 ∙ (ap (λ (f : List (List ℕ)). f ++ o0) a0.0 ∙ (e1 ∙ (ap (λ (f : List (List ℕ)). f ++ o1) head_is ∙ ap (λ (o : List (List ℕ)). h ++ o) others))) in
     let whole : fields ≡ list_fields version f v = parts ∙ ap (λ (s : List (List ℕ)). h ++ (w ++ (l ++ (u ++ s)))) (ap end_of before_is) ∙ simp append_assoc refl in
     let gone : length (concat o0) ≡ list_size f v =
-    omega (arith, size, done, ap (λ (o : List (List ℕ)). size_of o) e1, size_more f1 o1, ap (λ (f : List (List ℕ)). size_of f) a1.0, size_head version (20 + (length (concat o1) + after)) places) in
+    omega (arith, size, done, ap (λ (o : List (List ℕ)). size_of o) e1, size_more f1 o1, ap (λ (f : List (List ℕ)). size_of f) a1.0, size_head version (20 + (length (concat o1) + after)) offsets) in
     let fits : IsMediaList P name_of f v = record {
       set = a2.1.set;
       member = a2.1.member.0;
@@ -113,8 +113,8 @@ list_from : {E : Type 0} (version : ℕ) (body : ℕ → Grammar ListFault E) (n
 unfolding media_list list_fields covered_fields sections_fields list_size pointers_of
 list_from {E = E} version body name_of f P small has v fits =
     let size : ℕ = list_size f v in
-    let places : Pointers = pointers_of f v in
-    let h : List (List ℕ) = head_fields version size places in
+    let offsets : Pointers = pointers_of f v in
+    let h : List (List ℕ) = head_fields version size offsets in
     let w : List (List ℕ) = identity_parts (what_of v) in
     let l : List (List ℕ) = entries_fields f v.entries in
     let u : List (List ℕ) = user_fields v.user in
@@ -125,15 +125,15 @@ list_from {E = E} version body name_of f P small has v fits =
     let sum : List (List ℕ) = end_of (b3 ++ concat u) in
     let rest : List (List ℕ) = w ++ (l ++ (u ++ sum)) in
     let after : ℕ = length (concat rest) + 0 in
-    let place1 : length b1 ≡ 20 = size_head version size places in
-    let place2 : length b2 ≡ entries_offset v = length-append b1 (concat w) ∙ omega (arith, place1) in
-    let place3 : length b3 ≡ user_offset f v = length-append b2 (concat l) ∙ omega (arith, place2) in
+    let offset1 : length b1 ≡ 20 = size_head version size offsets in
+    let offset2 : length b2 ≡ entries_offset v = length-append b1 (concat w) ∙ omega (arith, offset1) in
+    let offset3 : length b3 ≡ user_offset f v = length-append b2 (concat l) ∙ omega (arith, offset2) in
     let total : 20 + after ≡ size =
     omega (arith, size_more w (l ++ (u ++ sum)), size_more l (u ++ sum), size_more u sum, size_number 2 (crc16_of (b3 ++ concat u))) in
-    let whole : size_of (h ++ rest) ≡ size = omega (arith, size_more h rest, size_head version size places, total) in
+    let whole : size_of (h ++ rest) ≡ size = omega (arith, size_more h rest, size_head version size offsets, total) in
     let even : size % 2 ≡ 0 = even_size f has.even v fits.user_even in
-    let is_head : IsHead after places = record { size = omega (arith, total, fits.size); whole = omega (arith, total, even); pointers = pointers_fit f v fits.size } in
-    let head_follows = subst (λ (n : ℕ). Follows (head version) b0 (head_fields version n places) after places) total (head_from version small b0 after places is_head) in
+    let is_head : IsHead after offsets = record { size = omega (arith, total, fits.size); whole = omega (arith, total, even); pointers = pointers_fit f v fits.size } in
+    let head_follows = subst (λ (n : ℕ). Follows (head version) b0 (head_fields version n offsets) after offsets) total (head_from version small b0 after offsets is_head) in
     let is_user : IsUserData v.user = record { bytes = fits.user; even = fits.user_even; size = omega (arith, fits.user_size) } in
     let sum_is : sum ≡ end_of (concat (h ++ (w ++ (l ++ u)))) = ap end_of (all_before h w l u) in
     let fields_are : h ++ rest ≡ list_fields version f v = ap (λ (s : List (List ℕ)). h ++ (w ++ (l ++ (u ++ s)))) sum_is ∙ simp append_assoc refl in
@@ -144,7 +144,7 @@ list_from {E = E} version body name_of f P small has v fits =
       refl,
       placed-limit.from [] (length (concat (h ++ rest)) + 0) tt (omega (arith, whole, fits.size)),
       (
-        places,
+        offsets,
         h,
         rest,
         refl,
@@ -154,14 +154,14 @@ list_from {E = E} version body name_of f P small has v fits =
           w,
           l ++ (u ++ sum),
           refl,
-          (placed-identity places.set).from b1 _ (what_of v) (record { place = ap (λ (n : ℕ). n / 2) (sym place1); set = fits.set; member = (fits.member, fits.members) }),
+          (placed-identity offsets.set).from b1 _ (what_of v) (record { offset = ap (λ (n : ℕ). n / 2) (sym offset1); set = fits.set; member = (fits.member, fits.members) }),
           (
             v.entries,
             l,
             u ++ sum,
             refl,
-            (placed-entries (body v.members) name_of f (P v.members) has.even (has.spelled v.members) places.entries).from b2 _ v.entries (ap (λ (n : ℕ). n / 2) (sym place2), fits.entries),
-            (v.user, u ++ sum, [], sym (append-nil (u ++ sum)), (placed-tail places.user).from b3 (0 + 0) v.user ((ap (λ (n : ℕ). n / 2) (sym place3), is_user), refl), (refl, refl)),
+            (placed-entries (body v.members) name_of f (P v.members) has.even (has.spelled v.members) offsets.entries).from b2 _ v.entries (ap (λ (n : ℕ). n / 2) (sym offset2), fits.entries),
+            (v.user, u ++ sum, [], sym (append-nil (u ++ sum)), (placed-tail offsets.user).from b3 (0 + 0) v.user ((ap (λ (n : ℕ). n / 2) (sym offset3), is_user), refl), (refl, refl)),
           ),
         ),
       ),

@@ -92,12 +92,12 @@ pub spelled-file_body : (members : ℕ) → IsSpelledBy (file_body members) file
 unfolding file_body file_body_fields
 spelled-file_body members = record {
   to = λ before fields after value follows.
-      let (title, f1, o1, e1, h1, (place, f2, o2, e2, h2, (member, f3, o3, e3, h3, (sum, f4, o4, e4, h4, last)))) = follows in
+      let (title, f1, o1, e1, h1, (offset, f2, o2, e2, h2, (member, f3, o3, e3, h3, (sum, f4, o4, e4, h4, last)))) = follows in
       let a = spelled-name.to before f1 (length (concat o1) + after) title h1 in
-      let b = spelled-path.to (before ++ concat f1) f2 (length (concat o2) + after) place h2 in
+      let b = spelled-path.to (before ++ concat f1) f2 (length (concat o2) + after) offset h2 in
       let c = (spelled-member_of members).to ((before ++ concat f1) ++ concat f2) f3 (length (concat o3) + after) member h3 in
       let d = spelled-u16.to (((before ++ concat f1) ++ concat f2) ++ concat f3) f4 (length (concat o4) + after) sum h4 in
-      let is : ListedFile = record { name = title; path = place; member = member; crc16 = sum } in
+      let is : ListedFile = record { name = title; path = offset; member = member; crc16 = sum } in
       let whole : fields ≡ file_body_fields is = rw (e1, e2, e3, e4, last.0, a.0, b.0, c.0, d.0) refl in
       let fits : IsListedFile members is = record { name = a.1; path = b.1; member = c.1; sum = d.1 } in
       subst (λ (v : ListedFile). (fields ≡ file_body_fields v) × IsListedFile members v) last.1 (whole, fits);

@@ -51,4 +51,4 @@ path_faults = record { right = λ bytes. (has_no_fault bytes, is_path bytes); wr
 
 pub spelled-path : IsSpelledBy path padded_fields IsPath
 unfolding path
-spelled-path = spelled-right_padded named (λ place end. faults.Word place (words.Path (paths.Path end))) path_fault_of IsPath _ path_faults (λ t is. omega (arith, is.size))
+spelled-path = spelled-right_padded named (λ offset end. faults.Word offset (words.Path (paths.Path end))) path_fault_of IsPath _ path_faults (λ t is. omega (arith, is.size))

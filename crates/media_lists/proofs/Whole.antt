@@ -40,7 +40,7 @@ ends-tail said = ends_last _ _ (λ user. ends_before _ _ ends-check_sum)
 
 ends-media_list : {E : Type 0} (version : ℕ) (section_of : ℕ → ℕ → Grammar ListFault (List E)) → EndsTheBytes (media_list version section_of)
 unfolding media_list
-ends-media_list version section_of = ends_last _ _ (λ limit. ends_last _ _ (λ places. ends_last _ _ (λ what. ends_last _ _ (λ list. ends_before _ _ (ends-tail places.user)))))
+ends-media_list version section_of = ends_last _ _ (λ limit. ends_last _ _ (λ offsets. ends_last _ _ (λ what. ends_last _ _ (λ list. ends_before _ _ (ends-tail offsets.user)))))
 
 pub ends-files_list : EndsTheBytes files_list
 ends-files_list = ends-media_list _ _

@@ -34,11 +34,11 @@ unfolding covered_fields pointers_of
 covered_written version f v size entries o0 o1 o2 fifteen is total none one two =
     let whole : size ≡ list_size f v = total ∙ sym (whole_size f v entries fifteen is) in
     let first : entries_offset v ≡ 40 = omega (arith, size_identity v.set v.member v.members, fifteen) in
-    let places : record { set = 10; entries = 20; user = (40 + entries) / 2 } ≡ pointers_of f v =
+    let offsets : record { set = 10; entries = 20; user = (40 + entries) / 2 } ≡ pointers_of f v =
     ap (λ (n : ℕ). record { set = 10; entries = n / 2; user = (40 + entries) / 2 }) (sym first) ∙ ap (λ (n : ℕ). record { set = 10; entries = entries_offset v / 2; user = n / 2 }) (ap (λ (n : ℕ). n + entries) (sym first) ∙ ap (λ (n : ℕ). entries_offset v + n) is) in
     let head : o1 ≡ concat (head_fields version (list_size f v) (pointers_of f v)) =
     one ∙ (ap (λ (o : List ℕ). o ++ concat (head_fields version size (record { set = 10; entries = 20; user = (40 + entries) / 2 }))) none
-    ∙ (ap (λ (n : ℕ). concat (head_fields version n (record { set = 10; entries = 20; user = (40 + entries) / 2 }))) whole ∙ ap (λ (p : Pointers). concat (head_fields version (list_size f v) p)) places)) in
+    ∙ (ap (λ (n : ℕ). concat (head_fields version n (record { set = 10; entries = 20; user = (40 + entries) / 2 }))) whole ∙ ap (λ (p : Pointers). concat (head_fields version (list_size f v) p)) offsets)) in
     two ∙ (ap (λ (o : List ℕ). o ++ concat (sections_fields f v)) head ∙ sym (concat-append (head_fields version (list_size f v) (pointers_of f v)) (sections_fields f v)))
 
 pub list_written : {E : Type 0} (version : ℕ) (f : E → List (List ℕ)) (v : ListView E) (covered whole : List ℕ) → covered ≡ concat (covered_fields version f v) → whole ≡ covered ++ number_bytes 2 (crc16_of covered)

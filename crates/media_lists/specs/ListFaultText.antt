@@ -22,17 +22,17 @@ word_fault_text (words.Path fault) = path_fault_text fault
 
 -- the code L1 to L13 with its fields; out of memory has none
 abbrev pub list_fault_text : ListFault → List ℕ
-list_fault_text (Short place) = coded (codes "L1") (place ∷ [])
+list_fault_text (Short offset) = coded (codes "L1") (offset ∷ [])
 list_fault_text (Length said found) = coded (codes "L2") (said ∷ found ∷ [])
 list_fault_text (Version found) = coded (codes "L3") (found ∷ [])
 list_fault_text (Spare found) = coded (codes "L4") (found ∷ [])
 list_fault_text (Pointer which said expected) = coded (codes "L5") (which ∷ said ∷ expected ∷ [])
-list_fault_text (Pad place) = coded (codes "L6") (place ∷ [])
-list_fault_text (Word place fault) = nested (coded (codes "L7") (place ∷ [])) (word_fault_text fault)
+list_fault_text (Pad offset) = coded (codes "L6") (offset ∷ [])
+list_fault_text (Word offset fault) = nested (coded (codes "L7") (offset ∷ [])) (word_fault_text fault)
 list_fault_text (Distance entry) = coded (codes "L8") (entry ∷ [])
-list_fault_text (Member place) = coded (codes "L9") (place ∷ [])
+list_fault_text (Member offset) = coded (codes "L9") (offset ∷ [])
 list_fault_text (Repeated entry) = coded (codes "L10") (entry ∷ [])
 list_fault_text TooLong = coded (codes "L11") []
-list_fault_text (Rest place) = coded (codes "L12") (place ∷ [])
+list_fault_text (Rest offset) = coded (codes "L12") (offset ∷ [])
 list_fault_text (Crc said found) = coded (codes "L13") (said ∷ found ∷ [])
 list_fault_text Memory = []

@@ -15,8 +15,8 @@ use Rattle.media_lists.specs.declared.reading.Pointers.{Pointers}
 
 -- the length in words, the version, the spare word and the pointers of a list of `size` bytes
 unfoldable pub head_fields : ℕ → ℕ → Pointers → List (List ℕ)
-head_fields version size places =
-    number_fields 4 (size / 2) ++ (number_fields 2 version ++ (number_fields 2 0 ++ (number_fields 4 places.set ++ (number_fields 4 places.entries ++ number_fields 4 places.user))))
+head_fields version size offsets =
+    number_fields 4 (size / 2) ++ (number_fields 2 version ++ (number_fields 2 0 ++ (number_fields 4 offsets.set ++ (number_fields 4 offsets.entries ++ number_fields 4 offsets.user))))
 
 -- the part number of the set, and which member of how many
 unfoldable pub identity_fields : List ℕ → ℕ → ℕ → List (List ℕ)

@@ -1,7 +1,7 @@
 -- What the two media lists share (docs/FORMATS.md).
 use Rattle.std.specs.Prelude.{ℕ, List, length, nat_le, Bool, ◌&&◌, Result}
 use Rattle.crc_fields.specs.CheckSums.{crc16_of}
-use Rattle.field_grammar.specs.Grammar.{Grammar, give, check, front, left, renamed, expected, ◌>>=◌, ◌>>◌}
+use Rattle.field_grammar.specs.Grammar.{Grammar, give, check, prefix, left, renamed, expected, ◌>>=◌, ◌>>◌}
 use Rattle.field_grammar.specs.Fields.{number, judged_padded}
 use Rattle.field_grammar.specs.declared.fault.FieldFault.{FieldFault}
 use Rattle.field_grammar.specs.declared.fault.FieldFault.TheVariants as fields
@@ -89,9 +89,9 @@ is_member members member = nat_le 1 member && nat_le member members
 -- which member of how many
 unfoldable pub membership : Grammar ListFault (ℕ × ℕ)
 membership = do
-  before ← front
+  before ← prefix
   member ← u8
-  between ← front
+  between ← prefix
   members ← u8
   check (nat_le 1 members) (faults.Member (length between))
   check (is_member members member) (faults.Member (length before))
@@ -100,7 +100,7 @@ membership = do
 -- the number of a member, of `members`
 unfoldable pub member_of : ℕ → Grammar ListFault ℕ
 member_of members = do
-  before ← front
+  before ← prefix
   member ← u16
   check (is_member members member) (faults.Member (length before))
   give member
@@ -118,7 +118,7 @@ identity said = do
 -- the CRC-16 of all before it, and nothing after it
 unfoldable pub check_sum : Grammar ListFault (Unit {0})
 check_sum = do
-  before ← front
+  before ← prefix
   said ← u16
   shared (end said (crc16_of before))
 
@@ -149,8 +149,8 @@ pub record ListView (E : Type 0) : Type 0 where
 unfoldable pub media_list : {E : Type 0} → ℕ → (ℕ → ℕ → Grammar ListFault (List E)) → Grammar ListFault (ListView E)
 media_list version section_of = do
   limit
-  places ← head version
-  what ← identity places.set
-  entries ← section_of what.2 places.entries
-  user ← tail places.user
+  offsets ← head version
+  what ← identity offsets.set
+  entries ← section_of what.2 offsets.entries
+  user ← tail offsets.user
   give (record { set = what.0; member = what.1; members = what.2; entries = entries; user = user })

@@ -3,20 +3,20 @@ use Rattle.std.specs.Prelude.{◌≡◌, ℕ, ◌+◌, ◌≤◌, List, [], ◌�
 use Rattle.std.specs.List.{flat_map, AllByRecursion}
 use Rattle.load_base.specs.Name.{IsName, is_name_byte}
 
--- Whether a path can go on with this byte of a name at offset `place`, after `names` whole names and `size` bytes
+-- Whether a path can go on with this byte of a name at offset `offset`, after `names` whole names and `size` bytes
 -- of the next: there are at most 4 names, the first byte of none is a full stop, and a backslash can follow the
 -- byte within 64 bytes.
-unfoldable pub name_goes_on : (place names size byte : ℕ) → Bool
-name_goes_on place names size byte = is_name_byte byte && nat_lt names 4 && nat_lt place 63 && not (size == 0 && byte == 0x2E)
+unfoldable pub name_goes_on : (offset names size byte : ℕ) → Bool
+name_goes_on offset names size byte = is_name_byte byte && nat_lt names 4 && nat_lt offset 63 && not (size == 0 && byte == 0x2E)
 
--- The offset at which the path can't go on or ends within a name, from offset `place` on, after `names` whole names
+-- The offset at which the path can't go on or ends within a name, from offset `offset` on, after `names` whole names
 -- and `size` bytes of the next. None where it is a path.
-unfoldable pub path_end : (place names size : ℕ) → List ℕ → Option ℕ
-path_end place names size [] = if size == 0 then None else Some place
-path_end place names size (byte ∷ bytes) =
-    if byte == 0x5C then if size == 0 then Some place else path_end (place + 1) (names + 1) 0 bytes
-    else if name_goes_on place names size byte then path_end (place + 1) names (size + 1) bytes
-    else Some place
+unfoldable pub path_end : (offset names size : ℕ) → List ℕ → Option ℕ
+path_end offset names size [] = if size == 0 then None else Some offset
+path_end offset names size (byte ∷ bytes) =
+    if byte == 0x5C then if size == 0 then Some offset else path_end (offset + 1) (names + 1) 0 bytes
+    else if name_goes_on offset names size byte then path_end (offset + 1) names (size + 1) bytes
+    else Some offset
 
 -- The length of the longest prefix of the bytes that is a prefix of some path, where they are no path: a backslash
 -- and 0 to 4 names, each followed by a backslash, of at most 64 bytes.
@@ -37,12 +37,12 @@ pub record IsPath (bytes : List ℕ) : Type 0 where
   pub written : bytes ≡ 0x5C ∷ flat_map closed names
 
 -- the bytes are a prefix of some path
-pub record IsPathFront (bytes : List ℕ) : Type 0 where
+pub record IsPathPrefix (bytes : List ℕ) : Type 0 where
   pub rest : List ℕ
   pub whole : IsPath (bytes ++ rest)
 
 -- The prefix of `count` bytes is a prefix of some path, and no longer one is.
-pub record IsLongestFront (bytes : List ℕ) (count : ℕ) : Type 0 where
+pub record IsLongestPrefix (bytes : List ℕ) (count : ℕ) : Type 0 where
   pub within : count ≤ length bytes
-  pub front : IsPathFront (take count bytes)
-  pub longest : (more : ℕ) → count < more → more ≤ length bytes → IsPathFront (take more bytes) → ⊥
+  pub prefix : IsPathPrefix (take count bytes)
+  pub longest : (more : ℕ) → count < more → more ≤ length bytes → IsPathPrefix (take more bytes) → ⊥

@@ -117,8 +117,9 @@ fn the_files_of_a_set_are_written(rt: HostRuntime) -> Result<(), ListFault> {
     Ok(())
 }
 
-/// How many files with which path and how many bytes of user data a list has, and how many bytes it takes, or 0
-/// where it doesn't fit: 46, those of the user data, and 16 for each file and those of its path, an even number.
+/// How many files with which path and how many bytes of user data a list has, and how many bytes it
+/// takes, or 0 where it doesn't fit: 46, those of the user data, and 16 for each file and those of
+/// its path, an even number.
 #[test]
 fn a_list_of_files_keeps_its_limits(rt: HostRuntime) -> Result<(), ListFault> {
     let mut path = [b'A'; 65];
@@ -212,9 +213,9 @@ fn the_loads_of_a_set_are_written(rt: HostRuntime) -> Result<(), ListFault> {
     Ok(())
 }
 
-/// How many loads, each for how many kinds of hardware of 255 bytes, and how many bytes of user data a list has,
-/// and how many bytes it takes, or 0 where it doesn't fit: 46, those of the user data, and for each load 32 and 258
-/// for each kind.
+/// How many loads, each for how many kinds of hardware of 255 bytes, and how many bytes of user
+/// data a list has, and how many bytes it takes, or 0 where it doesn't fit: 46, those of the user
+/// data, and for each load 32 and 258 for each kind.
 #[test]
 fn a_list_of_loads_keeps_its_limits(rt: HostRuntime) -> Result<(), ListFault> {
     for (count, kinds, user, bytes) in [

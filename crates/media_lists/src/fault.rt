@@ -89,8 +89,8 @@ impl From<FieldFault> for ListFault {
 
     fn from(field: FieldFault) -> ListFault {
         match field {
-            FieldFault::Short(place) => ListFault::Short(place),
-            FieldFault::BadPad(place) => ListFault::Pad(place),
+            FieldFault::Short(offset) => ListFault::Short(offset),
+            FieldFault::BadPad(offset) => ListFault::Pad(offset),
         }
     }
 }
@@ -100,8 +100,8 @@ impl From<SectionFault> for ListFault {
 
     fn from(piece: SectionFault) -> ListFault {
         match piece {
-            SectionFault::Short(place) => ListFault::Short(place),
-            SectionFault::Pad(place) => ListFault::Pad(place),
+            SectionFault::Short(offset) => ListFault::Short(offset),
+            SectionFault::Pad(offset) => ListFault::Pad(offset),
             SectionFault::Length { said, found } => ListFault::Length { said, found },
             SectionFault::Version(found) => ListFault::Version(found),
             SectionFault::Pointer {
@@ -125,7 +125,7 @@ impl From<SectionFault> for ListFault {
                 place: offset,
                 fault: WordFault::Text(fault),
             },
-            SectionFault::Rest(place) => ListFault::Rest(place),
+            SectionFault::Rest(offset) => ListFault::Rest(offset),
             SectionFault::Sum { said, found } => ListFault::Crc { said, found },
             SectionFault::Memory => ListFault::Memory,
         }

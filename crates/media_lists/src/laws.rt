@@ -3,7 +3,7 @@ ghost use Rattle.std.specs.Prelude.{◌≡◌, ◌↔◌, ℕ, List, Some, None}
 ghost use Rattle.field_grammar.specs.Grammar.{IsBytes, IsDecided, Spelled};
 ghost use Rattle.media_lists.specs.Files.{files_list, FilesListView, FilesSpells};
 ghost use Rattle.media_lists.specs.Loads.{loads_list, LoadsListView, LoadsSpells};
-ghost use Rattle.media_lists.specs.Paths.{path_fault_of, IsPath, IsLongestFront};
+ghost use Rattle.media_lists.specs.Paths.{path_fault_of, IsPath, IsLongestPrefix};
 
 /// Laws of the format of lists of files, for callers that compare lists and their bytes.
 pub fn files_list_laws()
@@ -36,5 +36,5 @@ pub fn path_laws()
     ensures no_fault { (bytes : List ℕ) → (path_fault_of bytes ≡ None) ↔ IsPath bytes }
     // The fault of others is the length of their longest prefix that is a prefix of some path.
     ensures fault { (bytes : List ℕ) (count : ℕ) → path_fault_of bytes ≡ Some count
-        → IsLongestFront bytes count }
+        → IsLongestPrefix bytes count }
 {}

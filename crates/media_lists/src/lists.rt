@@ -47,10 +47,10 @@ pub struct FilesList {
 }
 
 impl FilesList {
-    /// Reads a whole list (this project's layout, docs/FORMATS.md). [`ListFault::TooLong`] is tested first of
-    /// the length. Then the fields are read in order, and each is tested as soon as it was read; but a pointer
-    /// is tested when its section begins, a distance when its entry ended, then that its name is new, and
-    /// last, `Rest` and then `Crc`.
+    /// Reads a whole list (this project's layout, docs/FORMATS.md). [`ListFault::TooLong`] is
+    /// tested first of the length. Then the fields are read in order, and each is tested as soon as
+    /// it was read; but a pointer is tested when its section begins, a distance when its entry
+    /// ended, then that its name is new, and last, `Rest` and then `Crc`.
     pub fn decode(alloc: Global, bytes: &[u8]) -> Result<FilesList, ListFault>
         // What is read is spelled so.
         ensures found { IfOk result (λ l. FilesSpells (files_list_view l) bytes.now) }
@@ -67,10 +67,10 @@ impl FilesList {
         files_of(alloc, bytes)
     }
 
-    /// Whether the list meets the limits of the format (this project's layout, docs/FORMATS.md), so that it has
-    /// a spelling: at most 1,024 files, each with a path and the number of a member; no name twice; a member's
-    /// number from 1 to `members`; an even number of at most 131,070 bytes of user data; and at most 1,048,576
-    /// bytes in all. It takes no memory.
+    /// Whether the list meets the limits of the format (this project's layout, docs/FORMATS.md), so
+    /// that it has a spelling: at most 1,024 files, each with a path and the number of a member; no
+    /// name twice; a member's number from 1 to `members`; an even number of at most 131,070 bytes
+    /// of user data; and at most 1,048,576 bytes in all. It takes no memory.
     pub fn fits(&self) -> bool
         ensures { IsTrue result ↔ IsFilesList (files_list_view self.now) }
     {
@@ -131,11 +131,11 @@ impl LoadsList {
         loads_of(alloc, bytes)
     }
 
-    /// Whether the list meets the limits of the format (this project's layout, docs/FORMATS.md), so that it has
-    /// a spelling: at most 1,024 loads, each for at most 1,024 kinds of hardware and with the number of a
-    /// member; at most 131,070 bytes of each entry but the last; no header's name twice; a member's number from
-    /// 1 to `members`; an even number of at most 131,070 bytes of user data; and at most 1,048,576 bytes in all.
-    /// It takes no memory.
+    /// Whether the list meets the limits of the format (this project's layout, docs/FORMATS.md), so
+    /// that it has a spelling: at most 1,024 loads, each for at most 1,024 kinds of hardware and
+    /// with the number of a member; at most 131,070 bytes of each entry but the last; no header's
+    /// name twice; a member's number from 1 to `members`; an even number of at most 131,070 bytes
+    /// of user data; and at most 1,048,576 bytes in all. It takes no memory.
     pub fn fits(&self) -> bool
         ensures { IsTrue result ↔ IsLoadsList (loads_list_view self.now) }
     {

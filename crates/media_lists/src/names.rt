@@ -76,20 +76,21 @@ fn find<E: Named>(order: &[u16], entries: &[E], name: &[u8]) -> Result<usize, us
         (map E.name_of entries.now) ≡ true) }
     ensures within { IfErr result (λ at. at ≤ length order.now) }
     ensures between { IfErr result (λ at. IsPartitionPoint
-        (λ place. by_bytes (name_at (map E.name_of entries.now) place) name.now ≡ Ordering.Less)
-        (λ place. by_bytes (name_at (map E.name_of entries.now) place) name.now ≡ Ordering.Greater)
+        (λ offset. by_bytes (name_at (map E.name_of entries.now) offset) name.now ≡ Ordering.Less)
+        (λ offset. by_bytes (name_at (map E.name_of entries.now) offset) name.now
+        ≡ Ordering.Greater)
         order.now at) }
 {
-    order.binary_search_by(|place| compared(entries, *place, name))
+    order.binary_search_by(|offset| compared(entries, *offset, name))
 }
 
 // The name of the entry at this index, compared with this one.
-fn compared<E: Named>(entries: &[E], place: u16, name: &[u8]) -> Ordering
-    ensures { result ≡ by_bytes (name_at (map E.name_of entries.now) place) name.now }
+fn compared<E: Named>(entries: &[E], offset: u16, name: &[u8]) -> Ordering
+    ensures { result ≡ by_bytes (name_at (map E.name_of entries.now) offset) name.now }
 {
-    let place = place as usize;
-    if place < entries.len() {
-        entries[place].name().cmp(name)
+    let offset = offset as usize;
+    if offset < entries.len() {
+        entries[offset].name().cmp(name)
     } else {
         let none: &[u8] = &[];
         none.cmp(name)

@@ -25,17 +25,17 @@ pub(crate) fn path_fault(bytes: &[u8]) -> Option<usize>
     }
     let mut names = 0;
     let mut size = 0;
-    for place in 1..bytes.len() {
-        let byte = bytes[place];
+    for offset in 1..bytes.len() {
+        let byte = bytes[offset];
         if byte == b'\\' {
             if size == 0 {
-                return Some(place);
+                return Some(offset);
             }
             names += 1;
             size = 0;
         } else {
-            if !name_goes_on(place, names, size, byte) {
-                return Some(place);
+            if !name_goes_on(offset, names, size, byte) {
+                return Some(offset);
             }
             size += 1;
         }
@@ -44,12 +44,12 @@ pub(crate) fn path_fault(bytes: &[u8]) -> Option<usize>
 }
 
 #[tactic(auto, unfolding(crate::specs::Paths::name_goes_on))]
-fn name_goes_on(place: usize, names: usize, size: usize, byte: u8) -> bool
-    ensures { result ≡ goes_on place names size byte }
+fn name_goes_on(offset: usize, names: usize, size: usize, byte: u8) -> bool
+    ensures { result ≡ goes_on offset names size byte }
 {
     is_name_byte(byte)
         && names < MOST_NAMES
-        && place < LONGEST_PATH - 1
+        && offset < LONGEST_PATH - 1
         && !(size == 0 && byte == b'.')
 }
 
@@ -60,12 +60,12 @@ fn is_name_byte(byte: u8) -> bool
 }
 
 // The path that these bytes are, or the fault of the path whose bytes are at this offset.
-pub(crate) fn path_of(alloc: Global, bytes: &[u8], place: u64) -> Result<Text, ListFault>
-    ensures { Gives Memory (λ t. t) result (path_verdict place bytes.now) }
+pub(crate) fn path_of(alloc: Global, bytes: &[u8], offset: u64) -> Result<Text, ListFault>
+    ensures { Gives Memory (λ t. t) result (path_verdict offset bytes.now) }
 {
     if let Some(end) = path_fault(bytes) {
         return Err(ListFault::Word {
-            place,
+            place: offset,
             fault: WordFault::Path(PathFault::Path(end as u64)),
         });
     }

@@ -43,7 +43,7 @@ impl Printed for ListFault {
     /// L1 to L13 and the fields, as in `L5 2 21 20`, and a nested fault in its place, as in `L7 58 Q1 3`.
     fn text(&self, alloc: Global) -> Result<Text, NoMemory> {
         match *self {
-            ListFault::Short(place) => coded(alloc, b"L1", &[place]),
+            ListFault::Short(offset) => coded(alloc, b"L1", &[offset]),
             ListFault::Length { said, found } => coded(alloc, b"L2", &[said, found]),
             ListFault::Version(found) => coded(alloc, b"L3", &[found]),
             ListFault::Spare(found) => coded(alloc, b"L4", &[found]),
@@ -52,13 +52,13 @@ impl Printed for ListFault {
                 said,
                 expected,
             } => coded(alloc, b"L5", &[which, said, expected]),
-            ListFault::Pad(place) => coded(alloc, b"L6", &[place]),
+            ListFault::Pad(offset) => coded(alloc, b"L6", &[offset]),
             ListFault::Word { place, fault } => nested(alloc, b"L7", &[place], &fault),
             ListFault::Distance(entry) => coded(alloc, b"L8", &[entry]),
-            ListFault::Member(place) => coded(alloc, b"L9", &[place]),
+            ListFault::Member(offset) => coded(alloc, b"L9", &[offset]),
             ListFault::Repeated(entry) => coded(alloc, b"L10", &[entry]),
             ListFault::TooLong => coded(alloc, b"L11", &[]),
-            ListFault::Rest(place) => coded(alloc, b"L12", &[place]),
+            ListFault::Rest(offset) => coded(alloc, b"L12", &[offset]),
             ListFault::Crc { said, found } => coded(alloc, b"L13", &[said, found]),
             ListFault::Memory => Ok(Text::empty(alloc)),
         }

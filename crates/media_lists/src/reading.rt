@@ -70,9 +70,9 @@ pub(crate) fn read_path(alloc: Global, reader: &mut Reader) -> Result<Text, List
     ensures { Decodes Memory (λ t. t) path reader.old result reader.new }
 {
     let size = reader.take_u16()? as usize;
-    let place = reader.place() as u64;
+    let offset = reader.place() as u64;
     let bytes = reader.take_raw(size)?;
-    let path = path_of(alloc, bytes, place)?;
+    let path = path_of(alloc, bytes, offset)?;
     reader.take_pad(size)?;
     Ok(path)
 }
@@ -102,17 +102,17 @@ fn is_member(members: u64, member: u64) -> bool
 fn read_membership(reader: &mut Reader) -> Result<(u8, u8), ListFault>
     ensures { Decodes Memory (λ x. x) membership reader.old result reader.new }
 {
-    let member_place = reader.place() as u64;
+    let member_offset = reader.place() as u64;
     let member = reader.take_u8()?;
-    let members_place = reader.place() as u64;
+    let members_offset = reader.place() as u64;
     let members = reader.take_u8()?;
     if members < 1 {
-        return Err(ListFault::Member(members_place));
+        return Err(ListFault::Member(members_offset));
     }
     if is_member(u64::from(members), u64::from(member)) {
         Ok((member, members))
     } else {
-        Err(ListFault::Member(member_place))
+        Err(ListFault::Member(member_offset))
     }
 }
 
@@ -120,12 +120,12 @@ fn read_membership(reader: &mut Reader) -> Result<(u8, u8), ListFault>
 pub(crate) fn read_member_of(reader: &mut Reader, members: u8) -> Result<u16, ListFault>
     ensures { Decodes Memory (λ n. n) (member_of members) reader.old result reader.new }
 {
-    let place = reader.place() as u64;
+    let offset = reader.place() as u64;
     let member = reader.take_u16()?;
     if is_member(u64::from(members), u64::from(member)) {
         Ok(member)
     } else {
-        Err(ListFault::Member(place))
+        Err(ListFault::Member(offset))
     }
 }
 

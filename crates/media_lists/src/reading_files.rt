@@ -99,7 +99,7 @@ fn read_new_file(
     }
 }
 
-#[tactic(auto, using(field_grammar::specs::MoveLaws::place_goes_on), unfolding(crate::specs::Entries::numbered_entry))]
+#[tactic(auto, using(field_grammar::specs::MoveLaws::offset_goes_on), unfolding(crate::specs::Entries::numbered_entry))]
 fn read_file_entry(
     alloc: Global,
     reader: &mut Reader,

@@ -100,7 +100,7 @@ fn read_new_load(
     }
 }
 
-#[tactic(auto, using(field_grammar::specs::MoveLaws::place_goes_on), unfolding(crate::specs::Entries::numbered_entry))]
+#[tactic(auto, using(field_grammar::specs::MoveLaws::offset_goes_on), unfolding(crate::specs::Entries::numbered_entry))]
 fn read_load_entry(
     alloc: Global,
     reader: &mut Reader,

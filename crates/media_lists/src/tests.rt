@@ -23,14 +23,14 @@ fn loads_outcome(alloc: Global, bytes: &[u8]) -> Result<Text, NoMemory> {
 }
 
 /// Puts a byte at an offset.
-fn change(bytes: &mut [u8], place: usize, byte: u8) {
-    if place < bytes.len() {
-        bytes[place] = byte;
+fn change(bytes: &mut [u8], offset: usize, byte: u8) {
+    if offset < bytes.len() {
+        bytes[offset] = byte;
     }
 }
 
 /// The first N bytes.
-fn front(bytes: &[u8], size: usize) -> &[u8] {
+fn prefix(bytes: &[u8], size: usize) -> &[u8] {
     if size <= bytes.len() {
         &bytes[..size]
     } else {
@@ -58,7 +58,7 @@ fn the_formats_keep_their_laws() {
 /// files is refused with.
 #[test]
 fn each_changed_byte_of_the_files_has_its_refusal(rt: HostRuntime) -> Result<(), NoMemory> {
-    for (place, byte, mended, text) in [
+    for (offset, byte, mended, text) in [
         (0, 0x01, false, &b"L2 16777319 206"[..]),
         (3, 0xFF, true, b"L2 255 206"),
         (4, 0x00, false, b"L3 4"),
@@ -111,14 +111,14 @@ fn each_changed_byte_of_the_files_has_its_refusal(rt: HostRuntime) -> Result<(),
         (205, 0xFF, true, b""),
     ] {
         let mut bytes = EIGHT_FILES;
-        change(&mut bytes, place, byte);
+        change(&mut bytes, offset, byte);
         if mended {
             mend(&mut bytes);
         }
         assert_eq!(rt;
             files_outcome(rt.alloc(), &bytes)?.as_slice(),
             text,
-            "at {place}"
+            "at {offset}"
         );
     }
     Ok(())
@@ -127,7 +127,7 @@ fn each_changed_byte_of_the_files_has_its_refusal(rt: HostRuntime) -> Result<(),
 /// The same of the list of loads.
 #[test]
 fn each_changed_byte_of_the_loads_has_its_refusal(rt: HostRuntime) -> Result<(), NoMemory> {
-    for (place, byte, mended, text) in [
+    for (offset, byte, mended, text) in [
         (0, 0x01, false, &b"L2 16777302 172"[..]),
         (3, 0xFF, true, b"L2 255 172"),
         (4, 0x00, false, b"L3 4"),
@@ -180,14 +180,14 @@ fn each_changed_byte_of_the_loads_has_its_refusal(rt: HostRuntime) -> Result<(),
         (171, 0xFF, true, b""),
     ] {
         let mut bytes = THREE_LOADS;
-        change(&mut bytes, place, byte);
+        change(&mut bytes, offset, byte);
         if mended {
             mend(&mut bytes);
         }
         assert_eq!(rt;
             loads_outcome(rt.alloc(), &bytes)?.as_slice(),
             text,
-            "at {place}"
+            "at {offset}"
         );
     }
     Ok(())
@@ -244,8 +244,8 @@ fn lengths_are_tested_first_and_the_rest_before_the_check_sum(
     many[75] = 1;
     for (bytes, text) in [
         (FILES.as_slice(), &b"L3 40964"[..]),
-        (front(&LOADS, 3), b"L1 0"),
-        (front(&LOADS, 85), b"L2 43 85"),
+        (prefix(&LOADS, 3), b"L1 0"),
+        (prefix(&LOADS, 85), b"L2 43 85"),
         (&longer, b"L12 86"),
         (&many, b"L11"),
     ] {

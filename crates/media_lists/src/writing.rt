@@ -20,25 +20,25 @@ pub(crate) fn put_head(
     out: &mut Writer,
     version: u16,
     size: u32,
-    places: Pointers,
+    offsets: Pointers,
 ) -> Result<(), NoMemory>
-    ensures { OnOk result (out.new ≡ out.old ++ concat (head_fields version size places)) }
+    ensures { OnOk result (out.new ≡ out.old ++ concat (head_fields version size offsets)) }
 {
     out.put_u32(size / 2)?;
     out.put_u16(version)?;
     out.put_u16(0)?;
-    put_pointers(out, places)?;
+    put_pointers(out, offsets)?;
     Ok(())
 }
 
-fn put_pointers(out: &mut Writer, places: Pointers) -> Result<(), NoMemory>
+fn put_pointers(out: &mut Writer, offsets: Pointers) -> Result<(), NoMemory>
     ensures { OnOk result (out.new ≡ out.old ++
-        (number_bytes 4 places.set ++ (number_bytes 4 places.entries
-        ++ number_bytes 4 places.user))) }
+        (number_bytes 4 offsets.set ++ (number_bytes 4 offsets.entries
+        ++ number_bytes 4 offsets.user))) }
 {
-    out.put_u32(places.set)?;
-    out.put_u32(places.entries)?;
-    out.put_u32(places.user)?;
+    out.put_u32(offsets.set)?;
+    out.put_u32(offsets.entries)?;
+    out.put_u32(offsets.user)?;
     Ok(())
 }
 

@@ -4,7 +4,7 @@ use Rattle.part_number.specs.declared.PartFault.{PartFault}
 use Rattle.part_number.specs.declared.PartFault.TheVariants.{Length, Hyphen, Character, Check}
 use Rattle.part_number.specs.Verdicts.{part_fault_of}
 use Rattle.part_number.specs.VerdictLaws.{part_faults}
-use Rattle.part_number.specs.PartNumber.{IsPartNumber, IsPartFault, IsFirstBadPlace, part_number_text}
+use Rattle.part_number.specs.PartNumber.{IsPartNumber, IsPartFault, IsFirstBadOffset, part_number_text}
 use Rattle.part_number.specs.Laws.Read.{part_from_text}
 use Rattle.part_number.specs.Laws.Texts.{part_of_itself, hyphen_is_good, length-part_number_text}
 
@@ -23,10 +23,10 @@ one_fault text f g one other =
 -- the only fault of a text that the definition gives is a character
 pub fault_of_text : (maker product : List ℕ) (fault : PartFault) → length maker ≡ 3 → length product ≡ 8
     → IsPartFault (part_number_text maker product) fault
-    → (place : ℕ) × (fault ≡ Character place) × IsFirstBadPlace (part_number_text maker product) place
+    → (offset : ℕ) × (fault ≡ Character offset) × IsFirstBadOffset (part_number_text maker product) offset
 fault_of_text maker product (Length found) maker_size product_size is = absurd (is.1 (length-part_number_text maker product maker_size product_size))
-fault_of_text maker product (Hyphen place) maker_size product_size is =
-    let good = hyphen_is_good maker product maker_size product_size place is.2 in absurd (cc (good, is.1.bad))
-fault_of_text maker product (Character place) maker_size product_size is = (place, refl, is.1)
+fault_of_text maker product (Hyphen offset) maker_size product_size is =
+    let good = hyphen_is_good maker product maker_size product_size offset is.2 in absurd (cc (good, is.1.bad))
+fault_of_text maker product (Character offset) maker_size product_size is = (offset, refl, is.1)
 fault_of_text maker product (Check written computed) maker_size product_size is =
-    absurd (no_fault (part_number_text maker product) maker product (Check written computed) (part_from_text maker product maker_size product_size is.places) is)
+    absurd (no_fault (part_number_text maker product) maker product (Check written computed) (part_from_text maker product maker_size product_size is.offsets) is)

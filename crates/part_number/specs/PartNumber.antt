@@ -51,34 +51,34 @@ check_digits_of text = slice_range text 3 5
 abbrev pub IsPartNumberText : List ℕ → Type 0
 IsPartNumberText text = IsPartNumber text (maker_of text) (product_of text)
 
--- the places of the hyphens and of the check digits
-abbrev pub is_hyphen_place : ℕ → Bool
-is_hyphen_place place = (place == 5) || (place == 10)
+-- the offsets of the hyphens and of the check digits
+abbrev pub is_hyphen_offset : ℕ → Bool
+is_hyphen_offset offset = (offset == 5) || (offset == 10)
 
-abbrev pub is_check_place : ℕ → Bool
-is_check_place place = (place == 3) || (place == 4)
+abbrev pub is_check_offset : ℕ → Bool
+is_check_offset offset = (offset == 3) || (offset == 4)
 
--- which characters are good at which place
-unfoldable pub is_good_at : (place byte : ℕ) → Bool
-is_good_at place byte =
-    if is_hyphen_place place then byte == 45
-    else if is_check_place place then is_hexadecimal_digit byte
+-- which characters are good at which offset
+unfoldable pub is_good_at : (offset byte : ℕ) → Bool
+is_good_at offset byte =
+    if is_hyphen_offset offset then byte == 45
+    else if is_check_offset offset then is_hexadecimal_digit byte
     else is_part_character byte
 
--- the first place whose character isn't good there
-pub record IsFirstBadPlace (text : List ℕ) (place : ℕ) : Type 0 where
-  pub within : place < length text
-  pub before : (k : ℕ) → k < place → is_good_at k (slice_index text k) ≡ true
-  pub bad : is_good_at place (slice_index text place) ≡ false
+-- the first offset whose character isn't good there
+pub record IsFirstBadOffset (text : List ℕ) (offset : ℕ) : Type 0 where
+  pub within : offset < length text
+  pub before : (k : ℕ) → k < offset → is_good_at k (slice_index text k) ≡ true
+  pub bad : is_good_at offset (slice_index text offset) ≡ false
 
--- the character at each place is good there
+-- the character at each offset is good there
 pub record HasGoodCharacters (text : List ℕ) : Type 0 where
   pub size : length text ≡ 15
   pub good : (k : ℕ) → k < 15 → is_good_at k (slice_index text k) ≡ true
 
 -- the two check digits are those of `written`, and the maker and the product give `computed`
 pub record IsWrongCheck (text : List ℕ) (written computed : ℕ) : Type 0 where
-  pub places : HasGoodCharacters text
+  pub offsets : HasGoodCharacters text
   pub is_byte : written < 256
   pub digits : check_digits_of text ≡ hexadecimal written
   pub sum : computed ≡ check_of (maker_of text) (product_of text)
@@ -87,6 +87,6 @@ pub record IsWrongCheck (text : List ℕ) (written computed : ℕ) : Type 0 wher
 -- the first thing that is wrong with a text
 abbrev pub IsPartFault : List ℕ → PartFault → Type 0
 IsPartFault text (Length found) = (found ≡ length text) × (length text ≢ 15)
-IsPartFault text (Hyphen place) = (length text ≡ 15) × IsFirstBadPlace text place × (is_hyphen_place place ≡ true)
-IsPartFault text (Character place) = (length text ≡ 15) × IsFirstBadPlace text place × (is_hyphen_place place ≡ false)
+IsPartFault text (Hyphen offset) = (length text ≡ 15) × IsFirstBadOffset text offset × (is_hyphen_offset offset ≡ true)
+IsPartFault text (Character offset) = (length text ≡ 15) × IsFirstBadOffset text offset × (is_hyphen_offset offset ≡ false)
 IsPartFault text (Check written computed) = IsWrongCheck text written computed

@@ -5,7 +5,7 @@ use Rattle.std.proofs.lemmas.Bool.{ne_eqb, eq-eqb, eqb-false, eqb-true}
 use Rattle.std.proofs.lemmas.Bool.Decides.{nat_tests}
 use Rattle.load_base.specs.Verdicts.{first_bad, TellsFaults}
 use Rattle.load_base.specs.VerdictLaws.{first_bad-none, first_bad-some, first_bad-says, SaysWhichAreGood, small_by, tells}
-use Rattle.part_number.specs.PartNumber.{IsPartNumberText, IsPartFault, IsFirstBadPlace, HasGoodCharacters, is_good_at, is_hyphen_place, is_hexadecimal_digit, hexadecimal, hexadecimal_digit, maker_of, product_of, check_of, check_digits_of}
+use Rattle.part_number.specs.PartNumber.{IsPartNumberText, IsPartFault, IsFirstBadOffset, HasGoodCharacters, is_good_at, is_hyphen_offset, is_hexadecimal_digit, hexadecimal, hexadecimal_digit, maker_of, product_of, check_of, check_digits_of}
 use Rattle.part_number.specs.Verdicts.{part_fault_of, misplaced, character_or_check, digit_value, written_check, computed_check}
 use Rattle.load_base.specs.Cases.{of_each}
 use Rattle.part_number.specs.Laws.Read.{first_digit_is_good, second_digit_is_good, values_of_check_digits, right_check, wrong_check}
@@ -44,8 +44,8 @@ written_check-is text all =
 
 -- ---- from what holds to what is told
 
-no_bad_place : (text : List ℕ) → HasGoodCharacters text → first_bad is_good_at text ≡ None
-no_bad_place text all = first_bad-none is_good_at text (λ k within. all.good k (omega (arith, within, all.size)))
+no_bad_offset : (text : List ℕ) → HasGoodCharacters text → first_bad is_good_at text ≡ None
+no_bad_offset text all = first_bad-none is_good_at text (λ k within. all.good k (omega (arith, within, all.size)))
 
 part_right : (text : List ℕ) → IsPartNumberText text → part_fault_of text ≡ None
 unfolding part_fault_of
@@ -55,21 +55,21 @@ part_right text is =
     let all = all_good_of_part text maker product is in
     let same : written_check text ≡ computed_check text =
     written_check-of text (check_of maker product) (check_of-lt maker product is.maker_good is.product_good) all.size (check_digits_of_part text maker product is) in
-    rw (eq-eqb (length text) 15 all.size, no_bad_place text all, eq-eqb (written_check text) (computed_check text) same) refl
+    rw (eq-eqb (length text) 15 all.size, no_bad_offset text all, eq-eqb (written_check text) (computed_check text) same) refl
 
-bad_place : (text : List ℕ) (place : ℕ) → length text ≡ 15 → IsFirstBadPlace text place → part_fault_of text ≡ Some (misplaced place)
+bad_offset : (text : List ℕ) (offset : ℕ) → length text ≡ 15 → IsFirstBadOffset text offset → part_fault_of text ≡ Some (misplaced offset)
 unfolding part_fault_of
-bad_place text place size first = rw (eq-eqb (length text) 15 size, first_bad-some is_good_at text place first.within first.before first.bad) refl
+bad_offset text offset size first = rw (eq-eqb (length text) 15 size, first_bad-some is_good_at text offset first.within first.before first.bad) refl
 
 part_wrong : (text : List ℕ) (fault : PartFault) → IsPartFault text fault → part_fault_of text ≡ Some fault
 unfolding part_fault_of
 part_wrong text (Length found) is = rw (ne_eqb (length text) 15 is.1, is.0) refl
-part_wrong text (Hyphen place) is = bad_place text place is.0 is.1 ∙ rw is.2 refl
-part_wrong text (Character place) is = bad_place text place is.0 is.1 ∙ rw is.2 refl
+part_wrong text (Hyphen offset) is = bad_offset text offset is.0 is.1 ∙ rw is.2 refl
+part_wrong text (Character offset) is = bad_offset text offset is.0 is.1 ∙ rw is.2 refl
 part_wrong text (Check found due) is =
-    let same : written_check text ≡ found = written_check-of text found is.is_byte is.places.size is.digits in
+    let same : written_check text ≡ found = written_check-of text found is.is_byte is.offsets.size is.digits in
     let differ : written_check text ≡ computed_check text → ⊥ = λ e. is.differ (sym same ∙ (e ∙ sym is.sum)) in
-    rw (eq-eqb (length text) 15 is.places.size, no_bad_place text is.places, ne_eqb (written_check text) (computed_check text) differ)
+    rw (eq-eqb (length text) 15 is.offsets.size, no_bad_offset text is.offsets, ne_eqb (written_check text) (computed_check text) differ)
     (cc (same, is.sum))
 
 -- ---- from what is told to what holds
@@ -85,16 +85,16 @@ check_says text all false is =
     let written = written_check-is text all in
     wrong_check text (written_check text) (computed_check text) all written.1 written.0 refl (eqb-false (written_check text) (computed_check text) is)
 
-place_says : (text : List ℕ) (place : ℕ) → length text ≡ 15 → IsFirstBadPlace text place → (hyphen : Bool) → is_hyphen_place place ≡ hyphen
-    → IsPartFault text (if hyphen then Hyphen place else Character place)
-place_says text place size first true is = (size, first, is)
-place_says text place size first false is = (size, first, is)
+offset_says : (text : List ℕ) (offset : ℕ) → length text ≡ 15 → IsFirstBadOffset text offset → (hyphen : Bool) → is_hyphen_offset offset ≡ hyphen
+    → IsPartFault text (if hyphen then Hyphen offset else Character offset)
+offset_says text offset size first true is = (size, first, is)
+offset_says text offset size first false is = (size, first, is)
 
 characters_say : (text : List ℕ) → length text ≡ 15 → (found : Option ℕ) → SaysWhichAreGood is_good_at text found → Says text (character_or_check text found)
 characters_say text size None each =
     check_says text (record { size = size; good = λ k within. each k (omega (arith, size, within)) }) (written_check text == computed_check text) refl
-characters_say text size (Some place) is =
-    place_says text place size (record { within = is.within; before = is.before; bad = is.bad }) (is_hyphen_place place) refl
+characters_say text size (Some offset) is =
+    offset_says text offset size (record { within = is.within; before = is.before; bad = is.bad }) (is_hyphen_offset offset) refl
 
 part_says : (text : List ℕ) → Says text (part_fault_of text)
 unfolding part_fault_of
@@ -109,11 +109,11 @@ part_says text = go (length text == 15) refl
 pub part_size : (text : List ℕ) → IsPartNumberText text → length text ≡ 15
 part_size text is = size_of_part text (maker_of text) (product_of text) is
 
-good_is_small : (place byte : ℕ) → is_good_at place byte ≡ true → byte < 256
+good_is_small : (offset byte : ℕ) → is_good_at offset byte ≡ true → byte < 256
 unfolding is_good_at
-good_is_small place byte good = grind (arith, nat_tests)
+good_is_small offset byte good = grind (arith, nat_tests)
 
-part_small : (text : List ℕ) → IsPartNumberText text → (place : ℕ) → slice_index text place < 256
+part_small : (text : List ℕ) → IsPartNumberText text → (offset : ℕ) → slice_index text offset < 256
 part_small text is =
     let all = all_good_of_part text (maker_of text) (product_of text) is in
     small_by is_good_at good_is_small text (λ k within. all.good k (omega (arith, within, all.size)))

@@ -1,7 +1,7 @@
 -- What is wrong with a part number, as a function of its bytes (docs/FORMATS.md, "Part numbers").
 use Rattle.std.specs.Prelude.{ℕ, ◌+◌, ◌-◌, ◌*◌, List, length, slice_index, ◌==◌, nat_lt, if◌then◌else◌, Option, Some, None}
 use Rattle.load_base.specs.Verdicts.{first_bad}
-use Rattle.part_number.specs.PartNumber.{is_good_at, is_hyphen_place, check_of, maker_of, product_of}
+use Rattle.part_number.specs.PartNumber.{is_good_at, is_hyphen_offset, check_of, maker_of, product_of}
 use Rattle.part_number.specs.declared.PartFault.{PartFault}
 use Rattle.part_number.specs.declared.PartFault.TheVariants.{Length, Hyphen, Character, Check}
 
@@ -17,14 +17,14 @@ written_check text = 16 * digit_value (slice_index text 3) + digit_value (slice_
 abbrev pub computed_check : List ℕ → ℕ
 computed_check text = check_of (maker_of text) (product_of text)
 
--- a wrong character, at a hyphen's place or elsewhere
+-- a wrong character, at a hyphen's offset or elsewhere
 abbrev pub misplaced : ℕ → PartFault
-misplaced place = if is_hyphen_place place then Hyphen place else Character place
+misplaced offset = if is_hyphen_offset offset then Hyphen offset else Character offset
 
 -- wrong check digits, where each character is good
 abbrev pub character_or_check : List ℕ → Option ℕ → Option PartFault
 character_or_check text None = if written_check text == computed_check text then None else Some (Check (written_check text) (computed_check text))
-character_or_check text (Some place) = Some (misplaced place)
+character_or_check text (Some offset) = Some (misplaced offset)
 
 -- what is wrong with a part number: its length, then its characters, then its check digits
 unfoldable pub part_fault_of : List ℕ → Option PartFault

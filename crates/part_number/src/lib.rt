@@ -6,7 +6,7 @@ ghost use Rattle.std.specs.Bool.{Decides};
 ghost use Rattle.load_base.specs.Bytes.{AllGood};
 ghost use Rattle.load_base.specs.PartText.{IsPartText};
 ghost use Rattle.load_base.specs.Verdicts.{judged, TellsFaults};
-ghost use Rattle.part_number.specs.PartNumber.{IsPartNumber, IsPartNumberText, IsPartFault, IsFirstBadPlace, HasGoodCharacters, part_number_text, maker_of, product_of, check_digits_of, check_of, hexadecimal, hexadecimal_digit, is_part_character, is_hexadecimal_digit, is_hyphen_place, is_good_at};
+ghost use Rattle.part_number.specs.PartNumber.{IsPartNumber, IsPartNumberText, IsPartFault, IsFirstBadOffset, HasGoodCharacters, part_number_text, maker_of, product_of, check_digits_of, check_of, hexadecimal, hexadecimal_digit, is_part_character, is_hexadecimal_digit, is_hyphen_offset, is_good_at};
 ghost use Rattle.part_number.specs.Verdicts.{part_fault_of};
 
 mod printing;
@@ -56,7 +56,8 @@ impl PartNumber {
     pub fn read(bytes: &[u8]) -> Result<PartNumber, PartFault>
         ensures found { IfOk result (λ part. (part ≡ bytes.now) × IsPartNumberText bytes.now) }
         ensures only { IsPartNumberText bytes.now → IsOk result }
-        ensures each_is_read { (maker product : List ℕ) → IsPartNumber bytes.now maker product → IsOk result }
+        ensures each_is_read { (maker product : List ℕ) → IsPartNumber bytes.now maker product
+            → IsOk result }
         ensures refused { IfErr result (λ fault. IsPartFault bytes.now fault) }
         ensures judged { result ≡ judged part_fault_of bytes.now }
     {
@@ -74,9 +75,11 @@ impl PartNumber {
     #[tactic(auto, using(crate::proofs::Faults::fault_of_text, crate::specs::Laws::Read::made_from_text))]
     pub fn make(maker: &[u8; 3], product: &[u8; 8]) -> Result<PartNumber, PartFault>
         ensures made { IfOk result (λ part. IsPartNumber part maker.now product.now) }
-        ensures only { AllGood is_part_character maker.now → AllGood is_part_character product.now → IsOk result }
+        ensures only { AllGood is_part_character maker.now → AllGood is_part_character product.now
+            → IsOk result }
         ensures refused { IfErr result (λ fault.
-            (place : ℕ) × (fault ≡ PartFault.Character place) × IsFirstBadPlace (part_number_text maker.now product.now) place) }
+            (offset : ℕ) × (fault ≡ PartFault.Character offset)
+            × IsFirstBadOffset (part_number_text maker.now product.now) offset) }
     {
         PartNumber::read(&text_of(maker, product))
     }
@@ -125,7 +128,8 @@ impl Eq for PartNumber {
 // For the proof: does nothing.
 #[tactic(auto, using(load_base::specs::EqualityLaws::equal_bytes))]
 pub fn part_number_equality_law()
-    ensures { (one other : List ℕ) → Decides (⟦<PartNumber as PartialEq>⟧.eq one other) (one ≡ other) }
+    ensures { (one other : List ℕ)
+        → Decides (⟦<PartNumber as PartialEq>⟧.eq one other) (one ≡ other) }
 {}
 
 /// Laws of part numbers and of their faults, for callers that compare them.
@@ -133,16 +137,22 @@ pub fn part_number_equality_law()
 #[tactic(auto, using(crate::proofs::Laws::laws))]
 pub fn part_number_laws()
     // A text is the part number of one maker and one product, those that stand in it.
-    ensures one_maker { (text maker product : List ℕ) → IsPartNumber text maker product → maker_of text ≡ maker }
-    ensures one_product { (text maker product : List ℕ) → IsPartNumber text maker product → product_of text ≡ product }
+    ensures one_maker { (text maker product : List ℕ) → IsPartNumber text maker product
+        → maker_of text ≡ maker }
+    ensures one_product { (text maker product : List ℕ) → IsPartNumber text maker product
+        → product_of text ≡ product }
 
     // So what `make` gives is read as the same.
-    ensures made_is_read { (text maker product : List ℕ) → IsPartNumber text maker product → IsPartNumberText text }
-    ensures is_part_text { (text maker product : List ℕ) → IsPartNumber text maker product → IsPartText text }
+    ensures made_is_read { (text maker product : List ℕ) → IsPartNumber text maker product
+        → IsPartNumberText text }
+    ensures is_part_text { (text maker product : List ℕ) → IsPartNumber text maker product
+        → IsPartText text }
 
     // Bytes are a part number or have a first fault, one and not both.
-    ensures no_fault { (text maker product : List ℕ) (fault : PartFault) → IsPartNumber text maker product → ¬ IsPartFault text fault }
-    ensures one_fault { (text : List ℕ) (fault other : PartFault) → IsPartFault text fault → IsPartFault text other → fault ≡ other }
+    ensures no_fault { (text maker product : List ℕ) (fault : PartFault)
+        → IsPartNumber text maker product → ¬ IsPartFault text fault }
+    ensures one_fault { (text : List ℕ) (fault other : PartFault) → IsPartFault text fault
+        → IsPartFault text other → fault ≡ other }
 
     // A function computes which from the bytes, and what is right has 15 bytes.
     ensures told { TellsFaults part_fault_of IsPartNumberText IsPartFault }
@@ -171,8 +181,8 @@ fn first_fault(text: &[u8; 15]) -> Option<PartFault>
     ensures none { IfNone result (IsPartNumberText text.now) }
     ensures first { IfSome result (IsPartFault text.now) }
 {
-    if let Some(place) = first_bad(text) {
-        return Some(misplaced(place));
+    if let Some(offset) = first_bad(text) {
+        return Some(misplaced(offset));
     }
     let written = written_check(text);
     let computed = computed_check(text);
@@ -187,31 +197,31 @@ fn first_fault(text: &[u8; 15]) -> Option<PartFault>
 fn first_bad(text: &[u8]) -> Option<usize>
     requires { length text.now ≡ 15 }
     ensures none { IfNone result (HasGoodCharacters text.now) }
-    ensures first { IfSome result (λ place. IsFirstBadPlace text.now place) }
+    ensures first { IfSome result (λ offset. IsFirstBadOffset text.now offset) }
 {
     text.iter()
         .enumerate()
-        .position(|(place, byte)| !may_stand_at(place, *byte))
+        .position(|(offset, byte)| !may_stand_at(offset, *byte))
 }
 
 #[tactic(auto, unfolding(crate::specs::PartNumber::is_good_at))]
-fn may_stand_at(place: usize, byte: u8) -> bool
-    ensures { result ≡ is_good_at place byte }
+fn may_stand_at(offset: usize, byte: u8) -> bool
+    ensures { result ≡ is_good_at offset byte }
 {
-    match place {
+    match offset {
         5 | 10 => byte == b'-',
         3 | 4 => matches!(byte, b'0'..=b'9' | b'A'..=b'F'),
         _ => matches!(byte, b'A'..=b'Z' | b'0'..=b'9'),
     }
 }
 
-fn misplaced(place: usize) -> PartFault
-    ensures hyphen { is_hyphen_place place ≡ true → result ≡ PartFault.Hyphen place }
-    ensures character { is_hyphen_place place ≡ false → result ≡ PartFault.Character place }
+fn misplaced(offset: usize) -> PartFault
+    ensures hyphen { is_hyphen_offset offset ≡ true → result ≡ PartFault.Hyphen offset }
+    ensures character { is_hyphen_offset offset ≡ false → result ≡ PartFault.Character offset }
 {
-    match place {
-        5 | 10 => PartFault::Hyphen(place as u64),
-        _ => PartFault::Character(place as u64),
+    match offset {
+        5 | 10 => PartFault::Hyphen(offset as u64),
+        _ => PartFault::Character(offset as u64),
     }
 }
 
@@ -233,12 +243,12 @@ fn computed_check(text: &[u8; 15]) -> u8
 }
 
 // The exclusive or of the characters of a maker and of both halves of a product.
-fn exclusive_or(maker: &[u8], front: &[u8], back: &[u8]) -> u8
-    ensures { result ≡ fold bit_xor 0 (maker.now ++ front.now ++ back.now) }
+fn exclusive_or(maker: &[u8], prefix: &[u8], back: &[u8]) -> u8
+    ensures { result ≡ fold bit_xor 0 (maker.now ++ prefix.now ++ back.now) }
 {
     maker
         .iter()
-        .chain(front)
+        .chain(prefix)
         .chain(back)
         .fold(0, |sum, character| sum ^ character)
 }
@@ -317,7 +327,7 @@ mod tests {
 
     #[test]
     fn a_wrong_character_is_told_by_its_offset_in_the_text(rt: HostRuntime) {
-        for (maker, product, place) in [
+        for (maker, product, offset) in [
             (b"AbC", b"12345678", 1),
             (b"ABC", b"a2345678", 6),
             (b"ABC", b"123x5678", 9),
@@ -325,7 +335,7 @@ mod tests {
             (b"ABC", b"1234567x", 14),
         ] {
             let fault = PartNumber::make(maker, product).err();
-            assert_eq!(rt; fault, Some(PartFault::Character(place)));
+            assert_eq!(rt; fault, Some(PartFault::Character(offset)));
         }
     }
 }

@@ -1,4 +1,4 @@
--- How faults are printed: the code, and each field in decimal after one space; a nested fault in its place in
+-- How faults are printed: the code, and each field in decimal after one space; a nested fault in its offset in
 -- the same way (docs/FORMATS.md, "Printed text").
 use Rattle.std.specs.Prelude.{ℕ, ◌+◌, ◌*◌, List, [], ◌∷◌, ◌++◌, length, codes}
 use Rattle.std.specs.Fmt.{decimal}

@@ -7,8 +7,8 @@ ghost use Rattle.printed_text.specs.FaultTexts.{coded as coded_text, nested as n
 use load_base::{Bytes, IdentFault, NameFault, NoMemory, Text, TextFault};
 use std::alloc::Global;
 
-/// A fault that is printed: its code, each field in decimal after one space, and a fault within it in its place
-/// in the same way, as in `H12 50 N3 2`.
+/// A fault that is printed: its code, each field in decimal after one space, and a fault within it
+/// in its place in the same way, as in `H12 50 N3 2`.
 pub trait Printed {
     /// What it is printed as. Memory is no fault of what was read, and is printed as nothing.
     ghost printed: { Self → List ℕ };
@@ -57,8 +57,10 @@ pub fn nested<F: Printed>(
 ) -> Result<Text, NoMemory>
     requires code { list_all is_printable code.now ≡ true }
     requires short { longest_coded code.now numbers.now + (1 + F.longest) ≤ 255 }
-    ensures text { IfOk result (λ text. text ≡ nested_text (coded_text code.now numbers.now) (F.printed inner.now)) }
-    ensures short { IfOk result (λ text. length text ≤ longest_coded code.now numbers.now + (1 + F.longest)) }
+    ensures text { IfOk result (λ text.
+        text ≡ nested_text (coded_text code.now numbers.now) (F.printed inner.now)) }
+    ensures short { IfOk result (λ text.
+        length text ≤ longest_coded code.now numbers.now + (1 + F.longest)) }
 {
     let outer = coded(alloc, code, numbers)?;
     let inner = inner.text(alloc)?;

@@ -1,4 +1,5 @@
-//! How what people read is printed (docs/FORMATS.md, "Printed text"): numbers, lines, and the texts of faults.
+//! How what people read is printed (docs/FORMATS.md, "Printed text"): numbers, lines, and the texts
+//! of faults.
 //!
 //! A call that puts something extends `out`. Where it is out of memory, `out` is as it was.
 #![tactic(auto)]

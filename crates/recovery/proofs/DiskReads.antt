@@ -40,20 +40,20 @@ look_more a b c x so_far look = record { only_reads = reads_joined a b c so_far.
 runs_after : (a b c : DiskState) (fault : RecoverFault) → RunsOn a b → RunsOnAfter b c fault → RunsOnAfter a c fault
 runs_after a b c RecoverFault.DiskFailed first after = tt
 runs_after a b c RecoverFault.Memory first after = tt
-runs_after a b c (RecoverFault.NotFormatted place) first after = runs_joined a b c first after
+runs_after a b c (RecoverFault.NotFormatted offset) first after = runs_joined a b c first after
 runs_after a b c RecoverFault.NoOpenSlot first after = runs_joined a b c first after
-runs_after a b c (RecoverFault.BadSlot place) first after = runs_joined a b c first after
-runs_after a b c (RecoverFault.BadManifest place) first after = runs_joined a b c first after
+runs_after a b c (RecoverFault.BadSlot offset) first after = runs_joined a b c first after
+runs_after a b c (RecoverFault.BadManifest offset) first after = runs_joined a b c first after
 
 -- after the last look
 pub looked_on : {T : Type 0} (a b : DiskState) (result : Result T RecoverFault) → Looked a b → OnOk result (RunsOn a b) → IfErr result (λ fault. IsOfDisk fault) → ¬ IsErrOf result DiskFailed → ReadsDisk a b result
 looked_on a b (Ok x) so_far ok err failed = record { only_reads = so_far.only_reads; ok = so_far.runs; err = tt; cause = record { failed = λ e. absurd (failed e) } }
 looked_on a b (Err RecoverFault.DiskFailed) so_far ok err failed = absurd (failed refl)
 looked_on a b (Err RecoverFault.Memory) so_far ok err failed = record { only_reads = so_far.only_reads; ok = tt; err = tt; cause = record { failed = λ e. absurd (failed e) } }
-looked_on a b (Err (RecoverFault.NotFormatted place)) so_far ok err failed = absurd err
+looked_on a b (Err (RecoverFault.NotFormatted offset)) so_far ok err failed = absurd err
 looked_on a b (Err RecoverFault.NoOpenSlot) so_far ok err failed = absurd err
-looked_on a b (Err (RecoverFault.BadSlot place)) so_far ok err failed = absurd err
-looked_on a b (Err (RecoverFault.BadManifest place)) so_far ok err failed = absurd err
+looked_on a b (Err (RecoverFault.BadSlot offset)) so_far ok err failed = absurd err
+looked_on a b (Err (RecoverFault.BadManifest offset)) so_far ok err failed = absurd err
 
 rose_since : (a b c : ℕ) → a ≤ b → Rose b c → Rose a c
 rose_since a b c earlier rose = omega (arith, earlier, rose)

@@ -2,7 +2,7 @@
 use Rattle.std.proofs.Common.{◌≡◌, ℕ, ◌+◌, List, inl, inr, refl, sym, ap, ◌∙◌}
 use Rattle.disk_model.specs.Image.{Image, range}
 use Rattle.field_grammar.specs.Grammar.{Spelled}
-use Rattle.disk_layout.specs.Places.{bank_at}
+use Rattle.disk_layout.specs.Offsets.{bank_at}
 use Rattle.disk_layout.specs.Identity.{HasIdentity}
 use Rattle.disk_layout.specs.Slots.{bank_of, IsSlotAt}
 use Rattle.disk_layout.specs.Manifest.{LoadEntry, manifest, total_length}
@@ -21,10 +21,10 @@ use Rattle.recovery.specs.Parts.RefusesSlot.{other_bank, long, past}
 pub of_disk : (image : Image) (fault : RecoverFault) → IsOfDisk fault → Refuses image fault
 of_disk image DiskFailed is = tt
 of_disk image Memory is = tt
-of_disk image (NotFormatted place) is = absurd is
+of_disk image (NotFormatted offset) is = absurd is
 of_disk image NoOpenSlot is = absurd is
-of_disk image (BadSlot place) is = absurd is
-of_disk image (BadManifest place) is = absurd is
+of_disk image (BadSlot offset) is = absurd is
+of_disk image (BadManifest offset) is = absurd is
 
 -- ---- no slot is active
 
@@ -41,8 +41,8 @@ can_be image id at slot is can = record {
   within = rw (← is.offset, ← is.length) can.within;
 }
 
-refuses_bad : (image : Image) (id : Identity) (at place : ℕ) (fault : RecoverFault) → HasActiveSlot image id at → IsBadSlot image id at place → fault ≡ BadSlot place → Refuses image fault
-refuses_bad image id at place fault has_active bad is = rw is (bad_slot id at place has_active bad refl)
+refuses_bad : (image : Image) (id : Identity) (at offset : ℕ) (fault : RecoverFault) → HasActiveSlot image id at → IsBadSlot image id at offset → fault ≡ BadSlot offset → Refuses image fault
+refuses_bad image id at offset fault has_active bad is = rw is (bad_slot id at offset has_active bad refl)
 
 pub slot_refuses : (image : Image) (id : Identity) (at : ℕ) (slot : SlotFields) (fault : RecoverFault) → HasActiveSlot image id at → IsSlotAt image at slot
     → RefusesSlot id.bank at slot fault → Refuses image fault
@@ -69,8 +69,8 @@ pub manifest_refuses : (image : Image) (id : Identity) (at : ℕ) (slot : SlotFi
     → RefusesManifest image (bank_at id.bank slot.bank + slot.manifest.offset) slot.manifest.length slot.manifest.offset fault → Refuses image fault
 manifest_refuses image id at slot fault has_active can says (inl (inl is)) = of_disk image fault is
 manifest_refuses image id at slot fault has_active can says (inl (inr wrong)) =
-    let (place, faulty, is) = wrong in
-    rw is (bad_manifest id at place has_active can (rw (bytes_are image id at slot says) at faulty) (ap (λ (p : ℕ). BadManifest (p + place)) (start_is image id at slot says)))
+    let (offset, faulty, is) = wrong in
+    rw is (bad_manifest id at offset has_active can (rw (bytes_are image id at slot says) at faulty) (ap (λ (p : ℕ). BadManifest (p + offset)) (start_is image id at slot says)))
 manifest_refuses image id at slot fault has_active can says (inr other) =
     rw other.is (
     other_lengths id at other.loads has_active can (rw (bytes_are image id at slot says) at other.spelled) (λ same. other.differ (same ∙ sym says.offset))

@@ -2,7 +2,7 @@
 use Rattle.std.proofs.Common.{◌≡◌, ℕ, List, Bool, ap, ◌∙◌}
 use Rattle.load_base.specs.Config.{LoadView}
 use Rattle.disk_model.specs.Image.{Image, range}
-use Rattle.disk_layout.specs.Places.{bank_at}
+use Rattle.disk_layout.specs.Offsets.{bank_at}
 use Rattle.disk_layout.specs.Slots.{slot_offset, bank_number}
 use Rattle.disk_layout.specs.Manifest.{LoadEntry, manifest_view, total_length}
 use Rattle.disk_layout.specs.Contents.{entries_of, contents_of_loads, HeadersAreFirst}

@@ -1,7 +1,7 @@
 -- What was found, as what a store keeps of the disk.
 use Rattle.std.proofs.Common.{◌≡◌, ◌≢◌, ℕ, List, Bool, true, false, inl, inr, sym, ap, ◌∙◌, subst, arith}
 use Rattle.disk_model.specs.Image.{Image}
-use Rattle.disk_layout.specs.Slots.{IsSlot, IsSlotAt, slot_offset, bank_number, other_slot, manifest_place_of, manifest_length_of}
+use Rattle.disk_layout.specs.Slots.{IsSlot, IsSlotAt, slot_offset, bank_number, other_slot, manifest_offset_of, manifest_length_of}
 use Rattle.disk_layout.specs.Manifest.{LoadEntry, manifest_view}
 use Rattle.disk_layout.specs.Holds.{Outline, StandingView, HasOutline, HoldsBy, outline_of}
 use Rattle.disk_layout.specs.declared.active.Active.{Active}
@@ -55,7 +55,7 @@ finds image id m active active_slot slot bank sequence manifest outline says oth
     let at : slot_offset active.slot ≡ slot_offset active_slot.slot = ap slot_offset slot in
     record {
       outline = same_outline image id (manifest_view m) (slot_offset active.slot) (slot_offset active_slot.slot) (bank_number active.bank) active_slot.says.bank active.sequence active_slot.says.sequence at bank sequence outline;
-      offset = ap (λ (n : ℕ). manifest_place_of image n) at ∙ sym says.offset ∙ sym (ap (λ (r : ManifestRange). r.offset) manifest);
+      offset = ap (λ (n : ℕ). manifest_offset_of image n) at ∙ sym says.offset ∙ sym (ap (λ (r : ManifestRange). r.offset) manifest);
       length = ap (λ (n : ℕ). manifest_length_of image n) at ∙ sym says.length ∙ sym (ap (λ (r : ManifestRange). r.length) manifest);
       other = subst (λ (n : ℕ). TellsOther image n active_slot.other_is_open) (sym at) other;
     }

@@ -2,7 +2,7 @@
 use Rattle.std.specs.Prelude.{◌≡◌, ◌≢◌, ◌⊎◌, ◌↔◌, ℕ, ◌+◌, ◌<◌, ◌≤◌, List, length, Bool, true}
 use Rattle.disk_model.specs.Image.{Image, range}
 use Rattle.field_grammar.specs.Grammar.{Spelled, Fault}
-use Rattle.disk_layout.specs.Places.{slot_a, slot_b, longest_manifest}
+use Rattle.disk_layout.specs.Offsets.{slot_a, slot_b, longest_manifest}
 use Rattle.disk_layout.specs.Slots.{slot_offset, IsOpen, IsSlot, IsActiveSlot, IsSlotAt, IsSound}
 use Rattle.disk_layout.specs.Manifest.{LoadEntry, manifest, total_length}
 use Rattle.disk_layout.specs.DiskReads.{IsOfDisk}
@@ -46,14 +46,14 @@ HasFiles entry = 1 ≤ length entry.files
 
 -- these bytes are no manifest from one offset on, or the disk or memory failed
 abbrev pub RefusesBytes : Image → (start size : ℕ) → RecoverFault → Type 0
-RefusesBytes image start size fault = IsOfDisk fault ⊎ ((place : ℕ) × Fault manifest (range image start size) (Wrong place) × (fault ≡ BadManifest (start + place)))
+RefusesBytes image start size fault = IsOfDisk fault ⊎ ((offset : ℕ) × Fault manifest (range image start size) (Wrong offset) × (fault ≡ BadManifest (start + offset)))
 
 -- the lengths of its files don't add up to its offset
-pub record HasOtherLengths (image : Image) (start size place : ℕ) (fault : RecoverFault) : Type 0 where
+pub record HasOtherLengths (image : Image) (start size offset : ℕ) (fault : RecoverFault) : Type 0 where
   pub loads : List LoadEntry
   pub spelled : Spelled manifest (range image start size) loads
-  pub differ : total_length loads ≢ place
+  pub differ : total_length loads ≢ offset
   pub is : fault ≡ BadManifest start
 
-abbrev pub RefusesManifest : Image → (start size place : ℕ) → RecoverFault → Type 0
-RefusesManifest image start size place fault = RefusesBytes image start size fault ⊎ HasOtherLengths image start size place fault
+abbrev pub RefusesManifest : Image → (start size offset : ℕ) → RecoverFault → Type 0
+RefusesManifest image start size offset fault = RefusesBytes image start size fault ⊎ HasOtherLengths image start size offset fault

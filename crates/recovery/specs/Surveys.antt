@@ -1,8 +1,8 @@
 -- What a survey of a disk finds.
 use Rattle.std.specs.Prelude.{◌≡◌, ◌≤◌, Bool}
 use Rattle.disk_model.specs.Image.{Image}
-use Rattle.disk_layout.specs.Places.{IsBankSize}
-use Rattle.disk_layout.specs.Slots.{slot_offset, bank_number, manifest_place_of, manifest_length_of, IsManifestRange}
+use Rattle.disk_layout.specs.Offsets.{IsBankSize}
+use Rattle.disk_layout.specs.Slots.{slot_offset, bank_number, manifest_offset_of, manifest_length_of, IsManifestRange}
 use Rattle.disk_layout.specs.Manifest.{ManifestFits, manifest_view, total_length}
 use Rattle.disk_layout.specs.Holds.{Outline, HasOutline}
 use Rattle.disk_layout.specs.declared.active.Active.{Active}
@@ -20,7 +20,7 @@ outline_by id m active = record { identity = id; bank = bank_number active.bank;
 -- manifest; and this is told of the other slot.
 pub record FindsActive (image : Image) (id : Identity) (m : Manifest) (active : Active) (other_is_open : Bool) : Type 0 where
   pub outline : HasOutline image (slot_offset active.slot) (outline_by id m active)
-  pub offset : manifest_place_of image (slot_offset active.slot) ≡ active.manifest.offset
+  pub offset : manifest_offset_of image (slot_offset active.slot) ≡ active.manifest.offset
   pub length : manifest_length_of image (slot_offset active.slot) ≡ active.manifest.length
   pub other : TellsOther image (slot_offset active.slot) other_is_open
 

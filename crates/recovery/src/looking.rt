@@ -12,7 +12,8 @@ use std::alloc::Global;
 // How many bytes are read at once.
 const PIECE: usize = 8192;
 
-/// Fills `buf` from the disk. A fault of the disk is one of its recovery, and says nothing of what stands there.
+/// Fills `buf` from the disk. A fault of the disk is one of its recovery, and says nothing of what
+/// stands there.
 pub(crate) fn read_from<K: Disk>(disk: &mut K, at: u32, buf: &mut [u8]) -> Result<(), RecoverFault>
     requires running { (K.state disk.old).stopped ≡ false }
     requires within { at + length buf.old ≤ SIZE }

@@ -1,7 +1,7 @@
 //! Recovery of a whole configuration.
 ghost use Rattle.std.specs.Prelude.{◌<◌, IfOk, IfErr};
 ghost use Rattle.std.specs.Option.{ForSome};
-ghost use Rattle.disk_layout.specs.Places.{IsBankSize};
+ghost use Rattle.disk_layout.specs.Offsets.{IsBankSize};
 ghost use Rattle.disk_layout.specs.Holds.{HoldsConfig, Refuses, standing_view};
 ghost use Rattle.disk_layout.specs.DiskReads.{ReadsDisk};
 ghost use Rattle.bank_store.specs.DiskWrites.{IsRunning};
@@ -13,9 +13,10 @@ use disk_model::Disk;
 use load_base::Config;
 use std::alloc::Global;
 
-/// Recovers the configuration that a disk holds: all that [`crate::survey`] reads, and the contents of the active bank.
-/// Nothing is written. The first condition that fails is the refusal (that it is one, and the only one, is a
-/// law of [`disk_layout::an_image_holds_one_configuration`]); after it the disk runs on.
+/// Recovers the configuration that a disk holds: all that [`crate::survey`] reads, and the contents
+/// of the active bank. Nothing is written. The first condition that fails is the refusal (that it
+/// is one, and the only one, is a law of [`disk_layout::an_image_holds_one_configuration`]); after
+/// it the disk runs on.
 pub fn recover<K: Disk>(alloc: Global, disk: &mut K) -> Result<Standing, RecoverFault>
     requires { IsRunning (K.state disk.old) }
     ensures found { IfOk result (λ standing. ForSome (K.state disk.old).reads

@@ -5,7 +5,7 @@ ghost use Rattle.std.specs.Option.{ForSome};
 ghost use Rattle.disk_model.specs.Image.{Image, range};
 ghost use Rattle.disk_model.specs.State.{IsSettled};
 ghost use Rattle.field_grammar.specs.Grammar.{Spelled};
-ghost use Rattle.disk_layout.specs.Places.{IsBankSize, bank_at};
+ghost use Rattle.disk_layout.specs.Offsets.{IsBankSize, bank_at};
 ghost use Rattle.disk_layout.specs.Identity.{HasIdentity};
 ghost use Rattle.disk_layout.specs.Slots.{slot_offset, bank_number, IsSlotAt};
 ghost use Rattle.disk_layout.specs.Manifest.{ManifestFits, manifest, manifest_view, entry_view, total_length, size_of};
@@ -19,9 +19,9 @@ ghost use Rattle.recovery.specs.Surveys.{IsSurveyed, IsSurveyInRange, FindsActiv
 
 use crate::looking::{bytes_on, read_from};
 use bank_store::{Store, a_settled_disk_works, a_store_goes_on_fitting};
-use disk_layout::places::{
-    BANK_IN_SLOT, LENGTH_IN_SLOT, LONGEST_IDENTITY, LONGEST_MANIFEST, OPEN, PLACE_IN_SLOT, SLOT_A,
-    SLOT_B, SLOT_LENGTH,
+use disk_layout::offsets::{
+    BANK_IN_SLOT, LENGTH_IN_SLOT, LONGEST_IDENTITY, LONGEST_MANIFEST, MANIFEST_OFFSET_IN_SLOT,
+    OPEN, SLOT_A, SLOT_B, SLOT_LENGTH,
 };
 use disk_layout::{
     Active, Bank, Identity, Manifest, ManifestFault, ManifestFile, ManifestLoad, RecoverFault,
@@ -38,12 +38,13 @@ pub struct Surveyed {
     pub store: Store,
 }
 
-/// Reads what is active on a disk: its identity, the open slot with the greatest sequence, and the manifest that
-/// the slot names. Nothing is written. The first condition that fails is the refusal; after it the disk
-/// runs on.
+/// Reads what is active on a disk: its identity, the open slot with the greatest sequence, and the
+/// manifest that the slot names. Nothing is written. The first condition that fails is the refusal;
+/// after it the disk runs on.
 ///
-/// The store that it gives installs on this disk, beside what is active there. What its calls promise of a power
-/// loss they promise where the disk was settled, as it is after a sync or a restart.
+/// The store that it gives installs on this disk, beside what is active there. What its calls
+/// promise of a power loss they promise where the disk was settled, as it is after a sync or a
+/// restart.
 pub fn survey<K: Disk>(alloc: Global, disk: &mut K) -> Result<Surveyed, RecoverFault>
     requires { IsRunning (K.state disk.old) }
     ensures found { IfOk result (λ surveyed. ForSome (K.state disk.old).reads
@@ -90,7 +91,8 @@ pub(crate) struct Found {
 pub(crate) fn active_on<K: Disk>(alloc: Global, disk: &mut K) -> Result<Found, RecoverFault>
     requires { IsRunning (K.state disk.old) }
     ensures found { IfOk result (λ found. ForSome (K.state disk.old).reads
-        (λ image. FindsActive image found.identity found.manifest found.active found.other_is_open)) }
+        (λ image. FindsActive image found.identity found.manifest found.active
+        found.other_is_open)) }
     ensures refused { IfErr result (λ fault. ForSome (K.state disk.old).reads
         (λ image. Refuses image fault)) }
     ensures in_range { IfOk result
@@ -134,11 +136,11 @@ fn identity_on<K: Disk>(disk: &mut K) -> Result<Identity, RecoverFault>
         (λ image. Refuses image fault)) }
     ensures reads_disk { ReadsDisk (K.state disk.old) (K.state disk.new) result }
 {
-    let mut front = [0; LONGEST_IDENTITY];
-    read_from(disk, 0, &mut front)?;
-    match Identity::decode(&front) {
+    let mut prefix = [0; LONGEST_IDENTITY];
+    read_from(disk, 0, &mut prefix)?;
+    match Identity::decode(&prefix) {
         Ok(identity) => Ok(identity),
-        Err(place) => Err(RecoverFault::NotFormatted(place)),
+        Err(offset) => Err(RecoverFault::NotFormatted(offset)),
     }
 }
 
@@ -173,7 +175,7 @@ fn active_slot_on<K: Disk>(disk: &mut K) -> Result<ActiveSlot, RecoverFault>
 {
     let a = slot_on(disk, SLOT_A)?;
     let b = slot_on(disk, SLOT_B)?;
-    if is_active_over(&a, &b) {
+    if a.is_active_over(&b) {
         Ok(ActiveSlot {
             slot: Slot::A,
             says: a,
@@ -188,14 +190,6 @@ fn active_slot_on<K: Disk>(disk: &mut K) -> Result<ActiveSlot, RecoverFault>
     } else {
         Err(RecoverFault::NoOpenSlot)
     }
-}
-
-// Slot A is open, and slot B isn't both open and of a greater sequence.
-fn is_active_over(a: &SlotFields, b: &SlotFields) -> bool
-    ensures { IsTrue result ↔ ((a.now.gate ≡ OPEN) × (b.now.gate ≡ OPEN
-        → b.now.sequence ≤ a.now.sequence)) }
-{
-    a.gate == OPEN && (b.gate != OPEN || b.sequence <= a.sequence)
 }
 
 // What a slot says can be on a disk with banks of this size.
@@ -213,7 +207,7 @@ fn check_slot(bank_size: u32, slot: Slot, says: &SlotFields) -> Result<(), Recov
         return Err(RecoverFault::BadSlot(at + u64::from(LENGTH_IN_SLOT)));
     }
     if end > u64::from(bank_size) {
-        return Err(RecoverFault::BadSlot(at + u64::from(PLACE_IN_SLOT)));
+        return Err(RecoverFault::BadSlot(at + u64::from(MANIFEST_OFFSET_IN_SLOT)));
     }
     Ok(())
 }
@@ -267,8 +261,8 @@ fn manifest_on<K: Disk>(
     let bytes = bytes_on(alloc, disk, start, length)?;
     match Manifest::decode(alloc, bytes.as_slice()) {
         Ok(manifest) => Ok(manifest),
-        Err(ManifestFault::Wrong(place)) => {
-            Err(RecoverFault::BadManifest(u64::from(start) + place))
+        Err(ManifestFault::Wrong(offset)) => {
+            Err(RecoverFault::BadManifest(u64::from(start) + offset))
         }
         Err(ManifestFault::Memory) => Err(RecoverFault::Memory),
     }

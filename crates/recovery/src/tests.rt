@@ -12,8 +12,9 @@ use std::alloc::Global;
 use std::fs;
 use std::test::Fail;
 
-// A disk for target HW1, position L, serial number SN1 with banks of 4096 bytes, of which bank 0 has one load of
-// one file of three bytes, and bank 1 none. Slot A names bank 0 with sequence 7, slot B bank 1 with sequence 8.
+// A disk for target HW1, position L, serial number SN1 with banks of 4096 bytes, of which bank 0
+// has one load of one file of three bytes, and bank 1 none. Slot A names bank 0 with sequence 7,
+// slot B bank 1 with sequence 8.
 fn two_slots() -> [u8; 12_290] {
     let mut disk = [0; 12_290];
     put(
@@ -42,24 +43,24 @@ fn put(disk: &mut [u8], at: usize, bytes: &[u8]) {
 
 // Where the first and the last write of these calls begin.
 fn first_and_last(notes: &[Note]) -> (u32, u32) {
-    let mut places = (0, 0);
+    let mut offsets = (0, 0);
     for note in notes {
         if let Call::Write { at, .. } = note.call {
-            if places.0 == 0 {
-                places.0 = at;
+            if offsets.0 == 0 {
+                offsets.0 = at;
             }
-            places.1 = at;
+            offsets.1 = at;
         }
     }
-    places
+    offsets
 }
 
 // An installation shuts the other slot first where it is open, and else begins with the other bank; its last
 // write opens the other slot.
 #[test]
-fn a_survey_tells_what_rules(rt: HostRuntime) -> Result<(), Fail> {
+fn a_survey_tells_what_is_active(rt: HostRuntime) -> Result<(), Fail> {
     let alloc = rt.alloc();
-    for (gate_a, gate_b, sequence_b, bank, sequence, loads, places) in [
+    for (gate_a, gate_b, sequence_b, bank, sequence, loads, offsets) in [
         (0xA5, 0xA5, 8, 1, 8, 0, (4096, 4096)),
         (0x5A, 0xA5, 8, 1, 8, 0, (8192, 4096)),
         (0xA5, 0xA5, 7, 0, 7, 1, (4608, 4608)),
@@ -80,7 +81,7 @@ fn a_survey_tells_what_rules(rt: HostRuntime) -> Result<(), Fail> {
         store.begin(&mut disk)?;
         store.seal(&mut disk)?;
         store.activate(&mut disk)?;
-        assert_eq!(rt; first_and_last(disk.notes()), places);
+        assert_eq!(rt; first_and_last(disk.notes()), offsets);
     }
     Ok(())
 }
@@ -109,7 +110,7 @@ fn a_missing_file_is_not_formatted(rt: HostRuntime) -> Result<(), Fail> {
         return Err(Fail::new("a missing file was surveyed"));
     };
     assert_eq!(rt; fault, RecoverFault::NotFormatted(0));
-    fs::remove_file(&rt, name)?;
+    assert!(rt; fs::read(&rt, name).is_err());
     let mut folder = FileDisk::new(&rt, ".");
     let Err(fault) = recover(alloc, &mut folder) else {
         return Err(Fail::new("a folder was recovered"));
@@ -147,7 +148,7 @@ fn is_load(load: &Load, part: &[u8], files: &[Wanted]) -> bool {
 }
 
 // It is that of the target of these tests, with this bank and this sequence number.
-fn is_ruling(standing: &Standing, bank: u8, sequence: u32) -> bool {
+fn is_active(standing: &Standing, bank: u8, sequence: u32) -> bool {
     standing.identity.hw.as_slice() == b"HW1".as_slice()
         && standing.identity.pos.as_slice() == b"L".as_slice()
         && standing.identity.serial.as_slice() == b"SN1".as_slice()
@@ -159,7 +160,7 @@ fn is_ruling(standing: &Standing, bank: u8, sequence: u32) -> bool {
 // The configuration that is there first.
 fn is_old(standing: &Standing) -> bool {
     let loads = standing.config.loads.as_slice();
-    is_ruling(standing, 1, 2)
+    is_active(standing, 1, 2)
         && loads.len() == 1
         && is_load(&loads[0], b"MMM12-0001-ABCD", &[(b"OLD.LUH", b"old")])
 }
@@ -169,7 +170,7 @@ fn is_new(standing: &Standing) -> bool {
     let loads = standing.config.loads.as_slice();
     let first: [Wanted; 2] = [(b"A.LUH", b"header"), (b"A.BIN", b"")];
     let second: [Wanted; 3] = [(b"B.LUH", b"two"), (b"B.BIN", b"data"), (b"B.TXT", b"")];
-    is_ruling(standing, 0, 3)
+    is_active(standing, 0, 3)
         && loads.len() == 2
         && is_load(&loads[0], b"ABC41-0000-0001", &first)
         && is_load(&loads[1], b"ABC42-0000-0002", &second)
@@ -322,8 +323,8 @@ fn after(before: &[u8; WHOLE], notes: &[Note]) -> [u8; WHOLE] {
     image
 }
 
-// What it holds where of each of these writes, by the digits of `pick` to the base 3, nothing came, its bytes,
-// or others.
+// What it holds where of each of these writes, by the digits of `pick` to the base 3, nothing came,
+// its bytes, or others.
 fn left_by(before: &[u8; WHOLE], writes: &[Note], pick: u32) -> [u8; WHOLE] {
     let mut image = *before;
     let mut digits = pick;

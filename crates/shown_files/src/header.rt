@@ -43,7 +43,8 @@ fn put_head(
     words: usize,
     header: &LoadHeader,
 ) -> Result<(), NoMemory>
-    ensures { OnOk result (out.new.items ≡ out.old.items ++ head_lines words (header_view header.now)) }
+    ensures { OnOk result
+        (out.new.items ≡ out.old.items ++ head_lines words (header_view header.now)) }
 {
     put_first_line(alloc, out, words, header.flags)?;
     put_line(out, b"part ", header.part.as_slice())?;
@@ -51,7 +52,8 @@ fn put_head(
 }
 
 fn put_first_line(alloc: Global, out: &mut Bytes, words: usize, flags: u16) -> Result<(), NoMemory>
-    ensures { OnOk result (out.new.items ≡ out.old.items ++ line (codes "header" ∷ decimal words ∷ codes "8004" ∷ hex_16 flags ∷ [])) }
+    ensures { OnOk result (out.new.items ≡ out.old.items
+        ++ line (codes "header" ∷ decimal words ∷ codes "8004" ∷ hex_16 flags ∷ [])) }
 {
     out.extend(b"header ")?;
     put_number(alloc, out, words as u64)?;
@@ -61,7 +63,8 @@ fn put_first_line(alloc: Global, out: &mut Bytes, words: usize, flags: u16) -> R
 }
 
 fn put_type(alloc: Global, out: &mut Bytes, id: u16, name: &Text) -> Result<(), NoMemory>
-    ensures { OnOk result (out.new.items ≡ out.old.items ++ line (codes "type" ∷ decimal id ∷ name.now ∷ [])) }
+    ensures { OnOk result
+        (out.new.items ≡ out.old.items ++ line (codes "type" ∷ decimal id ∷ name.now ∷ [])) }
 {
     out.extend(b"type ")?;
     put_number(alloc, out, u64::from(id))?;
@@ -87,7 +90,8 @@ fn put_hardware(out: &mut Bytes, hardware: &[Text]) -> Result<(), NoMemory>
 }
 
 fn put_positions(out: &mut Bytes, positions: &[HardwareAt]) -> Result<(), NoMemory>
-    ensures { OnOk result (out.new.items ≡ out.old.items ++ flat_map position_lines (map hardware_at_view positions.now)) }
+    ensures { OnOk result (out.new.items
+        ≡ out.old.items ++ flat_map position_lines (map hardware_at_view positions.now)) }
 {
     for at in positions {
         put_entry(out, at)?;
@@ -97,7 +101,8 @@ fn put_positions(out: &mut Bytes, positions: &[HardwareAt]) -> Result<(), NoMemo
 
 #[tactic(auto, unfolding(crate::specs::HeaderText::position_lines))]
 fn put_entry(out: &mut Bytes, at: &HardwareAt) -> Result<(), NoMemory>
-    ensures { OnOk result (out.new.items ≡ out.old.items ++ position_lines (hardware_at_view at.now)) }
+    ensures { OnOk result
+        (out.new.items ≡ out.old.items ++ position_lines (hardware_at_view at.now)) }
 {
     if at.positions.is_empty() {
         return put_line(out, b"position ", at.hardware.as_slice());
@@ -106,7 +111,8 @@ fn put_entry(out: &mut Bytes, at: &HardwareAt) -> Result<(), NoMemory>
 }
 
 fn put_each_position(out: &mut Bytes, hardware: &Text, positions: &[Text]) -> Result<(), NoMemory>
-    ensures { OnOk result (out.new.items ≡ out.old.items ++ flat_map (position_line hardware.now) positions.now) }
+    ensures { OnOk result
+        (out.new.items ≡ out.old.items ++ flat_map (position_line hardware.now) positions.now) }
 {
     for position in positions {
         put_position(out, hardware, position)?;
@@ -116,7 +122,8 @@ fn put_each_position(out: &mut Bytes, hardware: &Text, positions: &[Text]) -> Re
 
 #[tactic(auto, unfolding(crate::specs::HeaderText::position_line))]
 fn put_position(out: &mut Bytes, hardware: &Text, position: &Text) -> Result<(), NoMemory>
-    ensures { OnOk result (out.new.items ≡ out.old.items ++ position_line hardware.now position.now) }
+    ensures { OnOk result
+        (out.new.items ≡ out.old.items ++ position_line hardware.now position.now) }
 {
     out.extend(b"position ")?;
     out.extend(hardware.as_slice())?;
@@ -131,7 +138,8 @@ fn put_files(
     kind: &[u8],
     files: &[FileEntry],
 ) -> Result<(), NoMemory>
-    ensures { OnOk result (out.new.items ≡ out.old.items ++ flat_map (file_line kind.now) files.now) }
+    ensures { OnOk result
+        (out.new.items ≡ out.old.items ++ flat_map (file_line kind.now) files.now) }
 {
     for file in files {
         put_file(alloc, out, kind, file)?;

@@ -18,7 +18,8 @@ use std::alloc::Global;
 /// The fields of a list of files that these bytes spell, and its check sum.
 #[tactic(auto, unfolding(crate::specs::ListText::shown_files_list))]
 pub fn files_list_text(alloc: Global, bytes: &[u8], list: &FilesList) -> Result<Bytes, NoMemory>
-    ensures { IfOk result (λ text. text.items ≡ shown_files_list bytes.now (files_list_view list.now)) }
+    ensures { IfOk result (λ text.
+        text.items ≡ shown_files_list bytes.now (files_list_view list.now)) }
 {
     let mut out = Bytes::new(alloc);
     put_kind(alloc, &mut out, b"files", bytes.len() / 2, FILES_VERSION)?;
@@ -32,7 +33,8 @@ pub fn files_list_text(alloc: Global, bytes: &[u8], list: &FilesList) -> Result<
 /// The fields of a list of loads that these bytes spell, and its check sum.
 #[tactic(auto, unfolding(crate::specs::ListText::shown_loads_list))]
 pub fn loads_list_text(alloc: Global, bytes: &[u8], list: &LoadsList) -> Result<Bytes, NoMemory>
-    ensures { IfOk result (λ text. text.items ≡ shown_loads_list bytes.now (loads_list_view list.now)) }
+    ensures { IfOk result (λ text.
+        text.items ≡ shown_loads_list bytes.now (loads_list_view list.now)) }
 {
     let mut out = Bytes::new(alloc);
     put_kind(alloc, &mut out, b"loads", bytes.len() / 2, LOADS_VERSION)?;
@@ -118,7 +120,8 @@ fn put_file_crc(out: &mut Bytes, sum: u16) -> Result<(), NoMemory>
 }
 
 fn put_loads(alloc: Global, out: &mut Bytes, loads: &[LoadEntry]) -> Result<(), NoMemory>
-    ensures { OnOk result (out.new.items ≡ out.old.items ++ flat_map listed_load_lines (map load_entry_view loads.now)) }
+    ensures { OnOk result (out.new.items
+        ≡ out.old.items ++ flat_map listed_load_lines (map load_entry_view loads.now)) }
 {
     for load in loads {
         put_load(alloc, out, load)?;
@@ -128,7 +131,8 @@ fn put_loads(alloc: Global, out: &mut Bytes, loads: &[LoadEntry]) -> Result<(), 
 
 #[tactic(auto, unfolding(crate::specs::ListText::listed_load_lines))]
 fn put_load(alloc: Global, out: &mut Bytes, load: &LoadEntry) -> Result<(), NoMemory>
-    ensures { OnOk result (out.new.items ≡ out.old.items ++ listed_load_lines (load_entry_view load.now)) }
+    ensures { OnOk result
+        (out.new.items ≡ out.old.items ++ listed_load_lines (load_entry_view load.now)) }
 {
     put_load_line(alloc, out, load)?;
     put_hardware(out, load.hardware.as_slice())
@@ -136,7 +140,8 @@ fn put_load(alloc: Global, out: &mut Bytes, load: &LoadEntry) -> Result<(), NoMe
 
 #[tactic(auto, unfolding(crate::specs::ListText::listed_load_line))]
 fn put_load_line(alloc: Global, out: &mut Bytes, load: &LoadEntry) -> Result<(), NoMemory>
-    ensures { OnOk result (out.new.items ≡ out.old.items ++ listed_load_line (load_entry_view load.now)) }
+    ensures { OnOk result
+        (out.new.items ≡ out.old.items ++ listed_load_line (load_entry_view load.now)) }
 {
     out.extend(b"load ")?;
     out.extend(load.part.as_slice())?;
@@ -152,7 +157,8 @@ fn put_load_line(alloc: Global, out: &mut Bytes, load: &LoadEntry) -> Result<(),
 
 // Two numbers at the end of a line, each after a space.
 fn put_two_numbers(alloc: Global, out: &mut Bytes, first: u64, second: u64) -> Result<(), NoMemory>
-    ensures { OnOk result (out.new.items ≡ out.old.items ++ (32 ∷ decimal first ++ 32 ∷ decimal second ++ 10 ∷ [])) }
+    ensures { OnOk result
+        (out.new.items ≡ out.old.items ++ (32 ∷ decimal first ++ 32 ∷ decimal second ++ 10 ∷ [])) }
 {
     out.extend(b" ")?;
     put_number(alloc, out, first)?;
@@ -162,7 +168,8 @@ fn put_two_numbers(alloc: Global, out: &mut Bytes, first: u64, second: u64) -> R
 }
 
 fn put_hardware(out: &mut Bytes, hardware: &[Text]) -> Result<(), NoMemory>
-    ensures { OnOk result (out.new.items ≡ out.old.items ++ flat_map load_hardware_line hardware.now) }
+    ensures { OnOk result
+        (out.new.items ≡ out.old.items ++ flat_map load_hardware_line hardware.now) }
 {
     for id in hardware {
         put_field(out, b"hardware", id.as_slice())?;

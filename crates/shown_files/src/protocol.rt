@@ -121,7 +121,8 @@ fn put_timers(
 }
 
 fn put_each_hardware(alloc: Global, out: &mut Bytes, list: &[Hardware]) -> Result<(), NoMemory>
-    ensures { OnOk result (out.new.items ≡ out.old.items ++ flat_map hardware_lines (map hardware_view list.now)) }
+    ensures { OnOk result
+        (out.new.items ≡ out.old.items ++ flat_map hardware_lines (map hardware_view list.now)) }
 {
     for hardware in list {
         put_hardware(alloc, out, hardware)?;
@@ -131,7 +132,8 @@ fn put_each_hardware(alloc: Global, out: &mut Bytes, list: &[Hardware]) -> Resul
 
 #[tactic(auto, unfolding(crate::specs::ProtocolText::hardware_lines))]
 fn put_hardware(alloc: Global, out: &mut Bytes, hardware: &Hardware) -> Result<(), NoMemory>
-    ensures { OnOk result (out.new.items ≡ out.old.items ++ hardware_lines (hardware_view hardware.now)) }
+    ensures { OnOk result
+        (out.new.items ≡ out.old.items ++ hardware_lines (hardware_view hardware.now)) }
 {
     let parts = hardware.parts.as_slice();
     put_field(out, b"name", hardware.name.as_slice())?;

@@ -50,10 +50,10 @@ unfolding is_good_at
 characters_are_good text size =
     of_each 15 (λ (t : List ℕ). ((k : ℕ) → k < 15 → is_good_at k (slice_index t k) ≡ true) → AllGood is_part_character (maker_of t) × AllGood is_part_character (product_of t))
     (λ a b c d e f g h i j k l m n o good.
-    let at : (place : ℕ) → place < 15 → is_good_at place (slice_index (a ∷ b ∷ c ∷ d ∷ e ∷ f ∷ g ∷ h ∷ i ∷ j ∷ k ∷ l ∷ m ∷ n ∷ o ∷ []) place) ≡ true = good in (
-      at_each 3 (λ (place : ℕ). is_part_character (slice_index (a ∷ b ∷ c ∷ []) place) ≡ true)
+    let at : (offset : ℕ) → offset < 15 → is_good_at offset (slice_index (a ∷ b ∷ c ∷ d ∷ e ∷ f ∷ g ∷ h ∷ i ∷ j ∷ k ∷ l ∷ m ∷ n ∷ o ∷ []) offset) ≡ true = good in (
+      at_each 3 (λ (offset : ℕ). is_part_character (slice_index (a ∷ b ∷ c ∷ []) offset) ≡ true)
           (at 0 (omega arith), (at 1 (omega arith), (at 2 (omega arith), tt))),
-      at_each 8 (λ (place : ℕ). is_part_character (slice_index (g ∷ h ∷ i ∷ j ∷ l ∷ m ∷ n ∷ o ∷ []) place) ≡ true)
+      at_each 8 (λ (offset : ℕ). is_part_character (slice_index (g ∷ h ∷ i ∷ j ∷ l ∷ m ∷ n ∷ o ∷ []) offset) ≡ true)
           (at 6 (omega arith), (at 7 (omega arith), (at 8 (omega arith), (at 9 (omega arith), (at 11 (omega arith), (at 12 (omega arith), (at 13 (omega arith), (at 14 (omega arith), tt)))))))),
     ))
     text size
@@ -92,7 +92,7 @@ part_from_text maker product maker_size product_size all =
 pub wrong_check : (text : List ℕ) (written computed : ℕ) → HasGoodCharacters text → written < 256 → check_digits_of text ≡ hexadecimal written
     → computed ≡ check_of (maker_of text) (product_of text) → written ≢ computed → IsWrongCheck text written computed
 wrong_check text written computed all is_byte digits sum differ =
-    record { places = all; is_byte = is_byte; digits = digits; sum = sum; differ = differ }
+    record { offsets = all; is_byte = is_byte; digits = digits; sum = sum; differ = differ }
 
 pub right_check : (text : List ℕ) (written computed : ℕ) → HasGoodCharacters text → check_digits_of text ≡ hexadecimal written
     → computed ≡ check_of (maker_of text) (product_of text) → written ≡ computed → IsPartNumberText text

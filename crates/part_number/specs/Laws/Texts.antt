@@ -5,7 +5,7 @@ use Rattle.std.proofs.lemmas.Grind.{fold-append}
 use Rattle.std.proofs.lemmas.Bool.Decides.{nat_tests}
 use Rattle.load_base.specs.Bytes.{AllGood}
 use Rattle.load_base.specs.PartText.{IsPartText, is_graphic}
-use Rattle.part_number.specs.PartNumber.{IsPartNumber, IsPartNumberText, HasGoodCharacters, part_number_text, check_of, hexadecimal, hexadecimal_digit, is_part_character, is_hexadecimal_digit, is_hyphen_place, is_good_at, maker_of, product_of, check_digits_of}
+use Rattle.part_number.specs.PartNumber.{IsPartNumber, IsPartNumberText, HasGoodCharacters, part_number_text, check_of, hexadecimal, hexadecimal_digit, is_part_character, is_hexadecimal_digit, is_hyphen_offset, is_good_at, maker_of, product_of, check_digits_of}
 use Rattle.part_number.specs.Laws.Digits.{digit_is_good}
 use Rattle.load_base.specs.Cases.{of_each, at_each}
 
@@ -23,7 +23,7 @@ unfolding check_of
 check_of-lt maker product maker_good product_good =
     rw (fold-append bit_xor 0 maker product) (fold-lt (fold bit_xor 0 maker) product (fold-lt 0 maker (omega arith) maker_good) product_good)
 
--- a text in its places, from three characters, two check digits and eight characters
+-- a text in its offsets, from three characters, two check digits and eight characters
 abbrev pub laid_out : (maker product : List ℕ) (high low : ℕ) → List ℕ
 laid_out maker product high low =
     slice_index maker 0 ∷ slice_index maker 1 ∷ slice_index maker 2 ∷ high ∷ low ∷ 45
@@ -37,7 +37,7 @@ high_digit maker product = hexadecimal_digit (check_of maker product / 16)
 abbrev low_digit : (maker product : List ℕ) → ℕ
 low_digit maker product = hexadecimal_digit (check_of maker product % 16)
 
--- the text that the definition gives, in its places
+-- the text that the definition gives, in its offsets
 abbrev given : (maker product : List ℕ) → List ℕ
 given maker product = laid_out maker product (high_digit maker product) (low_digit maker product)
 
@@ -68,10 +68,10 @@ part_number_text-laid_out maker product check high low maker_size product_size i
     let second : low ≡ low_digit maker product = is_low ∙ ap (λ (n : ℕ). hexadecimal_digit (n % 16)) sum in
     ap₂ (λ (m : ℕ) (n : ℕ). laid_out maker product m n) first second ∙ sym (part_number_text-given maker product maker_size product_size)
 
--- what is good at a place can be printed
-graphic_at : (place byte : ℕ) → is_good_at place byte ≡ true → is_graphic byte ≡ true
+-- what is good at an offset can be printed
+graphic_at : (offset byte : ℕ) → is_good_at offset byte ≡ true → is_graphic byte ≡ true
 unfolding is_good_at
-graphic_at place byte good = grind (arith, nat_tests)
+graphic_at offset byte good = grind (arith, nat_tests)
 
 -- where the text that the definition gives has its parts, whether or not its characters are good
 module _ (maker product : List ℕ) (maker_size : length maker ≡ 3) (product_size : length product ≡ 8) where
@@ -95,11 +95,11 @@ module _ (maker product : List ℕ) (maker_size : length maker ≡ 3) (product_s
   unfolding hexadecimal
   check_digits_of-part_number_text = ap (λ (t : List ℕ). check_digits_of t) is_given
 
-  -- a hyphen stands at each of its places
-  pub hyphen_is_good : (place : ℕ) → is_hyphen_place place ≡ true → is_good_at place (slice_index (part_number_text maker product) place) ≡ true
+  -- a hyphen stands at each of its offsets
+  pub hyphen_is_good : (offset : ℕ) → is_hyphen_offset offset ≡ true → is_good_at offset (slice_index (part_number_text maker product) offset) ≡ true
   unfolding is_good_at
-  hyphen_is_good place is_place =
-      let one_of : (place ≡ 5) ⊎ (place ≡ 10) = grind (arith, nat_tests) in
+  hyphen_is_good offset is_offset =
+      let one_of : (offset ≡ 5) ⊎ (offset ≡ 10) = grind (arith, nat_tests) in
       let Good : ℕ → Type 0 = λ k. is_good_at k (slice_index (part_number_text maker product) k) ≡ true in
       let good_5 : Good 5 = ap (λ (t : List ℕ). slice_index t 5 == 45) is_given in
       let good_10 : Good 10 = ap (λ (t : List ℕ). slice_index t 10 == 45) is_given in
@@ -119,7 +119,7 @@ module _ (text maker product : List ℕ) (is : IsPartNumber text maker product) 
   pub check_digits_of_part : check_digits_of text ≡ hexadecimal (check_of maker product)
   check_digits_of_part = ap (λ (t : List ℕ). check_digits_of t) is.written ∙ check_digits_of-part_number_text maker product is.maker_size is.product_size
 
-  -- each character of the text that the definition gives is good at its place
+  -- each character of the text that the definition gives is good at its offset
   good_in_given : (k : ℕ) → k < 15 → is_good_at k (slice_index (given maker product) k) ≡ true
   unfolding is_good_at
   good_in_given =

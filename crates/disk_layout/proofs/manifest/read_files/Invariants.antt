@@ -1,8 +1,8 @@
 use Rattle.std.proofs.Common.{◌≡◌, ◌-◌}
 use Rattle.field_grammar.specs.Grammar.{times, read}
-use Rattle.field_grammar.specs.LoopLaws.{with_front}
+use Rattle.field_grammar.specs.LoopLaws.{with_prefix}
 use Rattle.disk_layout.specs.Manifest.{file_entry}
 use Rattle.disk_layout.proofs.manifest.read_files.Given as goal
 
 abbrev pub invariant-loop : goal.invariant-loop
-invariant-loop l = with_front l.files.items (read (times (l.count - l.counter) file_entry) l.reader) ≡ read (times l.count file_entry) l.fn.reader
+invariant-loop l = with_prefix l.files.items (read (times (l.count - l.counter) file_entry) l.reader) ≡ read (times l.count file_entry) l.fn.reader

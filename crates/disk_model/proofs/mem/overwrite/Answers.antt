@@ -5,4 +5,4 @@ use Rattle.disk_model.specs.OverlayLaws.{overlay_is}
 use Rattle.disk_model.proofs.mem.overwrite.Goals as goal
 
 pub returns-clause-ok : goal.returns-clause-ok
-returns-clause-ok c = overlay_is (image_of c.args.to.now.items) _ c.args.at c.args.bytes.now (λ k within. grind (arith, common_steps)) (λ place out. grind (arith, common_steps))
+returns-clause-ok c = overlay_is (image_of c.args.to.now.items) _ c.args.at c.args.bytes.now (λ k within. grind (arith, common_steps)) (λ offset out. grind (arith, common_steps))

@@ -4,6 +4,6 @@ use Rattle.field_codec.proofs.reader.raw_at.Goals as goal
 
 pub returns-clause-reads : goal.returns-clause-reads
 returns-clause-reads c =
-    let fits : c.args.place + c.args.count ≤ length c.args.bytes.now = omega arith in
-    let size : c.args.place + c.args.count - c.args.place ≡ c.args.count = omega arith in
-    (fits, rw size (raw_is_read c.args.count c.args.place c.args.bytes.now fits))
+    let fits : c.args.offset + c.args.count ≤ length c.args.bytes.now = omega arith in
+    let size : c.args.offset + c.args.count - c.args.offset ≡ c.args.count = omega arith in
+    (fits, rw size (raw_is_read c.args.count c.args.offset c.args.bytes.now fits))

@@ -4,4 +4,4 @@ use Rattle.field_codec.proofs.reader.short_at.Goals as goal
 
 pub returns-clause-ok : goal.returns-clause-ok
 returns-clause-ok c =
-    short_passes c.args.bytes.now c.args.place c.in_ok-text.end c.in_ok-text.text.now (λ i. omega (arith, c.type_inv.bytes i)) c.in_ok-text.ensures.1
+    short_passes c.args.bytes.now c.args.offset c.in_ok-text.end c.in_ok-text.text.now (λ i. omega (arith, c.type_inv.bytes i)) c.in_ok-text.ensures.1

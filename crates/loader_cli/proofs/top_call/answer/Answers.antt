@@ -1,9 +1,8 @@
 use Rattle.std.proofs.Common.{subst}
 use Rattle.std.proofs.lemmas.Result.{IfOk-weaker}
 use Rattle.disk_layout.specs.declared.identity.Identity.{Identity}
-use Rattle.disk_model.specs.Moments.{LeavesOnly}
-use Rattle.bank_store.specs.Formatting.{WhileFormatting}
-use Rattle.loader_cli.specs.Runs.Says.{lists, formats, shows}
+use Rattle.bank_store.specs.Formatting.{LeavesOldOrFormatted}
+use Rattle.loader_cli.specs.Runs.Says.{lists, formats, shows, checks}
 use Rattle.loader_cli.proofs.Targets.{one_target}
 use Rattle.loader_cli.proofs.top_call.answer.Goals as goal
 
@@ -20,10 +19,15 @@ returns-in-Some-Format-clause-says g c =
 pub returns-in-Some-Format-clause-while_formatting : goal.returns-in-Some-Format-clause-while_formatting
 returns-in-Some-Format-clause-while_formatting g c id asked =
     let command = rw c.in-Some-Format.field-0-is at c.in-Some-Format.ensures.some in
-    subst (λ (i : Identity). LeavesOnly (g.K.Disk.state c.args.disk.now).clock (WhileFormatting (g.K.Disk.state c.args.disk.now).now i) (g.K.Disk.state c.format_disk.new.disk))
+    subst (λ (i : Identity). LeavesOldOrFormatted i (g.K.Disk.state c.args.disk.now) (g.K.Disk.state c.format_disk.new.disk))
     (one_target _ c.in-Some-Format.identity id command asked) c.format_disk.ensures.while_formatting
 
 pub returns-in-Some-Show-clause-says : goal.returns-in-Some-Show-clause-says
 returns-in-Some-Show-clause-says g c =
     let command = rw c.in-Some-Show.field-0-is at c.in-Some-Show.ensures.some in
     IfOk-weaker c.show.result _ _ (λ answer says. shows c.in-Some-Show.kind c.in-Some-Show.file.now command says) c.show.ensures.shows
+
+pub returns-in-Some-Check-clause-says : goal.returns-in-Some-Check-clause-says
+returns-in-Some-Check-clause-says g c =
+    let command = rw c.in-Some-Check.field-0-is at c.in-Some-Check.ensures.some in
+    IfOk-weaker c.check.result _ _ (λ answer says. checks c.in-Some-Check.folder.now command says) c.check.ensures.checks

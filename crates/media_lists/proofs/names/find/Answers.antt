@@ -9,6 +9,6 @@ pub returns : goal.returns
 returns g c =
     let names = map g.E.Named.name_of c.args.entries.now in
     let facts = c.binary_search_by.ensures in
-    let by_name = facts.position (λ place. by_bytes (name_at names place) c.args.name.now) (always_returns_same _ _ _ (λ a r f k. search rules)) in
+    let by_name = facts.position (λ offset. by_bytes (name_at names offset) c.args.name.now) (always_returns_same _ _ _ (λ a r f k. search rules)) in
     let all = searched names c.args.order.now c.args.name.now c.binary_search_by.result c.requires facts.bound by_name in
     record { found = all.0; within = all.1; between = all.2 }

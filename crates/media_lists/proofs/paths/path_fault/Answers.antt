@@ -12,45 +12,45 @@ returns-then-is_empty c =
       | then-is_empty-via-else-is_empty+then-bytes-ne92 w ↦ sym (begins_wrong c.args.bytes.now w.if-bytes-ne92.true)
     ]
 
-pub loop-place-init : goal.loop-place-init
-loop-place-init c =
+pub loop-offset-init : goal.loop-offset-init
+loop-offset-init c =
     let some = are_some (length c.args.bytes.now) c.is_empty.result c.is_empty.ensures c.if-is_empty.false in
     record { few = omega arith; within = some; yet = begins c.args.bytes.now (are_not_none (length c.args.bytes.now) some) c.if-bytes-ne92.false }
 
 pub returns-then-size-eq0 : goal.returns-then-size-eq0
 returns-then-size-eq0 c =
-    at_empty_name c.args.bytes.now c.loop-place.place c.loop-place.names c.loop-place.size (path_fault_of c.args.bytes.now) c.loop-place.invariant.yet
-    (omega (arith, c.loop-place-test.true)) c.if-byte-eq92.true c.if-size-eq0.true
+    at_empty_name c.args.bytes.now c.loop-offset.offset c.loop-offset.names c.loop-offset.size (path_fault_of c.args.bytes.now) c.loop-offset.invariant.yet
+    (omega (arith, c.loop-offset-test.true)) c.if-byte-eq92.true c.if-size-eq0.true
 
 pub returns-then-not-name_goes_on : goal.returns-then-not-name_goes_on
 returns-then-not-name_goes_on c =
-    at_other_byte c.args.bytes.now c.loop-place.place c.loop-place.names c.loop-place.size (path_fault_of c.args.bytes.now) c.loop-place.invariant.yet
-    (omega (arith, c.loop-place-test.true)) c.if-byte-eq92.false (sym c.name_goes_on.ensures ∙ c.if-not-name_goes_on.true)
+    at_other_byte c.args.bytes.now c.loop-offset.offset c.loop-offset.names c.loop-offset.size (path_fault_of c.args.bytes.now) c.loop-offset.invariant.yet
+    (omega (arith, c.loop-offset-test.true)) c.if-byte-eq92.false (sym c.name_goes_on.ensures ∙ c.if-not-name_goes_on.true)
 
-pub loop-place-preserved : goal.loop-place-preserved
-loop-place-preserved c =
-    let within = c.loop-place-test.true in
+pub loop-offset-preserved : goal.loop-offset-preserved
+loop-offset-preserved c =
+    let within = c.loop-offset-test.true in
     elim c.if-byte-eq92.branch [
       | then-byte-eq92+else-size-eq0 w ↦ record {
-        few = omega (arith, w.names-is, w.size-is, c.loop-place.invariant.few, w.if-size-eq0.false);
+        few = omega (arith, w.names-is, w.size-is, c.loop-offset.invariant.few, w.if-size-eq0.false);
         within = omega (arith, within);
-        yet = rw (w.names-is, w.size-is) (at_backslash c.args.bytes.now c.loop-place.place c.loop-place.names c.loop-place.size (path_fault_of c.args.bytes.now) c.loop-place.invariant.yet
+        yet = rw (w.names-is, w.size-is) (at_backslash c.args.bytes.now c.loop-offset.offset c.loop-offset.names c.loop-offset.size (path_fault_of c.args.bytes.now) c.loop-offset.invariant.yet
             (omega (arith, within)) w.if-byte-eq92.true w.if-size-eq0.false);
       }
       | else-byte-eq92+else-not-name_goes_on w ↦ record {
-        few = omega (arith, w.names-is, w.size-is, c.loop-place.invariant.few);
+        few = omega (arith, w.names-is, w.size-is, c.loop-offset.invariant.few);
         within = omega (arith, within);
-        yet = rw (w.names-is, w.size-is) (at_name_byte c.args.bytes.now c.loop-place.place c.loop-place.names c.loop-place.size (path_fault_of c.args.bytes.now) c.loop-place.invariant.yet
+        yet = rw (w.names-is, w.size-is) (at_name_byte c.args.bytes.now c.loop-offset.offset c.loop-offset.names c.loop-offset.size (path_fault_of c.args.bytes.now) c.loop-offset.invariant.yet
             (omega (arith, within)) w.if-byte-eq92.false (sym w.name_goes_on.ensures ∙ w.if-not-name_goes_on.false));
       }
     ]
 
 pub returns-then-size-eq0-2 : goal.returns-then-size-eq0-2
 returns-then-size-eq0-2 c =
-    at_end c.args.bytes.now c.loop-place.place c.loop-place.names c.loop-place.size (path_fault_of c.args.bytes.now) c.loop-place.invariant.yet
-    (omega (arith, c.loop-place-test.false)) c.if-size-eq0-2.true
+    at_end c.args.bytes.now c.loop-offset.offset c.loop-offset.names c.loop-offset.size (path_fault_of c.args.bytes.now) c.loop-offset.invariant.yet
+    (omega (arith, c.loop-offset-test.false)) c.if-size-eq0-2.true
 
 pub returns-else-size-eq0-2 : goal.returns-else-size-eq0-2
 returns-else-size-eq0-2 c =
-    ends_in_name c.args.bytes.now c.loop-place.place c.loop-place.names c.loop-place.size (path_fault_of c.args.bytes.now) c.loop-place.invariant.yet
-    (omega (arith, c.loop-place-test.false)) c.loop-place.invariant.within c.if-size-eq0-2.false
+    ends_in_name c.args.bytes.now c.loop-offset.offset c.loop-offset.names c.loop-offset.size (path_fault_of c.args.bytes.now) c.loop-offset.invariant.yet
+    (omega (arith, c.loop-offset-test.false)) c.loop-offset.invariant.within c.if-size-eq0-2.false

@@ -12,7 +12,7 @@ use Rattle.recovery.proofs.contents.files_on.Goals as goal
 pub loop-file-init : goal.loop-file-init
 loop-file-init g c = record {
   looked = not_yet (g.K.Disk.state c.args.disk.now) c.requires.running;
-  place = omega arith;
+  offset = omega arith;
   entries = ap (λ (l : List StoredFile). map file_entry_of (map file_view l)) c.new-stored.ensures;
   bytes = λ image told. nothing_stored image c.args.start c.new-stored.result.items c.new-stored.ensures;
 }
@@ -25,11 +25,11 @@ loop-file-preserved g c =
     let longer = size_more files i f c.loop-file-test.true c.file-item.is in
     record {
       looked = look_more _ _ _ c.in_ok-bytes.bytes c.loop-file.invariant.looked c.in_ok-bytes.ensures.reads_disk;
-      place = omega (arith, longer, c.loop-file.invariant.place);
+      offset = omega (arith, longer, c.loop-file.invariant.offset);
       entries = entries_more c.loop-file.stored.items c.push.new.self.items _ files i f c.loop-file-test.true c.file-item.is c.in_ok-push.ensures.ok
           (ap (λ (n : ℕ). made f.name n) c.in_ok-bytes.ensures.size) c.loop-file.invariant.entries;
       bytes = λ image told. rw longer (
-          bytes_more image c.args.start c.loop-file.at (size_of (take i files)) f.length c.loop-file.stored.items c.push.new.self.items _ c.loop-file.invariant.place c.in_ok-push.ensures.ok
+          bytes_more image c.args.start c.loop-file.at (size_of (take i files)) f.length c.loop-file.stored.items c.push.new.self.items _ c.loop-file.invariant.offset c.in_ok-push.ensures.ok
           (c.loop-file.invariant.bytes image told) (c.in_ok-bytes.ensures.bytes image (c.loop-file.invariant.looked.runs.reads ∙ told)));
     }
   where

@@ -10,7 +10,7 @@ use Rattle.recovery.proofs.contents.files_on.Given as goal
 abbrev pub invariant-loop-file : goal.invariant-loop-file
 invariant-loop-file g l = record {
   looked : Looked (g.K.Disk.state l.fn.disk) (g.K.Disk.state l.disk);
-  place : l.at ≡ l.start + size_of (take l.file-index l.files);
+  offset : l.at ≡ l.start + size_of (take l.file-index l.files);
   entries : map file_entry_of (map file_view l.stored.items) ≡ take l.file-index l.files;
   bytes : (image : Image) → (g.K.Disk.state l.fn.disk).reads ≡ Some image → bytes_of (map file_view l.stored.items) ≡ range image l.start (size_of (take l.file-index l.files));
 }

@@ -11,7 +11,7 @@ use Rattle.recovery.proofs.contents.loads_on.Goals as goal
 pub loop-entry-init : goal.loop-entry-init
 loop-entry-init g c = record {
   looked = not_yet (g.K.Disk.state c.args.disk.now) c.requires.running;
-  place = omega arith;
+  offset = omega arith;
   named = ap (λ (l : List Load). entries_of (map load_view l)) c.new-loads.ensures;
   headers = no_headers c.new-loads.result.items c.new-loads.ensures;
   bytes = λ image told. nothing_listed image c.args.start c.new-loads.result.items c.new-loads.ensures;
@@ -22,7 +22,7 @@ load_on-requires-clause-within g c =
     let entries = c.args.entries.now in
     let i = c.loop-entry.entry-index in
     let longer = total_more entries i c.entry-item.result c.loop-entry-test.true c.entry-item.is in
-    omega (arith, longer, total_within entries (i + 1), c.loop-entry.invariant.place, c.requires.within)
+    omega (arith, longer, total_within entries (i + 1), c.loop-entry.invariant.offset, c.requires.within)
 
 pub load_on-requires-clause-files : goal.load_on-requires-clause-files
 load_on-requires-clause-files g c = has_files c.args.entries.now c.loop-entry.entry-index c.entry-item.result c.loop-entry-test.true c.entry-item.is c.requires.files
@@ -37,10 +37,10 @@ loop-entry-preserved g c =
     let longer = total_more entries i e c.loop-entry-test.true c.entry-item.is in
     record {
       looked = look_more _ _ _ (c.in_ok-load.load, c.in_ok-load.end) was.looked now.reads_disk;
-      place = omega (arith, longer, was.place, now.end);
+      offset = omega (arith, longer, was.offset, now.end);
       named = load_entries_more c.loop-entry.loads.items c.push.new.self.items c.in_ok-load.load entries i e c.loop-entry-test.true c.entry-item.is c.in_ok-push.ensures.ok now.entry was.named;
       headers = headers_more c.loop-entry.loads.items c.push.new.self.items c.in_ok-load.load c.in_ok-push.ensures.ok was.headers now.header;
       bytes = λ image told. rw longer (
           contents_more image c.args.start c.loop-entry.at (total_length (map entry_view (take i entries))) (size_of e.files.items) c.loop-entry.loads.items c.push.new.self.items
-          c.in_ok-load.load was.place c.in_ok-push.ensures.ok (was.bytes image told) (now.bytes image (was.looked.runs.reads ∙ told)));
+          c.in_ok-load.load was.offset c.in_ok-push.ensures.ok (was.bytes image told) (now.bytes image (was.looked.runs.reads ∙ told)));
     }

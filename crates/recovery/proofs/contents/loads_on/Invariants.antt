@@ -10,7 +10,7 @@ use Rattle.recovery.proofs.contents.loads_on.Given as goal
 abbrev pub invariant-loop-entry : goal.invariant-loop-entry
 invariant-loop-entry g l = record {
   looked : Looked (g.K.Disk.state l.fn.disk) (g.K.Disk.state l.disk);
-  place : l.at ≡ l.start + total_length (map entry_view (take l.entry-index l.entries));
+  offset : l.at ≡ l.start + total_length (map entry_view (take l.entry-index l.entries));
   named : entries_of (map load_view l.loads.items) ≡ map entry_view (take l.entry-index l.entries);
   headers : HeadersAreFirst (map load_view l.loads.items);
   bytes : (image : Image) → (g.K.Disk.state l.fn.disk).reads ≡ Some image

@@ -1,7 +1,7 @@
 use Rattle.std.proofs.Common.{ℕ, List, map, sym, ap, ap₂, ◌∙◌}
 use Rattle.load_base.specs.Config.{load_view}
 use Rattle.disk_model.specs.Image.{range}
-use Rattle.disk_layout.specs.Places.{bank_at}
+use Rattle.disk_layout.specs.Offsets.{bank_at}
 use Rattle.disk_layout.specs.Manifest.{LoadEntry, entry_view, total_length}
 use Rattle.recovery.proofs.Standings.{stands_for}
 use Rattle.recovery.proofs.recovering.recover.Goals as goal

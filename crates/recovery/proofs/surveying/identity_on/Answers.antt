@@ -6,4 +6,4 @@ use Rattle.recovery.proofs.surveying.identity_on.Goals as goal
 
 pub returns-in-Err-clause-refused : goal.returns-in-Err-clause-refused
 returns-in-Err-clause-refused g c image told =
-    not_formatted c.in-Err.place (subst (λ (front : List ℕ). Fault identity front c.in-Err.place) (c.in_ok-read_from.ensures.bytes image told) c.in-Err.ensures.refused) refl
+    not_formatted c.in-Err.offset (subst (λ (prefix : List ℕ). Fault identity prefix c.in-Err.offset) (c.in_ok-read_from.ensures.bytes image told) c.in-Err.ensures.refused) refl

@@ -24,7 +24,7 @@ returns-in_err-write-clause-keeps g c =
     let store = c.args.self.now in
     let disk = g.K.Disk.state c.args.disk.now in
     let work : IsWork store (c.work.result + c.in-Filling.progress.end) (length c.args.bytes.now) =
-    bank_is_work store _ _ (omega (arith, c.work.ensures.place)) (omega (arith, c.work.ensures.place, c.if-need-from.false, c.from.ensures, c.from-2.ensures)) in
+    bank_is_work store _ _ (omega (arith, c.work.ensures.offset)) (omega (arith, c.work.ensures.offset, c.if-need-from.false, c.from.ensures, c.from-2.ensures)) in
     let p = err_from_is_err_and c.from_residual.result c.from_residual.ensures.1 in rw (p.1, p.2)
     (keeps_failed store disk _ _
     (λ s beside. holds_still store disk _ beside.image s beside.holds
@@ -47,10 +47,10 @@ returns-clause-appends g c =
       filling = search rules;
       manifest = refl;
       written = λ image told progress filling.
-          c.in_ok-write.ensures.bytes image told ∙ piece_written store c.in-Filling.progress progress image c.args.bytes.now c.work.result c.work.ensures.place c.in-Filling.is filling;
+          c.in_ok-write.ensures.bytes image told ∙ piece_written store c.in-Filling.progress progress image c.args.bytes.now c.work.result c.work.ensures.offset c.in-Filling.is filling;
       given = λ image told now later given was.
           let is : now ≡ overlay image (work_at store + c.in-Filling.progress.end) c.args.bytes.now =
-          same_image now _ (sym later ∙ c.in_ok-write.ensures.bytes image told) ∙ ap (λ (at : ℕ). overlay image (at + c.in-Filling.progress.end) c.args.bytes.now) c.work.ensures.place in
+          same_image now _ (sym later ∙ c.in_ok-write.ensures.bytes image told) ∙ ap (λ (at : ℕ). overlay image (at + c.in-Filling.progress.end) c.args.bytes.now) c.work.ensures.offset in
           given_bytes store _ image now c.args.bytes.now c.in-Filling.progress given (record { size = refl; active = refl }) c.in-Filling.is refl refl is was;
     }
 
@@ -59,7 +59,7 @@ returns-clause-keeps g c =
     let store = c.args.self.now in
     let disk = g.K.Disk.state c.args.disk.now in
     let work : IsWork store (c.work.result + c.in-Filling.progress.end) (length c.args.bytes.now) =
-    bank_is_work store _ _ (omega (arith, c.work.ensures.place)) (omega (arith, c.work.ensures.place, c.if-need-from.false, c.from.ensures, c.from-2.ensures)) in
+    bank_is_work store _ _ (omega (arith, c.work.ensures.offset)) (omega (arith, c.work.ensures.offset, c.if-need-from.false, c.from.ensures, c.from-2.ensures)) in
     keeps_written store _ disk _ _ (record { size = refl; active = refl }) refl (search rules) c.write.ensures.elapses.tells (g.met.K.Disk.reads_now c.write.new.self)
     (λ image works told. near_write store disk image disk _ _ _ _ work (near_start store disk image works told) c.write.ensures.elapses)
     (λ image now told later.
@@ -67,7 +67,7 @@ returns-clause-keeps g c =
     (λ image now s told later was work.
     let given = given_of store image c.in-Filling.progress c.in-Filling.is work in
     let is : now ≡ overlay image (work_at store + c.in-Filling.progress.end) c.args.bytes.now =
-    same_image now _ (sym later ∙ c.in_ok-write.ensures.bytes image told) ∙ ap (λ (at : ℕ). overlay image (at + c.in-Filling.progress.end) c.args.bytes.now) c.work.ensures.place in
+    same_image now _ (sym later ∙ c.in_ok-write.ensures.bytes image told) ∙ ap (λ (at : ℕ). overlay image (at + c.in-Filling.progress.end) c.args.bytes.now) c.work.ensures.offset in
     has_work _ now _ _ refl
     (given_bytes store _ image now c.args.bytes.now c.in-Filling.progress given.0 (record { size = refl; active = refl }) c.in-Filling.is refl refl is given.1))
     (λ sealed. absurd (filling_not_sealed _ sealed.0 sealed.1))

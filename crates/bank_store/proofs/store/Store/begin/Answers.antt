@@ -38,4 +38,4 @@ returns-clause-keeps g c =
     (c.sync.ensures.elapses.tells ∙ c.shut_other.ensures.goes_on.tells)
     (λ image now s told later was. c.in_ok-shut_other.ensures.shut image told now (sym c.in_ok-sync.ensures.kept ∙ later) s was) c.in_ok-sync.ensures.settled
     (λ s beside. adds_sync disk _ _ (λ left. HoldsConfig left s) _ (c.shut_other.ensures.leaves s beside) c.sync.ensures.elapses)
-    (λ image told now later place out. c.in_ok-shut_other.ensures.rest image told now (sym c.in_ok-sync.ensures.kept ∙ later) place out)
+    (λ image told now later offset out. c.in_ok-shut_other.ensures.rest image told now (sym c.in_ok-sync.ensures.kept ∙ later) offset out)

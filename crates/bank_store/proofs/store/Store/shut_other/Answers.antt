@@ -28,7 +28,7 @@ returns-then-not-self-clause-rest g c = rest_unread c.args.self.now (g.K.Disk.st
 pub returns-clause-rest : goal.returns-clause-rest
 returns-clause-rest g c =
     on_ok_by c.write.result
-    (λ bytes image told now later place out. rest_gate c.args.self.now image now c.other.result _ place c.other.ensures (same_image now _ (sym later ∙ bytes image told)) out)
+    (λ bytes image told now later offset out. rest_gate c.args.self.now image now c.other.result _ offset c.other.ensures (same_image now _ (sym later ∙ bytes image told)) out)
     c.write.ensures.bytes
 
 pub returns-then-not-self-clause-written : goal.returns-then-not-self-clause-written

@@ -12,7 +12,7 @@ returns-in_err-write-clause-near g c image was =
     let store = c.args.self.now in
     let size : length c.u16_bytes.result ≡ 2 = ap length c.u16_bytes.ensures ∙ length_number_bytes 2 c.args.progress.loads in
     let work : IsWork store (c.work.result + c.args.progress.end) (length c.u16_bytes.result) =
-    bank_is_work store _ _ (omega (arith, c.work.ensures.place)) (omega (arith, c.work.ensures.place, c.requires.within, size)) in
+    bank_is_work store _ _ (omega (arith, c.work.ensures.offset)) (omega (arith, c.work.ensures.offset, c.requires.within, size)) in
     near_write store disk image disk _ _ _ _ work (adds_none disk (SameButForWork store image) was) c.write.ensures.elapses
 
 pub returns-clause-near : goal.returns-clause-near
@@ -22,7 +22,7 @@ returns-clause-near g c image was =
     let size : length c.u16_bytes.result ≡ 2 = ap length c.u16_bytes.ensures ∙ length_number_bytes 2 c.args.progress.loads in
     let rest : length c.as_slice.result.now ≡ length store.body.items = ap length c.as_slice.ensures in
     let work : IsWork store (c.work.result + c.args.progress.end) (length c.u16_bytes.result) =
-    bank_is_work store _ _ (omega (arith, c.work.ensures.place)) (omega (arith, c.work.ensures.place, c.requires.within, size)) in
+    bank_is_work store _ _ (omega (arith, c.work.ensures.offset)) (omega (arith, c.work.ensures.offset, c.requires.within, size)) in
     let behind : IsWork store (c.work.result + c.args.progress.end + 2) (length c.as_slice.result.now) =
-    bank_is_work store _ _ (omega (arith, c.work.ensures.place)) (omega (arith, c.work.ensures.place, c.requires.within, rest)) in
+    bank_is_work store _ _ (omega (arith, c.work.ensures.offset)) (omega (arith, c.work.ensures.offset, c.requires.within, rest)) in
     near_write store disk image _ _ _ _ _ behind (near_write store disk image disk _ _ _ _ work (adds_none disk (SameButForWork store image) was) c.write.ensures.elapses) c.write-2.ensures.elapses

@@ -10,7 +10,7 @@ pub returns-clause-near : goal.returns-clause-near
 returns-clause-near g c image was =
     let disk = g.K.Disk.state c.args.disk.now in
     let store = c.args.self.now in
-    let size : length c.slot_bytes.result ≡ 13 = ap length c.slot_bytes.ensures ∙ slot_body_length store c.args.place c.args.length in
+    let size : length c.slot_bytes.result ≡ 13 = ap length c.slot_bytes.ensures ∙ slot_body_length store c.args.offset c.args.length in
     let work : IsWork store (c.other-at.result + 16) (length c.slot_bytes.result) =
     slot_is_work store _ _ c.requires.shut (omega (arith, c.other-at.ensures)) (omega (arith, c.other-at.ensures, size)) in
     near_write store disk image disk _ _ _ _ work (adds_none disk (SameButForWork store image) was) c.write.ensures.elapses

@@ -1,0 +1,175 @@
+"""What the scripts share: measuring programs that are proved and built, times, and the bytes of disks and files.
+
+Nothing here is run by the gate.
+"""
+import os
+import resource
+import statistics
+import struct
+import subprocess
+import sys
+import time
+
+TOP = os.path.join(os.path.dirname(os.path.abspath(__file__)), "..")
+
+
+def program_argument(usage):
+    """The program that a script measures, its one argument."""
+    if len(sys.argv) != 2:
+        sys.exit(usage)
+    return os.path.abspath(sys.argv[1])
+
+
+def build(folder, name, crate, files, extra=()):
+    """Proves and builds the program `name` over one of the project's crates in a scratch folder, and gives its path.
+
+    `files` are the program's sources by their paths in its crate, `extra` further libraries of the kit. Its first run
+    has no arguments.
+    """
+    with open(os.path.join(TOP, "crates.txt")) as text:
+        uses = {line.split(":")[0]: line.split(":")[1].split() for line in text if ":" in line and not line.startswith("#")}
+    below = [other for other in uses if other == crate or other in uses[crate]]
+    libraries = [other for other in uses[crate] if other not in uses]
+    at = os.path.join(folder, "crates", name)
+    for path, text in files.items():
+        os.makedirs(os.path.dirname(os.path.join(at, path)), exist_ok=True)
+        with open(os.path.join(at, path), "w") as file:
+            file.write(text)
+    for other in below:
+        subprocess.run(["cp", "-r", os.path.join(TOP, "crates", other), os.path.join(folder, "crates")], check=True)
+    with open(os.path.join(folder, "crates.txt"), "w") as text:
+        text.write("".join(f"{other}: {' '.join(uses[other])}\n" for other in below))
+        text.write(f"{name}: {' '.join([*below, *libraries, *extra])}\n")
+    run = subprocess.run(["rt", "run"], cwd=at, capture_output=True, text=True)
+    program = os.path.join(at, "out", name)
+    if not os.path.exists(program):
+        sys.exit(run.stdout + run.stderr)
+    return program
+
+
+def processor_seconds(command):
+    """What a command prints, and its time on the processor."""
+    begin = resource.getrusage(resource.RUSAGE_CHILDREN).ru_utime
+    run = subprocess.run(command, capture_output=True, check=True)
+    return run.stdout, resource.getrusage(resource.RUSAGE_CHILDREN).ru_utime - begin
+
+
+def median_milliseconds(command, folder, runs):
+    """The median time of a command by the clock."""
+    times = []
+    for _ in range(runs):
+        begin = time.perf_counter()
+        subprocess.run(command, cwd=folder, stdout=subprocess.PIPE, check=True)
+        times.append(time.perf_counter() - begin)
+    return statistics.median(times) * 1000
+
+
+def resident_kib(command, folder):
+    """The greatest resident memory of a command, in KiB. It needs Debian's package time."""
+    run = subprocess.run(["/usr/bin/time", "-f", "%M", *command], cwd=folder, capture_output=True, text=True, check=True)
+    return int(run.stderr.strip())
+
+
+def coding_speed(program, kind, file, times, runs):
+    """The seconds of one decoding and of one encoding of a file by a program `KIND FILE DECODINGS ENCODINGS`.
+
+    It prints how many bytes it encoded, which have to be as many as the file has.
+    """
+
+    def median(decodings, encodings):
+        seconds = []
+        for _ in range(runs):
+            told, taken = processor_seconds([program, kind, file, str(decodings), str(encodings)])
+            if encodings and int(told) != os.path.getsize(file):
+                sys.exit(f"{file} was encoded with another length")
+            seconds.append(taken)
+        return statistics.median(seconds)
+
+    empty = median(0, 0)
+    decoding = (median(times, 0) - empty) / times
+    return decoding, (median(1, times) - empty - decoding) / times
+
+
+# The start of a measuring program that decodes and encodes a file: its arguments, and the file's bytes.
+CODING_MAIN = """\
+fn main(rt: HostRuntime) -> ExitCode {
+    let Ok(mut words) = env::args(&rt) else {
+        return ExitCode::from(2);
+    };
+    words.next();
+    let (Some(kind), Some(file), Some(decodings), Some(encodings)) =
+        (words.next(), words.next(), words.next(), words.next())
+    else {
+        return ExitCode::from(2);
+    };
+    let (Ok(decodings), Ok(encodings)) = (decodings.parse::<u32>(), encodings.parse::<u32>()) else {
+        return ExitCode::from(2);
+    };
+    let Ok(bytes) = fs::read(&rt, file.as_str()) else {
+        return ExitCode::from(2);
+    };
+    let mut encoded = 0;
+    for _ in 0..decodings {
+        encoded = coded(rt.alloc(), kind.as_str(), bytes.as_slice(), encodings);
+    }
+    match println!(&rt; "{encoded}") {
+        Ok(()) => ExitCode::from(0),
+        Err(_) => ExitCode::from(7),
+    }
+}
+"""
+
+
+def crc16_table():
+    table = []
+    for byte in range(256):
+        register = byte << 8
+        for _ in range(8):
+            register = (register << 1 ^ (0x1021 if register & 0x8000 else 0)) & 0xFFFF
+        table.append(register)
+    return table
+
+
+TABLE = crc16_table()
+
+
+def crc16(data):
+    register = 0xFFFF
+    for byte in data:
+        register = (register << 8 & 0xFFFF) ^ TABLE[register >> 8 ^ byte]
+    return register
+
+
+def padded(text):
+    return struct.pack(">H", len(text)) + text + bytes(len(text) % 2)
+
+
+def short(text):
+    return bytes([len(text)]) + text
+
+
+def manifest_of(loads):
+    """A manifest of loads, each the names and lengths of its files."""
+    parts = [struct.pack(">H", len(loads))]
+    for files in loads:
+        parts.append(b"ABC41-0000-0001" + struct.pack(">H", len(files)))
+        parts += [short(name) + struct.pack(">I", size) for name, size in files]
+    return b"".join(parts)
+
+
+def write_disk(path, bank, sequence, contents, manifest, size=None):
+    """A disk of target HW1, L, SN1 whose slot A names bank 0 with these contents, in pieces, and this manifest."""
+    identity = b"A615" + struct.pack(">HI", 1, bank) + short(b"HW1") + short(b"L") + short(b"SN1")
+    with open(path, "wb") as disk:
+        disk.write(identity + struct.pack(">H", crc16(identity)))
+        disk.seek(8192)
+        for piece in contents:
+            disk.write(piece)
+        end = disk.tell() - 8192
+        disk.write(manifest)
+        disk.seek(4096)
+        disk.write(b"\xa5")
+        disk.seek(4112)
+        disk.write(struct.pack(">IBII", sequence, 0, end, len(manifest)))
+        if size is not None:
+            disk.truncate(size)

@@ -1,0 +1,24 @@
+use Rattle.std.proofs.Common.{ℕ, List, refl, ap, subst}
+use Rattle.std.specs.Option.{ForSome}
+use Rattle.std.specs.Prelude.{codes}
+use Rattle.load_base.specs.Listed.{Listed}
+use Rattle.std.proofs.lemmas.Result.{IfOk-weaker}
+use Rattle.media_check.specs.Openings.{IsTooLong}
+use Rattle.media_check.specs.Sets.{set_view}
+use Rattle.loader_cli.specs.Runs.{reading_of}
+use Rattle.loader_cli.specs.Runs.Checks.{opened, long_file}
+use Rattle.loader_cli.specs.Texts.{refused_input}
+use Rattle.loader_cli.proofs.check.check.Goals as goal
+
+pub returns-in-Ok-clause-checks : goal.returns-in-Ok-clause-checks
+returns-in-Ok-clause-checks g c =
+    let has = rw c.as_bytes-name.ensures.value at c.in-Ok.ensures.opens in
+    IfOk-weaker c.check_set.result _ _ (λ answer finds. opened (set_view c.in-Ok.set) has finds) c.check_set.ensures
+
+pub returns-in-Err-TooLong-clause-checks : goal.returns-in-Err-TooLong-clause-checks
+returns-in-Err-TooLong-clause-checks g c =
+    let file = c.in-Err-TooLong.file in
+    let refused =
+    subst (λ (folder : List ℕ). ForSome (g.H.Host.files c.args.host.now) (λ told. IsTooLong told (reading_of folder told) file.items)) c.as_bytes-name.ensures.value
+    (rw c.in-Err-TooLong.field-0-is at c.in-Err-TooLong.ensures.opens) in
+    long_file file.items refused refl (ap (λ (f : Listed ℕ). refused_input f.items (codes "toolong")) c.in-Err-TooLong.file-is)

@@ -1,0 +1,145 @@
+//! The command `check`, on media sets from outside of this project.
+use crate::set_vectors::{
+    APP_FILES, APP_HEADER, APP_LOADS, CFG, CFG_HEADER, FILES_1, FILES_2, LOADS_1, LOADS_2, NAV_TXT,
+    NAV1, NAV2, OPS, OPS_HEADER,
+};
+use crate::tests::{NAV, run_over};
+use disk_model::MemDisk;
+use load_base::{Bytes, Host, MemHost, WriteFault};
+use std::alloc::Global;
+use std::test::Fail;
+
+const CHECK: &[&str] = &["check", "P"];
+
+// Writes the file of this name.
+fn write(host: &mut MemHost, name: &[u8], bytes: &[u8]) -> Result<(), Fail> {
+    match host.write(name, bytes) {
+        Ok(()) => Ok(()),
+        Err(WriteFault::Failed) => Err(Fail::new("the host refused a file")),
+        Err(WriteFault::Memory) => Err(Fail::new("out of memory")),
+    }
+}
+
+// What `check P` says of the set in this host.
+fn checked(alloc: Global, host: &mut MemHost) -> Result<Bytes, Fail> {
+    run_over(alloc, CHECK, host, &mut MemDisk::new(alloc, b"")?)
+}
+
+// A host with both lists and the header of a set of one load, but without its file; it made three calls.
+fn app_set(alloc: Global) -> Result<MemHost, Fail> {
+    let mut host = MemHost::new(alloc);
+    write(&mut host, b"P/1/LOADS.LUM", &APP_LOADS)?;
+    write(&mut host, b"P/1/FILES.LUM", &APP_FILES)?;
+    write(&mut host, b"P/1/APP.LUH", &APP_HEADER)?;
+    Ok(host)
+}
+
+// What is said of that set with one more file.
+fn app_set_with(alloc: Global, name: &[u8], bytes: &[u8]) -> Result<Bytes, Fail> {
+    let mut host = app_set(alloc)?;
+    write(&mut host, name, bytes)?;
+    checked(alloc, &mut host)
+}
+
+#[test]
+fn each_finding_is_told(rt: HostRuntime) -> Result<(), Fail> {
+    let rows: [(&[u8], &[u8], &[u8]); 5] = [
+        (b"P/1/APP.BIN", b"123456789", b"0 findings 0\n"),
+        (
+            b"P/1/APP.BIN",
+            b"123456788",
+            b"1 finding M6 1 APP.BIN\nfinding M11 1 APP.BIN\nfinding M12 1 APP.LUH\nfindings 3\n",
+        ),
+        (b"Q", b"", b"1 finding M4 1 APP.BIN\nfindings 1\n"),
+        (
+            b"P/1/APP.LUH",
+            b"HEADER",
+            b"1 finding M6 1 APP.LUH\nfinding M4 1 APP.BIN\nfinding M7 1 APP.LUH H2 1212498244 6\nfindings 3\n",
+        ),
+        (
+            b"P/1/LOADS.LUM",
+            b"\0\0\0\x02\x90\x04\0",
+            b"1 finding M2 1 LOADS.LUM L2 2 7\nfindings 1\n",
+        ),
+    ];
+    for (name, bytes, wanted) in rows {
+        let said = app_set_with(rt.alloc(), name, bytes)?;
+        assert_eq!(rt; said.as_slice(), wanted);
+    }
+    Ok(())
+}
+
+#[test]
+fn an_empty_folder_lacks_both_lists(rt: HostRuntime) -> Result<(), Fail> {
+    let said = checked(rt.alloc(), &mut MemHost::new(rt.alloc()))?;
+    let wanted = b"1 finding M1 1 LOADS.LUM\nfinding M1 1 FILES.LUM\nfindings 2\n";
+    assert_eq!(rt; said.as_slice(), wanted.as_slice());
+    Ok(())
+}
+
+// A host with a set of three loads on two members.
+fn three_loads(alloc: Global) -> Result<MemHost, Fail> {
+    let mut host = MemHost::new(alloc);
+    write(&mut host, b"P/1/LOADS.LUM", &LOADS_1)?;
+    write(&mut host, b"P/1/FILES.LUM", &FILES_1)?;
+    write(&mut host, b"P/1/NAV.LUH", &NAV)?;
+    write(&mut host, b"P/1/NAV1.BIN", &NAV1)?;
+    write(&mut host, b"P/1/NAV.TXT", &NAV_TXT)?;
+    write(&mut host, b"P/2/LOADS.LUM", &LOADS_2)?;
+    write(&mut host, b"P/2/FILES.LUM", &FILES_2)?;
+    write(&mut host, b"P/2/NAV2.BIN", &NAV2)?;
+    write(&mut host, b"P/2/OPS.LUH", &OPS_HEADER)?;
+    write(&mut host, b"P/2/OPS.BIN", &OPS)?;
+    write(&mut host, b"P/2/CFG.LUH", &CFG_HEADER)?;
+    write(&mut host, b"P/2/CFG.BIN", &CFG)?;
+    Ok(host)
+}
+
+#[test]
+fn a_set_on_two_members(rt: HostRuntime) -> Result<(), Fail> {
+    let mut host = three_loads(rt.alloc())?;
+    let said = checked(rt.alloc(), &mut host)?;
+    assert_eq!(rt; said.as_slice(), b"0 findings 0\n".as_slice());
+    write(&mut host, b"P/2/LOADS.LUM", &LOADS_1)?;
+    let said = checked(rt.alloc(), &mut host)?;
+    let wanted = b"1 finding M3 2 LOADS.LUM\nfindings 1\n";
+    assert_eq!(rt; said.as_slice(), wanted.as_slice());
+    Ok(())
+}
+
+// What is said where the host call of this number fails. The set's files were written by calls 1 to 4.
+fn failing_at(alloc: Global, call: u32) -> Result<Bytes, Fail> {
+    let mut host = app_set(alloc)?;
+    write(&mut host, b"P/1/APP.BIN", b"123456789")?;
+    host.fail_at(call)?;
+    checked(alloc, &mut host)
+}
+
+#[test]
+fn each_host_call_fails_in_turn(rt: HostRuntime) -> Result<(), Fail> {
+    for call in 5..=9u32 {
+        let said = failing_at(rt.alloc(), call)?;
+        let failed = said.as_slice() == b"4 host fault\n".as_slice();
+        assert_eq!(rt; failed, call <= 8, "call {call}");
+    }
+    Ok(())
+}
+
+// N zeros, in pieces of 65,536 bytes.
+fn zeros(alloc: Global, count: usize) -> Result<Bytes, Fail> {
+    let mut bytes = Bytes::new(alloc);
+    let piece = [0; 65_536];
+    for _ in 0..count / piece.len() {
+        bytes.extend(&piece)?;
+    }
+    Ok(bytes)
+}
+
+#[test]
+fn a_list_that_is_too_long(rt: HostRuntime) -> Result<(), Fail> {
+    let long = zeros(rt.alloc(), 16_777_216)?;
+    let said = app_set_with(rt.alloc(), b"P/1/FILES.LUM", long.as_slice())?;
+    let wanted = b"3 refused P/1/FILES.LUM toolong\n";
+    assert_eq!(rt; said.as_slice(), wanted.as_slice());
+    Ok(())
+}

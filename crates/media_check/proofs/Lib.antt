@@ -1,0 +1,12 @@
+pub mod Bodies
+pub mod FindingLists
+pub mod HostReads
+pub mod KeptFiles
+pub mod LoadFindings
+pub mod Lookups
+pub mod Opened
+pub mod Ranges
+pub mod Reading
+pub mod Refusals
+pub mod Same
+pub mod Taken

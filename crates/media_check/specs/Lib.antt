@@ -1,0 +1,7 @@
+pub mod Kept
+pub mod Sets
+pub mod HostNames
+pub mod Openings
+pub mod OpeningLaws
+pub mod BuiltSets
+pub mod Findings

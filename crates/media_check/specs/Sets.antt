@@ -1,0 +1,139 @@
+-- A media set as a value: the lists of its members as they were found, and the listed files (docs/FORMATS.md, "Media sets").
+use Rattle.std.specs.Prelude.{ℕ, ◌-◌, List, [], map, Option, Some, None, Result, Ok, Err}
+use Rattle.std.specs.List.{range_with_len}
+use Rattle.std.specs.Map.{lookup}
+use Rattle.load_base.specs.Bytes.{same_bytes}
+use Rattle.field_grammar.specs.Grammar.{Grammar}
+use Rattle.field_grammar.specs.Answers.{answer}
+use Rattle.media_lists.specs.Files.{FilesListView, files_list, files_list_view, IsFilesList}
+use Rattle.media_lists.specs.Loads.{LoadsListView, loads_list, loads_list_view}
+use Rattle.media_lists.specs.declared.fault.ListFault.{ListFault}
+use Rattle.media_lists.specs.declared.lists.ListedFile.{ListedFile}
+use Rattle.media_check.specs.Kept.{bytes_view}
+use Rattle.media_check.specs.declared.found.Found.{Found}
+use Rattle.media_check.specs.declared.found.Found.TheVariants.{Missing, Refused, Read}
+use Rattle.media_check.specs.declared.set.MemberLists.{MemberLists}
+use Rattle.media_check.specs.declared.set.KeptFile.{KeptFile}
+use Rattle.media_check.specs.declared.set.MediaSet.{MediaSet}
+
+-- ---- what a set is
+
+-- both lists of a member, as they were found
+pub record MemberView : Type 0 where
+  pub loads : Found LoadsListView
+  pub files : Found FilesListView
+
+-- a listed file: the member that its entry names, and its bytes, or None where it is absent
+pub record FileView : Type 0 where
+  pub member : ℕ
+  pub bytes : Option (List ℕ)
+
+-- The lists of member 1 and those of the members from 2 on; and the files that member 1's FILES.LUM lists, by their
+-- names in the order of the list.
+pub record SetView : Type 0 where
+  pub first : MemberView
+  pub further : List MemberView
+  pub files : List (List ℕ × FileView)
+
+-- the list, where it was read
+abbrev pub list_of : {V : Type 0} → Found V → Option V
+list_of (Read v) = Some v
+list_of Missing = None
+list_of (Refused fault) = None
+
+-- the listed file of this name
+abbrev pub find : SetView → List ℕ → Option FileView
+find set name = lookup (same_bytes name) set.files
+
+abbrev pub bytes_found : Option FileView → Option (List ℕ)
+bytes_found None = None
+bytes_found (Some file) = file.bytes
+
+-- the bytes of the file of this name; None where no such file is listed, and where it is absent
+abbrev pub bytes_of : SetView → List ℕ → Option (List ℕ)
+bytes_of set name = bytes_found (find set name)
+
+-- ---- what media tell
+
+-- The bytes that media have: of both lists of each member, and of the file that an entry of FILES.LUM names. None is a
+-- file that is absent.
+pub record Media : Type 0 where
+  pub loads_list : (member : ℕ) → Option (List ℕ)
+  pub files_list : (member : ℕ) → Option (List ℕ)
+  pub listed : ListedFile → Option (List ℕ)
+
+-- what reading its bytes gives of a list: the list, or the first fault
+abbrev pub found_as : {V : Type 0} → Result V ListFault → Found V
+found_as (Ok v) = Read v
+found_as (Err fault) = Refused fault
+
+-- what is found of a list that has these bytes, or is absent
+abbrev pub found_in : {V : Type 0} → Grammar ListFault V → Option (List ℕ) → Found V
+found_in format None = Missing
+found_in format (Some bytes) = found_as (answer format bytes)
+
+-- the lists of this member
+abbrev pub lists_in : Media → (member : ℕ) → MemberView
+lists_in media member = record {
+  loads = found_in loads_list (media.loads_list member);
+  files = found_in files_list (media.files_list member);
+}
+
+-- the numbers of the further members, which member 1's LOADS.LUM counts; there are none where it wasn't read
+abbrev pub further_members : Found LoadsListView → List ℕ
+further_members (Read list) = range_with_len 2 (list.members - 1)
+further_members Missing = []
+further_members (Refused fault) = []
+
+-- what member 1's FILES.LUM lists; nothing where it wasn't read
+abbrev pub entries_of : Found FilesListView → List ListedFile
+entries_of (Read list) = list.entries
+entries_of Missing = []
+entries_of (Refused fault) = []
+
+-- a listed file by its name, with the bytes that the media have of it
+abbrev pub file_in : Media → ListedFile → List ℕ × FileView
+file_in media entry = (entry.name, record { member = entry.member; bytes = media.listed entry })
+
+-- the set with these lists of member 1
+abbrev pub set_with : Media → MemberView → SetView
+set_with media first = record {
+  first = first;
+  further = map (lists_in media) (further_members first.loads);
+  files = map (file_in media) (entries_of first.files);
+}
+
+-- the set that the media tell
+abbrev pub set_in : Media → SetView
+set_in media = set_with media (lists_in media 1)
+
+-- ---- what is kept
+
+-- what was found, with the list as it is seen
+abbrev pub found_view : {L V : Type 0} → (L → V) → Found L → Found V
+found_view view Missing = Missing
+found_view view (Refused fault) = Refused fault
+found_view view (Read list) = Read (view list)
+
+abbrev pub lists_view : MemberLists → MemberView
+lists_view lists = record { loads = found_view loads_list_view lists.loads; files = found_view files_list_view lists.files }
+
+abbrev pub file_view : KeptFile → FileView
+file_view file = record { member = file.member; bytes = bytes_view file.bytes }
+
+-- files by their names
+abbrev pub files_view : List (List ℕ × KeptFile) → List (List ℕ × FileView)
+files_view files = map (λ e. (e.0, file_view e.1)) files
+
+abbrev pub set_view : MediaSet → SetView
+set_view set = record {
+  first = lists_view set.first;
+  further = map lists_view set.further.items;
+  files = files_view set.files.entries;
+}
+
+-- A list that was read is one that its format can spell.
+abbrev pub IsFoundFiles : Found FilesListView → Type 0
+IsFoundFiles (Read list) = IsFilesList list
+IsFoundFiles Missing = Unit {0}
+IsFoundFiles (Refused fault) = Unit {0}

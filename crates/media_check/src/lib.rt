@@ -1,0 +1,31 @@
+//! Media sets: the lists and files of loadable software in a folder of the host, and what is wrong
+//! with them.
+//!
+//! Start from [`open_set`], which reads a set, and [`check`], which gives all its findings. The
+//! layout of a folder and the findings are those of docs/FORMATS.md.
+#![tactic(auto)]
+
+mod built;
+mod checking;
+mod comparing;
+mod fault;
+mod finding;
+mod found;
+mod laws;
+mod loads;
+mod names;
+mod opening;
+mod set;
+mod sums;
+#[cfg(test)]
+mod tests;
+
+pub use built::{Built, Placed};
+pub use checking::check;
+pub use fault::OpenFault;
+pub use finding::Finding;
+pub use found::Found;
+pub use laws::opening_laws;
+pub use names::host_name;
+pub use opening::{open_rest, open_set, read_files_list, read_loads_list};
+pub use set::{KeptFile, MediaSet, MemberLists};

@@ -1,0 +1,83 @@
+//! Media sets in memory.
+ghost use Rattle.std.specs.Prelude.{◌≡◌, ◌≤◌, length, option_map, IfSome, All};
+ghost use Rattle.std.specs.HashMap.{values};
+ghost use Rattle.load_base.specs.Host.{longest_file};
+ghost use Rattle.media_check.specs.Kept.{IsShortFile};
+
+use crate::found::Found;
+use indexmap::IndexMap;
+use load_base::{Bytes, List, Name};
+use media_lists::{FilesList, LoadsList};
+
+/// Both lists of a member, as they were found.
+#[derive(Drop)]
+pub struct MemberLists {
+    pub loads: Found<LoadsList>,
+    pub files: Found<FilesList>,
+}
+
+/// A file that `FILES.LUM` of member 1 lists.
+#[derive(Drop)]
+pub struct KeptFile {
+    /// The member that its entry names.
+    pub member: u16,
+    /// Its bytes; `None` where it is absent.
+    pub bytes: Option<Bytes>,
+}
+
+/// A media set: the lists of its members as they were found, and the files that member 1's
+/// `FILES.LUM` lists.
+#[derive(Drop)]
+pub struct MediaSet {
+    pub(crate) first: MemberLists,
+    // Those of the members from 2 on.
+    pub(crate) further: List<MemberLists>,
+    // In the order of the list.
+    pub(crate) files: IndexMap<Name, KeptFile>,
+    ghost few: { length further.items ≤ 254 },
+    ghost short: { All IsShortFile (values files) },
+}
+
+impl MediaSet {
+    ghost use Rattle.media_lists.specs.Files.{files_list_view};
+    ghost use Rattle.media_lists.specs.Loads.{loads_list_view};
+    ghost use Rattle.media_check.specs.Sets.{set_view, list_of, bytes_of};
+
+    /// Member 1's `LOADS.LUM`; `None` exactly where it is absent or refused.
+    pub fn loads(&self) -> Option<&LoadsList>
+        ensures { option_map (λ list. loads_list_view list.now) result
+            ≡ list_of (set_view self.now).first.loads }
+    {
+        match &self.first.loads {
+            Found::Read(list) => Some(list),
+            _ => None,
+        }
+    }
+
+    /// Member 1's `FILES.LUM`; `None` exactly where it is absent or refused.
+    pub fn files(&self) -> Option<&FilesList>
+        ensures { option_map (λ list. files_list_view list.now) result
+            ≡ list_of (set_view self.now).first.files }
+    {
+        match &self.first.files {
+            Found::Read(list) => Some(list),
+            _ => None,
+        }
+    }
+
+    /// The bytes of the file of this name, which is looked up in a map. `None` exactly where it
+    /// isn't listed, and where it is absent. It takes no memory.
+    pub fn file(&self, name: &Name) -> Option<&Bytes>
+        ensures bytes { option_map (λ bytes. bytes.now.items) result
+            ≡ bytes_of (set_view self.now) name.now }
+        ensures short { IfSome result (λ bytes. length bytes.now.items ≤ longest_file) }
+    {
+        match self.files.get(name) {
+            Some(file) => match &file.bytes {
+                Some(bytes) => Some(bytes),
+                None => None,
+            },
+            None => None,
+        }
+    }
+}
