@@ -1,10 +1,2 @@
-pub mod Numbers
-pub mod Texts
-pub mod Names
-pub mod Kept
 pub mod Rest
-pub mod Pairs
-pub mod Cases
-pub mod Bodies
-pub mod Spelled
-pub mod Canonical
+pub mod Decoded

@@ -1,11 +1,13 @@
 -- The options of requests and of their answers (RFC 2347, RFC 2348, RFC 2349; docs/FORMATS.md, "TFTP packets").
-use Rattle.std.specs.Prelude.{◌≡◌, ◌≢◌, ℕ, zero, suc, ◌≤◌, List, [], ◌∷◌, ◌++◌, length, codes, Bool, true, not, ◌&&◌, nat_lt, nat_le, ◌==◌, if◌then◌else◌, Option, Some, None, is_some, IfSome, ⊤, count_by}
+use Rattle.std.specs.Prelude.{◌≡◌, ◌≢◌, ℕ, zero, suc, ◌≤◌, List, [], ◌∷◌, ◌++◌, length, codes, Bool, true, false, not, ◌&&◌, nat_lt, nat_le, ◌==◌, if◌then◌else◌, Option, Some, None, is_some, IfSome, ⊤, count_by}
 use Rattle.std.specs.Char.{is_ascii_digit}
 use Rattle.std.specs.Fmt.{decimal}
-use Rattle.std.specs.List.{AllByRecursion, flat_map, list_any, list_all}
+use Rattle.std.specs.List.{AllByRecursion, flat_map, list_all}
 use Rattle.std.specs.Str.{str_eq_ignore_ascii_case}
 use Rattle.std.specs.Str.Parse.{digits_value}
-use Rattle.field_grammar.specs.Grammar.{Grammar, give, check, choose, zero_ended, front, left, mapped, IsBytes, HasNoZero, ◌>>=◌, ◌>>◌}
+use Rattle.field_grammar.specs.declared.fault.FieldFault.{FieldFault}
+use Rattle.field_grammar.specs.declared.fault.FieldFault.TheVariants.{Short, BadPad}
+use Rattle.field_grammar.specs.Grammar.{renamed, Grammar, give, check, choose, zero_ended, prefix, left, mapped, IsBytes, HasNoZero, ◌>>=◌, ◌>>◌}
 use Rattle.tftp_packet.specs.declared.fault.PacketFault.{PacketFault}
 use Rattle.tftp_packet.specs.declared.fault.PacketFault.TheVariants as faults
 use Rattle.tftp_packet.specs.declared.options.Known.{Known}
@@ -13,6 +15,7 @@ use Rattle.tftp_packet.specs.declared.options.Known.TheVariants.{BlockSize, Time
 use Rattle.tftp_packet.specs.declared.options.Options.{Options}
 use Rattle.tftp_packet.specs.declared.options.Others.{Others}
 use Rattle.tftp_packet.specs.declared.options.Others.TheVariants.{PassedOver, Refused}
+use Rattle.tftp_packet.specs.declared.options.Seen.{Seen}
 
 -- ---- names
 
@@ -70,15 +73,15 @@ pub record Pair : Type 0 where
   pub value : List ℕ
 
 -- bytes of which none is zero
-pub record IsText (text : List ℕ) : Type 0 where
+pub record IsPacketText (text : List ℕ) : Type 0 where
   pub no_zero : HasNoZero text
   pub bytes : IsBytes text
 
 -- two texts, of which the name isn't empty
 pub record IsPair (pair : Pair) : Type 0 where
-  pub name : IsText pair.name
+  pub name : IsPacketText pair.name
   pub named : pair.name ≢ []
-  pub value : IsText pair.value
+  pub value : IsPacketText pair.value
 
 -- a known option with a value of its kind
 abbrev pub IsOfKind : Pair → Type 0
@@ -138,23 +141,19 @@ written_options options = written BlockSize options.blksize ++ (written Timeout 
 
 -- ---- reading them
 
+-- a field that doesn't fit, with the offset where it begins: a text has no zero after it
+abbrev pub unended : FieldFault → PacketFault
+unended (Short offset) = faults.NoZero offset
+unended (BadPad offset) = faults.NoZero offset
+
 -- bytes up to a zero, and the zero
 abbrev pub zero_text : Grammar PacketFault (List ℕ)
-zero_text = zero_ended faults.NoZero
-
--- no pair before named this known option
-abbrev pub is_new : List Pair → Option Known → Bool
-is_new so_far None = true
-is_new so_far (Some known) = not (list_any (λ pair. is_named known pair.name) so_far)
+zero_text = renamed unended (zero_ended Short)
 
 -- whether an option may stand there: where others are refused, only one of this project's own
 abbrev pub admits : Others → Bool → Bool
 admits PassedOver is_own = true
 admits Refused is_own = is_own
-
--- whether an option of this name may stand behind the pairs so far
-unfoldable pub may_follow : Others → List Pair → List ℕ → Bool
-may_follow others so_far name = nat_lt 0 (length name) && is_new so_far (known_of name) && admits others (is_some (known_of name))
 
 -- the value of a known option, where the bytes are of its kind
 abbrev pub said_by : Option Known → List ℕ → Option ℕ
@@ -165,30 +164,59 @@ said_by (Some known) value = value_of known value
 unfoldable pub may_have : Others → List ℕ → List ℕ → Bool
 may_have others name value = admits others (is_some (said_by (known_of name) value))
 
--- One option behind those so far. Its name is tested before its value is read, and the value behind that;
--- the fault has the place of the name.
-unfoldable pub one_option : Others → List Pair → Grammar PacketFault Pair
-one_option others so_far = do
-  before ← front
+-- what no options say
+abbrev pub nothing : Seen
+nothing = record { options = record { blksize = None; timeout = None; tsize = None }; blksize = false; timeout = false; tsize = false }
+
+-- whether the known option was named
+abbrev pub has : Seen → Known → Bool
+has seen BlockSize = seen.blksize
+has seen Timeout = seen.timeout
+has seen TransferSize = seen.tsize
+
+-- the same with one more
+abbrev pub with_option : Seen → Known → Option ℕ → Seen
+with_option seen BlockSize said = record { options = record { blksize = said; timeout = seen.options.timeout; tsize = seen.options.tsize }; blksize = true; timeout = seen.timeout; tsize = seen.tsize }
+with_option seen Timeout said = record { options = record { blksize = seen.options.blksize; timeout = said; tsize = seen.options.tsize }; blksize = seen.blksize; timeout = true; tsize = seen.tsize }
+with_option seen TransferSize said = record { options = record { blksize = seen.options.blksize; timeout = seen.options.timeout; tsize = said }; blksize = seen.blksize; timeout = seen.timeout; tsize = true }
+
+abbrev pub with_known : Seen → Option Known → Option ℕ → Seen
+with_known seen None said = seen
+with_known seen (Some known) said = with_option seen known said
+
+-- the option is unknown, or wasn't named before
+abbrev pub is_new : Seen → Option Known → Bool
+is_new seen None = true
+is_new seen (Some known) = not (has seen known)
+
+-- whether an option of this name may stand after those
+unfoldable pub may_follow : Others → Seen → List ℕ → Bool
+may_follow others seen name = nat_lt 0 (length name) && is_new seen (known_of name) && admits others (is_some (known_of name))
+
+-- One option after those so far. Its name is tested before its value is read, and the value after that; the fault has the
+-- offset of the name.
+unfoldable pub one_option : Others → Seen → Grammar PacketFault Seen
+one_option others seen = do
+  before ← prefix
   name ← zero_text
-  check (may_follow others so_far name) (faults.Option (length before))
+  check (may_follow others seen name) (faults.Option (length before))
   value ← zero_text
   check (may_have others name value) (faults.Option (length before))
-  give (record { name = name; value = value })
+  give (with_known seen (known_of name) (said_by (known_of name) value))
 
--- so many options behind those so far, or fewer, where the bytes end before
-unfoldable pub options_to_end : ℕ → Others → List Pair → Grammar PacketFault (List Pair)
-options_to_end zero others so_far = give so_far
-options_to_end (suc n) others so_far = do
+-- so many options after those so far, or fewer, where the bytes end before
+unfoldable pub options_to_end : ℕ → Others → Seen → Grammar PacketFault Seen
+options_to_end zero others seen = give seen
+options_to_end (suc n) others seen = do
   size ← left
-  choose (size == 0) (give so_far) (one_option others so_far >>= (λ pair. options_to_end n others (so_far ++ pair ∷ [])))
+  choose (size == 0) (give seen) (one_option others seen >>= (λ more. options_to_end n others more))
 
 -- all options up to the end of the bytes: there are no more of them than bytes
-unfoldable pub pairs_to_end : Others → Grammar PacketFault (List Pair)
-pairs_to_end others = do
+unfoldable pub rest_of_options : Others → Seen → Grammar PacketFault Seen
+rest_of_options others seen = do
   size ← left
-  options_to_end size others []
+  options_to_end size others seen
 
 -- what all options up to the end say
 unfoldable pub all_options : Others → Grammar PacketFault Options
-all_options others = mapped options_of (pairs_to_end others)
+all_options others = mapped (λ seen. seen.options) (rest_of_options others nothing)

@@ -2,8 +2,8 @@
 use Rattle.std.specs.Prelude.{◌≡◌, ℕ, ◌+◌, ◌<◌, ◌≤◌, ◌^◌, min, List, [], ◌∷◌, length, codes, Bool, true, ◌==◌, Result, Ok, Err, ⊤}
 use Rattle.std.specs.List.{concat}
 use Rattle.std.specs.Str.{str_eq_ignore_ascii_case}
-use Rattle.field_grammar.specs.Grammar.{Grammar, give, judge, check, choose, field, front, left, renamed, mapped, ended, IsBytes, HasNoZero, ◌>>=◌, ◌>>◌}
-use Rattle.field_grammar.specs.Fields.{number, number_bytes}
+use Rattle.field_grammar.specs.Grammar.{Grammar, give, judge, check, choose, prefix, left, renamed, mapped, ended, IsBytes, HasNoZero, ◌>>=◌, ◌>>◌}
+use Rattle.field_grammar.specs.Fields.{number, number_bytes, raw}
 use Rattle.load_base.specs.Name.{IsName}
 use Rattle.load_base.specs.Verdicts.{verdict, name_fault_of}
 use Rattle.tftp_packet.specs.declared.fault.PacketFault.{PacketFault}
@@ -12,7 +12,7 @@ use Rattle.tftp_packet.specs.declared.options.Options.{Options}
 use Rattle.tftp_packet.specs.declared.options.Others.TheVariants.{PassedOver, Refused}
 use Rattle.tftp_packet.specs.declared.packet.Packet.{Packet}
 use Rattle.tftp_packet.specs.declared.packet.Packet.TheVariants as packets
-use Rattle.tftp_packet.specs.Options.{Pair, IsText, AreOptions, AreInRange, ended_text, pairs_fields, options_of, written_options, zero_text, all_options}
+use Rattle.tftp_packet.specs.Options.{Pair, IsPacketText, AreOptions, AreInRange, ended_text, pairs_fields, options_of, written_options, unended, zero_text, all_options}
 
 -- ---- packets
 
@@ -56,6 +56,12 @@ IsTyped (Ack block) = block < 2 ^ 16
 IsTyped (Error code message) = (code < 2 ^ 16) × IsBytes message
 IsTyped (Oack options) = ⊤
 
+-- the packet is a request
+abbrev pub IsARequest : PacketView → Type 0
+IsARequest (Rrq name options) = ⊤
+IsARequest (Wrq name options) = ⊤
+IsARequest packet = ⊥
+
 -- ---- what it means that bytes spell a packet
 
 -- whether a mode is octet, in any letter case
@@ -98,7 +104,7 @@ pub record IsAck (block : ℕ) (bytes : List ℕ) : Type 0 where
 -- The bytes tell an error of this code with this text.
 pub record IsError (code : ℕ) (message bytes : List ℕ) : Type 0 where
   pub number : code < 2 ^ 16
-  pub is_text : IsText message
+  pub is_text : IsPacketText message
   pub parts : bytes ≡ concat (number_bytes 2 5 ∷ number_bytes 2 code ∷ ended_text message ∷ [])
 
 -- The bytes spell the packet.
@@ -129,7 +135,7 @@ packet_bytes packet = concat (packet_fields packet)
 -- a number in two bytes; where they don't fit, the fault has the length of the whole packet
 unfoldable pub word : Grammar PacketFault ℕ
 word = do
-  before ← front
+  before ← prefix
   size ← left
   renamed (λ _. faults.Short (length before + size)) (number 2)
 
@@ -152,7 +158,7 @@ request_body = do
 unfoldable pub payload_bytes : Grammar PacketFault (List ℕ)
 payload_bytes = do
   size ← left
-  field faults.Short (min size 65464)
+  renamed unended (raw (min size 65464))
 
 -- behind the opcode of a block: its number, its payload, and nothing more
 unfoldable pub data_body : Grammar PacketFault (ℕ × List ℕ)

@@ -1,13 +1,13 @@
 //! The options of requests and of their answers.
-ghost use Rattle.std.specs.Prelude.{◌≡◌, ◌+◌, ◌≤◌, length, IfOk, IfSome};
+ghost use Rattle.std.specs.Prelude.{◌≡◌, ◌≤◌, IfSome};
 ghost use Rattle.std.specs.Char.{is_ascii_digit};
 ghost use Rattle.std.specs.List.{list_all};
-ghost use Rattle.field_grammar.specs.Answers.{ReadsAt};
-ghost use Rattle.tftp_packet.specs.Options.{lower_name, is_named, known_of, number_between, value_of, said_by, most, admits, all_options};
-ghost use Rattle.tftp_packet.specs.Reading.{ReadsToEnd, is_unseen, with_known, IsSmall, next_option};
+ghost use Rattle.tftp_packet.specs.Options.{lower_name, is_named, known_of, number_between, value_of, said_by, most, admits, is_new, with_known, one_option, all_options};
+ghost use Rattle.tftp_packet.specs.Reading.{ReadsOn, IsSmall};
 
 use crate::PacketFault;
-use crate::reading::text_at;
+use crate::reading::take_text;
+use field_codec::Reader;
 use std::str;
 
 /// The options that this project knows, each where it is named with a value of its kind. A request
@@ -97,7 +97,7 @@ impl Known {
 }
 
 /// The number that decimal digits write, zeros leading or not, if it is in the range.
-#[tactic(auto, using(crate::proofs::Numbers::narrowed, crate::proofs::Numbers::narrowed_none))]
+#[tactic(auto, using(crate::specs::NumberLaws::narrowed, crate::specs::NumberLaws::narrowed_none))]
 fn number_between(low: u32, high: u32, digits: &[u8]) -> Option<u32>
     ensures value { result ≡ number_between low high digits.now }
     ensures small { IfSome result (λ n. n ≤ high) }
@@ -110,7 +110,7 @@ fn number_between(low: u32, high: u32, digits: &[u8]) -> Option<u32>
     }
 }
 
-#[tactic(auto, using(crate::proofs::Numbers::no_digits, crate::proofs::Numbers::digits_are_utf8, crate::proofs::Numbers::parsed))]
+#[tactic(auto, using(crate::specs::NumberLaws::no_digits, crate::specs::NumberLaws::digits_are_utf8, crate::specs::NumberLaws::parsed))]
 fn number(digits: &[u8]) -> Option<u32>
     ensures { result ≡ number_between 0 4294967295 digits.now }
 {
@@ -152,7 +152,7 @@ pub(crate) struct Seen {
 impl Seen {
     /// Whether the option is unknown, or wasn't named before.
     fn is_new(&self, known: Option<Known>) -> bool
-        ensures { result ≡ is_unseen self.now known }
+        ensures { result ≡ is_new self.now known }
     {
         match known {
             Some(Known::BlockSize) => !self.blksize,
@@ -187,42 +187,33 @@ impl Seen {
     }
 }
 
-/// What all options from the place up to the end of the bytes say.
-#[tactic(auto, using(crate::proofs::Rest::options_go_on, crate::proofs::Rest::options_refused, crate::proofs::Rest::options_done))]
-pub(crate) fn options_at(bytes: &[u8], place: usize, others: Others) -> Result<Options, PacketFault>
-    requires { place ≤ length bytes.now }
-    ensures { ReadsToEnd (λ options. options) (all_options others) bytes.now place result }
+/// What all options up to the end of the bytes say.
+#[tactic(auto, using(crate::proofs::Rest::options_go_on, crate::proofs::Rest::options_refused, crate::proofs::Rest::options_done, crate::proofs::Rest::option_takes))]
+pub(crate) fn take_options(reader: &mut Reader, others: Others) -> Result<Options, PacketFault>
+    ensures { ReadsOn (λ options. options) (all_options others) reader.old result reader.new }
 {
     let mut seen = Seen::default();
-    let mut place = place;
-    while place < bytes.len() {
-        (seen, place) = option_at(bytes, place, others, seen)?;
+    'options: while reader.left() > 0 {
+        seen = take_option(reader, others, seen)?;
     }
     Ok(seen.options)
 }
 
 /// One option more. Its name is tested before its value is read.
-#[tactic(auto, unfolding(crate::specs::Reading::next_option, crate::specs::Reading::may_come, crate::specs::Options::may_have))]
-fn option_at(
-    bytes: &[u8],
-    place: usize,
-    others: Others,
-    seen: Seen,
-) -> Result<(Seen, usize), PacketFault>
-    requires { place ≤ length bytes.now }
-    ensures reads { ReadsAt (λ seen. seen) (next_option others seen) bytes.now place result }
-    ensures further { IfOk result (λ x. place + 1 ≤ x.1) }
+#[tactic(auto, unfolding(crate::specs::Options::one_option, crate::specs::Options::may_follow, crate::specs::Options::may_have))]
+fn take_option(reader: &mut Reader, others: Others, seen: Seen) -> Result<Seen, PacketFault>
+    ensures { ReadsOn (λ seen. seen) (one_option others seen) reader.old result reader.new }
 {
-    let fault = PacketFault::Option(place as u64);
-    let (name, behind) = text_at(bytes, place)?;
+    let fault = PacketFault::Option(reader.place() as u64);
+    let name = take_text(reader)?;
     let known = Known::of_name(name);
     if name.is_empty() || !seen.is_new(known) || !others.admit(known.is_some()) {
         return Err(fault);
     }
-    let (value, end) = text_at(bytes, behind)?;
+    let value = take_text(reader)?;
     let said = said_by(known, value);
     if !others.admit(said.is_some()) {
         return Err(fault);
     }
-    Ok((seen.with(known, said), end))
+    Ok(seen.with(known, said))
 }

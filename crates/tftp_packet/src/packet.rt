@@ -3,14 +3,14 @@ ghost use Rattle.std.specs.Prelude.{◌≡◌, ◌≤◌, List, ℕ, length, IfO
 ghost use Rattle.field_grammar.specs.Answers.{answer};
 ghost use Rattle.field_grammar.specs.Grammar.{Fault};
 ghost use Rattle.tftp_packet.specs.declared.fault.PacketFault.{PacketFault};
-ghost use Rattle.tftp_packet.specs.Packets.{PacketView, packet_view, seen, IsInRange, PacketSpells, packet_bytes, packet, body};
-ghost use Rattle.tftp_packet.specs.Reading.{ReadsToEnd};
+ghost use Rattle.tftp_packet.specs.Packets.{PacketView, packet_view, seen, IsInRange, IsTyped, PacketSpells, packet_bytes, packet, body};
+ghost use Rattle.tftp_packet.specs.Reading.{ReadsOn};
 
 use crate::PacketFault;
-use crate::options::{Options, Others, options_at};
-use crate::reading::{ack_at, data_at, error_at, request_at, word_at};
+use crate::options::{Options, Others, take_options};
+use crate::reading::{take_ack, take_data, take_error, take_request, take_word};
 use crate::writing::put_packet;
-use field_codec::Writer;
+use field_codec::{Reader, Writer};
 use load_base::{Bytes, Name, NoMemory};
 use std::alloc::Global;
 
@@ -57,9 +57,11 @@ impl<'a> Packet<'a> {
         ensures refused { IfErr result (λ f. Fault packet bytes.now f) }
         ensures faulty { (f : PacketFault) → Fault packet bytes.now f → seen result ≡ Err f }
         ensures in_range { IfOk result (λ p. IsInRange (packet_view p)) }
+        ensures typed { IfOk result (λ p. IsTyped (packet_view p)) }
         ensures answers { seen result ≡ answer packet bytes.now }
     {
-        packet_of(bytes)
+        let mut reader = Reader::new(bytes);
+        take_packet(&mut reader)
     }
 
     /// The bytes that are sent for the packet, which is in its range: `octet` and the options in
@@ -69,6 +71,7 @@ impl<'a> Packet<'a> {
         requires { IsInRange (packet_view self.now) }
         ensures written { IfOk result (λ bytes. bytes.items ≡ packet_bytes (packet_view self.now)) }
         ensures spells { IfOk result (λ bytes. PacketSpells (packet_view self.now) bytes.items) }
+        ensures typed { IfOk result (λ _. IsTyped (packet_view self.now)) }
     {
         let mut out = Writer::new(alloc);
         put_packet(&mut out, self)?;
@@ -77,42 +80,41 @@ impl<'a> Packet<'a> {
 }
 
 #[tactic(auto, unfolding(crate::specs::Packets::packet))]
-fn packet_of(bytes: &[u8]) -> Result<Packet<'_>, PacketFault>
-    ensures { ReadsToEnd packet_view packet bytes.now 0 result }
+fn take_packet<'a>(reader: &mut Reader<'a>) -> Result<Packet<'a>, PacketFault>
+    ensures { ReadsOn packet_view packet reader.old result reader.new }
 {
-    let (opcode, place) = word_at(bytes, 0)?;
-    body_at(bytes, place, opcode)
+    let opcode = take_word(reader)?;
+    take_body(reader, opcode)
 }
 
-/// What the opcode says that stands behind it.
+/// What the opcode says that stands after it.
 #[tactic(auto, unfolding(crate::specs::Packets::body))]
-fn body_at(bytes: &[u8], place: usize, opcode: u16) -> Result<Packet<'_>, PacketFault>
-    requires { place ≤ length bytes.now }
-    ensures { ReadsToEnd packet_view (body opcode) bytes.now place result }
+fn take_body<'a>(reader: &mut Reader<'a>, opcode: u16) -> Result<Packet<'a>, PacketFault>
+    ensures { ReadsOn packet_view (body opcode) reader.old result reader.new }
 {
     match opcode {
         RRQ => {
-            let (name, options) = request_at(bytes, place)?;
+            let (name, options) = take_request(reader)?;
             Ok(Packet::Rrq { name, options })
         }
         WRQ => {
-            let (name, options) = request_at(bytes, place)?;
+            let (name, options) = take_request(reader)?;
             Ok(Packet::Wrq { name, options })
         }
         DATA => {
-            let (block, payload) = data_at(bytes, place)?;
+            let (block, payload) = take_data(reader)?;
             Ok(Packet::Data { block, payload })
         }
         ACK => {
-            let block = ack_at(bytes, place)?;
+            let block = take_ack(reader)?;
             Ok(Packet::Ack { block })
         }
         ERROR => {
-            let (code, text) = error_at(bytes, place)?;
+            let (code, text) = take_error(reader)?;
             Ok(Packet::Error { code, text })
         }
         OACK => {
-            let options = options_at(bytes, place, Others::Refused)?;
+            let options = take_options(reader, Others::Refused)?;
             Ok(Packet::Oack { options })
         }
         _ => Err(PacketFault::Opcode(opcode as u64)),

@@ -1,5 +1,5 @@
-//! Requests as in the examples of RFC 2348 and RFC 2349, packets that an exchange of this project sends, and bytes
-//! with one thing wrong.
+//! Requests as in the examples of RFC 2348 and RFC 2349, packets that an exchange of this project
+//! sends, and bytes with one thing wrong.
 
 use crate::{Options, Packet, PacketFault, packet_laws};
 use load_base::{Name, NameFault, NoMemory};
@@ -203,6 +203,11 @@ fn a_block_and_its_acknowledgement_are_read_and_written(rt: HostRuntime) -> Resu
         }
         _ => assert!(rt; false),
     }
+    // The empty block with the greatest number, which ends a file.
+    match Packet::decode(b"\0\x03\xFF\xFF") {
+        Ok(Packet::Data { block, payload }) => assert_eq!(rt; (block, payload.len()), (65_535, 0)),
+        _ => assert!(rt; false),
+    }
     let bytes = b"\0\x04\x12\x34".as_slice();
     match Packet::decode(bytes) {
         Ok(Packet::Ack { block }) => {
@@ -258,14 +263,16 @@ fn a_payload_has_at_most_65_464_bytes(rt: HostRuntime) -> Result<(), NoMemory> {
 }
 
 // Bytes that are no packet, and their first fault.
-const FAULTS: [(&[u8], PacketFault); 44] = [
+const FAULTS: [(&[u8], PacketFault); 46] = [
     (b"", PacketFault::Short(0)),
     (b"\0", PacketFault::Short(1)),
     (b"\0\x03", PacketFault::Short(2)),
+    (b"\0\x04", PacketFault::Short(2)),
     (b"\0\x04\0", PacketFault::Short(3)),
     (b"\0\x05\0", PacketFault::Short(3)),
     (b"\0\0", PacketFault::Opcode(0)),
     (b"\0\x07\0", PacketFault::Opcode(7)),
+    (b"\0\x09", PacketFault::Opcode(9)),
     (b"\x01\x01A\0octet\0", PacketFault::Opcode(257)),
     (b"\0\x01", PacketFault::NoZero(2)),
     (b"\0\x02HW1_L.LUI", PacketFault::NoZero(2)),

@@ -40,7 +40,8 @@ fn put_request(
     name: &Name,
     options: &Options,
 ) -> Result<(), NoMemory>
-    ensures ok { OnOk result (out.new ≡ out.old ++ concat (request_fields opcode name.now (codes "octet") (written_options options.now))) }
+    ensures ok { OnOk result (out.new ≡ out.old
+        ++ concat (request_fields opcode name.now (codes "octet") (written_options options.now))) }
     ensures is_name { OnOk result (IsName name.now) }
 {
     out.put_u16(opcode)?;
@@ -51,7 +52,8 @@ fn put_request(
 }
 
 fn put_numbered(out: &mut Writer, opcode: u16, number: u16, bytes: &[u8]) -> Result<(), NoMemory>
-    ensures ok { OnOk result (out.new ≡ out.old ++ (number_bytes 2 opcode ++ (number_bytes 2 number ++ bytes.now))) }
+    ensures ok { OnOk result
+        (out.new ≡ out.old ++ (number_bytes 2 opcode ++ (number_bytes 2 number ++ bytes.now))) }
     ensures typed { OnOk result ((number < 2 ^ 16) × IsBytes bytes.now) }
 {
     out.put_u16(opcode)?;
@@ -62,7 +64,8 @@ fn put_numbered(out: &mut Writer, opcode: u16, number: u16, bytes: &[u8]) -> Res
 
 #[tactic(auto, unfolding(crate::specs::Options::written_options))]
 fn put_options(out: &mut Writer, options: &Options) -> Result<(), NoMemory>
-    ensures { OnOk result (out.new ≡ out.old ++ concat (pairs_fields (written_options options.now))) }
+    ensures { OnOk result
+        (out.new ≡ out.old ++ concat (pairs_fields (written_options options.now))) }
 {
     put_option(out, Known::BlockSize, options.blksize.map(u32::from))?;
     put_option(out, Known::Timeout, options.timeout.map(u32::from))?;

@@ -1,7 +1,7 @@
 use Rattle.field_grammar.specs.ExactLaws.{decided, whole_one_value}
 use Rattle.tftp_packet.specs.Packets.{packet, packet_bytes}
-use Rattle.tftp_packet.proofs.Canonical.{spelled_in_range, written_spells, read_again}
-use Rattle.tftp_packet.proofs.Spelled.{packet_is, packet_from, ends-packet}
+use Rattle.tftp_packet.specs.PacketLaws.{spelled_in_range, written_spells, read_again, short_requests}
+use Rattle.tftp_packet.specs.SpelledLaws.{packet_is, packet_from, ends-packet}
 use Rattle.tftp_packet.proofs.laws.packet_laws.Goals as goal
 
 pub returns-clause-decided : goal.returns-clause-decided
@@ -21,3 +21,6 @@ returns-clause-written c = written_spells
 
 pub returns-clause-read_again : goal.returns-clause-read_again
 returns-clause-read_again c = λ p typed fits. read_again p (packet_bytes p) (written_spells p typed fits)
+
+pub returns-clause-short_requests : goal.returns-clause-short_requests
+returns-clause-short_requests c = short_requests

@@ -1,5 +1,5 @@
 use Rattle.std.proofs.Common.{◌∙◌, sym, arith, ◌≤◌, inl, inr}
-use Rattle.tftp_packet.proofs.Numbers.{narrowed, within, not_within}
+use Rattle.tftp_packet.specs.NumberLaws.{narrowed, within, not_within}
 use Rattle.tftp_packet.proofs.options.number_between.Goals as goal
 use Rattle.tftp_packet.proofs.options.number_between.Goals.{else-low-number-via-then-low-number+else-number-high, else-low-number-via-else-low-number}
 

@@ -1,6 +1,6 @@
 use Rattle.std.proofs.Common.{◌≡◌, rules}
 use Rattle.tftp_packet.specs.Packets.{packet_view, packet_bytes}
-use Rattle.tftp_packet.proofs.Canonical.{written_is}
+use Rattle.tftp_packet.proofs.Decoded.{written_is}
 use Rattle.tftp_packet.proofs.packet.Packet.encode.Goals as goal
 
 pub returns-clause-spells : goal.returns-clause-spells

@@ -1,28 +1,30 @@
 -- Packets in their range, and how they are written.
-use Rattle.std.proofs.Common.{◌≡◌, ◌≢◌, ℕ, ◌+◌, ◌<◌, ◌≤◌, ◌^◌, Bool, true, false, cond, List, [], ◌∷◌, ◌++◌, length, Option, Some, None, Result, Ok, Err, refl, sym, subst, arith}
-use Rattle.std.specs.Prelude.{nat_lt, nat_le, ◌&&◌, codes, count_by, IfSome, IfOk}
+use Rattle.std.proofs.Common.{◌≡◌, ◌≢◌, ℕ, ◌+◌, ◌<◌, ◌≤◌, ◌^◌, Bool, true, false, cond, List, [], ◌∷◌, ◌++◌, length, Option, Some, None, Ok, refl, subst, arith}
+use Rattle.std.specs.Prelude.{nat_lt, nat_le, ◌&&◌, codes, count_by, IfSome}
 use Rattle.std.specs.Char.{is_ascii_digit}
 use Rattle.std.specs.Fmt.{decimal}
 use Rattle.std.specs.List.{AllByRecursion, concat, list_all}
 use Rattle.std.specs.Str.Parse.{digits_value}
 use Rattle.std.proofs.lemmas.Bool.{and_parts, and_from, lt-ltb, leb-true}
-use Rattle.std.proofs.lemmas.Fmt.{decimal_is_IsNumeral}
+use Rattle.std.proofs.lemmas.Fmt.{decimal_is_IsNumeral, length-decimal-le}
+use Rattle.std.proofs.lemmas.List.{length-append}
+use Rattle.std.proofs.lemmas.List.Concat.{flat_map-append}
+use Rattle.std.proofs.lemmas.List.Folds.{concat-append}
 use Rattle.std.proofs.lemmas.List.Sums.{sum_by-append}
 use Rattle.field_grammar.specs.Answers.{answer}
+use Rattle.field_grammar.specs.NumberLaws.{length_number_bytes}
 use Rattle.load_base.specs.Name.{IsName}
-use Rattle.field_grammar.specs.ExactLaws.{answer-spelled, spelled_at_front}
-use Rattle.tftp_packet.specs.declared.fault.PacketFault.{PacketFault}
+use Rattle.field_grammar.specs.ExactLaws.{answer-spelled, spelled_at_start}
 use Rattle.tftp_packet.specs.declared.options.Known.{Known}
 use Rattle.tftp_packet.specs.declared.options.Known.TheVariants.{BlockSize, Timeout, TransferSize}
 use Rattle.tftp_packet.specs.declared.options.Options.{Options}
 use Rattle.tftp_packet.specs.declared.options.Others.{Others}
 use Rattle.tftp_packet.specs.declared.options.Others.TheVariants.{PassedOver, Refused}
-use Rattle.tftp_packet.specs.declared.packet.Packet.{Packet}
-use Rattle.tftp_packet.specs.Options.{Pair, IsText, IsPair, MayStand, AreOptions, AreInRange, IsWithin, is_named, lower_name, least, most, is_number, in_range, number_between, value_of, said_of, options_of, written, written_options}
-use Rattle.tftp_packet.specs.Packets.{PacketView, Rrq, Wrq, Data, Ack, Error, Oack, packet_view, IsTyped, IsInRange, IsRequest, PacketSpells, packet_bytes, packet, is_octet, request_fields}
-use Rattle.tftp_packet.proofs.Cases.{known_text, digits_are_text}
-use Rattle.tftp_packet.proofs.Numbers.{digits, within}
-use Rattle.tftp_packet.proofs.Spelled.{packet_from}
+use Rattle.tftp_packet.specs.Options.{Pair, IsPacketText, IsPair, MayStand, AreOptions, AreInRange, IsWithin, is_named, lower_name, least, most, is_number, in_range, number_between, value_of, said_of, options_of, written, written_options, pairs_fields}
+use Rattle.tftp_packet.specs.Packets.{PacketView, IsARequest, Rrq, Wrq, Data, Ack, Error, Oack, IsTyped, IsInRange, IsRequest, PacketSpells, packet_bytes, packet, is_octet, request_fields}
+use Rattle.tftp_packet.specs.CaseLaws.{known_text, digits_are_text}
+use Rattle.tftp_packet.specs.NumberLaws.{digits, within}
+use Rattle.tftp_packet.specs.SpelledLaws.{packet_from}
 
 -- ---- what is spelled is in its range
 
@@ -61,9 +63,13 @@ spelled_in_range (Ack block) bytes is = tt
 spelled_in_range (Error code message) bytes is = is.is_text.no_zero
 spelled_in_range (Oack options) bytes is = options_in_range is.pairs options is.say
 
-pub result_in_range : (bytes : List ℕ) (r : Result Packet PacketFault) → IfOk r (λ p. PacketSpells (packet_view p) bytes) → IfOk r (λ p. IsInRange (packet_view p))
-result_in_range bytes (Ok p) spells = spelled_in_range (packet_view p) bytes spells
-result_in_range bytes (Err f) spells = tt
+pub spelled_typed : (p : PacketView) (bytes : List ℕ) → PacketSpells p bytes → IsTyped p
+spelled_typed (Rrq name options) bytes is = is.is_name
+spelled_typed (Wrq name options) bytes is = is.is_name
+spelled_typed (Data block payload) bytes is = (is.number, is.are_bytes)
+spelled_typed (Ack block) bytes is = is.number
+spelled_typed (Error code message) bytes is = (is.number, is.is_text.bytes)
+spelled_typed (Oack options) bytes is = tt
 
 -- ---- one option as it is written
 
@@ -81,7 +87,7 @@ written_value known n fits =
     let (all, some, is) = decimal_is_digits n (omega (arith, most_is_small known, fits.1)) in
     rw (and_from (nat_lt 0 (length (decimal n))) (list_all is_ascii_digit (decimal n)) (lt-ltb 0 (length (decimal n)) some) all, is) (within (least known) (most known) n fits.0 fits.1)
 
-written_name : (known : Known) → IsText (lower_name known)
+written_name : (known : Known) → IsPacketText (lower_name known)
 written_name BlockSize = known_text (lower_name BlockSize) refl refl
 written_name Timeout = known_text (lower_name Timeout) refl refl
 written_name TransferSize = known_text (lower_name TransferSize) refl refl
@@ -230,7 +236,49 @@ written_spells (Oack options) typed fits = record { pairs = written_options opti
 
 -- and is read as what was written
 pub read_again : (p : PacketView) (bytes : List ℕ) → PacketSpells p bytes → answer packet bytes ≡ Ok p
-read_again p bytes spells = answer-spelled packet bytes p (spelled_at_front packet bytes p (packet_from bytes p spells))
+read_again p bytes spells = answer-spelled packet bytes p (spelled_at_start packet bytes p (packet_from bytes p spells))
 
-pub written_is : (p : PacketView) (bytes : List ℕ) → bytes ≡ packet_bytes p → IsTyped p → IsInRange p → PacketSpells p bytes
-written_is p bytes is typed fits = subst (λ (b : List ℕ). PacketSpells p b) (sym is) (written_spells p typed fits)
+-- ---- how long a request is
+
+-- the longest value of an option, in digits
+abbrev digits_of : Known → ℕ
+digits_of BlockSize = 5
+digits_of Timeout = 3
+digits_of TransferSize = 10
+
+few_digits : (known : Known) (n : ℕ) → n ≤ most known → length (decimal n) ≤ digits_of known
+few_digits BlockSize n fits = length-decimal-le 5 n (omega arith) (omega (arith, fits)) (omega (arith, fits))
+few_digits Timeout n fits = length-decimal-le 3 n (omega arith) (omega (arith, fits)) (omega (arith, fits))
+few_digits TransferSize n fits = length-decimal-le 10 n (omega arith) (omega (arith, fits)) (omega (arith, fits))
+
+-- the bytes of an option: its name, its value and two zeros
+option_length : (known : Known) (said : Option ℕ) → IsWithin known said → length (concat (pairs_fields (written known said))) ≤ length (lower_name known) + digits_of known + 2
+option_length known None fits = omega arith
+option_length known (Some n) fits =
+    let few = few_digits known n fits.1 in
+    simp (length-append) (omega (arith, few))
+
+options_length : (options : Options) → AreInRange options → length (concat (pairs_fields (written_options options))) ≤ 43
+unfolding written_options
+options_length options fits =
+    let a = option_length BlockSize options.blksize fits.blksize in
+    let b = option_length Timeout options.timeout fits.timeout in
+    let c = option_length TransferSize options.tsize fits.tsize in
+    simp (flat_map-append, concat-append, length-append) (omega (arith, a, b, c))
+
+request_length : (opcode : ℕ) (name : List ℕ) (options : Options) → IsName name → AreInRange options
+    → length (concat (request_fields opcode name (codes "octet") (written_options options))) ≤ 116
+request_length opcode name options is fits =
+    let more = options_length options fits in
+    let short : length name ≤ 64 = is.size.1 in
+    let two = length_number_bytes 2 opcode in
+    simp (length-append, two) (omega (arith, more, short))
+
+-- a request that is sent has at most 116 bytes
+pub short_requests : (p : PacketView) → IsTyped p → IsInRange p → IsARequest p → length (packet_bytes p) ≤ 116
+short_requests (Rrq name options) typed fits is = request_length 1 name options typed fits
+short_requests (Wrq name options) typed fits is = request_length 2 name options typed fits
+short_requests (Data block payload) typed fits is = absurd is
+short_requests (Ack block) typed fits is = absurd is
+short_requests (Error code message) typed fits is = absurd is
+short_requests (Oack options) typed fits is = absurd is

@@ -4,11 +4,11 @@ use Rattle.std.specs.Prelude.{min, option_map}
 use Rattle.std.specs.List.{concat}
 use Rattle.std.proofs.lemmas.List.{append-nil}
 use Rattle.field_grammar.specs.Grammar.{Follows, check, left, renamed, ended, IsBytes, HasNoZero, EndsTheBytes, ◌>>=◌}
-use Rattle.field_grammar.specs.Fields.{number, number_bytes}
+use Rattle.field_grammar.specs.Fields.{number, number_bytes, raw}
 use Rattle.field_grammar.specs.Spelling.{IsSpelledBy}
 use Rattle.field_grammar.specs.NumberLaws.{wide2}
 use Rattle.field_grammar.specs.NumberLaws.{spelled-number}
-use Rattle.field_grammar.specs.PlacedLaws.{placed, spelled, placed-front, placed-left, placed-renamed, placed-ended}
+use Rattle.field_grammar.specs.PlacedLaws.{placed, spelled, placed-prefix, placed-left, placed-renamed, placed-ended}
 use Rattle.field_grammar.specs.ExactLaws.{ends_at_end, ends_last, ends_before}
 use Rattle.load_base.specs.Bytes.{AllGood}
 use Rattle.load_base.specs.Name.{IsName, is_name_byte}
@@ -18,9 +18,11 @@ use Rattle.tftp_packet.specs.declared.fault.PacketFault.TheVariants as faults
 use Rattle.tftp_packet.specs.declared.options.Options.{Options}
 use Rattle.tftp_packet.specs.declared.options.Others.{Others}
 use Rattle.tftp_packet.specs.declared.options.Others.TheVariants.{PassedOver}
-use Rattle.tftp_packet.specs.Options.{Pair, IsText, AreOptions, ended_text, pairs_fields, options_of, zero_text, pairs_to_end, all_options}
+use Rattle.tftp_packet.specs.declared.options.Seen.{Seen}
+use Rattle.tftp_packet.specs.KeptLaws.{seen_of, nothing_seen}
+use Rattle.tftp_packet.specs.Options.{Pair, IsPacketText, AreOptions, ended_text, pairs_fields, options_of, zero_text, nothing, options_to_end, rest_of_options, all_options}
 use Rattle.tftp_packet.specs.Packets.{is_octet, word, file_name, request_body, payload_bytes, data_body, ack_body, error_body}
-use Rattle.tftp_packet.proofs.Pairs.{AreNext, pairs_to, pairs_from, at_end, are_next, all_next}
+use Rattle.tftp_packet.specs.PairLaws.{AreNext, pairs_to, pairs_from, at_end, are_next, all_next}
 
 -- ---- numbers and texts
 
@@ -28,7 +30,7 @@ pub spelled-word : IsSpelledBy word (λ n. number_bytes 2 n ∷ []) (λ n. n < 2
 unfolding word
 spelled-word =
     spelled word (λ n. number_bytes 2 n ∷ []) (λ n. n < 2 ^ 16) (
-    placed-front (λ before. left >>= (λ size. renamed (λ _. faults.Short (length before + size)) (number 2))) (λ b before n. number_bytes 2 n ∷ []) (λ b before after n. n < 2 ^ 16) (
+    placed-prefix (λ before. left >>= (λ size. renamed (λ _. faults.Short (length before + size)) (number 2))) (λ b before n. number_bytes 2 n ∷ []) (λ b before after n. n < 2 ^ 16) (
     λ b.
     placed-left (λ size. renamed (λ _. faults.Short (length b + size)) (number 2)) (λ before n. number_bytes 2 n ∷ []) (λ size before after n. n < 2 ^ 16) (
     λ size.
@@ -39,7 +41,7 @@ spelled-word =
     )
     )
 
-pub spelled-zero_text : IsSpelledBy zero_text (λ t. ended_text t ∷ []) (λ t. IsText t)
+pub spelled-zero_text : IsSpelledBy zero_text (λ t. ended_text t ∷ []) (λ t. IsPacketText t)
 spelled-zero_text = record {
   to = λ before fields after value h. (h.0, record { no_zero = h.1; bytes = h.2 });
   from = λ before after value is. (refl, is.no_zero, is.bytes);
@@ -54,7 +56,7 @@ no_zero (zero ∷ bytes) good = absurd (never (good 0 (omega arith)))
     never e = cc
 no_zero (suc b ∷ bytes) good = ap (option_map suc) (no_zero bytes (λ k lt. good (suc k) (omega (arith, lt))))
 
-name_is_text : (bytes : List ℕ) → IsName bytes → IsText bytes
+name_is_text : (bytes : List ℕ) → IsName bytes → IsPacketText bytes
 name_is_text bytes is = record { no_zero = no_zero bytes is.good; bytes = name_faults.small bytes is }
 
 pub spelled-file_name : IsSpelledBy file_name (λ t. ended_text t ∷ []) (λ t. IsName t)
@@ -86,23 +88,25 @@ next_options_are : (others : Others) (pairs : List Pair) → AreOptions others p
 next_options_are others pairs are = record { texts = are.texts; once = λ known. omega (arith, are.once known); allowed = are.allowed }
 
 pub options_to : (others : Others) (before : List ℕ) (fields : List (List ℕ)) (after : ℕ) (options : Options) → Follows (all_options others) before fields after options → SayOptions others options fields
-unfolding all_options pairs_to_end
+unfolding all_options rest_of_options
 options_to others before fields after options follows =
     let (all, f1, o1, parts1, (size, f2, o2, parts2, h2, h3), last) = follows in
-    let behind = pairs_to size others [] (before ++ concat f2) o2 (length (concat o1) + after) all h3 in
+    let first = subst (λ (s : Seen). Follows (options_to_end size others s) (before ++ concat f2) o2 (length (concat o1) + after) all) (sym nothing_seen) h3 in
+    let behind = pairs_to size others [] (before ++ concat f2) o2 (length (concat o1) + after) all first in
     let whole : fields ≡ o2 = parts1 ∙ rw (parts2, h2.0, last.0, append-nil) refl in
     record {
-      pairs = all;
-      are = are_options others all (subst (λ (l : List Pair). AreNext others [] l) (sym behind.joined) (are_next others [] behind.pairs behind.next));
-      say = last.1;
-      parts = whole ∙ (behind.parts ∙ ap pairs_fields (sym behind.joined));
+      pairs = behind.pairs;
+      are = are_options others behind.pairs (are_next others [] behind.pairs behind.next);
+      say = sym (ap (λ (s : Seen). s.options) behind.joined) ∙ last.1;
+      parts = whole ∙ behind.parts;
     }
 
 pub options_from : (others : Others) (pairs : List Pair) (before : List ℕ) → AreOptions others pairs → Follows (all_options others) before (pairs_fields pairs) 0 (options_of pairs)
-unfolding all_options pairs_to_end
+unfolding all_options rest_of_options
 options_from others pairs before are =
-    let size : ℕ = length (concat (pairs_fields pairs)) + 0 in (
-      pairs,
+    let size : ℕ = length (concat (pairs_fields pairs)) + 0 in
+    let all = pairs_from size others [] pairs (before ++ []) (omega arith) (all_next others [] pairs (next_options_are others pairs are)) in (
+      seen_of pairs,
       pairs_fields pairs,
       [],
       sym (append-nil (pairs_fields pairs)),
@@ -112,18 +116,19 @@ options_from others pairs before are =
         pairs_fields pairs,
         refl,
         (refl, refl),
-        pairs_from size others [] pairs (before ++ []) (omega arith) (all_next others [] pairs (next_options_are others pairs are)),
+        subst (λ (s : Seen). Follows (options_to_end size others s) (before ++ []) (pairs_fields pairs) 0 (seen_of pairs)) nothing_seen all,
       ),
       (refl, refl),
     )
 
 pub ends-options : (others : Others) → EndsTheBytes (all_options others)
-unfolding all_options pairs_to_end
+unfolding all_options rest_of_options
 ends-options others =
-    ends_before (pairs_to_end others) _ (record {
+    ends_before (rest_of_options others nothing) _ (record {
       at_end = λ before fields after all follows.
           let (size, f2, o2, parts2, h2, h3) = follows in
-          at_end size others [] (before ++ concat f2) o2 after all (omega (arith, h2.1)) h3;
+          let first = subst (λ (s : Seen). Follows (options_to_end size others s) (before ++ concat f2) o2 after all) (sym nothing_seen) h3 in
+          at_end size others [] (before ++ concat f2) o2 after all (omega (arith, h2.1)) first;
     })
 
 -- ---- requests
@@ -133,7 +138,7 @@ pub record RequestFields (name : List ℕ) (options : Options) (fields : List (L
   pub others : List (List ℕ)
   pub is_name : IsName name
   pub octet : is_octet mode ≡ true
-  pub is_text : IsText mode
+  pub is_text : IsPacketText mode
   pub say : SayOptions PassedOver options others
   pub parts : fields ≡ ended_text name ∷ ended_text mode ∷ others
 
@@ -147,7 +152,7 @@ request_to before fields after value follows =
     let whole : fields ≡ ended_text file ∷ ended_text mode ∷ f4 = rw (parts1, one.0, parts2, two.0, parts3, h3.0, parts4, last.0, append-nil) refl in
     subst (λ (v : List ℕ × Options). RequestFields v.0 v.1 fields) last.1 (record { mode = mode; others = f4; is_name = one.1; octet = h3.1; is_text = two.1; say = four; parts = whole })
 
-pub request_from : (before : List ℕ) (name mode : List ℕ) (pairs : List Pair) → IsName name → IsText mode → is_octet mode ≡ true → AreOptions PassedOver pairs
+pub request_from : (before : List ℕ) (name mode : List ℕ) (pairs : List Pair) → IsName name → IsPacketText mode → is_octet mode ≡ true → AreOptions PassedOver pairs
     → Follows request_body before (ended_text name ∷ ended_text mode ∷ pairs_fields pairs) 0 (name, options_of pairs)
 unfolding request_body
 request_from before name mode pairs is_name is_text octet are = (
@@ -196,7 +201,7 @@ pub record DataFields (block : ℕ) (payload : List ℕ) (fields : List (List �
   pub parts : fields ≡ number_bytes 2 block ∷ payload ∷ []
 
 pub data_to : (before : List ℕ) (fields : List (List ℕ)) (after : ℕ) (value : ℕ × List ℕ) → Follows data_body before fields after value → DataFields value.0 value.1 fields
-unfolding data_body payload_bytes
+unfolding data_body payload_bytes raw
 data_to before fields after value follows =
     let (number, f1, o1, parts1, h1, (bytes, f2, o2, parts2, (size, g1, q1, pieces, g2, g3), (u, f3, o3, parts3, h3, last))) = follows in
     let one = spelled-word.to before f1 (length (concat o1) + after) number h1 in
@@ -207,7 +212,7 @@ data_to before fields after value follows =
 
 pub data_from : (before : List ℕ) (block : ℕ) (payload : List ℕ) → block < 2 ^ 16 → length payload ≤ 65464 → IsBytes payload
     → Follows data_body before (number_bytes 2 block ∷ payload ∷ []) 0 (block, payload)
-unfolding data_body payload_bytes
+unfolding data_body payload_bytes raw
 data_from before block payload number fits are =
     let first : List ℕ = before ++ concat (number_bytes 2 block ∷ []) in
     let size : ℕ = length (concat (payload ∷ [])) + (length (concat []) + 0) in
@@ -258,7 +263,7 @@ ends-ack = ends_last word _ (λ number. ends_before (ended faults.Rest) _ (ends_
 
 pub record ErrorFields (code : ℕ) (message : List ℕ) (fields : List (List ℕ)) : Type 0 where
   pub number : code < 2 ^ 16
-  pub is_text : IsText message
+  pub is_text : IsPacketText message
   pub parts : fields ≡ number_bytes 2 code ∷ ended_text message ∷ []
 
 pub error_to : (before : List ℕ) (fields : List (List ℕ)) (after : ℕ) (value : ℕ × List ℕ) → Follows error_body before fields after value → ErrorFields value.0 value.1 fields
@@ -271,7 +276,7 @@ error_to before fields after value follows =
     let whole : fields ≡ number_bytes 2 code ∷ ended_text message ∷ [] = rw (parts1, one.0, parts2, two.0, parts3, three.0, last.0) refl in
     subst (λ (v : ℕ × List ℕ). ErrorFields v.0 v.1 fields) last.1 (record { number = one.1; is_text = two.1; parts = whole })
 
-pub error_from : (before : List ℕ) (code : ℕ) (message : List ℕ) → code < 2 ^ 16 → IsText message → Follows error_body before (number_bytes 2 code ∷ ended_text message ∷ []) 0 (code, message)
+pub error_from : (before : List ℕ) (code : ℕ) (message : List ℕ) → code < 2 ^ 16 → IsPacketText message → Follows error_body before (number_bytes 2 code ∷ ended_text message ∷ []) 0 (code, message)
 unfolding error_body
 error_from before code message number is = (
   code,

@@ -7,7 +7,7 @@ use Rattle.std.proofs.lemmas.Bool.{and_parts, ltb-true}
 use Rattle.std.proofs.lemmas.Bool.Decides.{nat_tests}
 use Rattle.std.proofs.lemmas.Slice.Eq.{bytes_eq-Decides}
 use Rattle.field_grammar.specs.Grammar.{IsBytes, HasNoZero, before_zero}
-use Rattle.tftp_packet.specs.Options.{IsText}
+use Rattle.tftp_packet.specs.Options.{IsPacketText}
 use Rattle.tftp_packet.specs.Packets.{is_octet}
 
 -- ---- known bytes
@@ -17,7 +17,7 @@ known_bytes [] all i = omega arith
 known_bytes (b ∷ bytes) all zero = ltb-true b 256 (and_parts (nat_lt b 256) (list_all (λ b. nat_lt b 256) bytes) all).0
 known_bytes (b ∷ bytes) all (suc i) = known_bytes bytes (and_parts (nat_lt b 256) (list_all (λ b. nat_lt b 256) bytes) all).1 i
 
-pub known_text : (text : List ℕ) → before_zero text ≡ None → list_all (λ b. nat_lt b 256) text ≡ true → IsText text
+pub known_text : (text : List ℕ) → before_zero text ≡ None → list_all (λ b. nat_lt b 256) text ≡ true → IsPacketText text
 known_text text none all = record { no_zero = none; bytes = known_bytes text all }
 
 -- ---- digits
@@ -38,7 +38,7 @@ digits_small [] all i = omega arith
 digits_small (d ∷ ds) all zero = digit_small d (and_parts (is_ascii_digit d) (list_all is_ascii_digit ds) all).0
 digits_small (d ∷ ds) all (suc i) = digits_small ds (and_parts (is_ascii_digit d) (list_all is_ascii_digit ds) all).1 i
 
-pub digits_are_text : (ds : List ℕ) → list_all is_ascii_digit ds ≡ true → IsText ds
+pub digits_are_text : (ds : List ℕ) → list_all is_ascii_digit ds ≡ true → IsPacketText ds
 digits_are_text ds all = record { no_zero = digits_no_zero ds all; bytes = digits_small ds all }
 
 -- ---- lower case
@@ -64,11 +64,11 @@ lower_small [] small i = omega arith
 lower_small (b ∷ bytes) small zero = omega (arith, not_above b, small 0)
 lower_small (b ∷ bytes) small (suc i) = lower_small bytes (λ k. small (suc k)) i
 
-pub octet_is_text : (mode : List ℕ) → is_octet mode ≡ true → IsText mode
+pub octet_is_text : (mode : List ℕ) → is_octet mode ≡ true → IsPacketText mode
 unfolding is_octet
 octet_is_text mode is =
     let lower : map to_ascii_lowercase mode ≡ codes "octet" = (bytes_eq-Decides (map to_ascii_lowercase mode) (map to_ascii_lowercase (codes "octet"))).0 is in
-    let known : IsText (codes "octet") = known_text (codes "octet") refl refl in
+    let known : IsPacketText (codes "octet") = known_text (codes "octet") refl refl in
     record {
       no_zero = lower_no_zero mode (subst HasNoZero (sym lower) known.no_zero);
       bytes = lower_small mode (subst IsBytes (sym lower) known.bytes);

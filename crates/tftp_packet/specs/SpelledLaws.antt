@@ -1,24 +1,21 @@
 -- What bytes spell, in the words of the format and in those of packets.
-use Rattle.std.proofs.Common.{◌≡◌, ℕ, ◌+◌, ◌<◌, ◌^◌, Bool, true, List, [], ◌∷◌, ◌++◌, length, Result, Ok, Err, refl, ap, sym, subst, ◌∙◌, arith}
-use Rattle.std.specs.Prelude.{◌==◌, IfOk, IfErr}
+use Rattle.std.proofs.Common.{◌≡◌, ℕ, ◌+◌, ◌<◌, ◌^◌, Bool, true, List, [], ◌∷◌, ◌++◌, length, Ok, Err, refl, ap, sym, subst, ◌∙◌, arith}
+use Rattle.std.specs.Prelude.{◌==◌}
 use Rattle.std.specs.List.{concat}
 use Rattle.std.proofs.lemmas.Bool.{eqb-true}
 use Rattle.std.proofs.lemmas.List.{append-nil}
-use Rattle.field_grammar.specs.Answers.{answer}
-use Rattle.field_grammar.specs.Grammar.{Grammar, Follows, choose, judge, mapped, IsBytes, Spelled, Fault, EndsTheBytes}
+use Rattle.field_grammar.specs.Grammar.{Grammar, Follows, choose, judge, mapped, Spelled, EndsTheBytes}
 use Rattle.field_grammar.specs.Fields.{number_bytes}
-use Rattle.field_grammar.specs.ExactLaws.{ends_last, ends_before, answer-spelled, answer-fault, answer_is_spelled, answer_is_fault, spelled_at_front, spelled_whole}
+use Rattle.field_grammar.specs.ExactLaws.{ends_last, ends_before}
 use Rattle.tftp_packet.specs.declared.fault.PacketFault.{PacketFault}
 use Rattle.tftp_packet.specs.declared.fault.PacketFault.TheVariants as faults
 use Rattle.tftp_packet.specs.declared.options.Options.{Options}
 use Rattle.tftp_packet.specs.declared.options.Others.TheVariants.{Refused}
-use Rattle.tftp_packet.specs.declared.packet.Packet.{Packet}
 use Rattle.tftp_packet.specs.Options.{all_options, ended_text, pairs_fields, options_of}
-use Rattle.tftp_packet.specs.Packets.{PacketView, Rrq, Wrq, Data, Ack, Error, Oack, packet_view, seen, IsRequest, PacketSpells, request_body, data_body, ack_body, error_body, body, packet, word}
-use Rattle.tftp_packet.specs.Reading.{ReadsToEnd}
-use Rattle.tftp_packet.proofs.Cases.{octet_is_text}
-use Rattle.tftp_packet.proofs.Pairs.{either}
-use Rattle.tftp_packet.proofs.Bodies.{spelled-word, SayOptions, options_to, options_from, ends-options, RequestFields, request_to, request_from, ends-request, DataFields, data_to, data_from, ends-data, AckFields, ack_to, ack_from, ends-ack, ErrorFields, error_to, error_from, ends-error}
+use Rattle.tftp_packet.specs.Packets.{PacketView, Rrq, Wrq, Data, Ack, Error, Oack, IsRequest, PacketSpells, request_body, data_body, ack_body, error_body, body, packet, word}
+use Rattle.tftp_packet.specs.CaseLaws.{octet_is_text}
+use Rattle.tftp_packet.specs.PairLaws.{either}
+use Rattle.tftp_packet.specs.BodyLaws.{spelled-word, SayOptions, options_to, options_from, ends-options, RequestFields, request_to, request_from, ends-request, DataFields, data_to, data_from, ends-data, AckFields, ack_to, ack_from, ends-ack, ErrorFields, error_to, error_from, ends-error}
 
 -- ---- from fields to packets
 
@@ -170,24 +167,3 @@ ends-body opcode =
 pub ends-packet : EndsTheBytes packet
 unfolding packet
 ends-packet = ends_last word body ends-body
-
--- ---- what the decoder promises
-
--- what is read to the end is the format's answer
-pub gives : (bytes : List ℕ) (r : Result Packet PacketFault) → ReadsToEnd packet_view packet bytes 0 r → seen r ≡ answer packet bytes
-gives bytes (Ok p) reads = rw reads refl
-gives bytes (Err f) reads = rw reads refl
-
-pub found : (bytes : List ℕ) (r : Result Packet PacketFault) → IsBytes bytes → seen r ≡ answer packet bytes → IfOk r (λ p. PacketSpells (packet_view p) bytes)
-found bytes (Ok p) fit is = packet_is bytes (packet_view p) (spelled_whole packet bytes (packet_view p) ends-packet (answer_is_spelled packet bytes (packet_view p) fit (sym is)))
-found bytes (Err f) fit is = tt
-
-pub only : (bytes : List ℕ) (r : Result Packet PacketFault) → seen r ≡ answer packet bytes → (p : PacketView) → PacketSpells p bytes → seen r ≡ Ok p
-only bytes r is p spells = is ∙ answer-spelled packet bytes p (spelled_at_front packet bytes p (packet_from bytes p spells))
-
-pub refused : (bytes : List ℕ) (r : Result Packet PacketFault) → IsBytes bytes → seen r ≡ answer packet bytes → IfErr r (λ f. Fault packet bytes f)
-refused bytes (Ok p) fit is = tt
-refused bytes (Err f) fit is = answer_is_fault packet bytes f fit (sym is)
-
-pub faulty : (bytes : List ℕ) (r : Result Packet PacketFault) → seen r ≡ answer packet bytes → (f : PacketFault) → Fault packet bytes f → seen r ≡ Err f
-faulty bytes r is f fault = is ∙ answer-fault packet bytes f fault

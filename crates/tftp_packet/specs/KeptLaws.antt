@@ -9,9 +9,8 @@ use Rattle.tftp_packet.specs.declared.options.Known.{Known}
 use Rattle.tftp_packet.specs.declared.options.Known.TheVariants.{BlockSize, Timeout, TransferSize}
 use Rattle.tftp_packet.specs.declared.options.Others.{Others}
 use Rattle.tftp_packet.specs.declared.options.Seen.{Seen}
-use Rattle.tftp_packet.specs.Options.{Pair, is_named, known_of, said_of, said_by, value_of, options_of, is_new, admits, may_follow}
-use Rattle.tftp_packet.specs.Reading.{nothing, with_known, is_unseen, may_come}
-use Rattle.tftp_packet.proofs.Names.{NamesAs, names_one}
+use Rattle.tftp_packet.specs.Options.{Pair, is_named, known_of, said_of, said_by, value_of, options_of, nothing, has, with_known, is_new, admits, may_follow}
+use Rattle.tftp_packet.specs.NameLaws.{NamesAs, names_one}
 
 -- one of the pairs names the option
 abbrev pub is_among : Known → List Pair → Bool
@@ -25,17 +24,10 @@ pub nothing_seen : seen_of [] ≡ nothing
 unfolding options_of
 nothing_seen = refl
 
--- ---- tests
-
-unseen_is_new : (pairs : List Pair) (known : Option Known) → is_unseen (seen_of pairs) known ≡ is_new pairs known
-unseen_is_new pairs None = refl
-unseen_is_new pairs (Some BlockSize) = refl
-unseen_is_new pairs (Some Timeout) = refl
-unseen_is_new pairs (Some TransferSize) = refl
-
-pub same_test : (others : Others) (pairs : List Pair) (name : List ℕ) → may_come others (seen_of pairs) name ≡ may_follow others pairs name
-unfolding may_come may_follow
-same_test others pairs name = rw (unseen_is_new pairs (known_of name)) refl
+pub has_among : (pairs : List Pair) (known : Known) → has (seen_of pairs) known ≡ is_among known pairs
+has_among pairs BlockSize = refl
+has_among pairs Timeout = refl
+has_among pairs TransferSize = refl
 
 -- ---- one pair more
 
@@ -57,18 +49,18 @@ said-same known (p ∷ pairs) pair new is =
     rw off (said-same known pairs pair later is)
 
 -- the option is new among those so far
-new_one : (others : Others) (pairs : List Pair) (name : List ℕ) → may_follow others pairs name ≡ true → is_new pairs (known_of name) ≡ true
+new_one : (others : Others) (pairs : List Pair) (name : List ℕ) → may_follow others (seen_of pairs) name ≡ true → is_new (seen_of pairs) (known_of name) ≡ true
 unfolding may_follow
 new_one others pairs name may =
-    let (first, known) = and_parts (nat_lt 0 (length name) && is_new pairs (known_of name)) (admits others (is_some (known_of name))) may in
-    (and_parts (nat_lt 0 (length name)) (is_new pairs (known_of name)) first).1
+    let (first, known) = and_parts (nat_lt 0 (length name) && is_new (seen_of pairs) (known_of name)) (admits others (is_some (known_of name))) may in
+    (and_parts (nat_lt 0 (length name)) (is_new (seen_of pairs) (known_of name)) first).1
 
-pub kept : (others : Others) (pairs : List Pair) (pair : Pair) → may_follow others pairs pair.name ≡ true
+pub kept : (others : Others) (pairs : List Pair) (pair : Pair) → may_follow others (seen_of pairs) pair.name ≡ true
     → seen_of (pairs ++ pair ∷ []) ≡ with_known (seen_of pairs) (known_of pair.name) (said_by (known_of pair.name) pair.value)
 unfolding options_of
 kept others pairs pair may = go (known_of pair.name) (names_one pair.name) (new_one others pairs pair.name may)
   where
-    go : (known : Option Known) → NamesAs pair.name known → is_new pairs known ≡ true → seen_of (pairs ++ pair ∷ []) ≡ with_known (seen_of pairs) known (said_by known pair.value)
+    go : (known : Option Known) → NamesAs pair.name known → is_new (seen_of pairs) known ≡ true → seen_of (pairs ++ pair ∷ []) ≡ with_known (seen_of pairs) known (said_by known pair.value)
     go None (a, b, c) new =
         rw (said-other BlockSize pairs pair a, said-other Timeout pairs pair b, said-other TransferSize pairs pair c, among-other BlockSize pairs pair a, among-other Timeout pairs pair b, among-other TransferSize pairs pair c) refl
     go (Some BlockSize) (a, b, c) new =

@@ -1,0 +1,12 @@
+pub mod Negotiation
+pub mod Blocks
+pub mod Answers
+pub mod Receiver
+pub mod Sender
+pub mod Arrival
+pub mod Acknowledged
+pub mod Laws
+pub mod ArrivalLaws
+pub mod AckLaws
+pub mod FileLaws
+pub mod RepeatLaws
