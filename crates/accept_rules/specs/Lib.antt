@@ -1,0 +1,3 @@
+pub mod Permissions
+pub mod Interlocks
+pub mod Closures

@@ -1,0 +1,10 @@
+pub mod FaultTexts
+pub mod Happenings
+pub mod Steps
+pub mod Posts
+pub mod Logs
+pub mod Lines
+pub mod Scripts
+pub mod Following
+pub mod PostLaws
+pub mod FollowingLaws

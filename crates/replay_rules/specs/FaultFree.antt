@@ -1,0 +1,123 @@
+-- Runs of which the last upload may be expected to complete (docs/EXCHANGE.md, "Runs").
+use Rattle.std.specs.Prelude.{◌≡◌, ℕ, ◌+◌, ◌<◌, ◌≤◌, List, [], ◌∷◌, ◌++◌, length, true, Option, Some, None, Ok, ⊤}
+use Rattle.std.specs.List.{AllByRecursion, AllZip, sum_by}
+use Rattle.accept_rules.specs.Permissions.{Grants}
+use Rattle.disk_layout.specs.Contents.{entries_of}
+use Rattle.load_base.specs.Config.{LoadView}
+use Rattle.load_header.specs.Header.{HeaderView}
+use Rattle.load_protocol_files.specs.declared.lur.Wanted.{Wanted}
+use Rattle.exchange_trace.specs.Happenings.{HappeningView, Delivered, Injected, Power_cut, Booted, Info_started, Upload_started}
+use Rattle.exchange_trace.specs.Posts.{posted_in}
+use Rattle.exchange_trace.specs.Steps.{Step}
+use Rattle.transfer_end.specs.Readings.{Reading, next_port_of}
+use Rattle.session_rules.specs.declared.outcome.Outcome.TheVariants.{Completed}
+use Rattle.session_rules.specs.Loader.{EndedSession}
+use Rattle.session_rules.specs.MediaFiles.{wanted_of}
+use Rattle.session_rules.specs.NewConfigs.{IsGoodLoad, IsWanted, AreOfMedia}
+use Rattle.session_rules.specs.Uploads.{need_of}
+use Rattle.session_rules.specs.TargetRows.{Writes_completion, WholeRow}
+use Rattle.session_rules.specs.TargetLog.{TargetReading, TargetSessionLog, row_in}
+use Rattle.replay_rules.specs.BothEnds.{Setting, TargetState, Is_up, Is_down, loader_at, target_at}
+use Rattle.replay_rules.specs.Runs.{IsQuiet}
+
+-- ---- what must not happen
+
+abbrev pub IsNoInjection : HappeningView → Type 0
+IsNoInjection (Injected d) = ⊥
+IsNoInjection h = ⊤
+
+abbrev pub NothingInjected : List Step → Type 0
+NothingInjected steps = AllByRecursion (λ (s : Step). IsNoInjection s.given) steps
+
+abbrev pub IsNoStart : HappeningView → Type 0
+IsNoStart (Info_started hw pos) = ⊥
+IsNoStart (Upload_started hw pos parts) = ⊥
+IsNoStart h = ⊤
+
+-- no loss of power and no boot, and none of the first datagrams, as many as were posted before, is delivered
+abbrev pub IsUndisturbed : (before : ℕ) → HappeningView → Type 0
+IsUndisturbed before (Delivered side n) = before < n
+IsUndisturbed before (Power_cut calls pick) = ⊥
+IsUndisturbed before Booted = ⊥
+IsUndisturbed before h = ⊤
+
+-- a step since the start of the upload, before which so many datagrams were posted
+pub record IsSmooth (before : ℕ) (s : Step) : Type 0 where
+  pub no_start : IsNoStart s.given
+  pub undisturbed : IsUndisturbed before s.given
+  pub stays_up : s.notes ≡ []
+
+-- ---- how sessions may end
+
+-- the sessions that ended at the loader since these are completed
+abbrev pub NewAreCompleted : (before now : List EndedSession) → Type 0
+NewAreCompleted before now = (new : List EndedSession) × (now ≡ new ++ before) × AllByRecursion (λ (s : EndedSession). s.outcome ≡ Completed) new
+
+abbrev pub IsInstalled : WholeRow → Type 0
+IsInstalled (Writes_completion e loads) = ⊤
+IsInstalled row = ⊥
+
+-- a session of the target goes on, or ends with the acknowledgement of its last LUS, once all is installed
+abbrev pub EndsInstalled : Setting → TargetReading → (before after : Option TargetSessionLog) → Type 0
+EndsInstalled set r None after = ⊤
+EndsInstalled set r (Some s) (Some next) = ⊤
+EndsInstalled set r (Some s) None = IsInstalled (row_in set.accepts r.active.identity s)
+
+abbrev pub EndsWell : Setting → (before after : TargetState) → Type 0
+EndsWell set (Is_up r) (Is_up after) = EndsInstalled set r r.live after.live
+EndsWell set before after = ⊥
+
+-- so it is in each of these steps, which follow others
+abbrev pub AllEndWell : Setting → (since before : List Step) → Type 0
+AllEndWell set [] before = ⊤
+AllEndWell set (s ∷ since) before = EndsWell set (target_at set (since ++ before)) (target_at set (s ∷ since ++ before)) × AllEndWell set since before
+
+-- ---- what is asked for
+
+-- the ports that an upload of these loads takes at either end: three, and for each load one more than it has files, the
+-- header among them
+abbrev pub ports_for : List LoadView → ℕ
+ports_for loads = 3 + sum_by (λ (load : LoadView). length load.files + 1) loads
+
+-- every interlock accepts the header, and this one does
+abbrev pub IsGranted : Setting → HeaderView → Type 0
+IsGranted set h = (set.accepts h ≡ true) × Grants h
+
+-- the media set has these loads, each of them good for the target, and together they fit its bank
+pub record AreServed (set : Setting) (wanted : List Wanted) (loads : List LoadView) : Type 0 where
+  pub each : AllZip IsWanted wanted loads
+  pub good : AllByRecursion (IsGoodLoad (IsGranted set) set.start.identity) loads
+  pub media : AreOfMedia set.media loads
+  pub fit : need_of (entries_of loads) ≤ set.start.identity.bank
+
+abbrev pub HasPorts : Reading → (ports : ℕ) → Type 0
+HasPorts r ports = next_port_of r + ports ≤ 65536
+
+-- the target is up, with a sequence number that isn't the last, and with so many ports left
+abbrev pub IsReadyFor : TargetState → (ports : ℕ) → Type 0
+IsReadyFor (Is_up r) ports = (r.active.sequence < 4294967295) × HasPorts r.end ports
+IsReadyFor (Is_down active interrupted) ports = ⊥
+
+-- The last start is that of an upload to the target, of 1 to 32 parts that the media set has. It began in quiet, and
+-- nothing disturbed it since; its loads are good, and enough ports are left.
+pub record IsFaultFree (set : Setting) (steps : List Step) : Type 0 where
+  pub since : List Step
+  pub start : Step
+  pub before : List Step
+  pub parts : List (List ℕ)
+  pub wanted : List Wanted
+  pub loads : List LoadView
+  pub split : steps ≡ since ++ start ∷ before
+  pub injected : NothingInjected steps
+  pub starts : start.given ≡ Upload_started set.start.identity.hw set.start.identity.pos parts
+  pub some : 1 ≤ length parts
+  pub few : length parts ≤ 32
+  pub on_media : wanted_of set.media.loads parts ≡ Ok wanted
+  pub quiet : IsQuiet set before
+  pub smooth : AllByRecursion (IsSmooth (length (posted_in before))) since
+  pub stays_up : start.notes ≡ []
+  pub loader_ends : NewAreCompleted (loader_at set (start ∷ before)).ended (loader_at set steps).ended
+  pub target_ends : AllEndWell set since (start ∷ before)
+  pub served : AreServed set wanted loads
+  pub loader_ports : HasPorts (loader_at set before).end (ports_for loads)
+  pub target_ready : IsReadyFor (target_at set before) (ports_for loads)

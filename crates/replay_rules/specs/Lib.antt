@@ -1,0 +1,12 @@
+pub mod BothEnds
+pub mod Due
+pub mod Histories
+pub mod Runs
+pub mod FaultFree
+pub mod Promises
+pub mod Ties
+pub mod TieLaws
+pub mod PlacedTraces
+pub mod PlacedTraceLaws
+pub mod CameTraces
+pub mod CameTraceLaws

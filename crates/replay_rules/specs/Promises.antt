@@ -1,0 +1,198 @@
+-- What is to be promised of a run, part by part (docs/PROMISES.md). These are statements; a promise is kept once a public
+-- call has it as a clause.
+use Rattle.std.specs.Prelude.{◌≡◌, ◌⊎◌, ℕ, List, [], ◌∷◌, ◌++◌, map, true, false, Option, Some, None, Contains, ⊤}
+use Rattle.std.specs.List.{AllByRecursion}
+use Rattle.load_base.specs.Config.{LoadView}
+use Rattle.load_header.specs.Header.{HeaderView}
+use Rattle.load_protocol_files.specs.Lcl.{LclView}
+use Rattle.disk_model.specs.Image.{Image}
+use Rattle.disk_layout.specs.Holds.{StandingView, HoldsConfig, outline_of}
+use Rattle.exchange_trace.specs.declared.trace.Side.TheVariants as sides
+use Rattle.exchange_trace.specs.Happenings.{HappeningView, Ended, Upload_started}
+use Rattle.exchange_trace.specs.Following.{Turn, goes_on}
+use Rattle.exchange_trace.specs.Lines.{Line, Finish}
+use Rattle.exchange_trace.specs.Logs.{event_for}
+use Rattle.exchange_trace.specs.Posts.{posted_in}
+use Rattle.exchange_trace.specs.Steps.{Step}
+use Rattle.transfer_end.specs.Transfers.{Transfer}
+use Rattle.session_rules.specs.declared.outcome.Outcome.TheVariants.{Completed}
+use Rattle.session_rules.specs.declared.outcome.SessionKind.{SessionKind}
+use Rattle.session_rules.specs.declared.outcome.SessionKind.TheVariants.{Upload}
+use Rattle.session_rules.specs.Reports.{lcl_of}
+use Rattle.session_rules.specs.Loader.{EndedSession}
+use Rattle.session_rules.specs.LoaderLog.{newest}
+use Rattle.session_rules.specs.NewConfigs.{IsNewConfig, IsGoodLoad, AreOfMedia, reads_in}
+use Rattle.session_rules.specs.TargetRows.{WholeRow, Writes_lcl, Writes_completion, UploadEnd}
+use Rattle.session_rules.specs.TargetLog.{TargetReading, TargetSessionLog, row_in, with_done, standing_after}
+use Rattle.replay_rules.specs.BothEnds.{Setting, TargetState, Is_up, Is_down, loader_at, target_at, reached, loader_waits}
+use Rattle.replay_rules.specs.Due.{AllDue, AllNoted, goes_down}
+use Rattle.replay_rules.specs.FaultFree.{IsFaultFree, NothingInjected}
+use Rattle.replay_rules.specs.Histories.{active_at, may_be_active, brings, history_of, active_by}
+use Rattle.replay_rules.specs.Runs.{Follows, IsQuiet, IsWithinMargin, plan_at, scene_at}
+
+-- ---- the trace is what happened, and each end posts exactly what is due
+
+abbrev pub IsNoEnd : HappeningView → Type 0
+IsNoEnd Ended = ⊥
+IsNoEnd h = ⊤
+
+-- the end comes last, and once
+abbrev pub EndsOnce : List Step → Type 0
+EndsOnce [] = ⊥
+EndsOnce (s ∷ earlier) = (s.given ≡ Ended) × AllByRecursion (λ (e : Step). IsNoEnd e.given) earlier
+
+pub record IsTrace (set : Setting) (steps : List Step) : Type 0 where
+  pub ends : EndsOnce steps
+  pub due : AllDue set steps
+  pub noted : AllNoted set steps
+
+-- ---- the configuration changes only by a good verdict
+
+abbrev pub Accepts : Setting → HeaderView → Type 0
+Accepts set h = set.accepts h ≡ true
+
+-- The transfer that the step ended makes the verdict good, and what is active then is the new configuration of what the
+-- session asked for and read.
+pub record IsNewAt (set : Setting) (before after : TargetReading) : Type 0 where
+  pub session : TargetSessionLog
+  pub live : before.live ≡ Some session
+  pub ended : Transfer
+  pub is_newest : newest after.end.past ≡ ended ∷ []
+  pub upload : UploadEnd
+  pub loads : List LoadView
+  pub good : row_in set.accepts before.active.identity (with_done session (ended ∷ [])) ≡ Writes_completion upload loads
+  pub new : IsNewConfig (Accepts set) before.active.identity upload.request (reads_in (session.done ++ ended ∷ [])) loads
+  pub next : after.active ≡ standing_after before.active loads
+
+abbrev pub StaysOrIsNew : Setting → (before after : TargetState) → Type 0
+StaysOrIsNew set (Is_up before) (Is_up after) = (after.active ≡ before.active) ⊎ IsNewAt set before after
+StaysOrIsNew set before after = ⊤
+
+-- so it is in each step, by what reached the target in it
+abbrev pub AllStayOrAreNew : Setting → List Step → Type 0
+AllStayOrAreNew set [] = ⊤
+AllStayOrAreNew set (s ∷ earlier) =
+    StaysOrIsNew set (target_at set earlier) (reached set (event_for sides.Target (posted_in earlier) s.given) (target_at set earlier)) × AllStayOrAreNew set earlier
+
+-- what a step brings is made of good loads, and without injection of the media set's files
+pub record IsSound (set : Setting) (steps : List Step) (s : StandingView) : Type 0 where
+  pub good : AllByRecursion (IsGoodLoad (Accepts set) set.start.identity) s.loads
+  pub media : NothingInjected steps → AreOfMedia set.media s.loads
+
+abbrev pub BroughtIsSound : Setting → Option StandingView → List Step → Type 0
+BroughtIsSound set None steps = ⊤
+BroughtIsSound set (Some s) steps = IsSound set steps s
+
+abbrev pub AllSound : Setting → List Step → Type 0
+AllSound set [] = ⊤
+AllSound set (s ∷ earlier) = BroughtIsSound set (brings set s earlier) (s ∷ earlier) × AllSound set earlier
+
+-- ---- a completed information session lists what was active
+
+abbrev pub WritesList : WholeRow → Type 0
+WritesList Writes_lcl = ⊤
+WritesList row = ⊥
+
+abbrev pub SessionWritesList : Setting → TargetReading → Option TargetSessionLog → Type 0
+SessionWritesList set r None = ⊥
+SessionWritesList set r (Some s) = WritesList (row_in set.accepts r.active.identity s)
+
+abbrev pub ListIsDue : Setting → TargetState → Type 0
+ListIsDue set (Is_up r) = SessionWritesList set r r.live
+ListIsDue set (Is_down active interrupted) = ⊥
+
+-- what is listed was active at an earlier step whose datagram made the list due
+abbrev pub ListsActive : Setting → List Step → Option LclView → Type 0
+ListsActive set steps None = ⊥
+ListsActive set steps (Some listed) = (since : List Step) × (made : Step) × (before : List Step) × (steps ≡ since ++ made ∷ before)
+    × ListIsDue set (target_at set (made ∷ before)) × (listed ≡ lcl_of (outline_of (active_at set before)))
+
+-- ---- completed means installed
+
+-- these loads have the parts that were asked for, in their order
+abbrev pub HasParts : List (List ℕ) → List LoadView → Type 0
+HasParts parts loads = map (λ (load : LoadView). load.part) loads ≡ parts
+
+-- since a start of an upload, a step brought a configuration with the parts of that start
+pub record WasInstalled (set : Setting) (steps : List Step) : Type 0 where
+  pub since : List Step
+  pub install : Step
+  pub between : List Step
+  pub start : Step
+  pub before : List Step
+  pub hw : List ℕ
+  pub pos : List ℕ
+  pub parts : List (List ℕ)
+  pub new : StandingView
+  pub split : steps ≡ since ++ install ∷ (between ++ start ∷ before)
+  pub starts : start.given ≡ Upload_started hw pos parts
+  pub brought : brings set install (between ++ start ∷ before) ≡ Some new
+  pub asked : HasParts parts new.loads
+  pub stays_up : goes_down install.notes ≡ false
+
+-- the newest session that ended is a completed one of this kind
+abbrev pub HasCompleted : SessionKind → List EndedSession → Type 0
+HasCompleted kind [] = ⊥
+HasCompleted kind (s ∷ earlier) = (s.kind ≡ kind) × (s.outcome ≡ Completed)
+
+-- a session ended in the newest step
+abbrev pub HasEnded : Setting → Step → List Step → Type 0
+HasEnded set s earlier = (e : EndedSession) × ((loader_at set (s ∷ earlier)).ended ≡ e ∷ (loader_at set earlier).ended)
+
+-- without injection each upload is completed only after its parts were installed
+abbrev pub CompletedIsInstalled : Setting → List Step → Type 0
+CompletedIsInstalled set [] = ⊤
+CompletedIsInstalled set (s ∷ earlier) =
+    (HasEnded set s earlier → HasCompleted Upload (loader_at set (s ∷ earlier)).ended → WasInstalled set (s ∷ earlier)) × CompletedIsInstalled set earlier
+
+-- ---- at every moment the old configuration or the complete new one
+
+-- the image holds one of these
+abbrev pub HoldsOneOf : List StandingView → Image → Type 0
+HoldsOneOf [] image = ⊥
+HoldsOneOf (s ∷ others) image = HoldsConfig image s ⊎ HoldsOneOf others image
+
+-- Each image of the moments of a step, from the disk's clock at which it began to the one at which the next step began,
+-- holds what may be active before the step or after it, and at its last clock what may be active after it. The clocks are
+-- those of the steps, the newest first; that of the trace's end stands before them.
+abbrev pub AllMoments : (between : ℕ → ℕ → Image → Type 0) → Setting → (end : ℕ) → (clocks : List ℕ) → List Step → Type 0
+AllMoments between set end clocks [] = ⊤
+AllMoments between set end [] (s ∷ earlier) = ⊥
+AllMoments between set end (clock ∷ clocks) (s ∷ earlier) =
+    ((image : Image) → between clock end image → HoldsOneOf (may_be_active (target_at set earlier) ++ may_be_active (target_at set (s ∷ earlier))) image)
+    × ((image : Image) → between end end image → HoldsOneOf (may_be_active (target_at set (s ∷ earlier))) image)
+    × AllMoments between set clock clocks earlier
+
+-- ---- a reported completion is true
+
+-- what was brought is in the history of the run
+abbrev pub IsCounted : Setting → List Step → Option StandingView → StandingView → Type 0
+IsCounted set steps standing new = Contains (history_of set steps standing) new
+
+-- ---- a fault-free run completes
+
+abbrev pub NoneGoesDown : List Step → Type 0
+NoneGoesDown steps = AllByRecursion (λ (s : Step). s.notes ≡ []) steps
+
+-- an upload is live at the loader, or the newest session that ended is a completed one
+abbrev pub IsOnItsWay : Setting → List Step → Type 0
+IsOnItsWay set steps = (loader_waits set steps ≡ true) ⊎ HasCompleted Upload (loader_at set steps).ended
+
+-- only the line `finish` is left of the script
+abbrev pub OnlyFinishIsLeft : Setting → List Line → List Step → Type 0
+OnlyFinishIsLeft set script steps =
+    ((plan_at set script steps).lines ≡ Finish ∷ [])
+    × (◌≡◌ {A = Option Turn} (goes_on (scene_at set steps) (plan_at set script steps).rest (plan_at set script steps).lines) None)
+
+-- the upload is completed, all is quiet, and the standing has the loads that were asked for, with the media set's files
+pub record IsComplete (set : Setting) (steps : List Step) (free : IsFaultFree set steps) (last : List Step) (standing : StandingView) : Type 0 where
+  pub outcome : HasCompleted Upload (loader_at set last).ended
+  pub quiet : IsQuiet set last
+  pub loads : standing.loads ≡ free.loads
+
+-- A fault-free run within the margin, of which only a last `finish` is left to follow, completes.
+abbrev pub FinishCompletes : Type 0
+FinishCompletes = (set : Setting) (script : List Line) (steps more : List Step) (standing : StandingView) (free : IsFaultFree set steps)
+    → IsTrace set (more ++ steps) → Follows set script (more ++ steps) → IsWithinMargin set steps → IsOnItsWay set steps → OnlyFinishIsLeft set script steps
+    → NoneGoesDown more → standing ≡ active_by (target_at set (more ++ steps)) (Some standing)
+    → IsComplete set steps free (more ++ steps) standing

@@ -1,0 +1,26 @@
+//! What ties both ends to the trace. These functions do nothing; their clauses are the law.
+ghost use Rattle.replay_rules.specs.CameTraces.{BothTakeWhatCame};
+ghost use Rattle.replay_rules.specs.PlacedTraces.{DueIsPlaced, PortsRise};
+ghost use Rattle.replay_rules.specs.Ties.{StepKeepsTie};
+
+use crc_fields::check_sum_laws;
+
+/// Where each end does what its rules say in a step, what it keeps is what the trace says of it, and all that
+/// was posted was due.
+pub fn a_step_keeps_the_tie()
+    ensures { StepKeepsTie }
+{
+    check_sum_laws();
+}
+
+/// In a trace in which all that was posted was due, datagrams go where they may, and own ports rise.
+pub fn datagrams_of_a_trace()
+    ensures placed { DueIsPlaced }
+    ensures ports { PortsRise }
+{}
+
+/// At every moment of a trace, the packets of each transfer of both sides came from its other end,
+/// and a block that was taken came as DATA before it is acknowledged.
+pub fn what_was_taken_came()
+    ensures { BothTakeWhatCame }
+{}

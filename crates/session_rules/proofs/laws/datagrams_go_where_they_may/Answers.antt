@@ -1,0 +1,8 @@
+use Rattle.session_rules.specs.PlacedLaws.{loader_ports_count_up, loader_posts_placed, target_ports_count_up, target_posts_placed}
+use Rattle.session_rules.proofs.laws.datagrams_go_where_they_may.Goals as goal
+
+pub returns-clause-placed : goal.returns-clause-placed
+returns-clause-placed c = (loader_posts_placed, target_posts_placed)
+
+pub returns-clause-ports : goal.returns-clause-ports
+returns-clause-ports c = (loader_ports_count_up, target_ports_count_up)

@@ -1,0 +1,48 @@
+-- What both ends keep is enough (docs/EXCHANGE.md, "What an end keeps").
+use Rattle.std.specs.Prelude.{◌≡◌, ℕ, List, ◌∷◌, Bool}
+use Rattle.load_header.specs.Header.{HeaderView}
+use Rattle.disk_layout.specs.Holds.{StandingView}
+use Rattle.exchange_trace.specs.declared.trace.Side.TheVariants as sides
+use Rattle.exchange_trace.specs.Logs.{Event}
+use Rattle.transfer_end.specs.Came.{BlocksCame, PacketsCame}
+use Rattle.transfer_end.specs.Laws.{PortsCountUp}
+use Rattle.transfer_end.specs.Placed.{ArePlaced}
+use Rattle.session_rules.specs.Loader.{LoaderView, loader_after, loader_posts}
+use Rattle.session_rules.specs.LoaderLog.{loader_reading, loader_view}
+use Rattle.session_rules.specs.MediaFiles.{Media}
+use Rattle.session_rules.specs.Target.{TargetView, target_after, target_posts}
+use Rattle.session_rules.specs.TargetLog.{target_reading, target_view}
+
+-- After one event more, what the loader keeps is what is kept of its log then.
+abbrev pub LoaderFollows : Type 0
+LoaderFollows = (media : Media) (log : List Event) (e : Event)
+    → loader_after media (loader_view (loader_reading media log)) e ≡ loader_view (loader_reading media (e ∷ log))
+
+-- So it is with the target, whatever its interlock accepts. It keeps lengths and running check sums where the log has all
+-- contents.
+abbrev pub TargetFollows : Type 0
+TargetFollows = (accepts : HeaderView → Bool) (first_port : ℕ) (active : StandingView) (log : List Event) (e : Event)
+    → target_after accepts (target_view accepts (target_reading accepts first_port active log)) e
+    ≡ target_view accepts (target_reading accepts first_port active (e ∷ log))
+
+-- Whatever a side keeps and whatever reaches it, each datagram that it posts is a request to port 59, an answer to where
+-- the datagram of this moment came from, which is what the end of its transfer sends at that packet, or at a tick what it
+-- posted last.
+abbrev pub AllArePlaced : Type 0
+AllArePlaced = ((media : Media) (v : LoaderView) (e : Event) → ArePlaced sides.Loader v.end e (loader_posts media v e))
+    × ((accepts : HeaderView → Bool) (v : TargetView) (e : Event) → ArePlaced sides.Target v.end e (target_posts accepts v e))
+
+-- In each log a side's own ports strictly rise, and none serves two transfers.
+abbrev pub LogsCountUp : Type 0
+LogsCountUp = ((media : Media) (log : List Event) → PortsCountUp (loader_reading media log).end)
+    × ((accepts : HeaderView → Bool) (first_port : ℕ) (active : StandingView) (log : List Event) → PortsCountUp (target_reading accepts first_port active log).end)
+
+-- In each log of the loader, the packets of each transfer came from its other end to its own port, and where the transfer
+-- receives a file, the block that was taken last came as DATA.
+abbrev pub LoaderTakesWhatCame : Type 0
+LoaderTakesWhatCame = (media : Media) (log : List Event) → PacketsCame log (loader_reading media log).end × BlocksCame log (loader_reading media log).end
+
+-- So it is with the target, since it came up.
+abbrev pub TargetTakesWhatCame : Type 0
+TargetTakesWhatCame = (accepts : HeaderView → Bool) (first_port : ℕ) (active : StandingView) (log : List Event)
+    → PacketsCame log (target_reading accepts first_port active log).end × BlocksCame log (target_reading accepts first_port active log).end

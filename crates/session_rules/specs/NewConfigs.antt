@@ -1,0 +1,93 @@
+-- Good loads, verdicts, and the configuration that a good upload makes (docs/EXCHANGE.md, "Upload").
+use Rattle.std.specs.Prelude.{◌≡◌, ℕ, List, [], ◌∷◌, length, map, filter, true, Option, Some, None}
+use Rattle.std.specs.List.{AllByRecursion, AllZip, flat_map}
+use Rattle.crc_fields.specs.CheckSums.{crc16_of, crc32_of}
+use Rattle.load_base.specs.Config.{FileView, LoadView}
+use Rattle.load_header.specs.declared.header.FileEntry.{FileEntry}
+use Rattle.load_header.specs.Header.{HeaderView}
+use Rattle.load_header.specs.HeaderFields.{HeaderSpells}
+use Rattle.load_protocol_files.specs.declared.lur.Wanted.{Wanted}
+use Rattle.disk_layout.specs.declared.identity.Identity.{Identity}
+use Rattle.transfer_end.specs.Transfers.{Transfer, arrived_of, is_reading, name_of}
+use Rattle.accept_rules.specs.Permissions.{Permits}
+use Rattle.session_rules.specs.declared.reason.Reason.{Reason}
+use Rattle.session_rules.specs.MediaFiles.{Media, file_named}
+use Rattle.session_rules.specs.Uploads.{files_of, covered, is_for}
+use Rattle.session_rules.specs.TargetRows.{Reads_file, Writes_progress, Writes_stop, Writes_completion, WholeRow}
+
+-- ---- good loads
+
+-- a file is as its entry says
+pub record IsAsSaid (entry : FileEntry) (file : FileView) : Type 0 where
+  pub name : file.name ≡ entry.name
+  pub size : length file.bytes ≡ entry.length
+  pub crc : crc16_of file.bytes ≡ entry.crc16
+
+-- A load is good for a target: its header spells it, is for the target's hardware and position and accepted by its
+-- interlock; each file is as the header says; and the load CRC is that of all of them.
+pub record IsGoodLoad (Accepts : HeaderView → Type 0) (id : Identity) (load : LoadView) : Type 0 where
+  pub header : HeaderView
+  pub bytes : List ℕ
+  pub files : List FileView
+  pub spelled : HeaderSpells header bytes
+  pub part : load.part ≡ header.part
+  pub suits : is_for id.hw id.pos header ≡ true
+  pub accepted : Accepts header
+  pub permitted : Permits header
+  pub whole : load.files ≡ record { name = load.header_name; bytes = bytes } ∷ files
+  pub each : AllZip IsAsSaid (files_of header) files
+  pub crc : crc32_of (covered bytes files) ≡ header.load_crc
+
+-- ---- what arrived in a session
+
+-- the loads that were asked for, once the request was accepted
+abbrev pub request_in : WholeRow → List Wanted
+request_in (Reads_file u) = u.request
+request_in (Writes_progress u) = u.request
+request_in (Writes_stop e) = e.request
+request_in (Writes_completion e loads) = e.request
+request_in row = []
+
+abbrev pub file_read : Transfer → FileView
+file_read t = record { name = name_of t.role; bytes = arrived_of t }
+
+-- the files that the target asked to read, in their order
+abbrev pub reads_in : List Transfer → List FileView
+reads_in done = map file_read (filter (λ (t : Transfer). is_reading t.role) done)
+
+-- what the tests say of all that arrived
+pub data Verdict : Type 0 where
+  Going : Verdict
+  Good : Verdict
+  Fails_for : Reason → Verdict  -- the first test that failed
+
+abbrev pub stopped_by : Option Reason → Verdict
+stopped_by None = Going
+stopped_by (Some reason) = Fails_for reason
+
+abbrev pub verdict_in : WholeRow → Verdict
+verdict_in (Writes_stop e) = stopped_by e.reason
+verdict_in (Writes_completion e loads) = Good
+verdict_in row = Going
+
+-- ---- new configurations
+
+-- a load is the one that was asked for
+pub record IsWanted (wanted : Wanted) (load : LoadView) : Type 0 where
+  pub part : load.part ≡ wanted.part
+  pub header : load.header_name ≡ wanted.header
+
+-- the files of these loads, load by load
+abbrev pub files_in : List LoadView → List FileView
+files_in loads = flat_map (λ (load : LoadView). load.files) loads
+
+-- Loads are the new configuration that follows from a request and from what was read: one for each that was asked for, in
+-- their order; their files are exactly those that were read; and each is good.
+pub record IsNewConfig (Accepts : HeaderView → Type 0) (id : Identity) (request : List Wanted) (reads : List FileView) (loads : List LoadView) : Type 0 where
+  pub each : AllZip IsWanted request loads
+  pub files : files_in loads ≡ reads
+  pub good : AllByRecursion (IsGoodLoad Accepts id) loads
+
+-- each file of these loads is the media set's file of its name
+abbrev pub AreOfMedia : Media → List LoadView → Type 0
+AreOfMedia media loads = AllByRecursion (λ (file : FileView). file_named file.name media.files ≡ Some file.bytes) (files_in loads)

@@ -1,0 +1,80 @@
+-- How what arrives makes up what is installed, row by row (docs/EXCHANGE.md, "Upload").
+use Rattle.std.specs.Prelude.{◌≡◌, ℕ, List, [], ◌∷◌, ◌++◌, Bool, true, Option, Some, None, ⊤}
+use Rattle.std.specs.List.{AllByRecursion, AllZip}
+use Rattle.field_grammar.specs.Grammar.{IsBytes}
+use Rattle.load_base.specs.Config.{FileView, LoadView}
+use Rattle.load_header.specs.declared.header.FileEntry.{FileEntry}
+use Rattle.load_header.specs.Header.{HeaderView}
+use Rattle.load_header.specs.HeaderFields.{HeaderSpells}
+use Rattle.load_protocol_files.specs.declared.lur.Wanted.{Wanted}
+use Rattle.disk_layout.specs.declared.identity.Identity.{Identity}
+use Rattle.transfer_end.specs.Transfers.{Role, Reads, Transfer, arrived_of, error_of}
+use Rattle.accept_rules.specs.Permissions.{Permits}
+use Rattle.session_rules.specs.NewConfigs.{IsAsSaid, IsGoodLoad, IsNewConfig, IsWanted, files_in, reads_in}
+use Rattle.session_rules.specs.TargetRows.{Over, Reads_file, WholeRow, Writes_completion, Writes_progress, Writes_stop, row_with}
+use Rattle.session_rules.specs.Uploads.{OpenLoad, Upload, files_of, is_for, next_name, upload_view}
+
+-- A load of which files are still to come passed all tests so far: on its header, and on each file that came.
+pub record IsGoodSoFar (accepts : HeaderView → Bool) (id : Identity) (l : OpenLoad) : Type 0 where
+  pub spelled : HeaderSpells l.header l.bytes
+  pub part : l.header.part ≡ l.wanted.part
+  pub suits : is_for id.hw id.pos l.header ≡ true
+  pub accepted : accepts l.header ≡ true
+  pub came : List FileEntry
+  pub left : List FileEntry
+  pub entries : files_of l.header ≡ came ++ left
+  pub each : AllZip IsAsSaid came l.files
+
+-- its files so far, the header first
+abbrev pub files_of_open : Option OpenLoad → List FileView
+files_of_open None = []
+files_of_open (Some l) = record { name = l.wanted.header; bytes = l.bytes } ∷ l.files
+
+-- the open load, if there is one, is the first of those that are left
+abbrev pub IsNextWanted : (accepts : HeaderView → Bool) → Identity → (left : List Wanted) → Option OpenLoad → Type 0
+IsNextWanted accepts id left None = ⊤
+IsNextWanted accepts id [] (Some l) = ⊥
+IsNextWanted accepts id (wanted ∷ left) (Some l) = (l.wanted ≡ wanted) × IsGoodSoFar accepts id l
+
+abbrev pub AreGoodLoads : (accepts : HeaderView → Bool) → Identity → List LoadView → Type 0
+AreGoodLoads accepts id loads = AllByRecursion (IsGoodLoad (λ h. accepts h ≡ true) id) loads
+
+-- how far an upload has come, where these files were read
+pub record IsSoundUpload (accepts : HeaderView → Bool) (id : Identity) (reads : List FileView) (u : Upload) : Type 0 where
+  pub had : List Wanted
+  pub left : List Wanted
+  pub request : u.request ≡ had ++ left
+  pub each : AllZip IsWanted had u.loads
+  pub good : AreGoodLoads accepts id u.loads
+  pub next : IsNextWanted accepts id left u.current
+  pub files : files_in u.loads ++ files_of_open u.current ≡ reads
+
+-- a row, where these files were read in the session
+abbrev pub IsSoundRow : (accepts : HeaderView → Bool) → Identity → List FileView → WholeRow → Type 0
+IsSoundRow accepts id reads (Reads_file u) = IsSoundUpload accepts id reads u
+IsSoundRow accepts id reads (Writes_progress u) = IsSoundUpload accepts id reads u
+IsSoundRow accepts id reads (Writes_completion e loads) = IsNewConfig (λ h. accepts h ≡ true) id e.request reads loads
+IsSoundRow accepts id reads (Writes_stop e) = ⊤
+IsSoundRow accepts id reads Over = ⊤
+IsSoundRow accepts id reads row = reads ≡ []
+
+-- the side reads the file of this name
+abbrev pub ReadsFile : List ℕ → Role → Type 0
+ReadsFile next (Reads name options) = name ≡ next
+ReadsFile next role = ⊥
+
+abbrev pub ReadsNothing : Role → Type 0
+ReadsNothing (Reads name options) = ⊥
+ReadsNothing role = ⊤
+
+-- the transfer is the one that the row asks for: a file that is read has the next name, and no other row reads
+abbrev pub IsOfRow : WholeRow → Role → Type 0
+IsOfRow (Reads_file u) role = ReadsFile (next_name (upload_view u)) role
+IsOfRow row role = ReadsNothing role
+
+-- Each transfer of a session that no ERROR ended keeps its row sound. So where the verdict is good, the configuration is the
+-- new one of what was asked for and read.
+abbrev pub VerdictIsSound : Type 0
+VerdictIsSound = (accepts : HeaderView → Bool) (id : Identity) (row : WholeRow) (done : List Transfer) (t : Transfer)
+    → ((h : HeaderView) → accepts h ≡ true → Permits h) → IsBytes (arrived_of t) → error_of t ≡ None → IsOfRow row t.role
+    → IsSoundRow accepts id (reads_in done) row → IsSoundRow accepts id (reads_in (done ++ t ∷ [])) (row_with accepts id row t)

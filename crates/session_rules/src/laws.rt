@@ -1,0 +1,37 @@
+//! What holds of both sides and their logs. These functions do nothing; their clauses are the law.
+ghost use Rattle.session_rules.specs.Laws.{AllArePlaced, LoaderFollows, LoaderTakesWhatCame, LogsCountUp, TargetFollows, TargetTakesWhatCame};
+ghost use Rattle.session_rules.specs.Soundness.{VerdictIsSound};
+
+use crc_fields::check_sum_laws;
+use load_header::header_laws;
+
+/// What each end keeps is what is kept of its log, event by event, whatever bytes come from
+/// whatever ports. So what it posts, which follows from what it keeps, follows from the log.
+pub fn both_ends_follow_their_logs()
+    ensures loader { LoaderFollows }
+    ensures target { TargetFollows }
+{
+    check_sum_laws();
+}
+
+/// Each transfer of a session keeps its row sound: where the verdict is good, what will be
+/// installed is made of exactly what was asked for and read, and each of its loads is good.
+pub fn a_good_verdict_is_sound()
+    ensures { VerdictIsSound }
+{
+    check_sum_laws();
+    header_laws();
+}
+
+/// Where datagrams go, and from which ports they come.
+pub fn datagrams_go_where_they_may()
+    ensures placed { AllArePlaced }
+    ensures ports { LogsCountUp }
+{}
+
+/// What is in a transfer came from its other end, and a block that was taken came as DATA before it is
+/// acknowledged, in all logs of both sides.
+pub fn what_was_taken_came()
+    ensures loader { LoaderTakesWhatCame }
+    ensures target { TargetTakesWhatCame }
+{}

@@ -1,0 +1,5 @@
+use Rattle.transfer_end.specs.ArrivalLaws.{taken_is_lent}
+use Rattle.transfer_end.proofs.laws.what_arrives_is_lent.Goals as goal
+
+pub returns : goal.returns
+returns c = taken_is_lent

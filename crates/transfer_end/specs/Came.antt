@@ -1,0 +1,94 @@
+-- What came to a side in its transfers (docs/EXCHANGE.md, "Transfers").
+use Rattle.std.specs.Prelude.{◌≡◌, ◌⊎◌, ℕ, List, [], ◌∷◌, Option, Some, None, true, ⊤}
+use Rattle.std.specs.List.{AllByRecursion}
+use Rattle.tftp_packet.specs.Packets.{Data, PacketView}
+use Rattle.tftp_link.specs.Receiver.{Receiver, receiver_after_all}
+use Rattle.exchange_trace.specs.declared.trace.Side.{Side}
+use Rattle.exchange_trace.specs.Logs.{Event, Gets}
+use Rattle.transfer_end.specs.Moves.{Hears, Move, past_with, readings_after}
+use Rattle.transfer_end.specs.Packets.{belongs, packet_in}
+use Rattle.transfer_end.specs.Readings.{Reading}
+use Rattle.transfer_end.specs.Transfers.{LinkEnd, Receives, Sends, Transfer, end_in}
+use Rattle.transfer_end.specs.Views.{TransferView, seen}
+
+-- the event is a datagram between these ports, with this packet
+abbrev pub IsIn : (from to : ℕ) → PacketView → Event → Type 0
+IsIn from to packet (Gets source target bytes) = (source ≡ from) × (target ≡ to) × (packet_in bytes ≡ Some packet)
+IsIn from to packet event = ⊥
+
+-- such a datagram came
+abbrev pub Came : List Event → (from to : ℕ) → PacketView → Type 0
+Came [] from to packet = ⊥
+Came (event ∷ log) from to packet = IsIn from to packet event ⊎ Came log from to packet
+
+-- from the other end of a transfer, once that is known
+abbrev pub CameFrom : List Event → (own : ℕ) → Option ℕ → PacketView → Type 0
+CameFrom log own None packet = ⊥
+CameFrom log own (Some peer) packet = Came log peer own packet
+
+abbrev pub AllCame : List Event → Transfer → Type 0
+AllCame log t = AllByRecursion (CameFrom log t.own t.peer) t.got
+
+-- Each packet of each transfer came in a datagram of the log, from the transfer's other end to its own port.
+abbrev pub PacketsCame : List Event → Reading → Type 0
+PacketsCame log r = AllByRecursion (AllCame log) (past_with r.live r.past)
+
+-- ---- blocks
+
+-- the DATA of this number came, with some payload
+pub data DataCame (log : List Event) (own : ℕ) (peer : Option ℕ) (k : ℕ) : Type 0 where
+  data_came : (payload : List ℕ) → CameFrom log own peer (Data k payload) → DataCame log own peer k
+
+abbrev pub TakenCame : List Event → (own : ℕ) → Option ℕ → LinkEnd → Type 0
+TakenCame log own peer (Receives r) = (r.taken ≡ 0) ⊎ DataCame log own peer r.taken
+TakenCame log own peer (Sends s) = ⊤
+
+abbrev pub BlockCame : List Event → Transfer → Type 0
+BlockCame log t = TakenCame log t.own t.peer (end_in t)
+
+-- In each transfer that receives a file, the block that was taken last, if any was, had come as DATA.
+abbrev pub BlocksCame : List Event → Reading → Type 0
+BlocksCame log r = AllByRecursion (BlockCame log) (past_with r.live r.past)
+
+-- one of the packets is the DATA of this number
+abbrev pub IsData : ℕ → PacketView → Type 0
+IsData k (Data n payload) = n ≡ k
+IsData k packet = ⊥
+
+abbrev pub HasData : ℕ → List PacketView → Type 0
+HasData k [] = ⊥
+HasData k (packet ∷ packets) = IsData k packet ⊎ HasData k packets
+
+-- A receiving end has taken what it had taken before, or a block that is among the packets that it got.
+abbrev pub TakenWasGot : Type 0
+TakenWasGot = (r : Receiver) (got : List PacketView) → ((receiver_after_all r got).taken ≡ r.taken) ⊎ HasData (receiver_after_all r got).taken got
+
+-- ---- moves
+
+-- what the live transfer hears is in the datagram of this moment, and that belongs to the transfer
+abbrev pub HeardIn : Event → Option TransferView → (from : ℕ) → PacketView → Type 0
+HeardIn (Gets source to bytes) live from packet = (source ≡ from) × (packet_in bytes ≡ Some packet) × (belongs live from to ≡ true)
+HeardIn event live from packet = ⊥
+
+abbrev pub MoveHeard : Event → Option TransferView → Move → Type 0
+MoveHeard event live (Hears from packet) = HeardIn event live from packet
+MoveHeard event live move = ⊤
+
+abbrev pub NoneHeard : List Move → Type 0
+NoneHeard [] = ⊤
+NoneHeard (Hears from packet ∷ moves) = ⊥
+NoneHeard (move ∷ moves) = NoneHeard moves
+
+-- a side hears at most one packet at an event, before it does anything else
+abbrev pub MovesHeard : Event → Option TransferView → List Move → Type 0
+MovesHeard event live [] = ⊤
+MovesHeard event live (move ∷ moves) = MoveHeard event live move × NoneHeard moves
+
+-- Whatever moves a side makes at an event, it hears in them at most what comes now: so all packets of its transfers came.
+abbrev pub MovesCame : Type 0
+MovesCame = (side : Side) (event : Event) (log : List Event) (r : Reading) (moves : List Move)
+    → MovesHeard event (seen r.live) moves → PacketsCame log r → PacketsCame (event ∷ log) (readings_after side r moves)
+
+-- Where all packets came, each block that was taken came as DATA before.
+abbrev pub TakenBlocksCame : Type 0
+TakenBlocksCame = (log : List Event) (r : Reading) → PacketsCame log r → BlocksCame log r

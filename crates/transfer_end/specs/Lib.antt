@@ -1,0 +1,13 @@
+pub mod Transfers
+pub mod Readings
+pub mod Views
+pub mod Moves
+pub mod Packets
+pub mod Laws
+pub mod ViewLaws
+pub mod ArrivalLaws
+pub mod RfcLaws
+pub mod Placed
+pub mod PlacedLaws
+pub mod Came
+pub mod CameLaws

@@ -1,0 +1,41 @@
+//! What holds of the moves of an end. These functions do nothing; their clauses are the law.
+ghost use Rattle.transfer_end.specs.Came.{MovesCame, TakenBlocksCame, TakenWasGot};
+ghost use Rattle.transfer_end.specs.Laws.{AcknowledgesTaken, EndIsOfLink, MovesCountUp, SendsNextBlock, TakenIsLent, ViewFollows, ViewsFollow};
+
+/// What an end keeps is what is kept of its log, whatever moves it makes. So what it posts, which
+/// follows from what it keeps, follows from the log. `specs/ViewLaws.antt` says the same to proofs.
+pub fn an_end_follows_its_log()
+    ensures one_move { ViewFollows }
+    ensures moves { ViewsFollow }
+{}
+
+/// What arrives of a file is what its end of the transfer lends.
+pub fn what_arrives_is_lent()
+    ensures { TakenIsLent }
+{}
+
+/// What RFC 1350 asks of both ends, packet by packet.
+pub fn blocks_go_out_in_their_order()
+    // The laws of tftp_link, which speak of all packets of a transfer, apply to the transfers of a log.
+    ensures of_link { EndIsOfLink }
+    // A packet is answered with the block after the one sent last, or with nothing.
+    ensures next { SendsNextBlock }
+    // What is acknowledged is what was taken last.
+    ensures taken { AcknowledgesTaken }
+{}
+
+/// A side's own ports strictly rise, and none serves two transfers.
+pub fn own_ports_count_up()
+    ensures { MovesCountUp }
+{}
+
+/// What is in a transfer came from its other end, and a block that was taken came as DATA before it is
+/// acknowledged. `specs/CameLaws.antt` says the same to proofs.
+pub fn what_was_taken_came()
+    // A receiving end takes blocks from the packets that it gets.
+    ensures got { TakenWasGot }
+    // After any moves, all packets of all transfers came.
+    ensures moves { MovesCame }
+    // So each block that was taken last came.
+    ensures blocks { TakenBlocksCame }
+{}

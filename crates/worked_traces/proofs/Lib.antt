@@ -1,0 +1,10 @@
+pub mod InformationRun
+pub mod UploadRun
+pub mod LossesRun
+pub mod RepeatsRun
+pub mod InjectedErrorRun
+pub mod InjectedRequestRun
+pub mod OptionsRun
+pub mod GivesUpRun
+pub mod BootsRun
+pub mod OtherHardwareRun

@@ -1,0 +1,14 @@
+pub mod Walks
+pub mod WalkLaws
+pub mod Writing
+pub mod Settings
+pub mod Information
+pub mod Upload
+pub mod Losses
+pub mod Repeats
+pub mod InjectedError
+pub mod InjectedRequest
+pub mod Options
+pub mod GivesUp
+pub mod Boots
+pub mod OtherHardware

@@ -1,0 +1,70 @@
+//! Worked runs of the exchange, on which the gate computes the definitions (docs/EXCHANGE.md,
+//! "Runs"). Each run in `specs/` is what an independent program, written from the same rules, gave
+//! for a script; for each step the posts are exactly what was due, what happened is what the script
+//! gives, and only that was noted which may be.
+#![tactic(auto)]
+
+ghost use Rattle.std.specs.Prelude.{[], ◌∷◌, codes};
+ghost use Rattle.worked_traces.specs.Information.{run as information_run};
+ghost use Rattle.worked_traces.specs.Upload.{run as upload_run};
+ghost use Rattle.worked_traces.specs.Losses.{run as losses_run};
+ghost use Rattle.worked_traces.specs.Repeats.{run as repeats_run};
+ghost use Rattle.worked_traces.specs.InjectedError.{run as injected_error_run};
+ghost use Rattle.worked_traces.specs.InjectedRequest.{run as injected_request_run};
+ghost use Rattle.worked_traces.specs.Options.{run as options_run};
+ghost use Rattle.worked_traces.specs.GivesUp.{run as gives_up_run};
+ghost use Rattle.worked_traces.specs.Boots.{run as boots_run};
+ghost use Rattle.worked_traces.specs.OtherHardware.{run as other_hardware_run};
+ghost use Rattle.worked_traces.specs.Walks.{IsWorked};
+ghost use Rattle.session_rules.specs.declared.outcome.Outcome.TheVariants.{Completed, GaveUp, PeerError, Replaced, TargetStopped};
+
+/// An information session.
+pub fn information()
+    ensures { IsWorked information_run [] (Completed ∷ []) 1 }
+{}
+
+/// An upload of one load.
+pub fn upload()
+    ensures { IsWorked upload_run [] (Completed ∷ []) 2 }
+{}
+
+/// An upload in which datagrams are lost and come late.
+pub fn losses()
+    ensures { IsWorked losses_run [] (Completed ∷ []) 2 }
+{}
+
+/// An upload in which datagrams come again, of the live and of the kept transfer, and requests when
+/// no transfer is live.
+pub fn repeats()
+    ensures { IsWorked repeats_run [] (Completed ∷ []) 2 }
+{}
+
+/// An ERROR that nobody posted ends an information session.
+pub fn injected_error()
+    ensures { IsWorked injected_error_run [] (PeerError 3 ∷ []) 1 }
+{}
+
+/// A request that nobody posted begins a session of the target.
+pub fn injected_request()
+    ensures { IsWorked injected_request_run [] ([]) 1 }
+{}
+
+/// An upload with blocks of 16 bytes, with a repeat and a loss.
+pub fn options()
+    ensures { IsWorked options_run [] (Completed ∷ []) 2 }
+{}
+
+/// A session is replaced, and the next one given up.
+pub fn gives_up()
+    ensures { IsWorked gives_up_run (1 ∷ 2 ∷ 3 ∷ 4 ∷ 5 ∷ 6 ∷ 7 ∷ []) (GaveUp ∷ Replaced ∷ []) 1 }
+{}
+
+/// Losses of power and boots before and within an upload.
+pub fn boots()
+    ensures { IsWorked boots_run [] (Completed ∷ Replaced ∷ []) 2 }
+{}
+
+/// An upload that is stopped, since its load is for other hardware.
+pub fn other_hardware()
+    ensures { IsWorked other_hardware_run [] (TargetStopped (codes "A4") ∷ []) 1 }
+{}
