@@ -8,9 +8,10 @@ use crate::Rule;
 use load_header::LoadHeader;
 use std::marker::Model;
 
-/// A rule that keeps four facts: it may be asked of each header; what it accepts has a type id other than 0;
-/// it accepts each type id from 1 to 0x7FFF; and it never gives both answers on one header. From 0x8000 on
-/// types are the maker's own, and a rule may accept or refuse them as it likes.
+/// A rule that keeps four facts: it may be asked of each header; what it accepts has a type id
+/// other than 0; it accepts each type id from 1 to 0x7FFF; and it never gives both answers on one
+/// header. From 0x8000 on types are the maker's own, and a rule may accept or refuse them as it
+/// likes.
 #[derive(Drop)]
 pub struct Interlock<R: Rule> {
     rule: R,

@@ -12,7 +12,8 @@ use thiserror::Error;
 /// Why the store didn't do what it was asked.
 #[derive(Clone, Copy, Debug, PartialEq, Eq, Drop, Error)]
 pub enum StoreFault {
-    /// K1: the contents and their manifest pass the bank. How many bytes they need, and how many it has.
+    /// K1: the contents and their manifest pass the bank. How many bytes they need, and how many it
+    /// has.
     #[error("{need} bytes are needed in a bank of {have}")]
     BankFull { need: u64, have: u32 },
     /// K2: the sequence number that is active is the last one.

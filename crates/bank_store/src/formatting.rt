@@ -20,16 +20,17 @@ const SHUT: u8 = 0;
 // The manifest of a configuration without loads.
 const NO_LOADS: [u8; 2] = [0, 0];
 
-// What the first slot says from its sequence on: sequence 1, bank 0, and a manifest of 2 bytes at its start.
+// What the first slot says from its sequence on: sequence 1, bank 0, and a manifest of 2 bytes at
+// its start.
 const FIRST_SLOT: [u8; 13] = [0, 0, 0, 1, 0, 0, 0, 0, 0, 0, 0, 0, 2];
 
 /// Makes a disk hold this target with bank 0, sequence 1 and no loads, whatever it held before.
 ///
-/// First the gates that are open are shut, that of the active slot last; then the manifest, slot A's body and
-/// the identity are written; then gate A is opened; and after each step the disk is synced. A power loss
-/// within the first step leaves the old configuration whole, or both gates shut, so that the disk holds
-/// nothing; and after it either that or the formatted disk. All other bytes stay. The bank size of the
-/// identity is 4,096 to 67,108,864.
+/// First the gates that are open are shut, that of the active slot last; then the manifest, slot
+/// A's body and the identity are written; then gate A is opened; and after each step the disk is
+/// synced. A power loss within the first step leaves the old configuration whole, or both gates
+/// shut, so that the disk holds nothing; and after it either that or the formatted disk. All other
+/// bytes stay. The bank size of the identity is 4,096 to 67,108,864.
 pub fn format<K: Disk>(disk: &mut K, identity: &Identity) -> Result<(), StoreFault>
     requires running { IsRunning (K.state disk.old) }
     requires bank_size { IsBankSize identity.now.bank }
@@ -58,7 +59,8 @@ enum OpenSlots {
     Both { active: Slot },
 }
 
-// Shuts the gates that are open. A gate that reads as shut isn't written, since a torn write could open it.
+// Shuts the gates that are open. A gate that reads as shut isn't written, since a torn write could
+// open it.
 fn shut_gates<K: Disk>(disk: &mut K) -> Result<(), StoreFault>
     requires { IsRunning (K.state disk.old) }
     ensures shuts { ShutsGates (K.state disk.old) (K.state disk.new) result }
@@ -135,8 +137,8 @@ fn shut_one<K: Disk>(disk: &mut K, slot: Slot) -> Result<(), StoreFault>
     write_gate(disk, slot, SHUT)
 }
 
-// Were the active slot's gate shut first, the other slot would be active after a power loss in between: a
-// former configuration, or one that was never finished.
+// Were the active slot's gate shut first, the other slot would be active after a power loss in
+// between: a former configuration, or one that was never finished.
 fn shut_both<K: Disk>(disk: &mut K, active: Slot) -> Result<(), StoreFault>
     requires running { IsRunning (K.state disk.old) }
     requires gates { ForSome (K.state disk.old).reads

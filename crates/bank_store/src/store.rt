@@ -24,12 +24,13 @@ use std::alloc::Global;
 /// The gate of a slot that is shut.
 const SHUT: u8 = 0;
 
-/// Installs a configuration into the bank that isn't active, while the active one stays whole. It holds no
-/// disk: each call that writes is lent the disk whose recovery gave the store.
+/// Installs a configuration into the bank that isn't active, while the active one stays whole. It
+/// holds no disk: each call that writes is lent the disk whose recovery gave the store.
 ///
-/// An installation goes `prepare`, `begin`, then for each load `start_load` and for each of its files
-/// `append` as often as pieces of it come and `end_file`, then `seal` and `activate`. The active slot's own
-/// offset and bank are never written; the other slot's gate is the last byte that is.
+/// An installation goes `prepare`, `begin`, then for each load `start_load` and for each of its
+/// files `append` as often as pieces of it come and `end_file`, then `seal` and `activate`. The
+/// active slot's own offset and bank are never written; the other slot's gate is the last byte that
+/// is.
 #[derive(Drop)]
 pub struct Store {
     size: u32,
@@ -134,8 +135,8 @@ impl Store {
         disk.write(self.other(), &[SHUT])
     }
 
-    /// Announces a load of 1 to 256 files, after those before it, which are complete: 31 at most. It always
-    /// answers Ok, and takes no memory.
+    /// Announces a load of 1 to 256 files, after those before it, which are complete: 31 at most.
+    /// It always answers Ok, and takes no memory.
     #[tactic(auto, using(crate::proofs::Giving::given_load, crate::proofs::Sizes::load_more))]
     pub fn start_load(&mut self, part: PartText, files: u16) -> Result<(), StoreFault>
         requires filling { AwaitsLoad self.old }
@@ -161,7 +162,8 @@ impl Store {
         Ok(())
     }
 
-    /// Writes a piece of the file that ends next, after what came before. No bytes make no call of the disk.
+    /// Writes a piece of the file that ends next, after what came before. No bytes make no call of
+    /// the disk.
     ///
     /// BankFull where the contents would pass the bank; then nothing was written.
     pub fn append<K: Disk>(&mut self, disk: &mut K, bytes: &[u8]) -> Result<(), StoreFault>
@@ -204,8 +206,8 @@ impl Store {
         Ok(())
     }
 
-    /// Ends the file whose bytes came last, at most 16,777,215 of them, under this name. It always answers
-    /// Ok, and takes no memory.
+    /// Ends the file whose bytes came last, at most 16,777,215 of them, under this name. It always
+    /// answers Ok, and takes no memory.
     #[tactic(auto, using(crate::proofs::Giving::given_file, crate::proofs::Sizes::file_more))]
     pub fn end_file(&mut self, name: Name) -> Result<(), StoreFault>
         requires filling { AwaitsEnd self.old }
@@ -276,7 +278,8 @@ impl Store {
         Ok(())
     }
 
-    // Writes the manifest after the contents: how many loads there are, and what the body says of each.
+    // Writes the manifest after the contents: how many loads there are, and what the body says of
+    // each.
     fn write_manifest<K: Disk>(&self, disk: &mut K, progress: Filling) -> Result<(), DiskFault>
         requires filling { IsFilling self.now progress }
         requires within { progress.end + manifest_length self.now ≤ bank_size_of self.now }
@@ -308,7 +311,8 @@ impl Store {
         disk.write(at, &self.slot_bytes(offset, length))
     }
 
-    // The body of the other slot: the next sequence number, the other bank, and the manifest's range in it.
+    // The body of the other slot: the next sequence number, the other bank, and the manifest's
+    // range in it.
     fn slot_bytes(&self, offset: u32, length: u32) -> [u8; 13]
         requires { active_sequence self.now < 4294967295 }
         ensures { result ≡ slot_body self.now offset length }

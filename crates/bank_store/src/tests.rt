@@ -8,7 +8,8 @@ use printed_text::Printed;
 use std::fs;
 use std::test::Fail;
 
-// The first bytes of the disk that target HW1, position L, serial number SN1 has with banks of 4096 bytes.
+// The first bytes of the disk that target HW1, position L, serial number SN1 has with banks of 4096
+// bytes.
 const START: [u8; 22] = [
     0x41, 0x36, 0x31, 0x35, 0, 1, 0, 0, 0x10, 0, 3, 0x48, 0x57, 0x31, 1, 0x4C, 3, 0x53, 0x4E, 0x31,
     0xB4, 0x3C,

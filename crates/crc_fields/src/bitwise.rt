@@ -1,4 +1,5 @@
-//! Both check sums bit by bit, as they are defined: the plain program that the tables are compared with.
+//! Both check sums bit by bit, as they are defined: the plain program that the tables are compared
+//! with.
 ghost use Rattle.std.specs.Prelude.{◌≡◌};
 ghost use Rattle.crc_fields.specs.CheckSums.{crc16_after, crc32_after, lowest_bits, register_after_bit, register_after_bits};
 
@@ -6,7 +7,8 @@ const POLYNOMIAL_16: u16 = 0x1021;
 
 const POLYNOMIAL_32: u32 = 0x04C1_1DB7;
 
-/// The CRC-16 of `bytes` after others whose CRC-16 is `sum`. With nothing before them `sum` is 0xFFFF.
+/// The CRC-16 of `bytes` after others whose CRC-16 is `sum`. With nothing before them `sum` is
+/// 0xFFFF.
 #[tactic(auto, using(crate::proofs::Cuts::after_nothing, crate::proofs::Cuts::after_more), unfolding(crate::specs::CheckSums::crc16_after))]
 pub fn crc16_after(sum: u16, bytes: &[u8]) -> u16
     ensures { result ≡ crc16_after sum bytes.now }

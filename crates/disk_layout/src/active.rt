@@ -89,8 +89,8 @@ pub struct ManifestRange {
     pub length: u32,
 }
 
-/// What is active on a disk: the open slot with the greater sequence number (slot A where both are open and
-/// have the same), and what it says.
+/// What is active on a disk: the open slot with the greater sequence number (slot A where both are
+/// open and have the same), and what it says.
 #[derive(Clone, Copy, Debug, PartialEq, Eq)]
 pub struct Active {
     pub slot: Slot,

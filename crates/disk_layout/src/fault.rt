@@ -11,19 +11,20 @@ use thiserror::Error;
 /// disk, from 0 (docs/DISK.md).
 #[derive(Clone, Copy, Debug, PartialEq, Eq, Drop, Error)]
 pub enum RecoverFault {
-    /// V1: the disk begins with no identity; the first offset at which it can't go on. Whatever is wrong
-    /// with an Ident, that is the offset of its length.
+    /// V1: the disk begins with no identity; the first offset at which it can't go on. Whatever is
+    /// wrong with an Ident, that is the offset of its length.
     #[error("no identity, from offset {0} on")]
     NotFormatted(u64),
     /// V2: neither slot is open.
     #[error("neither slot is open")]
     NoOpenSlot,
-    /// V3: what the active slot says can't be; the offset of its bank, of the manifest's length, or of the
-    /// manifest's offset, where the manifest passes the bank.
+    /// V3: what the active slot says can't be; the offset of its bank, of the manifest's length, or
+    /// of the manifest's offset, where the manifest passes the bank.
     #[error("the active slot is wrong at offset {0}")]
     BadSlot(u64),
-    /// V4: the manifest isn't in its form; the first offset at which it can't go on. Where the files'
-    /// lengths don't add up to the manifest's offset in its bank, the offset where the manifest begins.
+    /// V4: the manifest isn't in its form; the first offset at which it can't go on. Where the
+    /// files' lengths don't add up to the manifest's offset in its bank, the offset where the
+    /// manifest begins.
     #[error("the manifest is wrong at offset {0}")]
     BadManifest(u64),
     /// The disk failed.

@@ -11,8 +11,8 @@ use crc_fields::crc16;
 use field_codec::{FieldFault, Reader};
 use load_base::Ident;
 
-/// What the start of a disk says of its target: the kind of its hardware, its position, its serial number,
-/// and the size of each of its two banks, 4,096 to 67,108,864 bytes.
+/// What the start of a disk says of its target: the kind of its hardware, its position, its serial
+/// number, and the size of each of its two banks, 4,096 to 67,108,864 bytes.
 #[derive(Clone, Copy)]
 pub struct Identity {
     pub hw: Ident,
@@ -22,7 +22,8 @@ pub struct Identity {
 }
 
 impl Identity {
-    /// The identity at the prefix of these bytes, or the first byte offset at which they can't go on.
+    /// The identity at the prefix of these bytes, or the first byte offset at which they can't go
+    /// on.
     pub fn decode(prefix: &[u8]) -> Result<Identity, u64>
         ensures found { IfOk result (λ id. SpelledAtStart identity prefix.now id) }
         ensures size { IfOk result (λ id. IsBankSize id.bank) }

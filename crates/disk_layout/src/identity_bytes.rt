@@ -10,7 +10,8 @@ use crate::offsets::LONGEST_IDENTITY;
 use crc_fields::crc16;
 use std::marker::Model;
 
-/// The bytes of an identity, at most 75. They take no memory; a contract sees those that were put into it.
+/// The bytes of an identity, at most 75. They take no memory; a contract sees those that were put
+/// into it.
 #[derive(Drop)]
 pub struct IdentityBytes {
     cells: [u8; LONGEST_IDENTITY],

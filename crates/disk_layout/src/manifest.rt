@@ -17,15 +17,16 @@ pub struct ManifestFile {
     pub length: u32,
 }
 
-/// A load: its part number, and its files in the order in which they stand in the bank, the header first.
+/// A load: its part number, and its files in the order in which they stand in the bank, the header
+/// first.
 #[derive(Drop)]
 pub struct ManifestLoad {
     pub part: PartText,
     pub files: List<ManifestFile>,
 }
 
-/// What stands in a bank: the loads in their order, at most 32 of them, each of 1 to 256 files. The files
-/// stand back to back from the bank's start on, and the manifest stands after the last.
+/// What stands in a bank: the loads in their order, at most 32 of them, each of 1 to 256 files. The
+/// files stand back to back from the bank's start on, and the manifest stands after the last.
 #[derive(Drop)]
 pub struct Manifest {
     pub loads: List<ManifestLoad>,
@@ -45,8 +46,8 @@ impl Manifest {
 /// Why bytes are no manifest.
 #[derive(Clone, Copy, Debug, PartialEq, Eq)]
 pub enum ManifestFault {
-    /// The first offset at which they can't go on, from 0: where a field begins that doesn't fit or is
-    /// wrong, or the first byte after the manifest.
+    /// The first offset at which they can't go on, from 0: where a field begins that doesn't fit or
+    /// is wrong, or the first byte after the manifest.
     Wrong(u64),
     /// Out of memory. The bytes are not at fault.
     Memory,

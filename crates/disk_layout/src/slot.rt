@@ -38,8 +38,8 @@ impl SlotFields {
         }
     }
 
-    /// Whether slot A, which says this, is active: it is open, and slot B isn't both open and of a greater
-    /// sequence.
+    /// Whether slot A, which says this, is active: it is open, and slot B isn't both open and of a
+    /// greater sequence.
     pub fn is_active_over(&self, b: &SlotFields) -> bool
         ensures { IsTrue result ↔ ((self.now.gate ≡ OPEN)
             × (b.now.gate ≡ OPEN → b.now.sequence ≤ self.now.sequence)) }

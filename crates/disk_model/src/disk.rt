@@ -20,8 +20,8 @@ pub const SIZE: u32 = 134_225_920;
 
 /// A disk of [`SIZE`] bytes, of which those never written are zero.
 ///
-/// Between two syncs each range that was written may hold any bytes after a power loss; other bytes stay.
-/// A call that is refused stops the disk until the next restart.
+/// Between two syncs each range that was written may hold any bytes after a power loss; other bytes
+/// stay. A call that is refused stops the disk until the next restart.
 pub trait Disk {
     ghost state: { Self → DiskState };
 

@@ -11,13 +11,13 @@ use std::fs::{OpenFile, OpenOptions};
 use std::io::{self, ErrorKind, Read, Seek, SeekFrom, Write};
 use std::rt::Files;
 
-/// A disk in a file; bytes past its end read as zero. The file is opened for reading until the first write,
-/// which makes it where it is missing; until then a missing file reads as zeros. An error of the system is a
-/// fault of the disk, and closes the file. `restart` writes out what the file holds and closes it, so the
-/// next call opens it anew.
+/// A disk in a file; bytes past its end read as zero. The file is opened for reading until the
+/// first write, which makes it where it is missing; until then a missing file reads as zeros. An
+/// error of the system is a fault of the disk, and closes the file. `restart` writes out what the
+/// file holds and closes it, so the next call opens it anew.
 ///
-/// Once the system couldn't write out what it holds, it may have lost it while it still reads it: from then
-/// on each call fails, of this disk and also after a restart.
+/// Once the system couldn't write out what it holds, it may have lost it while it still reads it:
+/// from then on each call fails, of this disk and also after a restart.
 #[derive(Drop)]
 pub struct FileDisk<'r, R: Files> {
     file: DiskFile<'r, R>,

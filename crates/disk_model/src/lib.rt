@@ -1,4 +1,5 @@
-//! A disk as the store sees it: what a read gives, what a power loss may leave, and when it has failed.
+//! A disk as the store sees it: what a read gives, what a power loss may leave, and when it has
+//! failed.
 #![tactic(auto)]
 
 mod disk;

@@ -13,8 +13,9 @@ use std::alloc::{AllocError, Global};
 
 /// A disk in memory, of which calls can be set to fail.
 ///
-/// It keeps what it held at first and a note of each write, sync and restart, so that it can tell what a
-/// power loss may leave at each of its calls. It answers Memory where there is none for the note.
+/// It keeps what it held at first and a note of each write, sync and restart, so that it can tell
+/// what a power loss may leave at each of its calls. It answers Memory where there is none for the
+/// note.
 #[derive(Drop)]
 pub struct MemDisk {
     alloc: Global,
@@ -97,9 +98,9 @@ impl MemDisk {
         self.first.as_slice()
     }
 
-    /// Its writes, syncs and restarts in their order, those too that were set to fail, but none that was
-    /// refused out of memory. They and the first bytes tell what it holds, and what a power loss may
-    /// leave now or might have left before.
+    /// Its writes, syncs and restarts in their order, those too that were set to fail, but none
+    /// that was refused out of memory. They and the first bytes tell what it holds, and what a
+    /// power loss may leave now or might have left before.
     pub fn notes(&self) -> &[Note]
         ensures notes { result.now ≡ notes_of self.now }
         ensures replayed { (offset : ℕ) → image_of (contents_of self.now) offset

@@ -10,8 +10,8 @@ pub enum Call {
     Restart,
 }
 
-/// A call, and whether it was done. One that wasn't has changed nothing that a read gives, but a power
-/// loss may leave anything in the range of a write that wasn't done.
+/// A call, and whether it was done. One that wasn't has changed nothing that a read gives, but a
+/// power loss may leave anything in the range of a write that wasn't done.
 #[derive(Drop)]
 pub struct Note {
     pub call: Call,

@@ -1,4 +1,5 @@
-//! A disk that tears what was written last, over any steady disk: what the trait says suffices to prove it.
+//! A disk that tears what was written last, over any steady disk: what the trait says suffices to
+//! prove it.
 ghost use Rattle.std.specs.Prelude.{◌≡◌, ◌+◌, ◌≤◌, false, true, Some, length, OnOk};
 ghost use Rattle.disk_model.specs.Image.{Image, overlay};
 ghost use Rattle.disk_model.specs.State.{Closed, Torn, Elapses, HasCause};

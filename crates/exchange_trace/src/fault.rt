@@ -1,7 +1,7 @@
 //! Why a text is no script.
 
-/// Why a text is no script. A line is its number, counted from 1; lines that are passed over count too
-/// (docs/FORMATS.md, "Script").
+/// Why a text is no script. A line is its number, counted from 1; lines that are passed over count
+/// too (docs/FORMATS.md, "Script").
 #[derive(Clone, Copy, Debug, PartialEq, Eq)]
 pub enum ScriptFault {
     /// S1: the line's first word is unknown, it has too few or too many words, or names no side.

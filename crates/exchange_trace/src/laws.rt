@@ -1,4 +1,5 @@
-//! Laws of traces and scripts, for callers and readers. Each function does nothing; its clauses are the law.
+//! Laws of traces and scripts, for callers and readers. Each function does nothing; its clauses are
+//! the law.
 ghost use Rattle.std.specs.Prelude.{◌≡◌, ◌↔◌, ◌≤◌, ◌+◌, ◌++◌, ◌∷◌, [], ℕ, List, Bool, filter, codes, None, Ok, Err};
 ghost use Rattle.std.specs.List.{Contains, range_with_len};
 ghost use Rattle.std.specs.List.Sorted.{IsStrictlyIncreasing};
@@ -12,7 +13,8 @@ ghost use Rattle.exchange_trace.specs.Posts.{AllHonest, IsAboveOwnPorts, IsHones
 ghost use Rattle.exchange_trace.specs.Scripts.{blksize, inject, line_said, lines, script_said, upload};
 ghost use Rattle.exchange_trace.specs.Steps.{Step};
 
-/// Which datagrams are undelivered, and how that changes. `specs/PostLaws.antt` says the same to proofs.
+/// Which datagrams are undelivered, and how that changes. `specs/PostLaws.antt` says the same to
+/// proofs.
 #[tactic(auto, using(crate::specs::PostLaws::undelivered_ascends, crate::specs::PostLaws::undelivered_shrinks, crate::specs::PostLaws::undelivered_grows))]
 pub fn undelivered_datagrams()
     // Exactly those that were posted, and neither delivered nor lost, in ascending order.
@@ -41,8 +43,8 @@ pub fn the_first_port_after_a_boot()
         → IsAboveOwnPorts (posted_in steps) port → first_port_after steps ≤ port }
 {}
 
-/// A script that is followed delivers only what was posted to that side, and ends only where nothing of it is
-/// left; after the end comes the end again.
+/// A script that is followed delivers only what was posted to that side, and ends only where
+/// nothing of it is left; after the end comes the end again.
 #[tactic(auto, using(crate::specs::FollowingLaws::turn_is_honest, crate::specs::FollowingLaws::following_is_honest, crate::specs::FollowingLaws::end_is_last))]
 pub fn following_a_script()
     ensures honest { (s : Scene) (p : Plan) → IsHonest s.posted (next_turn s p).given }
@@ -54,8 +56,8 @@ pub fn following_a_script()
     ensures ended { (s : Scene) → (next_turn s (plan_of [])).given ≡ Ended }
 {}
 
-/// What some scripts say, and how some are refused: the words of the definitions computed (docs/FORMATS.md,
-/// "Script").
+/// What some scripts say, and how some are refused: the words of the definitions computed
+/// (docs/FORMATS.md, "Script").
 #[tactic(auto, unfolding(crate::specs::Scripts::script_said, crate::specs::Scripts::written_lines, crate::specs::Scripts::decimal_between, load_base::specs::Verdicts::ident_fault_of, load_base::specs::Verdicts::part_text_fault_of, hex::specs::Hex::decode_pairs))]
 pub fn worked_scripts()
     // Lines that are empty or begin with `#` say nothing, and are counted.

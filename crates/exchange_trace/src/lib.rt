@@ -1,5 +1,5 @@
-//! What happens between a loader and a target, as a trace; what a script says, and what following it means
-//! (docs/EXCHANGE.md, docs/FORMATS.md, "Script").
+//! What happens between a loader and a target, as a trace; what a script says, and what following
+//! it means (docs/EXCHANGE.md, docs/FORMATS.md, "Script").
 #![tactic(auto)]
 
 mod fault;

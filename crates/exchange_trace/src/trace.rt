@@ -14,8 +14,8 @@ pub enum Side {
 /// A datagram of UDP, without its addresses.
 #[derive(Drop)]
 pub struct Datagram {
-    /// The side that posts it; it goes to the other one. An injected datagram names the side that it
-    /// pretends to come from.
+    /// The side that posts it; it goes to the other one. An injected datagram names the side that
+    /// it pretends to come from.
     pub from_side: Side,
     /// The port from which it is posted.
     pub from: u16,
@@ -25,8 +25,8 @@ pub struct Datagram {
     pub bytes: Bytes,
 }
 
-/// What happens to the two sides. Posted datagrams are numbered from 1 in the order of their posts, those of
-/// both sides together.
+/// What happens to the two sides. Posted datagrams are numbered from 1 in the order of their posts,
+/// those of both sides together.
 #[derive(Drop)]
 pub enum Happening {
     /// The loader gets the datagram of this number.
@@ -43,8 +43,8 @@ pub enum Happening {
     TickTarget,
     /// From now on the requests of both sides ask for this block size, or for none.
     BlockSize(Option<u16>),
-    /// The disk loses power at the call of this number, counted from 1, or at once at 0. The second number
-    /// picks what the loss does to the bytes that weren't synced.
+    /// The disk loses power at the call of this number, counted from 1, or at once at 0. The second
+    /// number picks what the loss does to the bytes that weren't synced.
     Power {
         calls: u32,
         pick: u32,
@@ -75,8 +75,8 @@ pub enum TraceStep {
     Given(Happening),
     /// The target went down.
     Down,
-    /// The target came up. It draws ports from this one on, and the configuration that is active has this
-    /// sequence number.
+    /// The target came up. It draws ports from this one on, and the configuration that is active
+    /// has this sequence number.
     Up { first_port: u32, sequence: u32 },
     /// The target stayed down: its disk failed, or holds no configuration.
     BootRefused(RecoverFault),

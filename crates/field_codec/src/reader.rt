@@ -132,8 +132,8 @@ impl<'a> Reader<'a> {
         Ok(value)
     }
 
-    /// What fills a text of `size` bytes up to an even number: a zero byte where `size` is odd, else
-    /// nothing.
+    /// What fills a text of `size` bytes up to an even number: a zero byte where `size` is odd,
+    /// else nothing.
     pub fn take_pad(&mut self, size: usize) -> Result<(), FieldFault>
         ensures ok { OnOk result (Passes (pad_bytes size) self.old self.new) }
         ensures err { IfErr result (IsPadFault size self.old) }
@@ -171,8 +171,8 @@ impl<'a> Reader<'a> {
         Ok(text)
     }
 
-    /// A text up to a zero byte, and the zero. Where no zero is left, the fault has the offset where
-    /// the text begins.
+    /// A text up to a zero byte, and the zero. Where no zero is left, the fault has the offset
+    /// where the text begins.
     pub fn take_zero_ended(&mut self) -> Result<&'a [u8], FieldFault>
         ensures ok { IfOk result (λ text. Passes (zero_ended_text text.now) self.old self.new) }
         ensures err { IfErr result (IsUnended self.old) }

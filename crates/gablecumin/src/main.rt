@@ -25,8 +25,8 @@ fn main(rt: HostRuntime) -> ExitCode {
     ExitCode::from(ended.status)
 }
 
-// The words after the program's name. Where one of them isn't UTF-8, one empty word stands for them all: no
-// form has an empty word, so either is refused.
+// The words after the program's name. Where one of them isn't UTF-8, one empty word stands for them
+// all: no form has an empty word, so either is refused.
 fn words_of(alloc: Global, rt: &(impl Env + AllocGlobal)) -> Result<Vec<String>, AllocError> {
     let mut words = Vec::new(alloc);
     match env::args(rt) {

@@ -30,7 +30,8 @@ pub trait Entry {
         ensures { OnOk result (out.new ≡ out.old ++ concat (body_fields self.now)) };
 }
 
-/// Whether `said` is the distance of an entry of `size` bytes, which is the last of its list or not.
+/// Whether `said` is the distance of an entry of `size` bytes, which is the last of its list or
+/// not.
 pub fn is_distance(said: u16, size: usize, last: bool) -> bool
     ensures { result ≡ (said == distance_of last size) }
 {

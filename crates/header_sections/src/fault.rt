@@ -7,8 +7,8 @@ use field_codec::FieldFault;
 use load_base::{NameFault, NoMemory, TextFault};
 use part_number::PartFault;
 
-/// Why a piece is refused. Offsets are in bytes from the start of the header or list. A nested fault is never
-/// out of memory.
+/// Why a piece is refused. Offsets are in bytes from the start of the header or list. A nested
+/// fault is never out of memory.
 #[derive(Clone, Copy, Debug, PartialEq, Eq)]
 pub enum SectionFault {
     /// A field doesn't fit; the offset where it begins.

@@ -1,5 +1,6 @@
-//! The pieces that load headers and the lists of a media set have in common: where a section begins, padded
-//! texts, user data, entries after their distances, and the check sum at the end (docs/FORMATS.md).
+//! The pieces that load headers and the lists of a media set have in common: where a section
+//! begins, padded texts, user data, entries after their distances, and the check sum at the end
+//! (docs/FORMATS.md).
 //!
 //! A decoder reads a piece by a function of this crate, which needs a
 //! [`Reader`](field_codec::Reader) and refuses with a [`SectionFault`]; `?` makes the format's own

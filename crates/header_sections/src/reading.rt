@@ -33,7 +33,8 @@ pub fn read_start(reader: &mut Reader, version: u16) -> Result<u32, SectionFault
 
 // ---- sections
 
-/// Tests that the reader is at word `said`, which is pointer `which` to a section. It reads nothing.
+/// Tests that the reader is at word `said`, which is pointer `which` to a section. It reads
+/// nothing.
 #[tactic(auto, unfolding(crate::specs::Sections::section_at, field_grammar::specs::Fields::section))]
 pub fn test_section(reader: &mut Reader, which: u64, said: u32) -> Result<(), SectionFault>
     ensures { Decodes Memory (λ u. u) (section_at which said) reader.old result reader.new }

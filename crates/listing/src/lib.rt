@@ -1,4 +1,5 @@
-//! The listing of a target: its identity, its active bank, and its loads with their files, as lines of text.
+//! The listing of a target: its identity, its active bank, and its loads with their files, as lines
+//! of text.
 //!
 //! Start from [`listing_text`]. The lines are those of docs/FORMATS.md, "Printed text".
 #![tactic(auto)]

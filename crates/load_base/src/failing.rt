@@ -38,7 +38,8 @@ impl FailingCalls {
         }
     }
 
-    /// Lets the call with this number fail. A number may be set before or after its call, and more than once.
+    /// Lets the call with this number fail. A number may be set before or after its call, and more
+    /// than once.
     pub fn fail_at(&mut self, call: u32) -> Result<(), NoMemory>
         ensures ok { OnOk result (self.new.failing ≡ self.old.failing ++ call ∷ []) }
         ensures err { OnErr result (self.new.failing ≡ self.old.failing) }

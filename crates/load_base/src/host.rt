@@ -37,7 +37,8 @@ pub trait Host {
         ensures kept { files self.new ≡ files self.old }
         ensures cause { HasReadCause (faults self.old) (faults self.new) result };
 
-    /// Makes the file of this name, or replaces it. Where the host fails, that name may have anything.
+    /// Makes the file of this name, or replaces it. Where the host fails, that name may have
+    /// anything.
     fn write(&mut self, name: &[u8], bytes: &[u8]) -> Result<(), WriteFault>
         ensures file { WritesFile (files self.old) (files self.new) name.now bytes.now result }
         ensures cause { HasWriteCause (faults self.old) (faults self.new) result };

@@ -11,9 +11,9 @@ ghost use Rattle.load_base.specs.declared.text.TextFault.TheVariants.{Memory};
 
 use crate::{Ident, List, Name, PartText, Text};
 
-/// Bytes are such a text or have one first fault, which a function computes from them. Out of memory is no
-/// fault of a text. A name, an Ident and a part number are texts. `specs/VerdictLaws.antt` and
-/// `specs/TextLaws.antt` say the same to proofs.
+/// Bytes are such a text or have one first fault, which a function computes from them. Out of
+/// memory is no fault of a text. A name, an Ident and a part number are texts.
+/// `specs/VerdictLaws.antt` and `specs/TextLaws.antt` say the same to proofs.
 #[tactic(auto, using(crate::specs::VerdictLaws::name_faults, crate::specs::VerdictLaws::text_faults, crate::specs::VerdictLaws::ident_faults, crate::specs::VerdictLaws::part_text_faults, crate::specs::TextLaws::name_is_text, crate::specs::TextLaws::ident_is_text, crate::specs::TextLaws::part_text_is_text))]
 pub fn text_laws()
     ensures names { TellsFaults name_fault_of IsName IsNameFault }
@@ -39,8 +39,8 @@ pub fn equality_laws()
         → Decides (⟦<Text as PartialEq>⟧.eq one other) (one ≡ other) }
 {}
 
-/// Two lists are equal where their members are the same, if members are equal where they are the same. Their
-/// spare capacity may differ.
+/// Two lists are equal where their members are the same, if members are equal where they are the
+/// same. Their spare capacity may differ.
 #[tactic(auto, using(crate::specs::EqualityLaws::equal_lists))]
 pub fn list_equality_law<T: PartialEq>()
     ensures { ((x y : T) → Decides (T.eq x y) (x ≡ y))

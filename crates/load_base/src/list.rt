@@ -40,7 +40,10 @@ impl<T> Model for List<T> {
 
     ghost coded = { listed_code T.code };
 
-    ghost view = { λ l. record { items = l.inner.items; spare = vec_capacity l.inner - vec_len l.inner } };
+    ghost view = { λ l. record {
+      items = l.inner.items;
+      spare = vec_capacity l.inner - vec_len l.inner;
+    } };
 }
 
 impl<T> List<T> {

@@ -22,7 +22,10 @@ impl<const N: usize> Model for Padded<N> {
 
     ghost inverse = { λ text. record { cells = padded N text; len = length text } };
 
-    ghost inverse_ok = { λ p is i. record { cells = padded-take N p.cells p.len is i; len = length-take_padded N p.cells p.len is i } };
+    ghost inverse_ok = { λ p is i. record {
+      cells = padded-take N p.cells p.len is i;
+      len = length-take_padded N p.cells p.len is i;
+    } };
 }
 
 impl<const N: usize> Padded<N> {

@@ -22,7 +22,8 @@ pub trait Sink {
     /// How often it has failed.
     ghost faults: { Self → ℕ };
 
-    /// Puts all the bytes. A sink that fails takes a prefix of them, one that is out of memory none.
+    /// Puts all the bytes. A sink that fails takes a prefix of them, one that is out of memory
+    /// none.
     fn put(&mut self, bytes: &[u8]) -> Result<(), WriteFault>
         ensures content { Puts (content self.old) (content self.new) bytes.now result }
         ensures cause { HasWriteCause (faults self.old) (faults self.new) result };

@@ -13,8 +13,9 @@ use std::{fs, str};
 // The host reads files in pieces of this many bytes.
 const PIECE: usize = 8192;
 
-/// The files of the system, relative to the current folder. A file is absent only where the system says that
-/// there is none of that name; any other error is a fault of the host. Nothing is told of what files hold.
+/// The files of the system, relative to the current folder. A file is absent only where the system
+/// says that there is none of that name; any other error is a fault of the host. Nothing is told of
+/// what files hold.
 #[derive(Drop)]
 pub struct StdHost<'r, R: Files> {
     rt: &'r R,

@@ -139,7 +139,8 @@ fn zeros(alloc: Global, count: usize) -> Result<Bytes, NoMemory> {
     Ok(bytes)
 }
 
-// Writes a file of `count` zeros and reads it again: the refusal, or nothing where those bytes came back.
+// Writes a file of `count` zeros and reads it again: the refusal, or nothing where those bytes came
+// back.
 fn there_and_back<R: Files>(rt: &R, alloc: Global, count: usize) -> Option<ReadFault> {
     let mut host = StdHost::new(rt);
     let Ok(bytes) = zeros(alloc, count) else {

@@ -33,11 +33,11 @@ pub enum HeaderFault {
     Part(PartFault),
     /// H7: the length of the check value isn't 0.
     CheckValuePresent,
-    /// H8: the distance of a file's entry is neither its length in words nor, for the last of its list, 0.
-    /// Files count from 1, data files first.
+    /// H8: the distance of a file's entry is neither its length in words nor, for the last of its
+    /// list, 0. Files count from 1, data files first.
     Distance(u64),
-    /// H9: a file's lengths in words and in bytes disagree, or it has more than 16,777,215 bytes. Files count
-    /// as in `Distance`.
+    /// H9: a file's lengths in words and in bytes disagree, or it has more than 16,777,215 bytes.
+    /// Files count as in `Distance`.
     Sizes(u64),
     /// H10: the check sum of the header is `found`, and `said` stands there.
     HeaderCrc {

@@ -44,16 +44,16 @@ pub struct LoadHeader {
     pub data_files: List<FileEntry>,
     pub support_files: List<FileEntry>,
     pub user: Bytes,
-    /// The CRC-32 of the header but its last 4 bytes, of the data files and of the support files, back to
-    /// back. It is not compared when a header is read.
+    /// The CRC-32 of the header but its last 4 bytes, of the data files and of the support files,
+    /// back to back. It is not compared when a header is read.
     pub load_crc: u32,
 }
 
 impl LoadHeader {
-    /// Reads a whole header (this project's layout, docs/FORMATS.md). [`HeaderFault::TooLong`] is tested
-    /// first. Then the fields are read in order, and each is tested as soon as it was read; but a pointer
-    /// is tested when its section begins, a distance when its entry ended, and last, `Rest` and then
-    /// `HeaderCrc`.
+    /// Reads a whole header (this project's layout, docs/FORMATS.md). [`HeaderFault::TooLong`] is
+    /// tested first. Then the fields are read in order, and each is tested as soon as it was read;
+    /// but a pointer is tested when its section begins, a distance when its entry ended, and last,
+    /// `Rest` and then `HeaderCrc`.
     pub fn decode(alloc: Global, bytes: &[u8]) -> Result<LoadHeader, HeaderFault>
         // What is read is spelled so.
         ensures found { IfOk result (λ h. HeaderSpells (header_view h) bytes.now) }
@@ -69,18 +69,18 @@ impl LoadHeader {
         header_of(alloc, bytes)
     }
 
-    /// Whether the header meets the limits of the format (this project's layout, docs/FORMATS.md), so that it
-    /// has a spelling: at most 65,536 bytes in all; at most 255 data and support files together, each of at
-    /// most 16,777,215 bytes; at most 65,535 members of each other list; and an even number of bytes of user
-    /// data. It takes no memory.
+    /// Whether the header meets the limits of the format (this project's layout, docs/FORMATS.md),
+    /// so that it has a spelling: at most 65,536 bytes in all; at most 255 data and support files
+    /// together, each of at most 16,777,215 bytes; at most 65,535 members of each other list; and
+    /// an even number of bytes of user data. It takes no memory.
     pub fn fits(&self) -> bool
         ensures { IsTrue result ↔ IsHeader (header_view self.now) }
     {
         measuring::fits(self)
     }
 
-    /// The one spelling of a header that meets the limits. Lengths, pointers, distances and the check sum of
-    /// the header are computed; the check sum of the load is the field `load_crc`.
+    /// The one spelling of a header that meets the limits. Lengths, pointers, distances and the
+    /// check sum of the header are computed; the check sum of the load is the field `load_crc`.
     pub fn encode(&self, alloc: Global) -> Result<Bytes, NoMemory>
         requires { IsHeader (header_view self.now) }
         ensures { IfOk result (λ bytes. HeaderSpells (header_view self.now) bytes.items) }

@@ -5,9 +5,9 @@ ghost use Rattle.crc_fields.specs.CheckSums.{crc32_of};
 use crc_fields::Crc32;
 use std::marker::Model;
 
-/// The CRC-32 of a load: over its header but the last 4 bytes, and then over its data files and its support
-/// files, in the order of the header, with nothing between (this project's layout, docs/FORMATS.md). It
-/// takes no memory. A contract sees it as the check sum of the bytes so far.
+/// The CRC-32 of a load: over its header but the last 4 bytes, and then over its data files and its
+/// support files, in the order of the header, with nothing between (this project's layout,
+/// docs/FORMATS.md). It takes no memory. A contract sees it as the check sum of the bytes so far.
 #[derive(Drop)]
 pub struct LoadCrc {
     sum: Crc32,
@@ -22,8 +22,8 @@ impl Model for LoadCrc {
 }
 
 impl LoadCrc {
-    /// The check sum of a load of which only this header was given yet, the whole of it. Its last 4 bytes
-    /// are where the check sum itself stands, and are left out.
+    /// The check sum of a load of which only this header was given yet, the whole of it. Its last 4
+    /// bytes are where the check sum itself stands, and are left out.
     pub fn new(header: &[u8]) -> LoadCrc
         requires { 4 ≤ length header.now }
         ensures { result ≡ crc32_of (take (length header.now - 4) header.now) }

@@ -11,7 +11,8 @@ impl Printed for HeaderFault {
 
     ghost longest = { 65 };
 
-    /// H1 to H15 and the fields, as in `H4 5 39 38`, and a nested fault in its place, as in `H12 50 N3 2`.
+    /// H1 to H15 and the fields, as in `H4 5 39 38`, and a nested fault in its place, as in `H12 50
+    /// N3 2`.
     fn text(&self, alloc: Global) -> Result<Text, NoMemory> {
         match *self {
             HeaderFault::Short(offset) => coded(alloc, b"H1", &[offset]),

@@ -4,7 +4,8 @@ use load_base::{Bytes, List, Name, NoMemory, Text};
 use printed_text::Printed;
 use std::alloc::Global;
 
-/// The header of a load with one file, `APP.BIN`, whose bytes are `123456789`, but its two check sums.
+/// The header of a load with one file, `APP.BIN`, whose bytes are `123456789`, but its two check
+/// sums.
 static APP_FRONT: [u8; 116] = [
     0x00, 0x00, 0x00, 0x3D, 0x80, 0x04, 0x00, 0x00, 0x00, 0x00, 0x00, 0x14, 0x00, 0x00, 0x00, 0x1D,
     0x00, 0x00, 0x00, 0x21, 0x00, 0x00, 0x00, 0x25, 0x00, 0x00, 0x00, 0x26, 0x00, 0x00, 0x00, 0x37,
@@ -79,8 +80,8 @@ fn mend(bytes: &mut [u8]) {
     }
 }
 
-/// Each offset and byte that is put there, whether the header's check sum is made right again, and what the
-/// header is refused with.
+/// Each offset and byte that is put there, whether the header's check sum is made right again, and
+/// what the header is refused with.
 #[test]
 fn each_changed_byte_has_its_refusal(rt: HostRuntime) -> Result<(), NoMemory> {
     for (offset, byte, mended, text) in [
@@ -214,8 +215,9 @@ fn there_and_back(alloc: Global, header: &LoadHeader) -> Result<Bytes, HeaderFau
     Ok(bytes)
 }
 
-/// How many data and support files, of how many bytes each, and how many bytes of user data a header has, and
-/// how many bytes it takes, or 0 where it doesn't fit: 110, those of the user data, and 26 for each file.
+/// How many data and support files, of how many bytes each, and how many bytes of user data a
+/// header has, and how many bytes it takes, or 0 where it doesn't fit: 110, those of the user data,
+/// and 26 for each file.
 #[test]
 fn a_header_has_at_most_255_files_and_65536_bytes(rt: HostRuntime) -> Result<(), HeaderFault> {
     for (data_files, support_files, length, user, bytes) in [

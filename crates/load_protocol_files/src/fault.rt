@@ -7,8 +7,8 @@ use field_codec::FieldFault;
 use load_base::{NameFault, NoMemory, TextFault};
 use part_number::PartFault;
 
-/// Why bytes are no protocol file: the first fault that is met from left to right. A offset is a byte
-/// offset; that of a name, a part number or a text is of its first byte, after its length.
+/// Why bytes are no protocol file: the first fault that is met from left to right. A offset is a
+/// byte offset; that of a name, a part number or a text is of its first byte, after its length.
 #[derive(Clone, Copy, Debug, PartialEq, Eq)]
 pub enum FileFault {
     /// U1: a field passes the end of the bytes. The offset where it begins.
@@ -25,8 +25,8 @@ pub enum FileFault {
     Name { place: u64, fault: NameFault },
     /// U7: a text is no part number. Its offset, and what is wrong with it.
     Part { place: u64, fault: PartFault },
-    /// U8: a text has a byte that no text has. Its offset, and what is wrong with it, which is never
-    /// Memory.
+    /// U8: a text has a byte that no text has. Its offset, and what is wrong with it, which is
+    /// never Memory.
     Text { place: u64, fault: TextFault },
     /// Out of memory.
     Memory,

@@ -7,8 +7,8 @@ ghost use Rattle.load_protocol_files.specs.Lui.{lui, LuiSpells};
 ghost use Rattle.load_protocol_files.specs.Lur.{lur, LurSpells};
 ghost use Rattle.load_protocol_files.specs.Lus.{lus, LusSpells};
 
-/// In each of the six formats bytes spell exactly one file or have exactly one first fault; a file has one
-/// spelling, and is read from it.
+/// In each of the six formats bytes spell exactly one file or have exactly one first fault; a file
+/// has one spelling, and is read from it.
 // For the proof: does nothing.
 pub fn protocol_file_laws()
     ensures lci { IsExact lci LciSpells }

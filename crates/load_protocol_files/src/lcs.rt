@@ -15,8 +15,8 @@ use field_codec::{Reader, Writer};
 use load_base::{Bytes, NoMemory, Text};
 use std::alloc::Global;
 
-/// A configuration status file (LCS): how far the target has come with a request for its configuration
-/// (this project's layout, docs/FORMATS.md).
+/// A configuration status file (LCS): how far the target has come with a request for its
+/// configuration (this project's layout, docs/FORMATS.md).
 #[derive(Drop)]
 pub struct Lcs {
     /// How many of these files the operation has had, with this one.

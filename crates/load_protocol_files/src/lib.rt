@@ -1,5 +1,5 @@
-//! The protocol files that a loader and a target exchange: initialization, configuration, status and
-//! requests (this project's layouts, docs/FORMATS.md). Each type has `decode` and `encode`.
+//! The protocol files that a loader and a target exchange: initialization, configuration, status
+//! and requests (this project's layouts, docs/FORMATS.md). Each type has `decode` and `encode`.
 #![tactic(auto)]
 
 mod fault;

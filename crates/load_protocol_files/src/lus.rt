@@ -72,7 +72,8 @@ impl Lus {
         self.ratio <= 100 && loads.len() <= 65_535 && are_ratios(loads)
     }
 
-    /// The bytes that spell the file. Each ratio is at most 100, and there are at most 65,535 loads.
+    /// The bytes that spell the file. Each ratio is at most 100, and there are at most 65,535
+    /// loads.
     pub fn encode(&self, alloc: Global) -> Result<Bytes, NoMemory>
         requires { IsWritableLus self.now }
         ensures { IfOk result (λ bytes. LusSpells (lus_view self.now) bytes.items) }

@@ -25,7 +25,8 @@ fn checked(alloc: Global, host: &mut MemHost) -> Result<Bytes, Fail> {
     run_over(alloc, CHECK, host, &mut MemDisk::new(alloc, b"")?)
 }
 
-// A host with both lists and the header of a set of one load, but without its file; it made three calls.
+// A host with both lists and the header of a set of one load, but without its file; it made three
+// calls.
 fn app_set(alloc: Global) -> Result<MemHost, Fail> {
     let mut host = MemHost::new(alloc);
     write(&mut host, b"P/1/LOADS.LUM", &APP_LOADS)?;
@@ -107,7 +108,8 @@ fn a_set_on_two_members(rt: HostRuntime) -> Result<(), Fail> {
     Ok(())
 }
 
-// What is said where the host call of this number fails. The set's files were written by calls 1 to 4.
+// What is said where the host call of this number fails. The set's files were written by calls 1 to
+// 4.
 fn failing_at(alloc: Global, call: u32) -> Result<Bytes, Fail> {
     let mut host = app_set(alloc)?;
     write(&mut host, b"P/1/APP.BIN", b"123456789")?;

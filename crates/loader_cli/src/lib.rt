@@ -1,4 +1,5 @@
-//! The top call: what the program does on its arguments, what it prints, and the status with which it ends.
+//! The top call: what the program does on its arguments, what it prints, and the status with which
+//! it ends.
 //!
 //! Start from [`run`]. The commands and statuses are those of README.md, the printed texts those of
 //! docs/FORMATS.md.

@@ -34,7 +34,8 @@ fn formatted(at: usize, bytes: &[u8]) -> [u8; DISK] {
     disk
 }
 
-// The same disk, where slot A has this sequence number, and slot B this gate, sequence number 8 and bank 1.
+// The same disk, where slot A has this sequence number, and slot B this gate, sequence number 8 and
+// bank 1.
 fn with_both_slots(sequence: u8, gate: u8) -> [u8; DISK] {
     let mut disk = formatted(4115, &[sequence]);
     put(&mut disk, 4608, &[gate]);
@@ -379,7 +380,8 @@ fn host_with(alloc: Global, name: &[u8], bytes: &[u8]) -> Result<MemHost, Fail> 
     }
 }
 
-// A run over a host with one file, of which the call of this number fails; the file was written by call 1.
+// A run over a host with one file, of which the call of this number fails; the file was written by
+// call 1.
 fn run_beside(
     alloc: Global,
     words: &[&str],

@@ -92,7 +92,8 @@ fn many_files(alloc: Global, count: usize, path: &[u8]) -> Result<List<ListedFil
     Ok(files)
 }
 
-/// The bytes of a list that fits, which are read as a list of as many files; none where it doesn't fit.
+/// The bytes of a list that fits, which are read as a list of as many files; none where it doesn't
+/// fit.
 fn files_there_and_back(alloc: Global, list: &FilesList) -> Result<Bytes, ListFault> {
     if !list.fits() {
         return Ok(Bytes::new(alloc));
@@ -188,7 +189,8 @@ fn many_loads(alloc: Global, count: usize, kinds: usize) -> Result<List<LoadEntr
     Ok(loads)
 }
 
-/// The bytes of a list that fits, which are read as a list of as many loads; none where it doesn't fit.
+/// The bytes of a list that fits, which are read as a list of as many loads; none where it doesn't
+/// fit.
 fn loads_there_and_back(alloc: Global, list: &LoadsList) -> Result<Bytes, ListFault> {
     if !list.fits() {
         return Ok(Bytes::new(alloc));

@@ -8,8 +8,8 @@ use header_sections::SectionFault;
 use load_base::{NameFault, NoMemory, TextFault};
 use part_number::PartFault;
 
-/// Why bytes are no path: a `\` followed by 0 to 4 names, each followed by `\`, of at most 64 bytes (this
-/// project's layout, docs/FORMATS.md).
+/// Why bytes are no path: a `\` followed by 0 to 4 names, each followed by `\`, of at most 64 bytes
+/// (this project's layout, docs/FORMATS.md).
 #[derive(Clone, Copy, Debug, PartialEq, Eq)]
 pub enum PathFault {
     /// Q1: the length of the longest prefix of the bytes that is a prefix of some path.
@@ -29,8 +29,8 @@ pub enum WordFault {
     Path(PathFault),
 }
 
-/// Why bytes are no media list (this project's layout, docs/FORMATS.md). Offsets are in bytes from the
-/// start of the list, and entries count from 1.
+/// Why bytes are no media list (this project's layout, docs/FORMATS.md). Offsets are in bytes from
+/// the start of the list, and entries count from 1.
 #[derive(Clone, Copy, Debug, PartialEq, Eq)]
 pub enum ListFault {
     /// L1: a field doesn't fit; the offset where it begins.

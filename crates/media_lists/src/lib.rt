@@ -1,5 +1,5 @@
-//! The two lists of a media set: `FILES.LUM`, which names every file with its folder, member and check sum,
-//! and `LOADS.LUM`, which names every load with its header, member and hardware.
+//! The two lists of a media set: `FILES.LUM`, which names every file with its folder, member and
+//! check sum, and `LOADS.LUM`, which names every load with its header, member and hardware.
 #![tactic(auto)]
 
 #[cfg(test)]

@@ -25,7 +25,8 @@ pub const FILES_VERSION: u16 = 0xA004;
 #[derive(Drop)]
 pub struct ListedFile {
     pub name: Name,
-    /// Its folder within the member: a `\` and 0 to 4 names, each followed by `\`, at most 64 bytes.
+    /// Its folder within the member: a `\` and 0 to 4 names, each followed by `\`, at most 64
+    /// bytes.
     pub path: Text,
     /// The member of the set that has it, from 1.
     pub member: u16,
@@ -77,8 +78,8 @@ impl FilesList {
         fitting::files_fit(self)
     }
 
-    /// The one spelling of a list that meets the limits. Lengths, pointers, distances and the check sum are
-    /// computed.
+    /// The one spelling of a list that meets the limits. Lengths, pointers, distances and the check
+    /// sum are computed.
     pub fn encode(&self, alloc: Global) -> Result<Bytes, NoMemory>
         requires { IsFilesList (files_list_view self.now) }
         ensures { IfOk result (λ bytes. FilesSpells (files_list_view self.now) bytes.items) }
@@ -142,8 +143,8 @@ impl LoadsList {
         fitting::loads_fit(self)
     }
 
-    /// The one spelling of a list that meets the limits. Lengths, pointers, distances and the check sum are
-    /// computed.
+    /// The one spelling of a list that meets the limits. Lengths, pointers, distances and the check
+    /// sum are computed.
     pub fn encode(&self, alloc: Global) -> Result<Bytes, NoMemory>
         requires { IsLoadsList (loads_list_view self.now) }
         ensures { IfOk result (λ bytes. LoadsSpells (loads_list_view self.now) bytes.items) }

@@ -16,7 +16,8 @@ pub(crate) const MOST_NAMES: usize = 4;
 /// The most bytes of a path.
 pub(crate) const LONGEST_PATH: usize = 64;
 
-// The length of the longest prefix of the bytes that is a prefix of some path, where they are no path.
+// The length of the longest prefix of the bytes that is a prefix of some path, where they are no
+// path.
 pub(crate) fn path_fault(bytes: &[u8]) -> Option<usize>
     ensures { result ≡ path_fault_of bytes.now }
 {

@@ -40,7 +40,8 @@ impl Printed for ListFault {
 
     ghost longest = { 68 };
 
-    /// L1 to L13 and the fields, as in `L5 2 21 20`, and a nested fault in its place, as in `L7 58 Q1 3`.
+    /// L1 to L13 and the fields, as in `L5 2 21 20`, and a nested fault in its place, as in `L7 58
+    /// Q1 3`.
     fn text(&self, alloc: Global) -> Result<Text, NoMemory> {
         match *self {
             ListFault::Short(offset) => coded(alloc, b"L1", &[offset]),

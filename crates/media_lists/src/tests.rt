@@ -54,8 +54,8 @@ fn the_formats_keep_their_laws() {
     path_laws();
 }
 
-/// Each offset and byte that is put there, whether the check sum is made right again, and what the list of
-/// files is refused with.
+/// Each offset and byte that is put there, whether the check sum is made right again, and what the
+/// list of files is refused with.
 #[test]
 fn each_changed_byte_of_the_files_has_its_refusal(rt: HostRuntime) -> Result<(), NoMemory> {
     for (offset, byte, mended, text) in [

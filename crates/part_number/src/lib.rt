@@ -50,8 +50,8 @@ impl Model for PartNumber {
 }
 
 impl PartNumber {
-    /// Reads a whole text. Its length is tested first, then its bytes in their order, and at last its
-    /// check digits.
+    /// Reads a whole text. Its length is tested first, then its bytes in their order, and at last
+    /// its check digits.
     #[tactic(auto, using(crate::proofs::Judged::part_is_read, crate::proofs::Judged::part_is_refused, crate::proofs::Judged::part_is_short))]
     pub fn read(bytes: &[u8]) -> Result<PartNumber, PartFault>
         ensures found { IfOk result (λ part. (part ≡ bytes.now) × IsPartNumberText bytes.now) }
@@ -70,8 +70,8 @@ impl PartNumber {
         }
     }
 
-    /// The part number of a maker and a product. The only refusal is P3, with the offset that the first
-    /// wrong character has in the finished text.
+    /// The part number of a maker and a product. The only refusal is P3, with the offset that the
+    /// first wrong character has in the finished text.
     #[tactic(auto, using(crate::proofs::Faults::fault_of_text, crate::specs::Laws::Read::made_from_text))]
     pub fn make(maker: &[u8; 3], product: &[u8; 8]) -> Result<PartNumber, PartFault>
         ensures made { IfOk result (λ part. IsPartNumber part maker.now product.now) }

@@ -30,7 +30,8 @@ use disk_layout::{
 use disk_model::{Disk, SIZE};
 use std::alloc::Global;
 
-/// What is active on a disk, without the contents of its files, and a store that installs beside it.
+/// What is active on a disk, without the contents of its files, and a store that installs beside
+/// it.
 #[derive(Drop)]
 pub struct Surveyed {
     pub identity: Identity,

@@ -55,8 +55,8 @@ fn first_and_last(notes: &[Note]) -> (u32, u32) {
     offsets
 }
 
-// An installation shuts the other slot first where it is open, and else begins with the other bank; its last
-// write opens the other slot.
+// An installation shuts the other slot first where it is open, and else begins with the other bank;
+// its last write opens the other slot.
 #[test]
 fn a_survey_tells_what_is_active(rt: HostRuntime) -> Result<(), Fail> {
     let alloc = rt.alloc();
@@ -266,8 +266,8 @@ fn restarts_as_promised(alloc: Global, disk: &mut MemDisk, may_be_new: bool) -> 
     Ok(is_old(&standing) || may_be_new && is_new(&standing))
 }
 
-// Shutting the other slot makes two calls; the contents, the manifest, the slot and their sync eight; opening
-// the other slot two, a write and a sync.
+// Shutting the other slot makes two calls; the contents, the manifest, the slot and their sync
+// eight; opening the other slot two, a write and a sync.
 #[test]
 fn an_installation_that_fails_leaves_the_old_configuration(rt: HostRuntime) -> Result<(), Fail> {
     let alloc = rt.alloc();
@@ -348,9 +348,9 @@ fn ways(writes: &[Note]) -> u32 {
     ways
 }
 
-// Of a disk of these bytes after these calls: how many images a power loss may leave, where each write since
-// the last sync has left nothing, its bytes or others, and how many of these are recovered as the new
-// configuration. Each other one has to be recovered as the old.
+// Of a disk of these bytes after these calls: how many images a power loss may leave, where each
+// write since the last sync has left nothing, its bytes or others, and how many of these are
+// recovered as the new configuration. Each other one has to be recovered as the old.
 fn images_after(alloc: Global, before: &[u8; WHOLE], notes: &[Note]) -> Result<(u32, u32), Fail> {
     let end = until_sync(notes);
     let settled = after(before, notes.get(..end).unwrap_or(notes));
@@ -370,8 +370,9 @@ fn images_after(alloc: Global, before: &[u8; WHOLE], notes: &[Note]) -> Result<(
     Ok((images, new))
 }
 
-// At each moment of an installation, told by the calls that have ended or begun. A moment inside a write has
-// the images from before it and those after it, and one inside a sync those from before it.
+// At each moment of an installation, told by the calls that have ended or begun. A moment inside a
+// write has the images from before it and those after it, and one inside a sync those from before
+// it.
 #[test]
 fn each_image_of_an_installation_is_old_or_new(rt: HostRuntime) -> Result<(), Fail> {
     let alloc = rt.alloc();

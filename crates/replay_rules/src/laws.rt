@@ -5,15 +5,16 @@ ghost use Rattle.replay_rules.specs.Ties.{StepKeepsTie};
 
 use crc_fields::check_sum_laws;
 
-/// Where each end does what its rules say in a step, what it keeps is what the trace says of it, and all that
-/// was posted was due.
+/// Where each end does what its rules say in a step, what it keeps is what the trace says of it,
+/// and all that was posted was due.
 pub fn a_step_keeps_the_tie()
     ensures { StepKeepsTie }
 {
     check_sum_laws();
 }
 
-/// In a trace in which all that was posted was due, datagrams go where they may, and own ports rise.
+/// In a trace in which all that was posted was due, datagrams go where they may, and own ports
+/// rise.
 pub fn datagrams_of_a_trace()
     ensures placed { DueIsPlaced }
     ensures ports { PortsRise }

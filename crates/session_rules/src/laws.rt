@@ -29,8 +29,8 @@ pub fn datagrams_go_where_they_may()
     ensures ports { LogsCountUp }
 {}
 
-/// What is in a transfer came from its other end, and a block that was taken came as DATA before it is
-/// acknowledged, in all logs of both sides.
+/// What is in a transfer came from its other end, and a block that was taken came as DATA before it
+/// is acknowledged, in all logs of both sides.
 pub fn what_was_taken_came()
     ensures loader { LoaderTakesWhatCame }
     ensures target { TargetTakesWhatCame }

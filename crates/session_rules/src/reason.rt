@@ -13,8 +13,8 @@ pub enum RequestFault {
     TooLong,
 }
 
-/// A reason. Files of a load are numbered from 1, the data files first and then the support files. A bank and
-/// a length are in bytes.
+/// A reason. Files of a load are numbered from 1, the data files first and then the support files.
+/// A bank and a length are in bytes.
 #[derive(Clone, Copy, Debug, PartialEq, Eq)]
 pub enum Reason {
     /// A1: an ERROR with this code ended the transfer of a load's file.

@@ -9,7 +9,8 @@ pub fn receiving_laws()
     // Last comes exactly with the packet that makes the file whole.
     ensures served_last { ServedLastMakesWhole }
     ensures asked_last { AskedLastMakesWhole }
-    // What it sent last is the ACK of the last block that arrived, and before that its first packet.
+    // What it sent last is the ACK of the last block that arrived, and before that its first
+    // packet.
     ensures served_sent { ServedWriteAcknowledges }
     ensures asked_sent { AskedReadAcknowledges }
 {}

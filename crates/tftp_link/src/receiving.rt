@@ -33,7 +33,14 @@ impl Model for Receiving {
 
     ghost Value = { Receiver };
 
-    ghost view = { λ r. record { name = r.name; asked = r.asked; granted = r.granted; size = r.size; taken = r.taken; phase = r.phase } };
+    ghost view = { λ r. record {
+      name = r.name;
+      asked = r.asked;
+      granted = r.granted;
+      size = r.size;
+      taken = r.taken;
+      phase = r.phase;
+    } };
 
     ghost invariant = { λ r. AreInRange r.asked };
 }

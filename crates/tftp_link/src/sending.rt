@@ -17,7 +17,8 @@ use load_base::Name;
 use std::marker::Model;
 use tftp_packet::{Options, Packet};
 
-/// The sending end of a transfer (RFC 1350, section 2). It lends the file's blocks, and copies none.
+/// The sending end of a transfer (RFC 1350, section 2). It lends the file's blocks, and copies
+/// none.
 #[derive(Drop)]
 pub struct Sending<'f> {
     /// Of the file, where the request is its own.
@@ -36,7 +37,14 @@ impl<'f> Model for Sending<'f> {
 
     ghost Value = { Sender };
 
-    ghost view = { λ s. record { name = s.name; file = contents s.file; options = s.options; size = s.size; sent = s.sent; phase = s.phase } };
+    ghost view = { λ s. record {
+      name = s.name;
+      file = contents s.file;
+      options = s.options;
+      size = s.size;
+      sent = s.sent;
+      phase = s.phase;
+    } };
 
     ghost invariant = { λ s. IsSending
         (record {
@@ -50,7 +58,8 @@ impl<'f> Model for Sending<'f> {
 }
 
 impl<'f> Sending<'f> {
-    /// Takes a request to read, which asks for these options, with a file of at most 16,777,215 bytes.
+    /// Takes a request to read, which asks for these options, with a file of at most 16,777,215
+    /// bytes.
     pub fn serve(file: FileBytes<'f>, asked: Options) -> Sending<'f>
         requires file { length (contents file) ≤ 16777215 }
         requires options { AreInRange asked }
@@ -67,8 +76,8 @@ impl<'f> Sending<'f> {
         }
     }
 
-    /// Asks to write a file of at most 16,777,215 bytes under this name, with these options, but for a
-    /// block size at which it would need more than 65,535 blocks.
+    /// Asks to write a file of at most 16,777,215 bytes under this name, with these options, but
+    /// for a block size at which it would need more than 65,535 blocks.
     pub fn ask(name: Name, file: FileBytes<'f>, options: Options) -> Sending<'f>
         requires file { length (contents file) ≤ 16777215 }
         requires options { AreInRange options }

@@ -9,7 +9,8 @@ pub enum News<'a> {
     Nothing,
     /// The payload of the next block, which is a full one.
     Block(&'a [u8]),
-    /// The payload of the last block, which is shorter than the block size, perhaps empty. The file is whole.
+    /// The payload of the last block, which is shorter than the block size, perhaps empty. The file
+    /// is whole.
     Last(&'a [u8]),
     /// The last block was acknowledged.
     Done,

@@ -13,21 +13,21 @@ pub enum PacketFault {
     Opcode(u64),
     /// T2: fewer than 2 bytes, or fewer than 4 of a DATA, an ACK or an ERROR; the number of bytes.
     Short(u64),
-    /// T3: a name, a mode, a name or value of an option or a text of an ERROR has no zero behind it;
-    /// the offset where it begins.
+    /// T3: a name, a mode, a name or value of an option or a text of an ERROR has no zero behind
+    /// it; the offset where it begins.
     NoZero(u64),
     /// T4: the mode of a request isn't `octet`.
     Mode,
-    /// T5: an option that may not stand there; the offset where its name begins. In each packet that
-    /// is one without a name, or a known one for the second time, and in an OACK also an unknown one,
-    /// all of them before their value is read; in an OACK also one with a value that isn't of its
-    /// kind, once the value was read.
+    /// T5: an option that may not stand there; the offset where its name begins. In each packet
+    /// that is one without a name, or a known one for the second time, and in an OACK also an
+    /// unknown one, all of them before their value is read; in an OACK also one with a value that
+    /// isn't of its kind, once the value was read.
     Option(u64),
-    /// T6: bytes stand behind an ACK or an ERROR, or behind 65,464 bytes of a payload; the offset of
-    /// the first.
+    /// T6: bytes stand behind an ACK or an ERROR, or behind 65,464 bytes of a payload; the offset
+    /// of the first.
     Rest(u64),
-    /// T7: the name in a request is no file name; what is wrong with it. It comes before the mode is
-    /// read.
+    /// T7: the name in a request is no file name; what is wrong with it. It comes before the mode
+    /// is read.
     Name(NameFault),
 }
 

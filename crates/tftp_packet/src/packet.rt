@@ -49,8 +49,8 @@ pub enum Packet<'a> {
 }
 
 impl<'a> Packet<'a> {
-    /// The packet that the bytes spell, or their first fault from left to right. It takes no memory,
-    /// and lends payloads and texts from the bytes.
+    /// The packet that the bytes spell, or their first fault from left to right. It takes no
+    /// memory, and lends payloads and texts from the bytes.
     pub fn decode(bytes: &'a [u8]) -> Result<Packet<'a>, PacketFault>
         ensures found { IfOk result (λ p. PacketSpells (packet_view p) bytes.now) }
         ensures only { (p : PacketView) → PacketSpells p bytes.now → seen result ≡ Ok p }

@@ -16,7 +16,8 @@ pub fn what_arrives_is_lent()
 
 /// What RFC 1350 asks of both ends, packet by packet.
 pub fn blocks_go_out_in_their_order()
-    // The laws of tftp_link, which speak of all packets of a transfer, apply to the transfers of a log.
+    // The laws of tftp_link, which speak of all packets of a transfer, apply to the transfers of a
+    // log.
     ensures of_link { EndIsOfLink }
     // A packet is answered with the block after the one sent last, or with nothing.
     ensures next { SendsNextBlock }
@@ -29,8 +30,8 @@ pub fn own_ports_count_up()
     ensures { MovesCountUp }
 {}
 
-/// What is in a transfer came from its other end, and a block that was taken came as DATA before it is
-/// acknowledged. `specs/CameLaws.antt` says the same to proofs.
+/// What is in a transfer came from its other end, and a block that was taken came as DATA before it
+/// is acknowledged. `specs/CameLaws.antt` says the same to proofs.
 pub fn what_was_taken_came()
     // A receiving end takes blocks from the packets that it gets.
     ensures got { TakenWasGot }
