@@ -1,18 +1,20 @@
--- Proofs of where the datagrams of a trace go, and from which ports.
-use Rattle.std.proofs.Common.{ℕ, inl, inr, Bool, true, false, cond, List, [], ◌∷◌, ◌++◌, Option, Some, None, sym, subst}
+-- Proofs of where the datagrams of a trace go, how many at once, and from which ports.
+use Rattle.std.proofs.Common.{◌≡◌, ◌≤◌, ℕ, inl, inr, Bool, true, false, cond, List, [], ◌∷◌, ◌++◌, length, Option, Some, None, refl, sym, subst, append-nil, arith}
 use Rattle.std.specs.List.{AllByRecursion}
+use Rattle.exchange_trace.specs.declared.trace.Side.{Side}
 use Rattle.exchange_trace.specs.declared.trace.Side.TheVariants as sides
-use Rattle.exchange_trace.specs.Happenings.{DatagramView}
-use Rattle.exchange_trace.specs.Logs.{Event, event_for, loader_log}
-use Rattle.exchange_trace.specs.Posts.{posted_in}
+use Rattle.exchange_trace.specs.Happenings.{Booted, DatagramView, Delivered, Ended, HappeningView, Info_started, Injected, Lost, Power_cut, Size_told, Ticked, Upload_started, is_same_side}
+use Rattle.exchange_trace.specs.Logs.{Event, Learns, Starts_info, Starts_upload, Ticks, event_for, gets, loader_log}
+use Rattle.exchange_trace.specs.Posts.{numbered, posted_in}
 use Rattle.exchange_trace.specs.Steps.{Boot_refused, Came_up, Note, Step, Went_down}
 use Rattle.transfer_end.specs.Views.{end_view}
+use Rattle.session_rules.specs.HeardLaws.{loader_posts_two, target_posts_two}
 use Rattle.session_rules.specs.LoaderLog.{LoaderReading, loader_view}
 use Rattle.session_rules.specs.PlacedLaws.{loader_ports_count_up, loader_posts_placed, target_extended_counts, target_posts_placed}
 use Rattle.session_rules.specs.TargetLog.{target_view}
 use Rattle.replay_rules.specs.BothEnds.{Is_down, Is_up, Setting, TargetState, come_up, gone_down, loader_at, noted, reached, target_at}
 use Rattle.replay_rules.specs.Due.{due_of_loader, due_of_target, goes_down}
-use Rattle.replay_rules.specs.PlacedTraces.{DueIsPlaced, IsPlacedAt, IsPlacedOf, IsPlacedOfTarget, PortsRise, TargetCountsUp}
+use Rattle.replay_rules.specs.PlacedTraces.{DueIsPlaced, DueIsTwoAtMost, IsPlacedAt, IsPlacedOf, IsPlacedOfTarget, PortsRise, TargetCountsUp}
 
 all_append : {A : Type 0} (P : A → Type 0) (xs ys : List A) → AllByRecursion P xs → AllByRecursion P ys → AllByRecursion P (xs ++ ys)
 all_append P [] ys all rest = rest
@@ -46,6 +48,70 @@ due_is_placed set (s ∷ earlier) (now, before) =
     let second : AllByRecursion (IsPlacedAt set earlier s) (cond (goes_down s.notes) [] (due_of_target set (target_at set earlier) to_target)) =
     unless_down (IsPlacedAt set earlier s) (goes_down s.notes) _ (all_mapped (IsPlacedOfTarget (target_at set earlier) to_target) (IsPlacedAt set earlier s) (λ d h. inr h) _ (target_placed set (target_at set earlier) to_target)) in
     (subst (λ (posts : List DatagramView). AllByRecursion (IsPlacedAt set earlier s) posts) (sym now) (all_append (IsPlacedAt set earlier s) _ _ first second), due_is_placed set earlier before)
+
+-- ---- two datagrams at most
+
+abbrev StepPosts : Setting → LoaderReading → TargetState → Bool → Option Event → Option Event → List DatagramView
+StepPosts set r state down to_loader to_target = due_of_loader set r to_loader ++ cond down [] (due_of_target set state to_target)
+
+loader_two : (set : Setting) (r : LoaderReading) (e : Option Event) → length (due_of_loader set r e) ≤ 2
+loader_two set r None = omega arith
+loader_two set r (Some e) = loader_posts_two set.media (loader_view r) e
+
+target_two : (set : Setting) (state : TargetState) (e : Option Event) → length (due_of_target set state e) ≤ 2
+target_two set (Is_up r) None = omega arith
+target_two set (Is_up r) (Some e) = target_posts_two set.accepts (target_view set.accepts r) e
+target_two set (Is_down active interrupted) None = omega arith
+target_two set (Is_down active interrupted) (Some e) = omega arith
+
+not_to_target : (set : Setting) (state : TargetState) (down : Bool) → cond down [] (due_of_target set state None) ≡ []
+not_to_target set state true = refl
+not_to_target set (Is_up r) false = refl
+not_to_target set (Is_down active interrupted) false = refl
+
+-- what reaches one side alone
+only_loader : (set : Setting) (r : LoaderReading) (state : TargetState) (down : Bool) (e : Option Event) → length (StepPosts set r state down e None) ≤ 2
+only_loader set r state down e = rw (not_to_target set state down, append-nil (due_of_loader set r e)) (loader_two set r e)
+
+only_target : (set : Setting) (r : LoaderReading) (state : TargetState) (down : Bool) (e : Option Event) → length (StepPosts set r state down None e) ≤ 2
+only_target set r state true e = omega arith
+only_target set r state false e = target_two set state e
+
+to_one : (set : Setting) (r : LoaderReading) (state : TargetState) (down : Bool) (side : Side) (e : Option Event)
+    → length (StepPosts set r state down (cond (is_same_side sides.Loader side) e None) (cond (is_same_side sides.Target side) e None)) ≤ 2
+to_one set r state down sides.Loader e = only_loader set r state down e
+to_one set r state down sides.Target e = only_target set r state down e
+
+from_one : (set : Setting) (r : LoaderReading) (state : TargetState) (down : Bool) (side : Side) (e : Option Event)
+    → length (StepPosts set r state down (cond (is_same_side sides.Loader side) None e) (cond (is_same_side sides.Target side) None e)) ≤ 2
+from_one set r state down sides.Loader e = only_target set r state down e
+from_one set r state down sides.Target e = only_loader set r state down e
+
+-- a block size reaches both sides, and neither posts
+size_told : (set : Setting) (r : LoaderReading) (state : TargetState) (down : Bool) (size : Option ℕ) → length (StepPosts set r state down (Some (Learns size)) (Some (Learns size))) ≤ 2
+size_told set r state true size = omega arith
+size_told set r (Is_up s) false size = omega arith
+size_told set r (Is_down active interrupted) false size = omega arith
+
+step_posts_two : (set : Setting) (r : LoaderReading) (state : TargetState) (down : Bool) (posted : List DatagramView) (h : HappeningView)
+    → length (StepPosts set r state down (event_for sides.Loader posted h) (event_for sides.Target posted h)) ≤ 2
+step_posts_two set r state down posted (Delivered to n) = to_one set r state down to (gets (numbered posted n))
+step_posts_two set r state down posted (Injected d) = from_one set r state down d.side (gets (Some d))
+step_posts_two set r state down posted (Ticked whose) = to_one set r state down whose (Some Ticks)
+step_posts_two set r state down posted (Size_told size) = size_told set r state down size
+step_posts_two set r state down posted (Info_started hw pos) = only_loader set r state down (Some (Starts_info hw pos))
+step_posts_two set r state down posted (Upload_started hw pos parts) = only_loader set r state down (Some (Starts_upload hw pos parts))
+step_posts_two set r state down posted (Lost n) = only_loader set r state down None
+step_posts_two set r state down posted (Power_cut calls pick) = only_loader set r state down None
+step_posts_two set r state down posted Booted = only_loader set r state down None
+step_posts_two set r state down posted Ended = only_loader set r state down None
+
+pub due_is_two_at_most : DueIsTwoAtMost
+due_is_two_at_most set [] due = tt
+due_is_two_at_most set (s ∷ earlier) (now, before) = (
+  subst (λ (posts : List DatagramView). length posts ≤ 2) (sym now) (step_posts_two set (loader_at set earlier) (target_at set earlier) (goes_down s.notes) (posted_in earlier) s.given),
+  due_is_two_at_most set earlier before,
+)
 
 -- ---- ports
 

@@ -1,5 +1,5 @@
 -- Where the datagrams of a trace go, and from which ports (docs/EXCHANGE.md, "Runs").
-use Rattle.std.specs.Prelude.{◌⊎◌, List, [], ◌∷◌, Option, Some, None, ⊤}
+use Rattle.std.specs.Prelude.{◌⊎◌, ◌≤◌, List, [], ◌∷◌, length, Option, Some, None, ⊤}
 use Rattle.std.specs.List.{AllByRecursion}
 use Rattle.exchange_trace.specs.declared.trace.Side.{Side}
 use Rattle.exchange_trace.specs.declared.trace.Side.TheVariants as sides
@@ -37,6 +37,10 @@ AllPlaced set (s ∷ earlier) = AllByRecursion (IsPlacedAt set earlier s) s.post
 -- again what it sent before at a tick alone, or where a packet comes again.
 abbrev pub DueIsPlaced : Type 0
 DueIsPlaced = (set : Setting) (steps : List Step) → AllDue set steps → AllPlaced set steps
+
+-- And in each step at most two datagrams were posted, by both sides together.
+abbrev pub DueIsTwoAtMost : Type 0
+DueIsTwoAtMost = (set : Setting) (steps : List Step) → AllDue set steps → AllByRecursion (λ (s : Step). length s.posts ≤ 2) steps
 
 abbrev pub TargetCountsUp : TargetState → Type 0
 TargetCountsUp (Is_up r) = PortsCountUp r.end

@@ -1,6 +1,6 @@
 //! What ties both ends to the trace. These functions do nothing; their clauses are the law.
 ghost use Rattle.replay_rules.specs.CameTraces.{BothTakeWhatCame};
-ghost use Rattle.replay_rules.specs.PlacedTraces.{DueIsPlaced, PortsRise};
+ghost use Rattle.replay_rules.specs.PlacedTraces.{DueIsPlaced, DueIsTwoAtMost, PortsRise};
 ghost use Rattle.replay_rules.specs.Ties.{StepKeepsTie};
 
 use crc_fields::check_sum_laws;
@@ -13,10 +13,11 @@ pub fn a_step_keeps_the_tie()
     check_sum_laws();
 }
 
-/// In a trace in which all that was posted was due, datagrams go where they may, and own ports
-/// rise.
+/// In a trace in which all that was posted was due, datagrams go where they may, at most two a
+/// step, and own ports rise.
 pub fn datagrams_of_a_trace()
     ensures placed { DueIsPlaced }
+    ensures two { DueIsTwoAtMost }
     ensures ports { PortsRise }
 {}
 

@@ -1,5 +1,5 @@
--- Proofs that what is in the transfers of a log came.
-use Rattle.std.proofs.Common.{◌≡◌, ℕ, Bool, true, false, cond, eqb, List, [], ◌∷◌, ◌++◌, length, Option, Some, None, Result, Ok, Err, refl, sym, subst}
+-- Proofs that what is in the transfers of a log came, and of how many datagrams are posted.
+use Rattle.std.proofs.Common.{◌≡◌, ◌≤◌, ℕ, Bool, true, false, cond, eqb, List, [], ◌∷◌, ◌++◌, length, Option, Some, None, Result, Ok, Err, refl, sym, subst}
 use Rattle.std.specs.Prelude.{bytes_eq, nat_lt}
 use Rattle.load_header.specs.Header.{HeaderView}
 use Rattle.load_protocol_files.specs.declared.lur.Wanted.{Wanted}
@@ -13,6 +13,7 @@ use Rattle.transfer_end.specs.Came.{MovesHeard, PacketsCame}
 use Rattle.transfer_end.specs.CameLaws.{moves_came, taken_blocks_came, then_heard, transfer_heard}
 use Rattle.transfer_end.specs.Moves.{Asks, Stops, readings_after}
 use Rattle.transfer_end.specs.Packets.{has_port, heard_answer, is_busy, is_fresh, may_repeat, packet_in, transfer_moves}
+use Rattle.transfer_end.specs.PostedLaws.{moves_post_two}
 use Rattle.transfer_end.specs.Readings.{Reading}
 use Rattle.transfer_end.specs.Transfers.{Role, ServesRead, ServesWrite}
 use Rattle.transfer_end.specs.Views.{EndView}
@@ -76,10 +77,10 @@ module _ (v : EndView) where
 
     -- what the end heard, and one move more
     heard_then_asks : (p : PacketView) (role : Role) → packet_in bytes ≡ Some p → MovesHeard (Gets from to bytes) v.live (transfer_moves v from to p ++ Asks role ∷ [])
-    heard_then_asks p role is = then_heard (Gets from to bytes) v.live (transfer_moves v from to p) (Asks role) (transfer_heard v from to bytes p is) tt
+    heard_then_asks p role is = then_heard v from to bytes p (Asks role) is tt
 
     heard_then_stops : (p : PacketView) → packet_in bytes ≡ Some p → MovesHeard (Gets from to bytes) v.live (transfer_moves v from to p ++ Stops ∷ [])
-    heard_then_stops p is = then_heard (Gets from to bytes) v.live (transfer_moves v from to p) Stops (transfer_heard v from to bytes p is) tt
+    heard_then_stops p is = then_heard v from to bytes p Stops is tt
 
     next_heard : (p : PacketView) (more : List ℕ) (role : Option Role) → packet_in bytes ≡ Some p → LoaderHeard (Gets from to bytes) (loader.next_decision v (transfer_moves v from to p) more role)
     next_heard p more None is = transfer_heard v from to bytes p is
@@ -170,12 +171,12 @@ module _ (v : target.TargetView) where
     target_request_heard (Oack o) = tt
 
     target_stops : (p : PacketView) → packet_in bytes ≡ Some p → MovesHeard (Gets from to bytes) v.end.live (transfer_moves v.end from to p ++ Stops ∷ [])
-    target_stops p is = then_heard (Gets from to bytes) v.end.live (transfer_moves v.end from to p) Stops (transfer_heard v.end from to bytes p is) tt
+    target_stops p is = then_heard v.end from to bytes p Stops is tt
 
     target_next_heard : (p : PacketView) (more : List ℕ) (move : RowMove) (row : RowView) (role : Option Role) → packet_in bytes ≡ Some p
         → TargetHeard (Gets from to bytes) (target.next_decision v.end (transfer_moves v.end from to p) more move row role)
     target_next_heard p more move row (Some role) is =
-        target_if (Gets from to bytes) (has_port v.end) _ _ (then_heard (Gets from to bytes) v.end.live (transfer_moves v.end from to p) (Asks role) (transfer_heard v.end from to bytes p is) tt) (target_stops p is)
+        target_if (Gets from to bytes) (has_port v.end) _ _ (then_heard v.end from to bytes p (Asks role) is tt) (target_stops p is)
     target_next_heard p more move row None is = target_if (Gets from to bytes) (target.is_over row) _ _ (target_stops p is) (transfer_heard v.end from to bytes p is)
 
     target_turn_heard : (accepts : HeaderView → Bool) (s : target.TargetSession) (p : PacketView) (more : List ℕ) (error : Option ℕ) → packet_in bytes ≡ Some p
@@ -238,3 +239,11 @@ pub target_takes_what_came : TargetTakesWhatCame
 target_takes_what_came accepts first_port active log =
     let came = target_came accepts first_port active log in
     (came, taken_blocks_came log (target_reading accepts first_port active log).end came)
+
+-- ---- posts
+
+pub loader_posts_two : (media : Media) (v : loader.LoaderView) (e : Event) → length (loader.loader_posts media v e) ≤ 2
+loader_posts_two media v e = moves_post_two sides.Loader e v.end (loader.loader_decision media v e).moves (loader_moves_heard media v e)
+
+pub target_posts_two : (accepts : HeaderView → Bool) (v : target.TargetView) (e : Event) → length (target.target_posts accepts v e) ≤ 2
+target_posts_two accepts v e = moves_post_two sides.Target e v.end (target.target_decision accepts v e).moves (target_moves_heard accepts v e)

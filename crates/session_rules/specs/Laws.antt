@@ -1,5 +1,5 @@
 -- What both ends keep is enough (docs/EXCHANGE.md, "What an end keeps").
-use Rattle.std.specs.Prelude.{◌≡◌, ℕ, List, ◌∷◌, Bool}
+use Rattle.std.specs.Prelude.{◌≡◌, ◌≤◌, ℕ, List, ◌∷◌, length, Bool}
 use Rattle.load_header.specs.Header.{HeaderView}
 use Rattle.disk_layout.specs.Holds.{StandingView}
 use Rattle.exchange_trace.specs.declared.trace.Side.TheVariants as sides
@@ -31,6 +31,11 @@ TargetFollows = (accepts : HeaderView → Bool) (first_port : ℕ) (active : Sta
 abbrev pub AllArePlaced : Type 0
 AllArePlaced = ((media : Media) (v : LoaderView) (e : Event) → ArePlaced sides.Loader v.end e (loader_posts media v e))
     × ((accepts : HeaderView → Bool) (v : TargetView) (e : Event) → ArePlaced sides.Target v.end e (target_posts accepts v e))
+
+-- And at whatever reaches a side it posts at most two datagrams.
+abbrev pub TwoAtMost : Type 0
+TwoAtMost = ((media : Media) (v : LoaderView) (e : Event) → length (loader_posts media v e) ≤ 2)
+    × ((accepts : HeaderView → Bool) (v : TargetView) (e : Event) → length (target_posts accepts v e) ≤ 2)
 
 -- In each log a side's own ports strictly rise, and none serves two transfers.
 abbrev pub LogsCountUp : Type 0

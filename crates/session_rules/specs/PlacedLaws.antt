@@ -58,10 +58,14 @@ module _ (v : EndView) where
   listed_placed e hw pos (Err part) = tt
 
   module _ (from to : ℕ) (bytes : List ℕ) where
+    loader_when : (b : Bool) (x y : loader.LoaderDecision) → (b ≡ true → LoaderPlaced (Gets from to bytes) x) → LoaderPlaced (Gets from to bytes) y → LoaderPlaced (Gets from to bytes) (cond b x y)
+    loader_when true x y p q = p refl
+    loader_when false x y p q = q
+
     taken_placed : (role : Role) → to ≡ 59 → LoaderPlaced (Gets from to bytes) (loader.take_request v from role)
     taken_placed role at =
-        loader_if (Gets from to bytes) (is_fresh v from) _ _
-        (loader_if (Gets from to bytes) (has_port v) _ _ (one_placed sides.Loader v (Gets from to bytes) (Serves from role) (serves_placed sides.Loader v v from to bytes role at refl)) tt)
+        loader_when (is_fresh v from) _ _
+        (λ fresh. loader_if (Gets from to bytes) (has_port v) _ _ (one_placed sides.Loader v (Gets from to bytes) (Serves from role) (serves_placed sides.Loader v v from to bytes role at fresh refl)) tt)
         tt
 
     read_placed : (name : List ℕ) (o : Options) (found : Option (List ℕ)) → to ≡ 59 → LoaderPlaced (Gets from to bytes) (loader.read_decision v from name o found)
@@ -151,12 +155,16 @@ module _ (v : target.TargetView) where
   target_tick_placed (Some s) = target_if Ticks (may_repeat v.end) _ _ (one_placed sides.Target v.end Ticks Repeats (repeats_placed sides.Target v.end)) tt
 
   module _ (from to : ℕ) (bytes : List ℕ) where
+    target_when : (b : Bool) (x y : target.TargetDecision) → (b ≡ true → TargetPlaced (Gets from to bytes) x) → TargetPlaced (Gets from to bytes) y → TargetPlaced (Gets from to bytes) (cond b x y)
+    target_when true x y p q = p refl
+    target_when false x y p q = q
+
     own_placed : (kind : FileKind) (name : List ℕ) (o : Options) → to ≡ 59 → TargetPlaced (Gets from to bytes) (target.own_decision v from kind name o)
     own_placed kind name o at =
-        target_if (Gets from to bytes) (is_fresh v.end from) _ _
-        (target_if (Gets from to bytes) (has_port v.end) _ _
+        target_when (is_fresh v.end from) _ _
+        (λ fresh. target_if (Gets from to bytes) (has_port v.end) _ _
         (then_placed sides.Target v.end (Gets from to bytes) (Stops ∷ []) (Serves from (ServesRead name o (target.own_file kind v.active.sequence))) tt
-        (serves_placed sides.Target v.end (views_after sides.Target v.end (Stops ∷ [])) from to bytes (ServesRead name o (target.own_file kind v.active.sequence)) at refl))
+        (serves_placed sides.Target v.end (views_after sides.Target v.end (Stops ∷ [])) from to bytes (ServesRead name o (target.own_file kind v.active.sequence)) at fresh refl))
         (without_port_placed (Gets from to bytes) v.live))
         tt
 
@@ -169,8 +177,8 @@ module _ (v : target.TargetView) where
     write_in_placed : (name : List ℕ) (o : Options) (row : RowView) → to ≡ 59 → TargetPlaced (Gets from to bytes) (target.write_in v from name o row)
     write_in_placed name o Awaits_lur at =
         target_if (Gets from to bytes) (bytes_eq name (target.own_name v kinds.Lur)) _ _
-        (target_if (Gets from to bytes) (is_fresh v.end from) _ _
-        (target_if (Gets from to bytes) (has_port v.end) _ _ (one_placed sides.Target v.end (Gets from to bytes) (Serves from (ServesWrite name o)) (serves_placed sides.Target v.end v.end from to bytes (ServesWrite name o) at refl)) (without_port_placed (Gets from to bytes) v.live)) tt)
+        (target_when (is_fresh v.end from) _ _
+        (λ fresh. target_if (Gets from to bytes) (has_port v.end) _ _ (one_placed sides.Target v.end (Gets from to bytes) (Serves from (ServesWrite name o)) (serves_placed sides.Target v.end v.end from to bytes (ServesWrite name o) at fresh refl)) (without_port_placed (Gets from to bytes) v.live)) tt)
         tt
     write_in_placed name o row at = tt
 

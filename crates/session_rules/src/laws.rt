@@ -1,5 +1,5 @@
 //! What holds of both sides and their logs. These functions do nothing; their clauses are the law.
-ghost use Rattle.session_rules.specs.Laws.{AllArePlaced, LoaderFollows, LoaderTakesWhatCame, LogsCountUp, TargetFollows, TargetTakesWhatCame};
+ghost use Rattle.session_rules.specs.Laws.{AllArePlaced, LoaderFollows, LoaderTakesWhatCame, LogsCountUp, TargetFollows, TargetTakesWhatCame, TwoAtMost};
 ghost use Rattle.session_rules.specs.Soundness.{VerdictIsSound};
 
 use crc_fields::check_sum_laws;
@@ -23,9 +23,10 @@ pub fn a_good_verdict_is_sound()
     header_laws();
 }
 
-/// Where datagrams go, and from which ports they come.
+/// Where datagrams go, how many at once, and from which ports they come.
 pub fn datagrams_go_where_they_may()
     ensures placed { AllArePlaced }
+    ensures two { TwoAtMost }
     ensures ports { LogsCountUp }
 {}
 

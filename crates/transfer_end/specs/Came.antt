@@ -1,15 +1,15 @@
 -- What came to a side in its transfers (docs/EXCHANGE.md, "Transfers").
-use Rattle.std.specs.Prelude.{◌≡◌, ◌⊎◌, ℕ, List, [], ◌∷◌, Option, Some, None, true, ⊤}
+use Rattle.std.specs.Prelude.{◌≡◌, ◌⊎◌, ◌≤◌, ℕ, List, [], ◌∷◌, length, Option, Some, None, true, ⊤}
 use Rattle.std.specs.List.{AllByRecursion}
 use Rattle.tftp_packet.specs.Packets.{Data, PacketView}
 use Rattle.tftp_link.specs.Receiver.{Receiver, receiver_after_all}
 use Rattle.exchange_trace.specs.declared.trace.Side.{Side}
 use Rattle.exchange_trace.specs.Logs.{Event, Gets}
-use Rattle.transfer_end.specs.Moves.{Hears, Move, past_with, readings_after}
+use Rattle.transfer_end.specs.Moves.{Hears, Move, all_posts, past_with, readings_after}
 use Rattle.transfer_end.specs.Packets.{belongs, packet_in}
 use Rattle.transfer_end.specs.Readings.{Reading}
 use Rattle.transfer_end.specs.Transfers.{LinkEnd, Receives, Sends, Transfer, end_in}
-use Rattle.transfer_end.specs.Views.{TransferView, seen}
+use Rattle.transfer_end.specs.Views.{EndView, TransferView, seen}
 
 -- the event is a datagram between these ports, with this packet
 abbrev pub IsIn : (from to : ℕ) → PacketView → Event → Type 0
@@ -74,15 +74,19 @@ abbrev pub MoveHeard : Event → Option TransferView → Move → Type 0
 MoveHeard event live (Hears from packet) = HeardIn event live from packet
 MoveHeard event live move = ⊤
 
-abbrev pub NoneHeard : List Move → Type 0
-NoneHeard [] = ⊤
-NoneHeard (Hears from packet ∷ moves) = ⊥
-NoneHeard (move ∷ moves) = NoneHeard moves
+abbrev pub HearsNothing : Move → Type 0
+HearsNothing (Hears from packet) = ⊥
+HearsNothing move = ⊤
 
--- a side hears at most one packet at an event, before it does anything else
+abbrev pub IsOneAtMost : List Move → Type 0
+IsOneAtMost [] = ⊤
+IsOneAtMost (move ∷ []) = HearsNothing move
+IsOneAtMost (move ∷ next ∷ moves) = ⊥
+
+-- a side makes at most two moves at an event, and hears at most one packet, before it does anything else
 abbrev pub MovesHeard : Event → Option TransferView → List Move → Type 0
 MovesHeard event live [] = ⊤
-MovesHeard event live (move ∷ moves) = MoveHeard event live move × NoneHeard moves
+MovesHeard event live (move ∷ moves) = MoveHeard event live move × IsOneAtMost moves
 
 -- Whatever moves a side makes at an event, it hears in them at most what comes now: so all packets of its transfers came.
 abbrev pub MovesCame : Type 0
@@ -92,3 +96,9 @@ MovesCame = (side : Side) (event : Event) (log : List Event) (r : Reading) (move
 -- Where all packets came, each block that was taken came as DATA before.
 abbrev pub TakenBlocksCame : Type 0
 TakenBlocksCame = (log : List Event) (r : Reading) → PacketsCame log r → BlocksCame log r
+
+-- ---- posts
+
+-- Whatever moves a side makes at an event, it posts at most two datagrams.
+abbrev pub MovesPostTwo : Type 0
+MovesPostTwo = (side : Side) (event : Event) (v : EndView) (moves : List Move) → MovesHeard event v.live moves → length (all_posts side v moves) ≤ 2

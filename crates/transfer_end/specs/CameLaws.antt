@@ -13,7 +13,7 @@ use Rattle.tftp_link.specs.Negotiation.{may_grant}
 use Rattle.exchange_trace.specs.declared.trace.Side.{Side}
 use Rattle.exchange_trace.specs.Happenings.{DatagramView}
 use Rattle.exchange_trace.specs.Logs.{Event, Gets, Learns, Starts_info, Starts_upload, Ticks}
-use Rattle.transfer_end.specs.Came.{AllCame, BlockCame, CameFrom, DataCame, HasData, HeardIn, IsData, MoveHeard, MovesHeard, NoneHeard, PacketsCame, MovesCame, TakenBlocksCame, TakenCame, TakenWasGot, data_came}
+use Rattle.transfer_end.specs.Came.{AllCame, BlockCame, CameFrom, DataCame, HasData, HeardIn, HearsNothing, IsData, IsOneAtMost, MoveHeard, MovesHeard, PacketsCame, MovesCame, TakenBlocksCame, TakenCame, TakenWasGot, data_came}
 use Rattle.transfer_end.specs.Moves.{Asks, Asks_size, Hears, Move, Recalls, Refuses, Repeats, Serves, Stops, past_with, reading_after, reading_answered, reading_unchanged, readings_after}
 use Rattle.transfer_end.specs.Packets.{belongs, packet_in, transfer_moves}
 use Rattle.transfer_end.specs.Readings.{Reading}
@@ -89,7 +89,7 @@ heard_came side e log first_port past None ticks last size from p heard h = h
 heard_came side e log first_port past (Some t) ticks last size from p heard (now, before) =
     answered_came side (e ∷ log) (reading first_port past (Some t) ticks last size) t from p (end_answer (end_of t.role t.got) p) (now, before) (packet_came e log t.role t.own t.peer t.got from p heard now) before
 
-other_came : (side : Side) (log : List Event) (r : Reading) (move : Move) → NoneHeard (move ∷ []) → PacketsCame log r → PacketsCame log (reading_after side r move)
+other_came : (side : Side) (log : List Event) (r : Reading) (move : Move) → HearsNothing move → PacketsCame log r → PacketsCame log (reading_after side r move)
 other_came side log r (Hears from p) none h = absurd none
 other_came side log r (Recalls from p) none h = h
 other_came side log r (Asks role) none h = (tt, h)
@@ -99,21 +99,10 @@ other_came side log r Repeats none h = h
 other_came side log r Stops none h = h
 other_came side log r (Asks_size n) none h = h
 
-none_first : (move : Move) (moves : List Move) → NoneHeard (move ∷ moves) → NoneHeard (move ∷ []) × NoneHeard moves
-none_first (Hears from p) moves none = absurd none
-none_first (Recalls from p) moves none = (tt, none)
-none_first (Asks role) moves none = (tt, none)
-none_first (Serves from role) moves none = (tt, none)
-none_first (Refuses from) moves none = (tt, none)
-none_first Repeats moves none = (tt, none)
-none_first Stops moves none = (tt, none)
-none_first (Asks_size n) moves none = (tt, none)
-
-others_came : (side : Side) (log : List Event) (r : Reading) (moves : List Move) → NoneHeard moves → PacketsCame log r → PacketsCame log (readings_after side r moves)
-others_came side log r [] none h = h
-others_came side log r (move ∷ moves) none h =
-    let (first, rest) = none_first move moves none in
-    others_came side log (reading_after side r move) moves rest (other_came side log r move first h)
+later_came : (side : Side) (log : List Event) (r : Reading) (moves : List Move) → IsOneAtMost moves → PacketsCame log r → PacketsCame log (readings_after side r moves)
+later_came side log r [] none h = h
+later_came side log r (move ∷ []) none h = other_came side log r move none h
+later_came side log r (move ∷ next ∷ moves) none h = absurd none
 
 move_came : (side : Side) (e : Event) (log : List Event) (r : Reading) (move : Move) → MoveHeard e (seen r.live) move → PacketsCame (e ∷ log) r → PacketsCame (e ∷ log) (reading_after side r move)
 move_came side e log r (Hears from p) heard h = heard_came side e log r.first_port r.past r.live r.ticks r.last r.asks_size from p heard h
@@ -128,7 +117,7 @@ move_came side e log r (Asks_size n) heard h = h
 -- after the moves of one event more, all packets of all transfers came
 pub moves_came : MovesCame
 moves_came side e log r [] heard h = still_came e log r h
-moves_came side e log r (move ∷ moves) (first, rest) h = others_came side (e ∷ log) (reading_after side r move) moves rest (move_came side e log r move first (still_came e log r h))
+moves_came side e log r (move ∷ moves) (first, rest) h = later_came side (e ∷ log) (reading_after side r move) moves rest (move_came side e log r move first (still_came e log r h))
 
 -- ---- the moves of a packet
 
@@ -140,18 +129,7 @@ transfer_heard v from to bytes p is = by (belongs v.live from to) (belongs v.kep
     by false true live = (tt, tt)
     by false false live = tt
 
-none_append : (moves : List Move) (move : Move) → NoneHeard moves → NoneHeard (move ∷ []) → NoneHeard (moves ++ move ∷ [])
-none_append [] move none last = last
-none_append (Hears from p ∷ moves) move none last = absurd none
-none_append (Recalls from p ∷ moves) move none last = none_append moves move none last
-none_append (Asks role ∷ moves) move none last = none_append moves move none last
-none_append (Serves from role ∷ moves) move none last = none_append moves move none last
-none_append (Refuses from ∷ moves) move none last = none_append moves move none last
-none_append (Repeats ∷ moves) move none last = none_append moves move none last
-none_append (Stops ∷ moves) move none last = none_append moves move none last
-none_append (Asks_size n ∷ moves) move none last = none_append moves move none last
-
-not_heard : (e : Event) (live : Option TransferView) (move : Move) → NoneHeard (move ∷ []) → MoveHeard e live move
+not_heard : (e : Event) (live : Option TransferView) (move : Move) → HearsNothing move → MoveHeard e live move
 not_heard e live (Hears from p) none = absurd none
 not_heard e live (Recalls from p) none = tt
 not_heard e live (Asks role) none = tt
@@ -161,9 +139,15 @@ not_heard e live Repeats none = tt
 not_heard e live Stops none = tt
 not_heard e live (Asks_size n) none = tt
 
-pub then_heard : (e : Event) (live : Option TransferView) (moves : List Move) (move : Move) → MovesHeard e live moves → NoneHeard (move ∷ []) → MovesHeard e live (moves ++ move ∷ [])
-then_heard e live [] move heard last = (not_heard e live move last, tt)
-then_heard e live (first ∷ moves) move (heard, rest) last = (heard, none_append moves move rest last)
+-- and one move after them
+pub then_heard : (v : EndView) (from to : ℕ) (bytes : List ℕ) (p : PacketView) (move : Move) → packet_in bytes ≡ Some p → HearsNothing move
+    → MovesHeard (Gets from to bytes) v.live (transfer_moves v from to p ++ move ∷ [])
+then_heard v from to bytes p move is none = by (belongs v.live from to) (belongs v.kept from to) refl
+  where
+    by : (a b : Bool) → belongs v.live from to ≡ a → MovesHeard (Gets from to bytes) v.live (cond a (Hears from p ∷ []) (cond b (Recalls from p ∷ []) []) ++ move ∷ [])
+    by true b live = ((refl, is, live), none)
+    by false true live = (tt, none)
+    by false false live = (not_heard (Gets from to bytes) v.live move none, tt)
 
 -- ---- blocks
 

@@ -11,3 +11,4 @@ pub mod Placed
 pub mod PlacedLaws
 pub mod Came
 pub mod CameLaws
+pub mod PostedLaws

@@ -7,7 +7,7 @@ use Rattle.exchange_trace.specs.declared.trace.Side.{Side}
 use Rattle.exchange_trace.specs.Happenings.{DatagramView}
 use Rattle.exchange_trace.specs.Logs.{Event, Gets, Ticks}
 use Rattle.transfer_end.specs.Moves.{datagram}
-use Rattle.transfer_end.specs.Packets.{belongs, packet_in}
+use Rattle.transfer_end.specs.Packets.{belongs, is_fresh, packet_in}
 use Rattle.transfer_end.specs.Transfers.{end_after, end_answer, end_packet}
 use Rattle.transfer_end.specs.Views.{EndView, TransferView}
 
@@ -19,8 +19,8 @@ pub data IsPlaced (side : Side) (v : EndView) (e : Event) (d : DatagramView) : T
   is_answer : (t : TransferView) (p : PacketView) (from to : ℕ) (bytes : List ℕ) → e ≡ Gets from to bytes → packet_in bytes ≡ Some p
       → (v.live ≡ Some t) ⊎ (v.kept ≡ Some t) → belongs (Some t) from to ≡ true → is_sent_by (end_answer t.end p) ≡ true
       → d ≡ datagram side to from (end_packet (end_after t.end p)) → IsPlaced side v e d
-  -- the answer to a request that is taken, from the next own port
-  is_first : (from to : ℕ) (bytes : List ℕ) → e ≡ Gets from to bytes → to ≡ 59 → d.side ≡ side → d.from ≡ v.next_port → d.to ≡ from → IsPlaced side v e d
+  -- the answer to a request that is taken, which came from a port above the mark; from the next own port
+  is_first : (from to : ℕ) (bytes : List ℕ) → e ≡ Gets from to bytes → to ≡ 59 → is_fresh v from ≡ true → d.side ≡ side → d.from ≡ v.next_port → d.to ≡ from → IsPlaced side v e d
   -- the answer to a request that is refused: ERROR 1 from port 59
   is_refusal : (from to : ℕ) (bytes : List ℕ) → e ≡ Gets from to bytes → to ≡ 59 → d ≡ datagram side 59 from (Error 1 []) → IsPlaced side v e d
   -- at a tick, what was posted last

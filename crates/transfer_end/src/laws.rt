@@ -1,5 +1,5 @@
 //! What holds of the moves of an end. These functions do nothing; their clauses are the law.
-ghost use Rattle.transfer_end.specs.Came.{MovesCame, TakenBlocksCame, TakenWasGot};
+ghost use Rattle.transfer_end.specs.Came.{MovesCame, MovesPostTwo, TakenBlocksCame, TakenWasGot};
 ghost use Rattle.transfer_end.specs.Laws.{AcknowledgesTaken, EndIsOfLink, MovesCountUp, SendsNextBlock, TakenIsLent, ViewFollows, ViewsFollow};
 
 /// What an end keeps is what is kept of its log, whatever moves it makes. So what it posts, which
@@ -39,4 +39,10 @@ pub fn what_was_taken_came()
     ensures moves { MovesCame }
     // So each block that was taken last came.
     ensures blocks { TakenBlocksCame }
+{}
+
+/// Whatever moves a side makes at an event, it posts at most two datagrams.
+/// `specs/PostedLaws.antt` says the same to proofs.
+pub fn two_datagrams_at_most()
+    ensures { MovesPostTwo }
 {}
