@@ -16,11 +16,11 @@ use Rattle.replay_rules.specs.BothEnds.{Is_down, Is_up, Setting, TargetState, co
 use Rattle.replay_rules.specs.Due.{due_of_loader, due_of_target, goes_down}
 use Rattle.replay_rules.specs.PlacedTraces.{DueIsPlaced, DueIsTwoAtMost, IsPlacedAt, IsPlacedOf, IsPlacedOfTarget, PortsRise, TargetCountsUp}
 
-all_append : {A : Type 0} (P : A → Type 0) (xs ys : List A) → AllByRecursion P xs → AllByRecursion P ys → AllByRecursion P (xs ++ ys)
+pub all_append : {A : Type 0} (P : A → Type 0) (xs ys : List A) → AllByRecursion P xs → AllByRecursion P ys → AllByRecursion P (xs ++ ys)
 all_append P [] ys all rest = rest
 all_append P (x ∷ xs) ys (one, all) rest = (one, all_append P xs ys all rest)
 
-all_mapped : {A : Type 0} (P Q : A → Type 0) → ((x : A) → P x → Q x) → (xs : List A) → AllByRecursion P xs → AllByRecursion Q xs
+pub all_mapped : {A : Type 0} (P Q : A → Type 0) → ((x : A) → P x → Q x) → (xs : List A) → AllByRecursion P xs → AllByRecursion Q xs
 all_mapped P Q f [] all = tt
 all_mapped P Q f (x ∷ xs) (one, all) = (f x one, all_mapped P Q f xs all)
 
@@ -34,7 +34,7 @@ target_placed set (Is_up r) (Some e) = target_posts_placed set.accepts (target_v
 target_placed set (Is_down active interrupted) None = tt
 target_placed set (Is_down active interrupted) (Some e) = tt
 
-unless_down : {A : Type 0} (P : A → Type 0) (b : Bool) (xs : List A) → AllByRecursion P xs → AllByRecursion P (cond b [] xs)
+pub unless_down : {A : Type 0} (P : A → Type 0) (b : Bool) (xs : List A) → AllByRecursion P xs → AllByRecursion P (cond b [] xs)
 unless_down P true xs all = tt
 unless_down P false xs all = all
 

@@ -1,5 +1,5 @@
 //! What ties both ends to the trace. These functions do nothing; their clauses are the law.
-ghost use Rattle.replay_rules.specs.CameTraces.{BothTakeWhatCame};
+ghost use Rattle.replay_rules.specs.CameTraces.{BothTakeWhatCame, DueIsAcked};
 ghost use Rattle.replay_rules.specs.PlacedTraces.{DueIsPlaced, DueIsTwoAtMost, PortsRise};
 ghost use Rattle.replay_rules.specs.Ties.{StepKeepsTie};
 
@@ -21,8 +21,9 @@ pub fn datagrams_of_a_trace()
     ensures ports { PortsRise }
 {}
 
-/// At every moment of a trace, the packets of each transfer of both sides came from its other end,
-/// and a block that was taken came as DATA before it is acknowledged.
+/// At every moment of a trace, the packets of each transfer of both sides came from its other end.
+/// An acknowledgement of a block is posted, first or again, only after that block came as DATA.
 pub fn what_was_taken_came()
-    ensures { BothTakeWhatCame }
+    ensures taken { BothTakeWhatCame }
+    ensures acknowledged { DueIsAcked }
 {}

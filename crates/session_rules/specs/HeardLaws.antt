@@ -113,7 +113,7 @@ got_heard : (media : Media) (v : loader.LoaderView) (from to : ℕ) (bytes : Lis
 got_heard media v from to bytes None is = tt
 got_heard media v from to bytes (Some p) is = session_heard v.end from to bytes media v.live p is
 
-loader_moves_heard : (media : Media) (v : loader.LoaderView) (e : Event) → MovesHeard e v.end.live (loader.loader_decision media v e).moves
+pub loader_moves_heard : (media : Media) (v : loader.LoaderView) (e : Event) → MovesHeard e v.end.live (loader.loader_decision media v e).moves
 loader_moves_heard media v (Starts_info hw pos) = start_heard v.end (Starts_info hw pos) (record { kind = Info; hw = hw; pos = pos; loads = [] })
 loader_moves_heard media v (Starts_upload hw pos parts) =
     loader_if v.end (Starts_upload hw pos parts) (nat_lt 32 (length parts)) _ _ (tt, tt) (listed_heard v.end (Starts_upload hw pos parts) hw pos (wanted_of media.loads parts))
@@ -205,7 +205,7 @@ module _ (v : target.TargetView) where
     target_got_heard accepts None is = tt
     target_got_heard accepts (Some p) is = target_if (Gets from to bytes) (eqb to 59) _ _ (target_request_heard p) (target_transfer_heard accepts v.live p is)
 
-target_moves_heard : (accepts : HeaderView → Bool) (v : target.TargetView) (e : Event) → MovesHeard e v.end.live (target.target_decision accepts v e).moves
+pub target_moves_heard : (accepts : HeaderView → Bool) (v : target.TargetView) (e : Event) → MovesHeard e v.end.live (target.target_decision accepts v e).moves
 target_moves_heard accepts v (Gets from to bytes) = target_got_heard v from to bytes accepts (packet_in bytes) refl
 target_moves_heard accepts v Ticks = target_tick_heard v v.live
 target_moves_heard accepts v (Learns size) = (tt, tt)

@@ -1,10 +1,11 @@
 -- What both ends keep is enough (docs/EXCHANGE.md, "What an end keeps").
 use Rattle.std.specs.Prelude.{◌≡◌, ◌≤◌, ℕ, List, ◌∷◌, length, Bool}
+use Rattle.std.specs.List.{AllByRecursion}
 use Rattle.load_header.specs.Header.{HeaderView}
 use Rattle.disk_layout.specs.Holds.{StandingView}
 use Rattle.exchange_trace.specs.declared.trace.Side.TheVariants as sides
 use Rattle.exchange_trace.specs.Logs.{Event}
-use Rattle.transfer_end.specs.Came.{BlocksCame, PacketsCame}
+use Rattle.transfer_end.specs.Came.{AcksWhatCame, BlocksCame, PacketsCame}
 use Rattle.transfer_end.specs.Laws.{PortsCountUp}
 use Rattle.transfer_end.specs.Placed.{ArePlaced}
 use Rattle.session_rules.specs.Loader.{LoaderView, loader_after, loader_posts}
@@ -51,3 +52,13 @@ LoaderTakesWhatCame = (media : Media) (log : List Event) → PacketsCame log (lo
 abbrev pub TargetTakesWhatCame : Type 0
 TargetTakesWhatCame = (accepts : HeaderView → Bool) (first_port : ℕ) (active : StandingView) (log : List Event)
     → PacketsCame log (target_reading accepts first_port active log).end × BlocksCame log (target_reading accepts first_port active log).end
+
+-- Each acknowledgement of a block that the loader posts, first or again, goes to a port from which the DATA of that number
+-- came before, or comes now.
+abbrev pub LoaderAcksWhatCame : Type 0
+LoaderAcksWhatCame = (media : Media) (log : List Event) (e : Event) → AllByRecursion (AcksWhatCame sides.Loader (e ∷ log)) (loader_posts media (loader_view (loader_reading media log)) e)
+
+-- So it is with the target, since it came up.
+abbrev pub TargetAcksWhatCame : Type 0
+TargetAcksWhatCame = (accepts : HeaderView → Bool) (first_port : ℕ) (active : StandingView) (log : List Event) (e : Event)
+    → AllByRecursion (AcksWhatCame sides.Target (e ∷ log)) (target_posts accepts (target_view accepts (target_reading accepts first_port active log)) e)

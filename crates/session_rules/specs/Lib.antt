@@ -20,3 +20,4 @@ pub mod Soundness
 pub mod SoundnessLaws
 pub mod PlacedLaws
 pub mod HeardLaws
+pub mod AckLaws

@@ -1,5 +1,5 @@
 //! What holds of both sides and their logs. These functions do nothing; their clauses are the law.
-ghost use Rattle.session_rules.specs.Laws.{AllArePlaced, LoaderFollows, LoaderTakesWhatCame, LogsCountUp, TargetFollows, TargetTakesWhatCame, TwoAtMost};
+ghost use Rattle.session_rules.specs.Laws.{AllArePlaced, LoaderAcksWhatCame, LoaderFollows, LoaderTakesWhatCame, LogsCountUp, TargetAcksWhatCame, TargetFollows, TargetTakesWhatCame, TwoAtMost};
 ghost use Rattle.session_rules.specs.Soundness.{VerdictIsSound};
 
 use crc_fields::check_sum_laws;
@@ -35,4 +35,11 @@ pub fn datagrams_go_where_they_may()
 pub fn what_was_taken_came()
     ensures loader { LoaderTakesWhatCame }
     ensures target { TargetTakesWhatCame }
+{}
+
+/// A block is acknowledged only after it came as DATA, from where the acknowledgement goes, in all
+/// logs of both sides.
+pub fn what_is_acknowledged_came()
+    ensures loader { LoaderAcksWhatCame }
+    ensures target { TargetAcksWhatCame }
 {}

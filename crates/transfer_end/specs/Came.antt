@@ -1,15 +1,17 @@
 -- What came to a side in its transfers (docs/EXCHANGE.md, "Transfers").
 use Rattle.std.specs.Prelude.{◌≡◌, ◌⊎◌, ◌≤◌, ℕ, List, [], ◌∷◌, length, Option, Some, None, true, ⊤}
 use Rattle.std.specs.List.{AllByRecursion}
-use Rattle.tftp_packet.specs.Packets.{Data, PacketView}
+use Rattle.tftp_packet.specs.Packets.{Ack, Data, PacketView, packet_bytes}
 use Rattle.tftp_link.specs.Receiver.{Receiver, receiver_after_all}
 use Rattle.exchange_trace.specs.declared.trace.Side.{Side}
+use Rattle.exchange_trace.specs.Happenings.{DatagramView}
 use Rattle.exchange_trace.specs.Logs.{Event, Gets}
 use Rattle.transfer_end.specs.Moves.{Hears, Move, all_posts, past_with, readings_after}
 use Rattle.transfer_end.specs.Packets.{belongs, packet_in}
+use Rattle.transfer_end.specs.Placed.{IsPlaced}
 use Rattle.transfer_end.specs.Readings.{Reading}
 use Rattle.transfer_end.specs.Transfers.{LinkEnd, Receives, Sends, Transfer, end_in}
-use Rattle.transfer_end.specs.Views.{EndView, TransferView, seen}
+use Rattle.transfer_end.specs.Views.{EndView, TransferView, end_view, seen}
 
 -- the event is a datagram between these ports, with this packet
 abbrev pub IsIn : (from to : ℕ) → PacketView → Event → Type 0
@@ -98,6 +100,34 @@ abbrev pub TakenBlocksCame : Type 0
 TakenBlocksCame = (log : List Event) (r : Reading) → PacketsCame log r → BlocksCame log r
 
 -- ---- posts
+
+-- What an acknowledgement acknowledges had come: the DATA of that number, to the port that it goes out from, from the port
+-- to which it goes. ACK 0 acknowledges no block.
+abbrev pub Acknowledges : List Event → (from to : ℕ) → PacketView → Type 0
+Acknowledges log from to (Ack k) = (k ≡ 0) ⊎ DataCame log from (Some to) k
+Acknowledges log from to packet = ⊤
+
+-- The datagram of this side has a packet, and what that acknowledges had come.
+pub record AcksWhatCame (side : Side) (log : List Event) (d : DatagramView) : Type 0 where
+  pub poster : d.side ≡ side
+  pub packet : PacketView
+  pub bytes : d.bytes ≡ packet_bytes packet
+  pub came : Acknowledges log d.from d.to packet
+
+abbrev pub LastAcks : Side → List Event → Option DatagramView → Type 0
+LastAcks side log None = ⊤
+LastAcks side log (Some d) = AcksWhatCame side log d
+
+-- Where all packets of the transfers came, and what was posted last acknowledges what came, so does each datagram that is
+-- posted at the next event.
+abbrev pub PostsAckWhatCame : Type 0
+PostsAckWhatCame = (side : Side) (log : List Event) (r : Reading) (e : Event) (d : DatagramView)
+    → PacketsCame log r → LastAcks side log r.last → IsPlaced side (end_view r) e d → AcksWhatCame side (e ∷ log) d
+
+-- and what was posted last, after the moves of that event
+abbrev pub LastStaysAcked : Type 0
+LastStaysAcked = (side : Side) (event : Event) (log : List Event) (r : Reading) (moves : List Move)
+    → MovesHeard event (seen r.live) moves → PacketsCame log r → LastAcks side log r.last → LastAcks side (event ∷ log) (readings_after side r moves).last
 
 -- Whatever moves a side makes at an event, it posts at most two datagrams.
 abbrev pub MovesPostTwo : Type 0

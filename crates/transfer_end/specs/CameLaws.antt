@@ -23,7 +23,7 @@ use Rattle.transfer_end.specs.Views.{EndView, TransferView, seen, transfer_view}
 
 -- ---- what came before, came
 
-all_mapped : {A : Type 0} (P Q : A → Type 0) → ((x : A) → P x → Q x) → (xs : List A) → AllByRecursion P xs → AllByRecursion Q xs
+pub all_mapped : {A : Type 0} (P Q : A → Type 0) → ((x : A) → P x → Q x) → (xs : List A) → AllByRecursion P xs → AllByRecursion Q xs
 all_mapped P Q f [] all = tt
 all_mapped P Q f (x ∷ xs) (one, all) = (f x one, all_mapped P Q f xs all)
 
@@ -31,7 +31,7 @@ all_append : {A : Type 0} (P : A → Type 0) (xs ys : List A) → AllByRecursion
 all_append P [] ys all rest = rest
 all_append P (x ∷ xs) ys (one, all) rest = (one, all_append P xs ys all rest)
 
-still_from : (e : Event) (log : List Event) (own : ℕ) (peer : Option ℕ) (p : PacketView) → CameFrom log own peer p → CameFrom (e ∷ log) own peer p
+pub still_from : (e : Event) (log : List Event) (own : ℕ) (peer : Option ℕ) (p : PacketView) → CameFrom log own peer p → CameFrom (e ∷ log) own peer p
 still_from e log own None p h = h
 still_from e log own (Some peer) p h = inr h
 
@@ -48,7 +48,7 @@ and_second : (a b : Bool) → (a && b) ≡ true → b ≡ true
 and_second true b e = e
 and_second false b e = absurd cc
 
-packet_came : (e : Event) (log : List Event) (role : Role) (own : ℕ) (peer : Option ℕ) (got : List PacketView) (from : ℕ) (p : PacketView)
+pub packet_came : (e : Event) (log : List Event) (role : Role) (own : ℕ) (peer : Option ℕ) (got : List PacketView) (from : ℕ) (p : PacketView)
     → HeardIn e (Some (transfer_view (record { role = role; own = own; peer = peer; got = got }))) from p
     → AllByRecursion (CameFrom (e ∷ log) own peer) got → AllByRecursion (CameFrom (e ∷ log) own (bound_to peer from)) (got ++ p ∷ [])
 packet_came (Gets source to bytes) log role own None got from p (at, is, b) all =
@@ -229,7 +229,7 @@ module _ (log : List Event) (own : ℕ) (peer : Option ℕ) where
       by (inl e) = inl (e ∙ new)
       by (inr h) = inr (data_among (receiver_after_all r got).taken got all h)
 
-  taken_came : (role : Role) (got : List PacketView) → AllByRecursion (CameFrom log own peer) got → TakenCame log own peer (end_of role got)
+  pub taken_came : (role : Role) (got : List PacketView) → AllByRecursion (CameFrom log own peer) got → TakenCame log own peer (end_of role got)
   taken_came (Reads name o) got all = subst (λ (end : LinkEnd). TakenCame log own peer end) (sym (end_is_of_link name [] o got).0) (received (receiver_asking name o) got refl all)
   taken_came (ServesWrite name o) got all = subst (λ (end : LinkEnd). TakenCame log own peer end) (sym (end_is_of_link name [] o got).1) (received (receiver_serving o) got refl all)
   taken_came (Writes name o file) got all = subst (λ (end : LinkEnd). TakenCame log own peer end) (sym (end_is_of_link name file o got).2) tt

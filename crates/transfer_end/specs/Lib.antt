@@ -12,3 +12,4 @@ pub mod PlacedLaws
 pub mod Came
 pub mod CameLaws
 pub mod PostedLaws
+pub mod AckLaws

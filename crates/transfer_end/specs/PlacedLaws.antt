@@ -7,10 +7,10 @@ use Rattle.tftp_link.specs.Answers.{Again, Answer, Completes, Dropped, Fails, Gr
 use Rattle.exchange_trace.specs.declared.trace.Side.{Side}
 use Rattle.exchange_trace.specs.Happenings.{DatagramView}
 use Rattle.exchange_trace.specs.Logs.{Event, Gets, Ticks}
-use Rattle.transfer_end.specs.Moves.{Asks, datagram, Hears, Move, Recalls, Refuses, Repeats, Serves, all_posts, heard_post, kept_post, last_post, live_post, posts_of, recalled_post, view_after, view_answered, view_heard, views_after}
+use Rattle.transfer_end.specs.Moves.{Asks, datagram, Hears, Move, Recalls, Refuses, Repeats, Serves, all_posts, heard_post, kept_post, last_post, live_post, posts_of, recalled_post, request, view_after, view_answered, view_heard, views_after}
 use Rattle.transfer_end.specs.Packets.{belongs, is_fresh, is_peer, packet_in, transfer_moves}
 use Rattle.transfer_end.specs.Placed.{ArePlaced, IsPlaced, is_answer, is_first, is_refusal, is_repeat, is_request}
-use Rattle.transfer_end.specs.Transfers.{LinkEnd, Receives, Role, Sends, end_after, end_answer, end_moved, end_packet}
+use Rattle.transfer_end.specs.Transfers.{LinkEnd, Receives, Role, Sends, end_after, end_answer, end_moved, end_packet, first_packet}
 use Rattle.transfer_end.specs.Views.{EndView, TransferView}
 
 all_append : {A : Type 0} (P : A → Type 0) (xs ys : List A) → AllByRecursion P xs → AllByRecursion P ys → AllByRecursion P (xs ++ ys)
@@ -63,10 +63,10 @@ then_placed side v e moves move first last =
 -- ---- move by move
 
 pub asks_placed : (side : Side) (v w : EndView) (e : Event) (role : Role) → w.next_port ≡ v.next_port → ArePlaced side v e (posts_of side w (Asks role))
-asks_placed side v w e role same = (is_request refl same refl, tt)
+asks_placed side v w e role same = (is_request role (ap (λ (port : ℕ). request side port role) same), tt)
 
 pub serves_placed : (side : Side) (v w : EndView) (from to : ℕ) (bytes : List ℕ) (role : Role) → to ≡ 59 → is_fresh v from ≡ true → w.next_port ≡ v.next_port → ArePlaced side v (Gets from to bytes) (posts_of side w (Serves from role))
-serves_placed side v w from to bytes role at fresh same = (is_first from to bytes refl at fresh refl same refl, tt)
+serves_placed side v w from to bytes role at fresh same = (is_first role from to bytes refl at fresh (ap (λ (port : ℕ). datagram side port from (first_packet role)) same), tt)
 
 pub refuses_placed : (side : Side) (v : EndView) (from to : ℕ) (bytes : List ℕ) → to ≡ 59 → ArePlaced side v (Gets from to bytes) (posts_of side v (Refuses from))
 refuses_placed side v from to bytes at = (is_refusal from to bytes refl at refl, tt)
@@ -82,7 +82,7 @@ and_first : (a b : Bool) → (a && b) ≡ true → a ≡ true
 and_first true b e = refl
 and_first false b e = absurd cc
 
-own_port : (t : TransferView) (from to : ℕ) → belongs (Some t) from to ≡ true → to ≡ t.own
+pub own_port : (t : TransferView) (from to : ℕ) → belongs (Some t) from to ≡ true → to ≡ t.own
 own_port t from to e = eqb-true to t.own (and_first (eqb to t.own) (is_peer t.peer from) e)
 
 heard_placed : (side : Side) (v : EndView) (live : Option TransferView) (from to : ℕ) (bytes : List ℕ) (p : PacketView) → packet_in bytes ≡ Some p → v.live ≡ live → belongs v.live from to ≡ true

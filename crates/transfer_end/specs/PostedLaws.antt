@@ -1,11 +1,11 @@
 -- Proofs of how many datagrams moves post.
-use Rattle.std.proofs.Common.{◌≤◌, ℕ, ◌+◌, Bool, true, false, cond, List, [], ◌∷◌, ◌++◌, length, length-append, Option, Some, None, arith}
+use Rattle.std.proofs.Common.{◌≤◌, ℕ, Bool, true, false, cond, List, [], ◌∷◌, ◌++◌, length, length-append, Option, Some, None, arith}
 use Rattle.tftp_packet.specs.Packets.{PacketView}
 use Rattle.tftp_link.specs.Answers.{Again, Answer, Completes, Dropped, Fails, Grants, Proceeds, TakesBlock, TakesLast, is_sent_by}
 use Rattle.exchange_trace.specs.declared.trace.Side.{Side}
 use Rattle.exchange_trace.specs.Happenings.{DatagramView}
 use Rattle.transfer_end.specs.Came.{MovesPostTwo}
-use Rattle.transfer_end.specs.Moves.{Asks, Asks_size, Hears, Move, Recalls, Refuses, Repeats, Serves, Stops, datagram, kept_post, last_post, live_post, posts_of, recalled_post, view_after, all_posts}
+use Rattle.transfer_end.specs.Moves.{Asks, Asks_size, Hears, Move, Recalls, Refuses, Repeats, Serves, Stops, datagram, kept_post, last_post, live_post, posts_of, recalled_post, view_after}
 use Rattle.transfer_end.specs.Transfers.{end_answer, end_moved, end_packet}
 use Rattle.transfer_end.specs.Views.{EndView, TransferView}
 

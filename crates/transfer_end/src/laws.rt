@@ -1,5 +1,5 @@
 //! What holds of the moves of an end. These functions do nothing; their clauses are the law.
-ghost use Rattle.transfer_end.specs.Came.{MovesCame, MovesPostTwo, TakenBlocksCame, TakenWasGot};
+ghost use Rattle.transfer_end.specs.Came.{LastStaysAcked, MovesCame, MovesPostTwo, PostsAckWhatCame, TakenBlocksCame, TakenWasGot};
 ghost use Rattle.transfer_end.specs.Laws.{AcknowledgesTaken, EndIsOfLink, MovesCountUp, SendsNextBlock, TakenIsLent, ViewFollows, ViewsFollow};
 
 /// What an end keeps is what is kept of its log, whatever moves it makes. So what it posts, which
@@ -39,6 +39,15 @@ pub fn what_was_taken_came()
     ensures moves { MovesCame }
     // So each block that was taken last came.
     ensures blocks { TakenBlocksCame }
+{}
+
+/// An acknowledgement of a block goes out only after the DATA of that number came, from where the
+/// acknowledgement goes. `specs/AckLaws.antt` says the same to proofs.
+pub fn what_is_acknowledged_came()
+    // Of all that a side posts at an event, where so it is of what it posted last.
+    ensures posts { PostsAckWhatCame }
+    // And so it is of what it posted last then.
+    ensures last { LastStaysAcked }
 {}
 
 /// Whatever moves a side makes at an event, it posts at most two datagrams.

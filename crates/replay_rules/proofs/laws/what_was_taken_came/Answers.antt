@@ -1,5 +1,8 @@
-use Rattle.replay_rules.specs.CameTraceLaws.{both_take_what_came}
+use Rattle.replay_rules.specs.CameTraceLaws.{both_take_what_came, due_is_acked}
 use Rattle.replay_rules.proofs.laws.what_was_taken_came.Goals as goal
 
-pub returns : goal.returns
-returns c = both_take_what_came
+pub returns-clause-taken : goal.returns-clause-taken
+returns-clause-taken c = both_take_what_came
+
+pub returns-clause-acknowledged : goal.returns-clause-acknowledged
+returns-clause-acknowledged c = due_is_acked
