@@ -45,7 +45,7 @@ noted_takes (Came_up first_port sequence ∷ notes) life before after h =
     noted_takes notes (Up first_port []) up up (come_takes first_port sequence (gone_down before after) (gone_takes before after))
 noted_takes (Boot_refused fault ∷ notes) life before after h = noted_takes notes Down (gone_down before after) (gone_down before after) (gone_takes before after)
 
-target_takes : (set : Setting) (steps : List Step) → TargetTakes (target_life steps) (target_at set steps)
+pub target_takes : (set : Setting) (steps : List Step) → TargetTakes (target_life steps) (target_at set steps)
 target_takes set [] = (tt, tt, tt)
 target_takes set (s ∷ earlier) =
     let e = event_for sides.Target (posted_in earlier) s.given in

@@ -10,3 +10,5 @@ pub mod PlacedTraces
 pub mod PlacedTraceLaws
 pub mod CameTraces
 pub mod CameTraceLaws
+pub mod Changes
+pub mod ChangeLaws

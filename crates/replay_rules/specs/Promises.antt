@@ -7,24 +7,19 @@ use Rattle.load_header.specs.Header.{HeaderView}
 use Rattle.load_protocol_files.specs.Lcl.{LclView}
 use Rattle.disk_model.specs.Image.{Image}
 use Rattle.disk_layout.specs.Holds.{StandingView, HoldsConfig, outline_of}
-use Rattle.exchange_trace.specs.declared.trace.Side.TheVariants as sides
 use Rattle.exchange_trace.specs.Happenings.{HappeningView, Ended, Upload_started}
 use Rattle.exchange_trace.specs.Following.{Turn, goes_on}
 use Rattle.exchange_trace.specs.Lines.{Line, Finish}
-use Rattle.exchange_trace.specs.Logs.{event_for}
-use Rattle.exchange_trace.specs.Posts.{posted_in}
 use Rattle.exchange_trace.specs.Steps.{Step}
-use Rattle.transfer_end.specs.Transfers.{Transfer}
 use Rattle.session_rules.specs.declared.outcome.Outcome.TheVariants.{Completed}
 use Rattle.session_rules.specs.declared.outcome.SessionKind.{SessionKind}
 use Rattle.session_rules.specs.declared.outcome.SessionKind.TheVariants.{Upload}
 use Rattle.session_rules.specs.Reports.{lcl_of}
 use Rattle.session_rules.specs.Loader.{EndedSession}
-use Rattle.session_rules.specs.LoaderLog.{newest}
-use Rattle.session_rules.specs.NewConfigs.{IsNewConfig, IsGoodLoad, AreOfMedia, reads_in}
-use Rattle.session_rules.specs.TargetRows.{WholeRow, Writes_lcl, Writes_completion, UploadEnd}
-use Rattle.session_rules.specs.TargetLog.{TargetReading, TargetSessionLog, row_in, with_done, standing_after}
-use Rattle.replay_rules.specs.BothEnds.{Setting, TargetState, Is_up, Is_down, loader_at, target_at, reached, loader_waits}
+use Rattle.session_rules.specs.NewConfigs.{IsGoodLoad, AreOfMedia}
+use Rattle.session_rules.specs.TargetRows.{WholeRow, Writes_lcl}
+use Rattle.session_rules.specs.TargetLog.{TargetReading, TargetSessionLog, row_in}
+use Rattle.replay_rules.specs.BothEnds.{Setting, TargetState, Is_up, Is_down, loader_at, target_at, loader_waits}
 use Rattle.replay_rules.specs.Due.{AllDue, AllNoted, goes_down}
 use Rattle.replay_rules.specs.FaultFree.{IsFaultFree, NothingInjected}
 use Rattle.replay_rules.specs.Histories.{active_at, may_be_active, brings, history_of, active_by}
@@ -46,33 +41,10 @@ pub record IsTrace (set : Setting) (steps : List Step) : Type 0 where
   pub due : AllDue set steps
   pub noted : AllNoted set steps
 
--- ---- the configuration changes only by a good verdict
+-- ---- what is installed is good
 
 abbrev pub Accepts : Setting → HeaderView → Type 0
 Accepts set h = set.accepts h ≡ true
-
--- The transfer that the step ended makes the verdict good, and what is active then is the new configuration of what the
--- session asked for and read.
-pub record IsNewAt (set : Setting) (before after : TargetReading) : Type 0 where
-  pub session : TargetSessionLog
-  pub live : before.live ≡ Some session
-  pub ended : Transfer
-  pub is_newest : newest after.end.past ≡ ended ∷ []
-  pub upload : UploadEnd
-  pub loads : List LoadView
-  pub good : row_in set.accepts before.active.identity (with_done session (ended ∷ [])) ≡ Writes_completion upload loads
-  pub new : IsNewConfig (Accepts set) before.active.identity upload.request (reads_in (session.done ++ ended ∷ [])) loads
-  pub next : after.active ≡ standing_after before.active loads
-
-abbrev pub StaysOrIsNew : Setting → (before after : TargetState) → Type 0
-StaysOrIsNew set (Is_up before) (Is_up after) = (after.active ≡ before.active) ⊎ IsNewAt set before after
-StaysOrIsNew set before after = ⊤
-
--- so it is in each step, by what reached the target in it
-abbrev pub AllStayOrAreNew : Setting → List Step → Type 0
-AllStayOrAreNew set [] = ⊤
-AllStayOrAreNew set (s ∷ earlier) =
-    StaysOrIsNew set (target_at set earlier) (reached set (event_for sides.Target (posted_in earlier) s.given) (target_at set earlier)) × AllStayOrAreNew set earlier
 
 -- what a step brings is made of good loads, and without injection of the media set's files
 pub record IsSound (set : Setting) (steps : List Step) (s : StandingView) : Type 0 where

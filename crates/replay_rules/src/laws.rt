@@ -1,9 +1,12 @@
 //! What ties both ends to the trace. These functions do nothing; their clauses are the law.
 ghost use Rattle.replay_rules.specs.CameTraces.{BothTakeWhatCame, DueIsAcked};
+ghost use Rattle.replay_rules.specs.Changes.{ChangesAreNew};
 ghost use Rattle.replay_rules.specs.PlacedTraces.{DueIsPlaced, DueIsTwoAtMost, PortsRise};
 ghost use Rattle.replay_rules.specs.Ties.{StepKeepsTie};
 
 use crc_fields::check_sum_laws;
+use load_header::header_laws;
+use tftp_packet::packet_laws;
 
 /// Where each end does what its rules say in a step, what it keeps is what the trace says of it,
 /// and all that was posted was due.
@@ -27,3 +30,14 @@ pub fn what_was_taken_came()
     ensures taken { BothTakeWhatCame }
     ensures acknowledged { DueIsAcked }
 {}
+
+/// Whatever is delivered, lost, repeated, reordered, delayed or injected in a run, and wherever
+/// power fails, the configuration changes by good verdicts alone: each is the new configuration of
+/// what its session asked for and read.
+pub fn the_configuration_changes_by_good_verdicts()
+    ensures { ChangesAreNew }
+{
+    check_sum_laws();
+    header_laws();
+    packet_laws();
+}

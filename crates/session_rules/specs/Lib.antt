@@ -16,8 +16,11 @@ pub mod RowLaws
 pub mod TargetLaws
 pub mod Laws
 pub mod ViewLaws
+pub mod Roles
 pub mod Soundness
 pub mod SoundnessLaws
 pub mod PlacedLaws
 pub mod HeardLaws
 pub mod AckLaws
+pub mod SoundLogs
+pub mod SoundLogLaws

@@ -1,5 +1,5 @@
 -- How what arrives makes up what is installed, row by row (docs/EXCHANGE.md, "Upload").
-use Rattle.std.specs.Prelude.{◌≡◌, ℕ, List, [], ◌∷◌, ◌++◌, Bool, true, Option, Some, None, ⊤}
+use Rattle.std.specs.Prelude.{◌≡◌, List, [], ◌∷◌, ◌++◌, Bool, true, Option, Some, None, ⊤}
 use Rattle.std.specs.List.{AllByRecursion, AllZip}
 use Rattle.field_grammar.specs.Grammar.{IsBytes}
 use Rattle.load_base.specs.Config.{FileView, LoadView}
@@ -8,11 +8,12 @@ use Rattle.load_header.specs.Header.{HeaderView}
 use Rattle.load_header.specs.HeaderFields.{HeaderSpells}
 use Rattle.load_protocol_files.specs.declared.lur.Wanted.{Wanted}
 use Rattle.disk_layout.specs.declared.identity.Identity.{Identity}
-use Rattle.transfer_end.specs.Transfers.{Role, Reads, Transfer, arrived_of, error_of}
+use Rattle.transfer_end.specs.Transfers.{Transfer, arrived_of, error_of}
 use Rattle.accept_rules.specs.Permissions.{Permits}
 use Rattle.session_rules.specs.NewConfigs.{IsAsSaid, IsGoodLoad, IsNewConfig, IsWanted, files_in, reads_in}
+use Rattle.session_rules.specs.Roles.{IsOfRow}
 use Rattle.session_rules.specs.TargetRows.{Over, Reads_file, WholeRow, Writes_completion, Writes_progress, Writes_stop, row_with}
-use Rattle.session_rules.specs.Uploads.{OpenLoad, Upload, files_of, is_for, next_name, upload_view}
+use Rattle.session_rules.specs.Uploads.{OpenLoad, Upload, files_of, is_for}
 
 -- A load of which files are still to come passed all tests so far: on its header, and on each file that came.
 pub record IsGoodSoFar (accepts : HeaderView → Bool) (id : Identity) (l : OpenLoad) : Type 0 where
@@ -57,20 +58,6 @@ IsSoundRow accepts id reads (Writes_completion e loads) = IsNewConfig (λ h. acc
 IsSoundRow accepts id reads (Writes_stop e) = ⊤
 IsSoundRow accepts id reads Over = ⊤
 IsSoundRow accepts id reads row = reads ≡ []
-
--- the side reads the file of this name
-abbrev pub ReadsFile : List ℕ → Role → Type 0
-ReadsFile next (Reads name options) = name ≡ next
-ReadsFile next role = ⊥
-
-abbrev pub ReadsNothing : Role → Type 0
-ReadsNothing (Reads name options) = ⊥
-ReadsNothing role = ⊤
-
--- the transfer is the one that the row asks for: a file that is read has the next name, and no other row reads
-abbrev pub IsOfRow : WholeRow → Role → Type 0
-IsOfRow (Reads_file u) role = ReadsFile (next_name (upload_view u)) role
-IsOfRow row role = ReadsNothing role
 
 -- Each transfer of a session that no ERROR ended keeps its row sound. So where the verdict is good, the configuration is the
 -- new one of what was asked for and read.

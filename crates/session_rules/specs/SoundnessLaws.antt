@@ -10,7 +10,7 @@ use Rattle.std.proofs.lemmas.Slice.Eq.{bytes_eq-Decides}
 use Rattle.crc_fields.specs.CheckSums.{crc16_of, crc32_of, crc32_after}
 use Rattle.field_grammar.specs.Answers.{answer}
 use Rattle.field_grammar.specs.ExactLaws.{answer-fault, answer-spelled, spelled_at_start}
-use Rattle.field_grammar.specs.Grammar.{Fault, IsBytes, IsDecided, Spelled}
+use Rattle.field_grammar.specs.Grammar.{Fault, Grammar, IsBytes, IsDecided, Spelled}
 use Rattle.load_base.specs.Config.{FileView, LoadView}
 use Rattle.load_header.specs.declared.fault.HeaderFault.{HeaderFault}
 use Rattle.load_header.specs.declared.header.FileEntry.{FileEntry}
@@ -28,7 +28,8 @@ use Rattle.session_rules.specs.Buffers.{Buffer, Sums, buffered, buffer_size, is_
 use Rattle.session_rules.specs.BufferLaws.{SumsJoin}
 use Rattle.session_rules.specs.NewConfigs.{IsAsSaid, IsGoodLoad, IsWanted, file_read, files_in, reads_in}
 use Rattle.session_rules.specs.RowLaws.{bytes_more, file_no_header, header_no_file}
-use Rattle.session_rules.specs.Soundness.{AreGoodLoads, IsGoodSoFar, IsNextWanted, IsOfRow, IsSoundRow, IsSoundUpload, ReadsFile, ReadsNothing, VerdictIsSound, files_of_open}
+use Rattle.session_rules.specs.Roles.{IsOfRow, ReadsFile, ReadsNothing}
+use Rattle.session_rules.specs.Soundness.{AreGoodLoads, IsGoodSoFar, IsNextWanted, IsSoundRow, IsSoundUpload, VerdictIsSound, files_of_open}
 use Rattle.session_rules.specs.TargetRows.{Awaits_lur, Gives_denial, Gives_lci, Gives_lui, Kept_bytes, Kept_sums, Over, Reads_file, WholeRow, Writes_completion, Writes_lcl, Writes_lcs, Writes_progress, Writes_ready, Writes_stop, arriving_of, file_move, header_move, load_of, placed, placed_if, request_move, row_judged, row_move, row_moved, row_view, said_length, with_header}
 use Rattle.session_rules.specs.Uploads.{Accepts_file, Accepts_header, Complete, Judgement, More_files, Next, Next_load, OpenLoad, OpenLoadView, Stops_for, Upload, UploadView, covered, covered_header, entry_name, files_of, header_name, header_reason, judge_file, judge_header, judge_read_header, judged, load_reason, next_entry, next_name, next_number, next_wanted, next_with, open_load_view, or_else, unless, upload_view}
 
@@ -425,16 +426,18 @@ verdict_is_sound joins spells accepts id row done t permits fit none of_row s =
 
 -- ---- headers that are read
 
-value_is : (x y : HeaderView) (r : Result HeaderView HeaderFault) → r ≡ Ok x → r ≡ Ok y → x ≡ y
-value_is x y r e d = cc
+module _ {F A : Type 0} (g : Grammar F A) (bytes : List ℕ) where
+  value_is : (x y : A) (r : Result A F) → r ≡ Ok x → r ≡ Ok y → x ≡ y
+  value_is x y r e d = cc
 
-value_or_fault : (x : HeaderView) (f : HeaderFault) → ◌≡◌ {A = Result HeaderView HeaderFault} (Ok x) (Err f) → ⊥
-value_or_fault x f e = cc
+  value_or_fault : (x : A) (f : F) → ◌≡◌ {A = Result A F} (Ok x) (Err f) → ⊥
+  value_or_fault x f e = cc
 
-headers_by : (bytes : List ℕ) (h : HeaderView) → ((v : HeaderView) × Spelled header bytes v) ⊎ ((fault : HeaderFault) × Fault header bytes fault) → answer header bytes ≡ Ok h → Spelled header bytes h
-headers_by bytes h (inl (v, spelled)) e =
-    subst (λ (x : HeaderView). Spelled header bytes x) (value_is v h (answer header bytes) (answer-spelled header bytes v (spelled_at_start header bytes v spelled)) e) spelled
-headers_by bytes h (inr (fault, faulty)) e = absurd (value_or_fault h fault (sym e ∙ answer-fault header bytes fault faulty))
+  -- bytes that are read as a value spell it
+  pub read_is_spelled : (x : A) → ((v : A) × Spelled g bytes v) ⊎ ((fault : F) × Fault g bytes fault) → answer g bytes ≡ Ok x → Spelled g bytes x
+  read_is_spelled x (inl (v, spelled)) e =
+      subst (λ (y : A). Spelled g bytes y) (value_is v x (answer g bytes) (answer-spelled g bytes v (spelled_at_start g bytes v spelled)) e) spelled
+  read_is_spelled x (inr (fault, faulty)) e = absurd (value_or_fault x fault (sym e ∙ answer-fault g bytes fault faulty))
 
 pub headers_are_spelled : ((bytes : List ℕ) → IsBytes bytes → IsDecided header bytes) → ((h : HeaderView) (bytes : List ℕ) → Spelled header bytes h ↔ HeaderSpells h bytes) → HeadersAreSpelled
-headers_are_spelled decided spells bytes h fit e = (spells h bytes).0 (headers_by bytes h (decided bytes fit).one_or_other e)
+headers_are_spelled decided spells bytes h fit e = (spells h bytes).0 (read_is_spelled header bytes h (decided bytes fit).one_or_other e)

@@ -10,14 +10,14 @@ use Rattle.tftp_packet.specs.declared.options.Options.{Options}
 use Rattle.tftp_packet.specs.Packets.{PacketView, Rrq, Wrq, Data, Ack, Error, Oack}
 use Rattle.tftp_link.specs.declared.phase.Phase.{Phase}
 use Rattle.tftp_link.specs.declared.phase.Phase.TheVariants.{Waiting, Running, Finished, Failed}
-use Rattle.tftp_link.specs.Answers.{Again, Answer, Completes, Dropped, Fails, Grants, Proceeds, TakesBlock, TakesLast, code_of, is_live, lent_by}
+use Rattle.tftp_link.specs.Answers.{Again, Answer, Completes, Dropped, Fails, Grants, Proceeds, TakesBlock, TakesLast, code_of, is_ended_by, is_live, lent_by}
 use Rattle.exchange_trace.specs.declared.trace.Side.TheVariants as sides
 use Rattle.exchange_trace.specs.Happenings.{DatagramView}
 use Rattle.exchange_trace.specs.Logs.{Event, Gets, Learns, Starts_info, Starts_upload, Ticks}
-use Rattle.transfer_end.specs.Transfers.{LinkEnd, Receives, Role, Sends, Transfer, arrived_of, arriving_in, end_answer, end_in, end_moved, end_of, error_of, phase_of, with_packet}
+use Rattle.transfer_end.specs.Transfers.{LinkEnd, Receives, Role, Sends, ServesWrite, Transfer, arrived_of, arriving_in, end_answer, end_in, end_moved, end_of, error_of, phase_of, with_packet}
 use Rattle.transfer_end.specs.Readings.{Reading}
 use Rattle.transfer_end.specs.Views.{EndView, end_view, transfer_view}
-use Rattle.transfer_end.specs.Moves.{Asks, Asks_size, Hears, Move, Recalls, Refuses, Repeats, Serves, Stops, reading_after, readings_after}
+use Rattle.transfer_end.specs.Moves.{Asks, Asks_size, Hears, Move, Recalls, Refuses, Repeats, Serves, Stops, reading_after, reading_answered, reading_unchanged, readings_after}
 use Rattle.transfer_end.specs.Packets.{belongs, has_port, is_busy, is_fresh, may_repeat, packet_in}
 use Rattle.transfer_end.specs.Laws.{IsLive}
 use Rattle.transfer_end.specs.ArrivalLaws.{arrived_more, arriving_more, nothing_arrived}
@@ -27,6 +27,7 @@ use Rattle.session_rules.specs.declared.outcome.FileKind.TheVariants.{Lci, Lui, 
 use Rattle.session_rules.specs.declared.reason.Reason.{Reason}
 use Rattle.session_rules.specs.BufferLaws.{SumsJoin}
 use Rattle.session_rules.specs.LoaderLog.{newest}
+use Rattle.session_rules.specs.Roles.{HasRole, IsOfView, LiveFits, LiveReadsNothing}
 use Rattle.session_rules.specs.RowLaws.{arriving_on, row_follows}
 use Rattle.session_rules.specs.TargetRows.{Arriving, Awaits_lur, Gives_denial, Gives_lci, Gives_lui, Over, Reads_file, RowMove, RowView, TransferEnd, WholeRow, Writes_completion, Writes_lcl, Writes_lcs, Writes_progress, Writes_ready, Writes_stop, arriving_of, first_row, row_move, row_of, row_view, row_with, view_moved, with_bytes}
 use Rattle.session_rules.specs.Target.{Begins, Continues, Ends, TargetChange, TargetDecision, TargetSession, TargetView, Turns, Turns_without_port, active_in, answer_decision, doing, got_decision, in_row, is_over, later_reason, next_decision, own_decision, own_name, read_decision, reason_in, request_decision, row_request, target_after, target_changed, target_decision, tick_decision, transfer_decision, turn_decision, view_turned, view_without_port, without_port, write_decision, write_in}
@@ -34,10 +35,10 @@ use Rattle.session_rules.specs.TargetLog.{TargetReading, TargetSessionLog, log_t
 
 -- ---- what a change of the session asks of the moves beside it
 
-abbrev after : Reading → List Move → Reading
+abbrev pub after : Reading → List Move → Reading
 after end moves = readings_after sides.Target end moves
 
-abbrev seen_row : (HeaderView → Bool) → Identity → TargetSessionLog → RowView
+abbrev pub seen_row : (HeaderView → Bool) → Identity → TargetSessionLog → RowView
 seen_row accepts id s = row_view (row_in accepts id s)
 
 -- The move is what the transfer comes to that ended last, with these bytes as the last of its file.
@@ -46,16 +47,24 @@ pub record HasTurned (accepts : HeaderView → Bool) (id : Identity) (end : Read
   pub is_newest : newest (after end moves).past ≡ ended ∷ []
   pub arrived : with_bytes (arriving_of (seen_row accepts id s) (arriving_in end.live)) more ≡ arriving_of (seen_row accepts id s) (arrived_of ended)
   pub comes_to : move ≡ row_move accepts id (seen_row accepts id s) (record { error = error_of ended; arriving = arriving_of (seen_row accepts id s) (arrived_of ended) })
+  pub was_live : HasRole end.live ended.role
 
-abbrev FitsChange : (HeaderView → Bool) → Identity → Reading → Option TargetSessionLog → List Move → TargetChange → Type 0
-FitsChange accepts id end live moves (Begins kind) = arriving_in (after end moves).live ≡ []
+-- the row that a session comes to then
+abbrev pub turned_view : (accepts : HeaderView → Bool) → Identity → Reading → TargetSessionLog → RowMove → List ℕ → RowView
+turned_view accepts id end s move more = view_moved (seen_row accepts id s) (with_bytes (arriving_of (seen_row accepts id s) (arriving_in end.live)) more) move
+
+abbrev pub FitsChange : (HeaderView → Bool) → Identity → Reading → Option TargetSessionLog → List Move → TargetChange → Type 0
+FitsChange accepts id end live moves (Begins kind) = (arriving_in (after end moves).live ≡ []) × LiveReadsNothing (after end moves).live
 FitsChange accepts id end live moves (Ends reason) = Unit {0}
 FitsChange accepts id end None moves change = Unit {0}
-FitsChange accepts id end (Some s) moves (Continues more) = arriving_in (after end moves).live ≡ arriving_in end.live ++ more
-FitsChange accepts id end (Some s) moves (Turns move more) = HasTurned accepts id end s moves move more × (arriving_in (after end moves).live ≡ [])
+FitsChange accepts id end (Some s) moves (Continues more) =
+    (arriving_in (after end moves).live ≡ arriving_in end.live ++ more)
+    × (LiveFits (seen_row accepts id s) end.live → LiveFits (seen_row accepts id s) (after end moves).live)
+FitsChange accepts id end (Some s) moves (Turns move more) =
+    HasTurned accepts id end s moves move more × (arriving_in (after end moves).live ≡ []) × LiveFits (turned_view accepts id end s move more) (after end moves).live
 FitsChange accepts id end (Some s) moves (Turns_without_port move more) = HasTurned accepts id end s moves move more
 
-abbrev Fits : (HeaderView → Bool) → Identity → Reading → Option TargetSessionLog → TargetDecision → Type 0
+abbrev pub Fits : (HeaderView → Bool) → Identity → Reading → Option TargetSessionLog → TargetDecision → Type 0
 Fits accepts id end live d = FitsChange accepts id end live d.moves d.change
 
 fits_if : (accepts : HeaderView → Bool) (id : Identity) (end : Reading) (live : Option TargetSessionLog) (b : Bool) (x y : TargetDecision)
@@ -65,7 +74,7 @@ fits_if accepts id end live false x y p q = q refl
 
 -- ---- what is active and why, row by row
 
-identity_stays : (s : StandingView) (row : WholeRow) → (standing_in s row).identity ≡ s.identity
+pub identity_stays : (s : StandingView) (row : WholeRow) → (standing_in s row).identity ≡ s.identity
 identity_stays s (Writes_completion e loads) = refl
 identity_stays s row = refl
 
@@ -108,16 +117,16 @@ first_same kind sequence = refl
 
 -- ---- one step
 
-row_of_more : (accepts : HeaderView → Bool) (id : Identity) (first : WholeRow) (done : List Transfer) (t : Transfer) → row_of accepts id first (done ++ t ∷ []) ≡ row_with accepts id (row_of accepts id first done) t
+pub row_of_more : (accepts : HeaderView → Bool) (id : Identity) (first : WholeRow) (done : List Transfer) (t : Transfer) → row_of accepts id first (done ++ t ∷ []) ≡ row_with accepts id (row_of accepts id first done) t
 unfolding row_of
 row_of_more accepts id first done t = fold-append (row_with accepts id) first done (t ∷ [])
 
-row_of_none : (accepts : HeaderView → Bool) (id : Identity) (first : WholeRow) → row_of accepts id first [] ≡ first
+pub row_of_none : (accepts : HeaderView → Bool) (id : Identity) (first : WholeRow) → row_of accepts id first [] ≡ first
 unfolding row_of
 row_of_none accepts id first = refl
 
 -- the row after it, as it is kept
-turned_row : SumsJoin → (accepts : HeaderView → Bool) (id : Identity) (s : TargetSessionLog) (end : Reading) (moves : List Move) (move : RowMove) (more : List ℕ) → HasTurned accepts id end s moves move more
+pub turned_row : SumsJoin → (accepts : HeaderView → Bool) (id : Identity) (s : TargetSessionLog) (end : Reading) (moves : List Move) (move : RowMove) (more : List ℕ) → HasTurned accepts id end s moves move more
     → seen_row accepts id (with_done s (newest (after end moves).past)) ≡ view_moved (seen_row accepts id s) (with_bytes (arriving_of (seen_row accepts id s) (arriving_in end.live)) more) move
 turned_row joins accepts id s end moves move more h =
     ap (λ (ts : List Transfer). row_view (row_of accepts id s.first (s.done ++ ts))) h.is_newest
@@ -162,16 +171,16 @@ changed_same joins accepts end None active reason moves (Continues more) v e fit
 changed_same joins accepts end None active reason moves (Turns move more) v e fits = rw e refl
 changed_same joins accepts end None active reason moves (Turns_without_port move more) v e fits = rw e refl
 changed_same joins accepts end None active reason moves (Begins kind) v e fits =
-    turned_same accepts (after end moves) v (reading end None active reason) (record { first = first_row kind active.sequence; done = [] }) (first_row kind active.sequence) e fits
+    turned_same accepts (after end moves) v (reading end None active reason) (record { first = first_row kind active.sequence; done = [] }) (first_row kind active.sequence) e fits.0
     (ap (λ (x : WholeRow). row_view x) (row_of_none accepts active.identity (first_row kind active.sequence)) ∙ first_same kind active.sequence)
 changed_same joins accepts end None active reason moves (Ends why) v e fits = rw e refl
-changed_same joins accepts end (Some s) active reason moves (Continues more) v e fits = rw (e, fits, arriving_on joins (row_in accepts active.identity s) (arriving_in end.live) more) refl
-changed_same joins accepts end (Some s) active reason moves (Turns move more) v e (turn, none) =
+changed_same joins accepts end (Some s) active reason moves (Continues more) v e (fits, role) = rw (e, fits, arriving_on joins (row_in accepts active.identity s) (arriving_in end.live) more) refl
+changed_same joins accepts end (Some s) active reason moves (Turns move more) v e (turn, none, role) =
     turned_same accepts (after end moves) v (reading end (Some s) active reason) (with_done s (newest (after end moves).past)) _ e none (turned_row joins accepts active.identity s end moves move more turn)
 changed_same joins accepts end (Some s) active reason moves (Turns_without_port move more) v e turn =
     without_port_same accepts (after end moves) v (reading end (Some s) active reason) (with_done s (newest (after end moves).past)) _ e (turned_row joins accepts active.identity s end moves move more turn)
 changed_same joins accepts end (Some s) active reason moves (Begins kind) v e fits =
-    turned_same accepts (after end moves) v (reading end (Some s) active reason) (record { first = first_row kind active.sequence; done = [] }) (first_row kind active.sequence) e fits
+    turned_same accepts (after end moves) v (reading end (Some s) active reason) (record { first = first_row kind active.sequence; done = [] }) (first_row kind active.sequence) e fits.0
     (ap (λ (x : WholeRow). row_view x) (row_of_none accepts active.identity (first_row kind active.sequence)) ∙ first_same kind active.sequence)
 changed_same joins accepts end (Some s) active reason moves (Ends why) v e fits = rw e refl
 
@@ -181,9 +190,19 @@ abbrev viewed : (HeaderView → Bool) → Reading → Option TargetSessionLog �
 viewed accepts end live active reason = target_view accepts (reading end live active reason)
 
 -- nothing changes of the live transfer
-same_fits : (accepts : HeaderView → Bool) (id : Identity) (end : Reading) (live : Option TargetSessionLog) (moves : List Move) → arriving_in (after end moves).live ≡ arriving_in end.live → Fits accepts id end live (doing moves)
-same_fits accepts id end None moves e = tt
-same_fits accepts id end (Some s) moves e = e ∙ sym (append-nil (arriving_in end.live))
+same_fits : (accepts : HeaderView → Bool) (id : Identity) (end : Reading) (live : Option TargetSessionLog) (moves : List Move) → arriving_in (after end moves).live ≡ arriving_in end.live
+    → ((s : TargetSessionLog) → live ≡ Some s → LiveFits (seen_row accepts id s) end.live → LiveFits (seen_row accepts id s) (after end moves).live) → Fits accepts id end live (doing moves)
+same_fits accepts id end None moves e keeps = tt
+same_fits accepts id end (Some s) moves e keeps = (e ∙ sym (append-nil (arriving_in end.live)), keeps s refl)
+
+-- the live transfer stays as it is
+stays_fits : (accepts : HeaderView → Bool) (id : Identity) (end : Reading) (live : Option TargetSessionLog) (moves : List Move) → (after end moves).live ≡ end.live → Fits accepts id end live (doing moves)
+stays_fits accepts id end live moves e =
+    same_fits accepts id end live moves (ap arriving_in e) (λ s is h. subst (λ (x : Option Transfer). LiveFits (seen_row accepts id s) x) (sym e) h)
+
+abbrev row_or : (HeaderView → Bool) → Identity → Option TargetSessionLog → RowView
+row_or accepts id None = Over
+row_or accepts id (Some s) = seen_row accepts id s
 
 module _ (accepts : HeaderView → Bool) (r : TargetReading) where
   abbrev FitsHere : TargetDecision → Type 0
@@ -193,7 +212,7 @@ module _ (accepts : HeaderView → Bool) (r : TargetReading) where
   fits_here b x y p q = fits_if accepts r.active.identity r.end r.live b x y p q
 
   nothing_fits : FitsHere (doing [])
-  nothing_fits = same_fits accepts r.active.identity r.end r.live [] refl
+  nothing_fits = stays_fits accepts r.active.identity r.end r.live [] refl
 
   without_port_fits : FitsHere (without_port (session_view accepts r r.live))
   without_port_fits = by_live r.live
@@ -204,28 +223,31 @@ module _ (accepts : HeaderView → Bool) (r : TargetReading) where
 
   own_fits : (from : ℕ) (kind : FileKind) (name : List ℕ) (o : Options) → FitsHere (own_decision (target_view accepts r) from kind name o)
   own_fits from kind name o =
-      fits_here (is_fresh (end_view r.end) from) _ _ (λ e. fits_here (has_port (end_view r.end)) _ _ (λ e. nothing_arrived _) (λ e. without_port_fits)) (λ e. nothing_fits)
+      fits_here (is_fresh (end_view r.end) from) _ _ (λ e. fits_here (has_port (end_view r.end)) _ _ (λ e. (nothing_arrived _, tt)) (λ e. without_port_fits)) (λ e. nothing_fits)
 
   read_fits : (from : ℕ) (name : List ℕ) (o : Options) → FitsHere (read_decision (target_view accepts r) from name o)
   read_fits from name o =
       fits_here (bytes_eq name (own_name (target_view accepts r) Lci)) _ _ (λ e. own_fits from Lci name o)
       (λ e. fits_here (bytes_eq name (own_name (target_view accepts r) Lui)) _ _ (λ e. own_fits from Lui name o)
-      (λ e. fits_here (is_busy (end_view r.end)) _ _ (λ e. nothing_fits) (λ e. same_fits accepts r.active.identity r.end r.live (Refuses from ∷ []) refl)))
+      (λ e. fits_here (is_busy (end_view r.end)) _ _ (λ e. nothing_fits) (λ e. stays_fits accepts r.active.identity r.end r.live (Refuses from ∷ []) refl)))
 
-  taken_fits : (from : ℕ) (role : Role) → r.end.live ≡ None → FitsHere (doing (Serves from role ∷ []))
-  taken_fits from role free = same_fits accepts r.active.identity r.end r.live (Serves from role ∷ []) (nothing_arrived role ∙ sym (ap arriving_in free))
+  -- a request to write is taken where the row awaits it
+  taken_fits : (from : ℕ) (name : List ℕ) (o : Options) (s : TargetSessionLog) → r.live ≡ Some s → seen_row accepts r.active.identity s ≡ Awaits_lur → r.end.live ≡ None → FitsHere (doing (Serves from (ServesWrite name o) ∷ []))
+  taken_fits from name o s is at free =
+      same_fits accepts r.active.identity r.end r.live (Serves from (ServesWrite name o) ∷ []) (nothing_arrived (ServesWrite name o) ∙ sym (ap arriving_in free))
+      (λ t also h. subst (λ (row : RowView). IsOfView row (ServesWrite name o)) (sym (ap (λ (x : Option TargetSessionLog). row_or accepts r.active.identity x) (sym also ∙ is) ∙ at)) tt)
 
-  write_in_fits : (from : ℕ) (name : List ℕ) (o : Options) (row : RowView) → r.end.live ≡ None → FitsHere (write_in (target_view accepts r) from name o row)
-  write_in_fits from name o Awaits_lur free =
+  write_in_fits : (from : ℕ) (name : List ℕ) (o : Options) (s : TargetSessionLog) (row : RowView) → r.live ≡ Some s → seen_row accepts r.active.identity s ≡ row → r.end.live ≡ None → FitsHere (write_in (target_view accepts r) from name o row)
+  write_in_fits from name o s Awaits_lur is at free =
       fits_here (bytes_eq name (own_name (target_view accepts r) Lur)) _ _
       (λ e. fits_here (is_fresh (end_view r.end) from) _ _
-      (λ e. fits_here (has_port (end_view r.end)) _ _ (λ e. taken_fits from _ free) (λ e. without_port_fits)) (λ e. nothing_fits))
+      (λ e. fits_here (has_port (end_view r.end)) _ _ (λ e. taken_fits from name o s is at free) (λ e. without_port_fits)) (λ e. nothing_fits))
       (λ e. nothing_fits)
-  write_in_fits from name o row free = nothing_fits
+  write_in_fits from name o s row is at free = nothing_fits
 
-  write_fits : (from : ℕ) (name : List ℕ) (o : Options) (live : Option TargetSession) → r.end.live ≡ None → FitsHere (write_decision (target_view accepts r) from name o live)
-  write_fits from name o None free = nothing_fits
-  write_fits from name o (Some s) free = write_in_fits from name o s.row free
+  write_fits : (from : ℕ) (name : List ℕ) (o : Options) (live : Option TargetSessionLog) → r.live ≡ live → r.end.live ≡ None → FitsHere (write_decision (target_view accepts r) from name o (session_view accepts r live))
+  write_fits from name o None is free = nothing_fits
+  write_fits from name o (Some s) is free = write_in_fits from name o s (seen_row accepts r.active.identity s) is refl free
 
   free_if : (live : Option Transfer) → r.end.live ≡ live → is_busy (end_view r.end) ≡ false → r.end.live ≡ None
   free_if None e free = e
@@ -233,7 +255,7 @@ module _ (accepts : HeaderView → Bool) (r : TargetReading) where
 
   request_fits : (from : ℕ) (p : PacketView) → FitsHere (request_decision (target_view accepts r) from p)
   request_fits from (Rrq name o) = read_fits from name o
-  request_fits from (Wrq name o) = fits_here (is_busy (end_view r.end)) _ _ (λ e. nothing_fits) (λ e. write_fits from name o (session_view accepts r r.live) (free_if r.end.live refl e))
+  request_fits from (Wrq name o) = fits_here (is_busy (end_view r.end)) _ _ (λ e. nothing_fits) (λ e. write_fits from name o r.live refl (free_if r.end.live refl e))
   request_fits from (Data k b) = nothing_fits
   request_fits from (Ack k) = nothing_fits
   request_fits from (Error code m) = nothing_fits
@@ -288,18 +310,40 @@ newest_stops r t one free = rw free one
 turned_on : (accepts : HeaderView → Bool) (id : Identity) (end : Reading) (s : TargetSessionLog) (moves : List Move) (move : RowMove) (more : List ℕ) (next : Move) → (h : HasTurned accepts id end s moves move more)
     → newest (reading_after sides.Target (after end moves) next).past ≡ h.ended ∷ [] → HasTurned accepts id end s (moves ++ next ∷ []) move more
 turned_on accepts id end s moves move more next h one =
-    record { ended = h.ended; is_newest = ap (λ (r : Reading). newest r.past) (after_more end moves next) ∙ one; arrived = h.arrived; comes_to = h.comes_to }
+    record { ended = h.ended; is_newest = ap (λ (r : Reading). newest r.past) (after_more end moves next) ∙ one; arrived = h.arrived; comes_to = h.comes_to; was_live = h.was_live }
+
+-- what a row asks for is of the row
+abbrev RoleFits : RowView → Option Role → Type 0
+RoleFits row None = Unit {0}
+RoleFits row (Some role) = IsOfView row role
+
+row_request_fits : (v : TargetView) (row : RowView) → RoleFits row (row_request v row)
+row_request_fits v Gives_lci = tt
+row_request_fits v Writes_lcs = tt
+row_request_fits v Writes_lcl = tt
+row_request_fits v Gives_lui = tt
+row_request_fits v Gives_denial = tt
+row_request_fits v Writes_ready = tt
+row_request_fits v Awaits_lur = tt
+row_request_fits v (Reads_file u) = refl
+row_request_fits v (Writes_progress u) = tt
+row_request_fits v (Writes_stop e) = tt
+row_request_fits v (Writes_completion e loads) = tt
+row_request_fits v Over = tt
 
 next_fits : (accepts : HeaderView → Bool) (id : Identity) (end : Reading) (s : TargetSessionLog) (moves : List Move) (move : RowMove) (more : List ℕ) (row : RowView) (role : Option Role) → EndsBy accepts id end s moves move more
-    → Fits accepts id end (Some s) (next_decision (end_view end) moves more move row role)
-next_fits accepts id end s moves move more row (Some role) e =
+    → turned_view accepts id end s move more ≡ row → RoleFits row role → Fits accepts id end (Some s) (next_decision (end_view end) moves more move row role)
+next_fits accepts id end s moves move more row (Some role) e at asked =
     fits_if accepts id end (Some s) (has_port (end_view end)) _ _
     (λ x. (
       turned_on accepts id end s moves move more (Asks role) e.turned (newest_asks (after end moves) e.turned.ended role e.turned.is_newest e.free),
       ap (λ (r : Reading). arriving_in r.live) (after_more end moves (Asks role)) ∙ nothing_arrived role,
+      subst (λ (r : Reading). LiveFits (turned_view accepts id end s move more) r.live) (sym (after_more end moves (Asks role))) (subst (λ (x : RowView). IsOfView x role) (sym at) asked),
     ))
     (λ x. turned_on accepts id end s moves move more Stops e.turned (newest_stops (after end moves) e.turned.ended e.turned.is_newest e.free))
-next_fits accepts id end s moves move more row None e = fits_if accepts id end (Some s) (is_over row) _ _ (λ x. tt) (λ x. (e.turned, ap arriving_in e.free))
+next_fits accepts id end s moves move more row None e at asked =
+    fits_if accepts id end (Some s) (is_over row) _ _ (λ x. tt)
+    (λ x. (e.turned, ap arriving_in e.free, subst (λ (live : Option Transfer). LiveFits (turned_view accepts id end s move more) live) (sym e.free) tt))
 
 -- ---- packets of the live transfer
 
@@ -340,17 +384,33 @@ module _ (joins : SumsJoin) (accepts : HeaderView → Bool) (first_port : ℕ) (
       (view_moved (row_view row) (with_bytes (arriving_of (row_view row) (arrived_of t)) bytes) (row_move accepts active.identity (row_view row) (transfer_end (error_by answer) (with_bytes (arriving_of (row_view row) (arrived_of t)) bytes))))
       (row_request (viewed accepts end (Some s) active reason) (view_moved (row_view row) (with_bytes (arriving_of (row_view row) (arrived_of t)) bytes) (row_move accepts active.identity (row_view row) (transfer_end (error_by answer) (with_bytes (arriving_of (row_view row) (arrived_of t)) bytes)))))
       (record {
-        turned = record { ended = with_packet t from p; is_newest = one; arrived = all; comes_to = move_same accepts active.identity (row_view row) _ _ _ _ (sym (error_with t p answer e live from)) all };
+        turned = record { ended = with_packet t from p; is_newest = one; arrived = all; comes_to = move_same accepts active.identity (row_view row) _ _ _ _ (sym (error_with t p answer e live from)) all; was_live = refl };
         free = free;
       })
+      refl (row_request_fits (viewed accepts end (Some s) active reason) _)
+
+  -- the live transfer keeps its role
+  unchanged_keeps : (t : Transfer) (peer : Option ℕ) (row : RowView) → LiveFits row (Some t) → LiveFits row (reading_unchanged (with_live (Some t)) t from p peer).live
+  unchanged_keeps t None row h = h
+  unchanged_keeps t (Some q) row h = h
+
+  answer_keeps : (t : Transfer) (answer : Answer) → is_ended_by answer ≡ false → (row : RowView) → LiveFits row (Some t) → LiveFits row (reading_answered sides.Target (with_live (Some t)) t from p answer).live
+  answer_keeps t Dropped going row h = unchanged_keeps t t.peer row h
+  answer_keeps t Again going row h = unchanged_keeps t t.peer row h
+  answer_keeps t (Grants o) going row h = h
+  answer_keeps t (TakesBlock b) going row h = h
+  answer_keeps t Proceeds going row h = h
+  answer_keeps t (TakesLast b) going row h = absurd cc
+  answer_keeps t Completes going row h = absurd cc
+  answer_keeps t (Fails code) going row h = absurd cc
 
   answered_fits : (t : Transfer) (answer : Answer) → end_answer (end_of t.role t.got) p ≡ answer → is_live (phase_of (end_in t)) ≡ true
       → Fits accepts active.identity (with_live (Some t)) (Some s) (answer_decision accepts (viewed accepts (with_live (Some t)) (Some s) active reason) (session (with_live (Some t))) (Hears from p ∷ []) answer)
-  answered_fits t Dropped e live = rw e (arriving_more sides.Target (with_live (Some t)) t from p Dropped refl e refl)
-  answered_fits t Again e live = rw e (arriving_more sides.Target (with_live (Some t)) t from p Again refl e refl)
-  answered_fits t (Grants o) e live = rw e (arriving_more sides.Target (with_live (Some t)) t from p (Grants o) refl e refl)
-  answered_fits t (TakesBlock b) e live = rw e (arriving_more sides.Target (with_live (Some t)) t from p (TakesBlock b) refl e refl ∙ ap (λ (x : List ℕ). arrived_of t ++ x) (append-nil b))
-  answered_fits t Proceeds e live = rw e (arriving_more sides.Target (with_live (Some t)) t from p Proceeds refl e refl)
+  answered_fits t Dropped e live = rw e (arriving_more sides.Target (with_live (Some t)) t from p Dropped refl e refl, answer_keeps t Dropped refl (seen_row accepts active.identity s))
+  answered_fits t Again e live = rw e (arriving_more sides.Target (with_live (Some t)) t from p Again refl e refl, answer_keeps t Again refl (seen_row accepts active.identity s))
+  answered_fits t (Grants o) e live = rw e (arriving_more sides.Target (with_live (Some t)) t from p (Grants o) refl e refl, answer_keeps t (Grants o) refl (seen_row accepts active.identity s))
+  answered_fits t (TakesBlock b) e live = rw e (arriving_more sides.Target (with_live (Some t)) t from p (TakesBlock b) refl e refl ∙ ap (λ (x : List ℕ). arrived_of t ++ x) (append-nil b), answer_keeps t (TakesBlock b) refl (seen_row accepts active.identity s))
+  answered_fits t Proceeds e live = rw e (arriving_more sides.Target (with_live (Some t)) t from p Proceeds refl e refl, answer_keeps t Proceeds refl (seen_row accepts active.identity s))
   answered_fits t (TakesLast b) e live = turn_fits t (TakesLast b) b e live (append-nil b) (rw e refl) (rw e refl)
   answered_fits t Completes e live = turn_fits t Completes [] e live refl (rw e refl) (rw e refl)
   answered_fits t (Fails code) e live = turn_fits t (Fails code) [] e live refl (rw e refl) (rw e refl)
@@ -363,7 +423,7 @@ module _ (joins : SumsJoin) (accepts : HeaderView → Bool) (first_port : ℕ) (
   recalled end false = refl
 
   recalls_fit : (end : Reading) (to : ℕ) → Fits accepts active.identity end (Some s) (doing (recalls (end_view end) to))
-  recalls_fit end to = same_fits accepts active.identity end (Some s) (recalls (end_view end) to) (ap (λ (r : Reading). arriving_in r.live) (recalled end (belongs (end_view end).kept from to)))
+  recalls_fit end to = stays_fits accepts active.identity end (Some s) (recalls (end_view end) to) (ap (λ (r : Reading). r.live) (recalled end (belongs (end_view end).kept from to)))
 
   heard_fits : (t : Transfer) (to : ℕ) (b : Bool) → is_live (phase_of (end_in t)) ≡ true
       → Fits accepts active.identity (with_live (Some t)) (Some s)
@@ -389,13 +449,13 @@ got_fits joins accepts r from to (Some p) live =
     fits_here accepts r (eqb to 59) _ _ (λ e. request_fits accepts r from p) (λ e. any_transfer_fits joins accepts r.end r.live r.active r.reason from to p live)
 
 tick_fits : (accepts : HeaderView → Bool) (id : Identity) (end : Reading) (live : Option TargetSessionLog) (session : Option TargetSession) → Fits accepts id end live (tick_decision (end_view end) session)
-tick_fits accepts id end live None = same_fits accepts id end live [] refl
-tick_fits accepts id end live (Some s) = fits_if accepts id end live (may_repeat (end_view end)) _ _ (λ e. same_fits accepts id end live (Repeats ∷ []) refl) (λ e. tt)
+tick_fits accepts id end live None = stays_fits accepts id end live [] refl
+tick_fits accepts id end live (Some s) = fits_if accepts id end live (may_repeat (end_view end)) _ _ (λ e. stays_fits accepts id end live (Repeats ∷ []) refl) (λ e. tt)
 
-decision_fits : SumsJoin → (accepts : HeaderView → Bool) (r : TargetReading) (e : Event) → IsLive r.end.live → Fits accepts r.active.identity r.end r.live (target_decision accepts (target_view accepts r) e)
+pub decision_fits : SumsJoin → (accepts : HeaderView → Bool) (r : TargetReading) (e : Event) → IsLive r.end.live → Fits accepts r.active.identity r.end r.live (target_decision accepts (target_view accepts r) e)
 decision_fits joins accepts r (Gets from to bytes) live = got_fits joins accepts r from to (packet_in bytes) live
 decision_fits joins accepts r Ticks live = tick_fits accepts r.active.identity r.end r.live (session_view accepts r r.live)
-decision_fits joins accepts r (Learns size) live = same_fits accepts r.active.identity r.end r.live (Asks_size size ∷ []) refl
+decision_fits joins accepts r (Learns size) live = stays_fits accepts r.active.identity r.end r.live (Asks_size size ∷ []) refl
 decision_fits joins accepts r (Starts_info hw pos) live = nothing_fits accepts r
 decision_fits joins accepts r (Starts_upload hw pos parts) live = nothing_fits accepts r
 

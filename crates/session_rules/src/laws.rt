@@ -1,9 +1,11 @@
 //! What holds of both sides and their logs. These functions do nothing; their clauses are the law.
 ghost use Rattle.session_rules.specs.Laws.{AllArePlaced, LoaderAcksWhatCame, LoaderFollows, LoaderTakesWhatCame, LogsCountUp, TargetAcksWhatCame, TargetFollows, TargetTakesWhatCame, TwoAtMost};
 ghost use Rattle.session_rules.specs.Soundness.{VerdictIsSound};
+ghost use Rattle.session_rules.specs.SoundLogs.{ChangesByVerdict};
 
 use crc_fields::check_sum_laws;
 use load_header::header_laws;
+use tftp_packet::packet_laws;
 
 /// What each end keeps is what is kept of its log, event by event, whatever bytes come from
 /// whatever ports. So what it posts, which follows from what it keeps, follows from the log.
@@ -21,6 +23,17 @@ pub fn a_good_verdict_is_sound()
 {
     check_sum_laws();
     header_laws();
+}
+
+/// Whatever comes to a target, what is active stays, or becomes the new configuration of a good
+/// verdict: one load for each that was asked for, made of exactly the files that were read, each
+/// good.
+pub fn the_configuration_changes_by_a_good_verdict()
+    ensures { ChangesByVerdict }
+{
+    check_sum_laws();
+    header_laws();
+    packet_laws();
 }
 
 /// Where datagrams go, how many at once, and from which ports they come.

@@ -125,7 +125,7 @@ kept_found : (log : List Event) (past : List Transfer) (t : TransferView) → se
 kept_found log [] t e all = absurd cc
 kept_found log (x ∷ past) t e (one, all) = kept_or_before log x (kept_in past) t (is_received (end_in x)) e one (λ f. kept_found log past t f all)
 
-past_all : (log : List Event) (past : List Transfer) (live : Option Transfer) → AllByRecursion (AllCame log) (past_with live past) → AllByRecursion (AllCame log) past
+pub past_all : (log : List Event) (past : List Transfer) (live : Option Transfer) → AllByRecursion (AllCame log) (past_with live past) → AllByRecursion (AllCame log) past
 past_all log past None all = all
 past_all log past (Some x) (one, all) = all
 

@@ -1,0 +1,125 @@
+-- Proofs that the configuration changes by good verdicts alone.
+use Rattle.std.proofs.Common.{◌≡◌, inl, ℕ, zero, suc, ◌-◌, Bool, true, false, cond, List, [], ◌∷◌, Option, Some, None, refl}
+use Rattle.std.specs.Prelude.{slice_get, ◌==◌}
+use Rattle.std.specs.List.{AllByRecursion}
+use Rattle.load_header.specs.Header.{HeaderView}
+use Rattle.exchange_trace.specs.declared.trace.Side.TheVariants as sides
+use Rattle.exchange_trace.specs.Happenings.{Booted, DatagramView, Delivered, Ended, HappeningView, Info_started, Injected, Lost, Power_cut, Size_told, Ticked, Upload_started, is_same_side}
+use Rattle.exchange_trace.specs.Logs.{Event, Life, Up, Down, Ticks, event_for, gets, noted as life_noted, reached as life_reached, target_life}
+use Rattle.exchange_trace.specs.Posts.{numbered, posted_in}
+use Rattle.exchange_trace.specs.Steps.{Boot_refused, Came_up, Note, Step, Went_down}
+use Rattle.accept_rules.specs.Permissions.{Permits}
+use Rattle.session_rules.specs.BufferLaws.{SumsJoin}
+use Rattle.session_rules.specs.SoundLogs.{EventIsBytes, LogIsBytes, SessionIsSound}
+use Rattle.session_rules.specs.SoundLogLaws.{PayloadsAreBytes, target_step_sound}
+use Rattle.session_rules.specs.SoundnessLaws.{HeadersAreSpelled}
+use Rattle.replay_rules.specs.BothEnds.{Is_down, Is_up, Setting, TargetState, come_up, gone_down, noted, reached, target_at}
+use Rattle.replay_rules.specs.CameTraceLaws.{target_takes}
+use Rattle.replay_rules.specs.CameTraces.{TargetTakes}
+use Rattle.replay_rules.specs.Changes.{AllCarryBytes, AllStayOrAreNew, CarriesBytes, ChangesAreNew, InjectsBytes, TargetStaysOrIsNew}
+use Rattle.replay_rules.specs.PlacedTraceLaws.{all_append}
+use Rattle.replay_rules.specs.TieLaws.{HasLive, target_is_live}
+
+-- ---- what reaches a side are bytes
+
+abbrev BringsBytes : Option Event → Type 0
+BringsBytes None = Unit {0}
+BringsBytes (Some e) = EventIsBytes e
+
+abbrev HasBytes : Option DatagramView → Type 0
+HasBytes None = Unit {0}
+HasBytes (Some d) = CarriesBytes d
+
+got_bytes : (d : Option DatagramView) → HasBytes d → BringsBytes (gets d)
+got_bytes None h = tt
+got_bytes (Some d) h = h
+
+member_bytes : (posted : List DatagramView) (n : ℕ) → AllByRecursion CarriesBytes posted → HasBytes (slice_get posted n)
+member_bytes [] n all = tt
+member_bytes (d ∷ posted) zero (one, all) = one
+member_bytes (d ∷ posted) (suc n) (one, all) = member_bytes posted n all
+
+numbered_bytes : (posted : List DatagramView) (n : ℕ) → AllByRecursion CarriesBytes posted → HasBytes (numbered posted n)
+numbered_bytes posted n all = by (n == 0)
+  where
+    by : (b : Bool) → HasBytes (cond b None (slice_get posted (n - 1)))
+    by true = tt
+    by false = member_bytes posted (n - 1) all
+
+bytes_if : (b : Bool) (x y : Option Event) → BringsBytes x → BringsBytes y → BringsBytes (cond b x y)
+bytes_if true x y p q = p
+bytes_if false x y p q = q
+
+event_bytes : (posted : List DatagramView) (h : HappeningView) → AllByRecursion CarriesBytes posted → InjectsBytes h → BringsBytes (event_for sides.Target posted h)
+event_bytes posted (Delivered to n) all given = bytes_if (is_same_side sides.Target to) (gets (numbered posted n)) None (got_bytes (numbered posted n) (numbered_bytes posted n all)) tt
+event_bytes posted (Injected d) all given = bytes_if (is_same_side sides.Target d.side) None (gets (Some d)) tt given
+event_bytes posted (Ticked whose) all given = bytes_if (is_same_side sides.Target whose) (Some Ticks) None tt tt
+event_bytes posted (Size_told size) all given = tt
+event_bytes posted (Info_started hw pos) all given = tt
+event_bytes posted (Upload_started hw pos parts) all given = tt
+event_bytes posted (Lost n) all given = tt
+event_bytes posted (Power_cut calls pick) all given = tt
+event_bytes posted Booted all given = tt
+event_bytes posted Ended all given = tt
+
+posted_bytes : (steps : List Step) → AllCarryBytes steps → AllByRecursion CarriesBytes (posted_in steps)
+posted_bytes [] all = tt
+posted_bytes (s ∷ earlier) ((posts, given), all) = all_append CarriesBytes (posted_in earlier) s.posts (posted_bytes earlier all) posts
+
+-- ---- the target's session is sound at every moment
+
+-- of a target that is up, with its log since then
+abbrev TargetIsSound : Setting → Life → TargetState → Type 0
+TargetIsSound set (Up first_port log) (Is_up r) = LogIsBytes log × SessionIsSound set.accepts r
+TargetIsSound set Down (Is_down active interrupted) = Unit {0}
+TargetIsSound set life state = ⊥
+
+gone_sound : (set : Setting) (before after : TargetState) → TargetIsSound set Down (gone_down before after)
+gone_sound set (Is_up r) (Is_up s) = tt
+gone_sound set (Is_up r) (Is_down active interrupted) = tt
+gone_sound set (Is_down active interrupted) after = tt
+
+come_sound : (set : Setting) (first_port sequence : ℕ) (state : TargetState) → TargetIsSound set Down state → TargetIsSound set (Up first_port []) (come_up first_port sequence state)
+come_sound set first_port sequence (Is_up r) h = absurd h
+come_sound set first_port sequence (Is_down active interrupted) h = (tt, tt)
+
+noted_sound : (set : Setting) (notes : List Note) (life : Life) (before after : TargetState) → TargetIsSound set life after → TargetIsSound set (life_noted notes life) (noted notes before after)
+noted_sound set [] life before after h = h
+noted_sound set (Went_down ∷ notes) life before after h = noted_sound set notes Down (gone_down before after) (gone_down before after) (gone_sound set before after)
+noted_sound set (Came_up first_port sequence ∷ notes) life before after h =
+    let up = come_up first_port sequence (gone_down before after) in
+    noted_sound set notes (Up first_port []) up up (come_sound set first_port sequence (gone_down before after) (gone_sound set before after))
+noted_sound set (Boot_refused fault ∷ notes) life before after h = noted_sound set notes Down (gone_down before after) (gone_down before after) (gone_sound set before after)
+
+module _ (joins : SumsJoin) (spells : HeadersAreSpelled) (payloads : PayloadsAreBytes) (set : Setting) (permits : (h : HeaderView) → set.accepts h ≡ true → Permits h) where
+  -- what one event makes of a target
+  abbrev Reached : Life → TargetState → Option Event → Type 0
+  Reached life state e = TargetIsSound set (life_reached e life) (reached set e state) × TargetStaysOrIsNew set state (reached set e state)
+
+  reached_sound : (life : Life) (state : TargetState) (e : Option Event) → BringsBytes e → TargetTakes life state → HasLive state → TargetIsSound set life state → Reached life state e
+  reached_sound (Up first_port log) (Is_up r) None bytes takes live (fit, sound) = ((fit, sound), inl refl)
+  reached_sound (Up first_port log) (Is_up r) (Some e) bytes (packets, blocks, last) live (fit, sound) =
+      let now = target_step_sound set.accepts joins spells permits payloads log r e (bytes, fit) packets live sound in
+      (((bytes, fit), now.0), now.1)
+  reached_sound (Up first_port log) (Is_down active interrupted) e bytes takes live sound = absurd sound
+  reached_sound Down (Is_up r) e bytes takes live sound = absurd sound
+  reached_sound Down (Is_down active interrupted) None bytes takes live sound = (tt, tt)
+  reached_sound Down (Is_down active interrupted) (Some e) bytes takes live sound = (tt, tt)
+
+  step_sound : (s : Step) (earlier : List Step) → AllCarryBytes (s ∷ earlier) → TargetIsSound set (target_life earlier) (target_at set earlier) → Reached (target_life earlier) (target_at set earlier) (event_for sides.Target (posted_in earlier) s.given)
+  step_sound s earlier ((posts, given), all) sound =
+      reached_sound (target_life earlier) (target_at set earlier) (event_for sides.Target (posted_in earlier) s.given) (event_bytes (posted_in earlier) s.given (posted_bytes earlier all) given)
+      (target_takes set earlier) (target_is_live joins set earlier) sound
+
+  target_sound : (steps : List Step) → AllCarryBytes steps → TargetIsSound set (target_life steps) (target_at set steps)
+  target_sound [] all = (tt, tt)
+  target_sound (s ∷ earlier) (now, all) =
+      let e = event_for sides.Target (posted_in earlier) s.given in
+      noted_sound set s.notes (life_reached e (target_life earlier)) (target_at set earlier) (reached set e (target_at set earlier)) (step_sound s earlier (now, all) (target_sound earlier all)).0
+
+  pub all_stay_or_are_new : (steps : List Step) → AllCarryBytes steps → AllStayOrAreNew set steps
+  all_stay_or_are_new [] all = tt
+  all_stay_or_are_new (s ∷ earlier) (now, all) = ((step_sound s earlier (now, all) (target_sound earlier all)).1, all_stay_or_are_new earlier all)
+
+pub changes_are_new : SumsJoin → HeadersAreSpelled → PayloadsAreBytes → ChangesAreNew
+changes_are_new joins spells payloads set steps permits all = all_stay_or_are_new joins spells payloads set permits steps all
