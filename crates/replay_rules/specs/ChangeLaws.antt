@@ -1,8 +1,11 @@
 -- Proofs that the configuration changes by good verdicts alone.
-use Rattle.std.proofs.Common.{◌≡◌, inl, ℕ, zero, suc, ◌-◌, Bool, true, false, cond, List, [], ◌∷◌, Option, Some, None, refl}
+use Rattle.std.proofs.Common.{◌∙◌, ap, sym, subst, inr, ◌≡◌, inl, ℕ, zero, suc, ◌-◌, Bool, true, false, cond, List, [], ◌∷◌, Option, Some, None, refl}
 use Rattle.std.specs.Prelude.{slice_get, ◌==◌}
 use Rattle.std.specs.List.{AllByRecursion}
+use Rattle.std.proofs.lemmas.Bool.{eq-eqb}
 use Rattle.load_header.specs.Header.{HeaderView}
+use Rattle.disk_layout.specs.declared.identity.Identity.{Identity}
+use Rattle.disk_layout.specs.Holds.{StandingView}
 use Rattle.exchange_trace.specs.declared.trace.Side.TheVariants as sides
 use Rattle.exchange_trace.specs.Happenings.{Booted, DatagramView, Delivered, Ended, HappeningView, Info_started, Injected, Lost, Power_cut, Size_told, Ticked, Upload_started, is_same_side}
 use Rattle.exchange_trace.specs.Logs.{Event, Life, Up, Down, Ticks, event_for, gets, noted as life_noted, reached as life_reached, target_life}
@@ -10,13 +13,16 @@ use Rattle.exchange_trace.specs.Posts.{numbered, posted_in}
 use Rattle.exchange_trace.specs.Steps.{Boot_refused, Came_up, Note, Step, Went_down}
 use Rattle.accept_rules.specs.Permissions.{Permits}
 use Rattle.session_rules.specs.BufferLaws.{SumsJoin}
-use Rattle.session_rules.specs.SoundLogs.{EventIsBytes, LogIsBytes, SessionIsSound}
+use Rattle.session_rules.specs.NewConfigs.{IsGoodLoad}
+use Rattle.session_rules.specs.SoundLogs.{EventIsBytes, LogIsBytes, SessionIsSound, StaysOrIsNew}
 use Rattle.session_rules.specs.SoundLogLaws.{PayloadsAreBytes, target_step_sound}
 use Rattle.session_rules.specs.SoundnessLaws.{HeadersAreSpelled}
-use Rattle.replay_rules.specs.BothEnds.{Is_down, Is_up, Setting, TargetState, come_up, gone_down, noted, reached, target_at}
+use Rattle.session_rules.specs.TargetLog.{TargetReading}
+use Rattle.replay_rules.specs.BothEnds.{Is_down, Is_up, Setting, TargetState, changed, come_up, gone_down, noted, reached, settled, target_at}
 use Rattle.replay_rules.specs.CameTraceLaws.{target_takes}
 use Rattle.replay_rules.specs.CameTraces.{TargetTakes}
-use Rattle.replay_rules.specs.Changes.{AllCarryBytes, AllStayOrAreNew, CarriesBytes, ChangesAreNew, InjectsBytes, TargetStaysOrIsNew}
+use Rattle.replay_rules.specs.Changes.{AllBroughtAreGood, AllCarryBytes, AllStayOrAreNew, AreGood, BroughtIsGood, CarriesBytes, ChangesAreNew, InjectsBytes, InstallsAreGood, TargetStaysOrIsNew}
+use Rattle.replay_rules.specs.Histories.{active_in}
 use Rattle.replay_rules.specs.PlacedTraceLaws.{all_append}
 use Rattle.replay_rules.specs.TieLaws.{HasLive, target_is_live}
 
@@ -123,3 +129,95 @@ module _ (joins : SumsJoin) (spells : HeadersAreSpelled) (payloads : PayloadsAre
 
 pub changes_are_new : SumsJoin → HeadersAreSpelled → PayloadsAreBytes → ChangesAreNew
 changes_are_new joins spells payloads set steps permits all = all_stay_or_are_new joins spells payloads set permits steps all
+
+-- ---- the target stays the same, and each installed load is good for it
+
+module _ (set : Setting) where
+  abbrev IsTarget : StandingView → Type 0
+  IsTarget s = s.identity ≡ set.start.identity
+
+  abbrev IsTargetIf : Option StandingView → Type 0
+  IsTargetIf None = Unit {0}
+  IsTargetIf (Some s) = IsTarget s
+
+  abbrev HasTarget : TargetState → Type 0
+  HasTarget (Is_up r) = IsTarget r.active
+  HasTarget (Is_down active interrupted) = IsTarget active × IsTargetIf interrupted
+
+  changed_target : (b : Bool) (after : StandingView) → IsTarget after → IsTargetIf (cond b None (Some after))
+  changed_target true after is = tt
+  changed_target false after is = is
+
+  gone_target : (before after : TargetState) → HasTarget before → HasTarget after → HasTarget (gone_down before after)
+  gone_target (Is_up r) (Is_up s) is then = (is, changed_target (r.active.sequence == s.active.sequence) s.active then)
+  gone_target (Is_up r) (Is_down active interrupted) is then = then
+  gone_target (Is_down active interrupted) after is then = is
+
+  settled_target : (sequence : ℕ) (active : StandingView) (interrupted : Option StandingView) → IsTarget active → IsTargetIf interrupted → IsTarget (settled sequence active interrupted)
+  settled_target sequence active None is then = is
+  settled_target sequence active (Some new) is then = by (sequence == new.sequence)
+    where
+      by : (b : Bool) → IsTarget (cond b new active)
+      by true = then
+      by false = is
+
+  come_target : (first_port sequence : ℕ) (state : TargetState) → HasTarget state → HasTarget (come_up first_port sequence state)
+  come_target first_port sequence (Is_up r) is = is
+  come_target first_port sequence (Is_down active interrupted) is = settled_target sequence active interrupted is.0 is.1
+
+  noted_target : (notes : List Note) (before after : TargetState) → HasTarget before → HasTarget after → HasTarget (noted notes before after)
+  noted_target [] before after is then = then
+  noted_target (Went_down ∷ notes) before after is then =
+      let down = gone_target before after is then in noted_target notes (gone_down before after) (gone_down before after) down down
+  noted_target (Came_up first_port sequence ∷ notes) before after is then =
+      let up = come_target first_port sequence (gone_down before after) (gone_target before after is then) in
+      noted_target notes (come_up first_port sequence (gone_down before after)) (come_up first_port sequence (gone_down before after)) up up
+  noted_target (Boot_refused fault ∷ notes) before after is then =
+      let down = gone_target before after is then in noted_target notes (gone_down before after) (gone_down before after) down down
+
+  new_target_is : (before after : TargetReading) → StaysOrIsNew set.accepts before after → IsTarget before.active → IsTarget after.active
+  new_target_is before after (inl same) is = ap (λ (s : StandingView). s.identity) same ∙ is
+  new_target_is before after (inr new) is = ap (λ (s : StandingView). s.identity) new.next ∙ is
+
+  reached_target : (e : Option Event) (state : TargetState) → TargetStaysOrIsNew set state (reached set e state) → HasTarget state → HasTarget (reached set e state)
+  reached_target None (Is_up r) change is = is
+  reached_target (Some e) (Is_up r) change is = new_target_is r _ change is
+  reached_target None (Is_down active interrupted) change is = is
+  reached_target (Some e) (Is_down active interrupted) change is = is
+
+  has_target : (steps : List Step) → AllStayOrAreNew set steps → HasTarget (target_at set steps)
+  has_target [] all = refl
+  has_target (s ∷ earlier) (change, all) =
+      let is = has_target earlier all in
+      noted_target s.notes (target_at set earlier) _ is (reached_target (event_for sides.Target (posted_in earlier) s.given) (target_at set earlier) change is)
+
+  -- what is brought
+  brought_if : (b : Bool) (after : StandingView) → (b ≡ false → AreGood set after.loads) → BroughtIsGood set (cond b None (Some after))
+  brought_if true after good = tt
+  brought_if false after good = good refl
+
+  same_sequence : (before after : StandingView) → after ≡ before → (before.sequence == after.sequence) ≡ true
+  same_sequence before after same = eq-eqb before.sequence after.sequence (sym (ap (λ (s : StandingView). s.sequence) same))
+
+  none_brought : (before after : StandingView) → after ≡ before → (before.sequence == after.sequence) ≡ false → AreGood set after.loads
+  none_brought before after same other = absurd (let wrong : true ≡ false = sym (same_sequence before after same) ∙ other in cc)
+
+  new_is_good : (before after : TargetReading) → StaysOrIsNew set.accepts before after → IsTarget before.active → BroughtIsGood set (changed before.active after.active)
+  new_is_good before after (inl same) is = brought_if (before.active.sequence == after.active.sequence) after.active (none_brought before.active after.active same)
+  new_is_good before after (inr new) is =
+      let good : AreGood set new.loads = subst (λ (id : Identity). AllByRecursion (IsGoodLoad (λ h. set.accepts h ≡ true) id) new.loads) is new.new.good in
+      brought_if (before.active.sequence == after.active.sequence) after.active (λ other. subst (λ (s : StandingView). AreGood set s.loads) (sym new.next) good)
+
+  brought_is_good : (e : Option Event) (state : TargetState) → TargetStaysOrIsNew set state (reached set e state) → HasTarget state → BroughtIsGood set (changed (active_in state) (active_in (reached set e state)))
+  brought_is_good None (Is_up r) change is = brought_if (r.active.sequence == r.active.sequence) r.active (none_brought r.active r.active refl)
+  brought_is_good (Some e) (Is_up r) change is = new_is_good r _ change is
+  brought_is_good None (Is_down active interrupted) change is = brought_if (active.sequence == active.sequence) active (none_brought active active refl)
+  brought_is_good (Some e) (Is_down active interrupted) change is = brought_if (active.sequence == active.sequence) active (none_brought active active refl)
+
+  all_brought_are_good : (steps : List Step) → AllStayOrAreNew set steps → AllBroughtAreGood set steps
+  all_brought_are_good [] all = tt
+  all_brought_are_good (s ∷ earlier) (change, all) =
+      (brought_is_good (event_for sides.Target (posted_in earlier) s.given) (target_at set earlier) change (has_target earlier all), all_brought_are_good earlier all)
+
+pub installs_are_good : SumsJoin → HeadersAreSpelled → PayloadsAreBytes → InstallsAreGood
+installs_are_good joins spells payloads set steps permits all = all_brought_are_good set steps (changes_are_new joins spells payloads set steps permits all)

@@ -1,15 +1,19 @@
 -- How the configuration changes in a run (docs/EXCHANGE.md, "Runs").
-use Rattle.std.specs.Prelude.{◌≡◌, List, [], ◌∷◌, true, ⊤}
+use Rattle.std.specs.Prelude.{◌≡◌, List, [], ◌∷◌, true, Option, Some, None, ⊤}
 use Rattle.std.specs.List.{AllByRecursion}
 use Rattle.field_grammar.specs.Grammar.{IsBytes}
+use Rattle.load_base.specs.Config.{LoadView}
 use Rattle.load_header.specs.Header.{HeaderView}
+use Rattle.disk_layout.specs.Holds.{StandingView}
 use Rattle.exchange_trace.specs.declared.trace.Side.TheVariants as sides
 use Rattle.exchange_trace.specs.Happenings.{DatagramView, HappeningView, Injected}
 use Rattle.exchange_trace.specs.Logs.{event_for}
 use Rattle.exchange_trace.specs.Posts.{posted_in}
 use Rattle.exchange_trace.specs.Steps.{Step}
 use Rattle.accept_rules.specs.Permissions.{Permits}
+use Rattle.session_rules.specs.NewConfigs.{IsGoodLoad}
 use Rattle.session_rules.specs.SoundLogs.{StaysOrIsNew}
+use Rattle.replay_rules.specs.Histories.{brings}
 use Rattle.replay_rules.specs.BothEnds.{Setting, TargetState, Is_up, reached, target_at}
 
 -- what datagrams carry are bytes
@@ -40,3 +44,21 @@ AllStayOrAreNew set (s ∷ earlier) =
 -- changes by good verdicts alone, under each interlock that accepts only what may be.
 abbrev pub ChangesAreNew : Type 0
 ChangesAreNew = (set : Setting) (steps : List Step) → ((h : HeaderView) → set.accepts h ≡ true → Permits h) → AllCarryBytes steps → AllStayOrAreNew set steps
+
+-- ---- what is installed is good
+
+abbrev pub AreGood : Setting → List LoadView → Type 0
+AreGood set loads = AllByRecursion (IsGoodLoad (λ h. set.accepts h ≡ true) set.start.identity) loads
+
+abbrev pub BroughtIsGood : Setting → Option StandingView → Type 0
+BroughtIsGood set None = ⊤
+BroughtIsGood set (Some s) = AreGood set s.loads
+
+-- the configuration that an install step brings is made of good loads, for the target of the run
+abbrev pub AllBroughtAreGood : Setting → List Step → Type 0
+AllBroughtAreGood set [] = ⊤
+AllBroughtAreGood set (s ∷ earlier) = BroughtIsGood set (brings set s earlier) × AllBroughtAreGood set earlier
+
+-- under the same premises
+abbrev pub InstallsAreGood : Type 0
+InstallsAreGood = (set : Setting) (steps : List Step) → ((h : HeaderView) → set.accepts h ≡ true → Permits h) → AllCarryBytes steps → AllBroughtAreGood set steps

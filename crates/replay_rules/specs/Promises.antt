@@ -3,7 +3,6 @@
 use Rattle.std.specs.Prelude.{◌≡◌, ◌⊎◌, ℕ, List, [], ◌∷◌, ◌++◌, map, true, false, Option, Some, None, Contains, ⊤}
 use Rattle.std.specs.List.{AllByRecursion}
 use Rattle.load_base.specs.Config.{LoadView}
-use Rattle.load_header.specs.Header.{HeaderView}
 use Rattle.load_protocol_files.specs.Lcl.{LclView}
 use Rattle.disk_model.specs.Image.{Image}
 use Rattle.disk_layout.specs.Holds.{StandingView, HoldsConfig, outline_of}
@@ -16,7 +15,7 @@ use Rattle.session_rules.specs.declared.outcome.SessionKind.{SessionKind}
 use Rattle.session_rules.specs.declared.outcome.SessionKind.TheVariants.{Upload}
 use Rattle.session_rules.specs.Reports.{lcl_of}
 use Rattle.session_rules.specs.Loader.{EndedSession}
-use Rattle.session_rules.specs.NewConfigs.{IsGoodLoad, AreOfMedia}
+use Rattle.session_rules.specs.NewConfigs.{AreOfMedia}
 use Rattle.session_rules.specs.TargetRows.{WholeRow, Writes_lcl}
 use Rattle.session_rules.specs.TargetLog.{TargetReading, TargetSessionLog, row_in}
 use Rattle.replay_rules.specs.BothEnds.{Setting, TargetState, Is_up, Is_down, loader_at, target_at, loader_waits}
@@ -41,23 +40,16 @@ pub record IsTrace (set : Setting) (steps : List Step) : Type 0 where
   pub due : AllDue set steps
   pub noted : AllNoted set steps
 
--- ---- what is installed is good
+-- ---- what is installed are the media set's files
 
-abbrev pub Accepts : Setting → HeaderView → Type 0
-Accepts set h = set.accepts h ≡ true
+abbrev pub BroughtIsOfMedia : Setting → Option StandingView → List Step → Type 0
+BroughtIsOfMedia set None steps = ⊤
+BroughtIsOfMedia set (Some s) steps = NothingInjected steps → AreOfMedia set.media s.loads
 
--- what a step brings is made of good loads, and without injection of the media set's files
-pub record IsSound (set : Setting) (steps : List Step) (s : StandingView) : Type 0 where
-  pub good : AllByRecursion (IsGoodLoad (Accepts set) set.start.identity) s.loads
-  pub media : NothingInjected steps → AreOfMedia set.media s.loads
-
-abbrev pub BroughtIsSound : Setting → Option StandingView → List Step → Type 0
-BroughtIsSound set None steps = ⊤
-BroughtIsSound set (Some s) steps = IsSound set steps s
-
-abbrev pub AllSound : Setting → List Step → Type 0
-AllSound set [] = ⊤
-AllSound set (s ∷ earlier) = BroughtIsSound set (brings set s earlier) (s ∷ earlier) × AllSound set earlier
+-- what a step brings, where nothing was injected
+abbrev pub AllOfMedia : Setting → List Step → Type 0
+AllOfMedia set [] = ⊤
+AllOfMedia set (s ∷ earlier) = BroughtIsOfMedia set (brings set s earlier) (s ∷ earlier) × AllOfMedia set earlier
 
 -- ---- a completed information session lists what was active
 

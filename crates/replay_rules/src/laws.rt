@@ -1,6 +1,6 @@
 //! What ties both ends to the trace. These functions do nothing; their clauses are the law.
 ghost use Rattle.replay_rules.specs.CameTraces.{BothTakeWhatCame, DueIsAcked};
-ghost use Rattle.replay_rules.specs.Changes.{ChangesAreNew};
+ghost use Rattle.replay_rules.specs.Changes.{ChangesAreNew, InstallsAreGood};
 ghost use Rattle.replay_rules.specs.PlacedTraces.{DueIsPlaced, DueIsTwoAtMost, PortsRise};
 ghost use Rattle.replay_rules.specs.Ties.{StepKeepsTie};
 
@@ -33,9 +33,10 @@ pub fn what_was_taken_came()
 
 /// Whatever is delivered, lost, repeated, reordered, delayed or injected in a run, and wherever
 /// power fails, the configuration changes by good verdicts alone: each is the new configuration of
-/// what its session asked for and read.
+/// what its session asked for and read, made of loads that are good for the target.
 pub fn the_configuration_changes_by_good_verdicts()
-    ensures { ChangesAreNew }
+    ensures changes { ChangesAreNew }
+    ensures good { InstallsAreGood }
 {
     check_sum_laws();
     header_laws();
