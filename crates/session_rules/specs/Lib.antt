@@ -24,3 +24,5 @@ pub mod HeardLaws
 pub mod AckLaws
 pub mod SoundLogs
 pub mod SoundLogLaws
+pub mod Sessions
+pub mod SessionLaws

@@ -1,5 +1,6 @@
 //! What holds of both sides and their logs. These functions do nothing; their clauses are the law.
 ghost use Rattle.session_rules.specs.Laws.{AllArePlaced, LoaderAcksWhatCame, LoaderFollows, LoaderTakesWhatCame, LogsCountUp, TargetAcksWhatCame, TargetFollows, TargetTakesWhatCame, TwoAtMost};
+ghost use Rattle.session_rules.specs.Sessions.{OneSessionAStart};
 ghost use Rattle.session_rules.specs.Soundness.{VerdictIsSound};
 ghost use Rattle.session_rules.specs.SoundLogs.{ChangesByVerdict};
 
@@ -55,4 +56,10 @@ pub fn what_was_taken_came()
 pub fn what_is_acknowledged_came()
     ensures loader { LoaderAcksWhatCame }
     ensures target { TargetAcksWhatCame }
+{}
+
+/// The loader has one session for each start, in the order of the starts: the newest is live, or
+/// over like all others.
+pub fn one_session_for_each_start()
+    ensures { OneSessionAStart }
 {}
