@@ -4,3 +4,5 @@ pub mod Links
 pub mod Mail
 pub mod Plans
 pub mod FailLink
+pub mod Followed
+pub mod FollowedLaws

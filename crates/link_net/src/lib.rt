@@ -4,6 +4,7 @@
 
 mod fail_link;
 mod given;
+pub mod laws;
 mod line;
 mod link;
 mod mail;
