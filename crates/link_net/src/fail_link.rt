@@ -9,8 +9,8 @@ use exchange_trace::{Datagram, Happening};
 use load_base::{FailingCalls, FaultCount, NoMemory};
 use std::alloc::Global;
 
-/// A link that follows a script, of which calls can be set to fail. A call that fails changes nothing of what it
-/// was posted, what it gave and what is left of its script.
+/// A link that follows a script, of which calls can be set to fail. A call that fails changes
+/// nothing of what it was posted, what it gave and what is left of its script.
 #[derive(Drop)]
 pub struct FailLink {
     inner: ScriptLink,

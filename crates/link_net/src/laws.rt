@@ -9,8 +9,8 @@ ghost use Rattle.exchange_trace.specs.Steps.{Note, Step, with_given, with_note, 
 ghost use Rattle.link_net.specs.Followed.{HasFollowed};
 ghost use Rattle.link_net.specs.Links.{Gives, LinkState, scene_of, with_posted};
 
-/// Who hands a link that follows a script all that the sides post, and tells it which of them wait, gets a trace
-/// that follows the script.
+/// Who hands a link that follows a script all that the sides post, and tells it which of them wait,
+/// gets a trace that follows the script.
 pub fn a_link_follows_its_script()
     ensures start { (waiting : Side → List Step → Bool) (script : List Line)
         → HasFollowed waiting script []

@@ -22,7 +22,8 @@ pub enum Line {
     Next(u32),
     /// The side's timer expires.
     Tick(Side),
-    /// Datagrams are delivered, and timers expire, until nothing is undelivered and neither side waits.
+    /// Datagrams are delivered, and timers expire, until nothing is undelivered and neither side
+    /// waits.
     Finish,
 }
 
@@ -51,7 +52,8 @@ pub fn is_passed_over(text: &[u8]) -> bool
 
 /// What the line of this number says, or the first fault in it.
 pub fn read_line(line: u64, text: &[u8]) -> Result<Line, ScriptFault>
-    ensures { line_result result ≡ scripts.words_said line (slice_split (λ byte. byte == 32) text.now) }
+    ensures { line_result result
+        ≡ scripts.words_said line (slice_split (λ byte. byte == 32) text.now) }
 {
     let (first, rest) = cut(text, b' ');
     match keyword_of(first) {
@@ -60,11 +62,13 @@ pub fn read_line(line: u64, text: &[u8]) -> Result<Line, ScriptFault>
     }
 }
 
-// What the words behind a keyword say. What happens at some lines isn't built yet: they are refused.
+// What the words behind a keyword say. What happens at some lines isn't built yet: they are
+// refused.
 #[tactic(auto, using(crate::proofs::Parts::give_words, crate::proofs::Parts::lose_words, crate::proofs::Parts::next_words))]
 fn line_of(line: u64, keyword: Keyword, rest: Option<&[u8]>) -> Result<Line, ScriptFault>
     ensures { line_result result
-        ≡ scripts.by_keyword line (Some (keyword_view keyword)) (words_of (option_copied rest.entry)) }
+        ≡ scripts.by_keyword line (Some (keyword_view keyword))
+        (words_of (option_copied rest.entry)) }
 {
     match keyword {
         Keyword::Info => info_of(line, rest),
@@ -81,7 +85,8 @@ fn line_of(line: u64, keyword: Keyword, rest: Option<&[u8]>) -> Result<Line, Scr
 
 #[tactic(auto, using(crate::proofs::Parts::info_words))]
 fn info_of(line: u64, rest: Option<&[u8]>) -> Result<Line, ScriptFault>
-    ensures { line_result result ≡ scripts.line_said line scripts.info (words_of (option_copied rest.entry)) }
+    ensures { line_result result
+        ≡ scripts.line_said line scripts.info (words_of (option_copied rest.entry)) }
 {
     let Some((hw, pos)) = only_two_in(rest) else {
         return Err(ScriptFault::Word(line));
@@ -111,7 +116,8 @@ fn count_of(line: u64, rest: Option<&[u8]>) -> Result<u32, ScriptFault>
 
 #[tactic(auto, using(crate::proofs::Parts::tick_words))]
 fn tick_of(line: u64, rest: Option<&[u8]>) -> Result<Line, ScriptFault>
-    ensures { line_result result ≡ scripts.line_said line scripts.tick (words_of (option_copied rest.entry)) }
+    ensures { line_result result
+        ≡ scripts.line_said line scripts.tick (words_of (option_copied rest.entry)) }
 {
     match only_word_in(rest) {
         Some(word) => Ok(Line::Tick(side_in(line, word)?)),
@@ -133,7 +139,8 @@ fn side_in(line: u64, word: &[u8]) -> Result<Side, ScriptFault>
 
 #[tactic(auto, using(crate::proofs::Parts::finish_words))]
 fn finish_of(line: u64, rest: Option<&[u8]>) -> Result<Line, ScriptFault>
-    ensures { line_result result ≡ scripts.line_said line scripts.finish (words_of (option_copied rest.entry)) }
+    ensures { line_result result
+        ≡ scripts.line_said line scripts.finish (words_of (option_copied rest.entry)) }
 {
     match rest {
         Some(_) => Err(ScriptFault::Word(line)),

@@ -14,8 +14,8 @@ pub enum LinkFault {
     Memory,
 }
 
-/// A link between loader and target, which may deliver datagrams in any order, again and again, or lose
-/// them. It delivers to a side only what was posted to it (docs/EXCHANGE.md, "Links").
+/// A link between loader and target, which may deliver datagrams in any order, again and again, or
+/// lose them. It delivers to a side only what was posted to it (docs/EXCHANGE.md, "Links").
 pub trait Link {
     ghost use Rattle.link_net.specs.Links.{LinkState};
 
@@ -32,7 +32,8 @@ pub trait Link {
         ensures err { OnErr result (state self.new ≡ state self.old) }
         ensures cause { HasLinkCause (faults self.old) (faults self.new) result };
 
-    /// What happens next, where these sides have a live session. A call that is refused changes nothing.
+    /// What happens next, where these sides have a live session. A call that is refused changes
+    /// nothing.
     fn next(&mut self, loader_waits: bool, target_waits: bool) -> Result<Happening, LinkFault>
         ensures ok { IfOk result (λ happening. Gives (state self.old) (state self.new)
             (scene_of (state self.old) loader_waits target_waits) (happening_view happening)) }

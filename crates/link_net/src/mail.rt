@@ -23,8 +23,8 @@ pub enum Fate {
     Delivered,
 }
 
-/// The datagrams that were posted, with what became of each, and all that was given. The least undelivered one
-/// is found without a search from the start.
+/// The datagrams that were posted, with what became of each, and all that was given. The least
+/// undelivered one is found without a search from the start.
 #[derive(Drop)]
 pub struct Mail {
     datagrams: List<Datagram>,

@@ -1,5 +1,5 @@
 //! Scripts as they are read.
-ghost use Rattle.std.specs.Prelude.{◌≡◌, ◌⊎◌, ◌≤◌, length, Ok, Err, IfOk, IfErr, OnOk};
+ghost use Rattle.std.specs.Prelude.{◌≡◌, ◌⊎◌, ◌≤◌, length, Ok, Err, IsOk, IsErr, IfOk, IfErr, OnOk};
 ghost use Rattle.exchange_trace.specs.declared.fault.ScriptFault.TheVariants.{Memory};
 ghost use Rattle.exchange_trace.specs.Scripts.{script_said, lines_said, written_lines};
 ghost use Rattle.link_net.specs.Lines.{line_views};
@@ -34,29 +34,36 @@ impl Model for Script {
 }
 
 impl Script {
-    /// Reads a whole text as a script. A text of more than 1,000,000 bytes is refused first, and then the first
-    /// line that is wrong.
+    /// Reads a whole text as a script. A text of more than 1,000,000 bytes is refused first, and
+    /// then the first line that is wrong.
     #[tactic(auto, unfolding(exchange_trace::specs::Scripts::script_said))]
     pub fn read(alloc: Global, bytes: &[u8]) -> Result<Script, ScriptFault>
         // What is read is what the text says.
         ensures found { IfOk result (λ script. script_said bytes.now ≡ Ok script) }
         // A refusal is the text's first fault, or out of memory.
-        ensures refused { IfErr result (λ fault. (fault ≡ Memory) ⊎ (script_said bytes.now ≡ Err fault)) }
+        ensures refused { IfErr result (λ fault. (fault ≡ Memory)
+            ⊎ (script_said bytes.now ≡ Err fault)) }
+        // So what the text says is read, unless it is out of memory, and a text with a fault isn't.
+        ensures only { IsOk (script_said bytes.now) → IfErr result (λ fault. fault ≡ Memory) }
+        ensures faulty { IsErr (script_said bytes.now) → IsErr result }
     {
         if bytes.len() > LONGEST_SCRIPT {
             return Err(ScriptFault::TooLong);
         }
-        Ok(Script {
-            lines: read_lines(alloc, bytes)?,
-        })
+        match read_lines(alloc, bytes) {
+            Ok(lines) => Ok(Script { lines }),
+            Err(fault) => Err(fault),
+        }
     }
 }
 
 // The lines of a text.
 fn read_lines(alloc: Global, bytes: &[u8]) -> Result<List<Line>, ScriptFault>
     requires { length bytes.now ≤ 1000000 }
-    ensures found { IfOk result (λ lines. lines_said (written_lines bytes.now) ≡ Ok (line_views lines.items)) }
-    ensures refused { IfErr result (λ fault. (fault ≡ Memory) ⊎ (lines_said (written_lines bytes.now) ≡ Err fault)) }
+    ensures found { IfOk result (λ lines. lines_said (written_lines bytes.now)
+        ≡ Ok (line_views lines.items)) }
+    ensures refused { IfErr result (λ fault. (fault ≡ Memory)
+        ⊎ (lines_said (written_lines bytes.now) ≡ Err fault)) }
 {
     let mut lines = List::new(alloc);
     let mut number = 1;

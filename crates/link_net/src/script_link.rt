@@ -14,9 +14,9 @@ use load_base::List;
 use std::alloc::Global;
 use std::marker::Model;
 
-/// A link on which happens what a script says (docs/FORMATS.md, "Script"). It never fails. A call costs the same
-/// whatever came before it, but for the lines that give nothing, each of which is passed once, and the datagrams
-/// that aren't undelivered any more, which are too.
+/// A link on which happens what a script says (docs/FORMATS.md, "Script"). It never fails. A call
+/// costs the same whatever came before it, but for the lines that give nothing, each of which is
+/// passed once, and the datagrams that aren't undelivered any more, which are too.
 #[derive(Drop)]
 pub struct ScriptLink {
     mail: Mail,

@@ -90,8 +90,8 @@ fn a_script_has_a_million_bytes_at_most(rt: HostRuntime) {
     }
 }
 
-// What a link is asked, a letter each: `l` and `t`, the loader or the target posts a datagram; `n`, `L`, `T` and
-// `B`, what happens next, where no side waits, the loader, the target or both.
+// What a link is asked, a letter each: `l` and `t`, the loader or the target posts a datagram; `n`,
+// `L`, `T` and `B`, what happens next, where no side waits, the loader, the target or both.
 fn asked<L: Link>(alloc: Global, link: &mut L, asked: &[u8]) -> Result<Bytes, LinkFault> {
     let mut given = Bytes::new(alloc);
     for letter in asked {
@@ -122,8 +122,8 @@ fn datagram(alloc: Global, from_side: Side) -> Datagram {
     }
 }
 
-// A happening as two characters: `l` or `t` and the number of the datagram that goes there, `x` and that of one
-// that is lost, `tl` and `tt` for ticks.
+// A happening as two characters: `l` or `t` and the number of the datagram that goes there, `x` and
+// that of one that is lost, `tl` and `tt` for ticks.
 fn shown(happening: &Happening) -> [u8; 2] {
     match happening {
         Happening::ToLoader(number) => [b'l', digit(*number)],
@@ -167,7 +167,8 @@ fn scripts_are_followed(rt: HostRuntime) {
             &b"BlBtBlBtBlBtBlBtBlBtBlBn"[..],
             &b"sit1l2t3l4t5l6t7l8t9l:t;.."[..],
         ),
-        // A datagram is delivered a second time, after it was lost too, but not lost once it was delivered.
+        // A datagram is delivered a second time, after it was lost too, but not lost once it was
+        // delivered.
         (
             b"lose 1\ngive 1\ngive 1\nlose 1\ngive 2\n",
             b"lnnnnn",
