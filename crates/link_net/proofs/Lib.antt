@@ -1,0 +1,6 @@
+pub mod Digits
+pub mod Fates
+pub mod Gives
+pub mod Parts
+pub mod Readings
+pub mod Turns

@@ -1,0 +1,8 @@
+pub mod Lines
+pub mod Reading
+pub mod Links
+pub mod Mail
+pub mod Plans
+pub mod FailLink
+pub mod Followed
+pub mod FollowedLaws

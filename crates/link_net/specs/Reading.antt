@@ -1,0 +1,91 @@
+-- How a script is read, line by line and word by word (docs/FORMATS.md, "Script").
+use Rattle.std.specs.Prelude.{ℕ, List, [], ◌∷◌, ◌++◌, ◌==◌, Option, Some, None, Result, Ok, Err, if◌then◌else◌}
+use Rattle.std.specs.List.{slice_split}
+use Rattle.exchange_trace.specs.Lines as spec
+use Rattle.exchange_trace.specs.Scripts as scripts
+use Rattle.exchange_trace.specs.declared.fault.ScriptFault.{ScriptFault}
+use Rattle.exchange_trace.specs.declared.fault.ScriptFault.TheVariants.{Word}
+use Rattle.link_net.specs.declared.line.Keyword.{Keyword}
+use Rattle.link_net.specs.declared.line.Keyword.TheVariants as keywords
+use Rattle.link_net.specs.declared.line.Line.{Line}
+use Rattle.link_net.specs.Lines.{line_view}
+
+-- the parts of what is left of a text that is cut at each such byte; nothing is left behind the last part
+abbrev pub parts_of : ℕ → Option (List ℕ) → List (List ℕ)
+parts_of separator None = []
+parts_of separator (Some text) = slice_split (λ byte. byte == separator) text
+
+-- the words that are left of a line
+abbrev pub words_of : Option (List ℕ) → List (List ℕ)
+words_of text = parts_of 32 text
+
+-- the only word, or the only two
+abbrev pub only_word : List (List ℕ) → Option (List ℕ)
+only_word (word ∷ []) = Some word
+only_word words = None
+
+abbrev pub only_two : List (List ℕ) → Option (List ℕ × List ℕ)
+only_two (first ∷ second ∷ []) = Some (first, second)
+only_two words = None
+
+abbrev pub keyword_view : Keyword → scripts.Keyword
+keyword_view keywords.Info = scripts.info
+keyword_view keywords.Upload = scripts.upload
+keyword_view keywords.Give = scripts.give
+keyword_view keywords.Lose = scripts.lose
+keyword_view keywords.Next = scripts.next
+keyword_view keywords.Tick = scripts.tick
+keyword_view keywords.Inject = scripts.inject
+keyword_view keywords.Power = scripts.power
+keyword_view keywords.Boot = scripts.boot
+keyword_view keywords.Blksize = scripts.blksize
+keyword_view keywords.Finish = scripts.finish
+
+-- the line that was read, or why it is none
+abbrev pub line_result : Result Line ScriptFault → Result spec.Line ScriptFault
+line_result (Ok line) = Ok (line_view line)
+line_result (Err fault) = Err fault
+
+-- what lines say
+abbrev pub Said : Type 0
+Said = Result (List spec.Line) ScriptFault
+
+-- these lines, and then what later ones say
+abbrev pub and_later : List spec.Line → Said → Said
+and_later lines (Ok later) = Ok (lines ++ later)
+and_later lines (Err fault) = Err fault
+
+-- a line, and then what later ones say
+abbrev pub line_then : Result spec.Line ScriptFault → Said → Said
+line_then (Ok line) later = and_later (line ∷ []) later
+line_then (Err fault) later = Err fault
+
+-- what a line says, unless it is passed over, and then what later ones say
+abbrev pub and_said : (number : ℕ) → List ℕ → Said → Said
+and_said number text later =
+    if scripts.is_passed_over text then later
+    else line_then (scripts.words_said number (slice_split (λ byte. byte == 32) text)) later
+
+-- what lines from this one on say, where this is left of the text
+abbrev pub lines_left : (number : ℕ) → Option (List ℕ) → Said
+lines_left number text = scripts.lines_said (scripts.written_from number (parts_of 10 text))
+
+-- ---- what the words behind a keyword say, by how many they are
+
+abbrev pub info_of : (line : ℕ) → Option (List ℕ × List ℕ) → Result spec.Line ScriptFault
+info_of line None = Err (Word line)
+info_of line (Some words) = scripts.line_said line scripts.info (words.0 ∷ words.1 ∷ [])
+
+abbrev pub tick_of : (line : ℕ) → Option (List ℕ) → Result spec.Line ScriptFault
+tick_of line None = Err (Word line)
+tick_of line (Some word) = scripts.line_said line scripts.tick (word ∷ [])
+
+-- the number that the only word writes
+abbrev pub count_of : (line : ℕ) → Option (List ℕ) → Result ℕ ScriptFault
+count_of line None = Err (Word line)
+count_of line (Some word) = scripts.count_word line word
+
+-- the line with a number
+abbrev pub with_count : (ℕ → spec.Line) → Result ℕ ScriptFault → Result spec.Line ScriptFault
+with_count line (Ok count) = Ok (line count)
+with_count line (Err fault) = Err fault

@@ -1,0 +1,200 @@
+//! The datagrams that a link was posted, and what became of them.
+ghost use Rattle.std.specs.Prelude.{◌≡◌, ◌≢◌, ◌↔◌, ◌+◌, ◌<◌, ◌≤◌, ◌∷◌, ◌++◌, [], ℕ, length, Bool, IsTrue, option_map, IfSome, OnSome, OnOk, OnErr};
+ghost use Rattle.std.specs.List.{slice_index_or};
+ghost use Rattle.exchange_trace.specs.Happenings.{datagram_view, other as other_side};
+ghost use Rattle.exchange_trace.specs.Following.{delivery as delivery_of, least_delivery, loss as loss_of};
+ghost use Rattle.exchange_trace.specs.Posts.{numbered};
+ghost use Rattle.link_net.specs.declared.mail.Fate.TheVariants.{Undelivered};
+ghost use Rattle.link_net.specs.Mail.{NamesPosted, after_loss, fates_after, given_view, scene_in, with_given};
+
+use crate::given::Given;
+use exchange_trace::{Datagram, Side};
+use load_base::{List, NoMemory};
+use std::alloc::Global;
+use std::marker::Model;
+
+/// What became of a datagram.
+#[derive(Clone, Copy)]
+pub enum Fate {
+    Undelivered,
+    /// It was lost, and not delivered.
+    Lost,
+    /// It was delivered once at least.
+    Delivered,
+}
+
+/// The datagrams that were posted, with what became of each, and all that was given. The least
+/// undelivered one is found without a search from the start.
+#[derive(Drop)]
+pub struct Mail {
+    datagrams: List<Datagram>,
+    fates: Vec<Fate>,
+    /// No datagram before this index is undelivered.
+    least: usize,
+    given: List<Given>,
+}
+
+impl Model for Mail {
+    ghost use Rattle.std.specs.Prelude.{length, map, reverse};
+    ghost use Rattle.exchange_trace.specs.Happenings.{datagram_view};
+    ghost use Rattle.link_net.specs.Mail.{IsKept, MailView, given_view};
+
+    ghost Value = { MailView };
+
+    ghost view = { λ mail. record {
+      posted = map datagram_view mail.datagrams.items;
+      given = reverse (map given_view mail.given.items);
+    } };
+
+    ghost invariant = { λ mail. IsKept (length mail.datagrams.items) mail.fates.items mail.least
+        (reverse (map given_view mail.given.items)) };
+}
+
+impl Mail {
+    /// Nothing was posted, and nothing given.
+    pub fn new(alloc: Global) -> Mail
+        ensures { result ≡ record { posted = []; given = [] } }
+    {
+        Mail {
+            datagrams: List::new(alloc),
+            fates: Vec::new(alloc),
+            least: 0,
+            given: List::new(alloc),
+        }
+    }
+
+    /// Takes a datagram, or nothing.
+    pub fn post(&mut self, datagram: Datagram) -> Result<(), NoMemory>
+        ensures ok { OnOk result (self.new ≡ record {
+          posted = self.old.posted ++ datagram_view datagram ∷ [];
+          given = self.old.given;
+        }) }
+        ensures err { OnErr result (self.new ≡ self.old) }
+    {
+        self.fates.reserve(1)?;
+        self.datagrams.push(datagram)?;
+        self.fates.push_reserved(Fate::Undelivered);
+        Ok(())
+    }
+
+    /// The delivery of the datagram of this number, if it was posted.
+    pub fn delivery(&self, number: u64) -> Option<Given>
+        ensures value { (loader target : Bool) → option_map given_view result
+            ≡ delivery_of (scene_in self.now loader target) number }
+        ensures named { IfSome result
+            (λ given. NamesPosted (length self.now.posted) (given_view given)) }
+    {
+        let side = self.side_of(number)?;
+        Some(Given::Delivered(other(side), number))
+    }
+
+    /// The loss of the datagram of this number, if it was posted and not delivered.
+    pub fn loss(&self, number: u64) -> Option<Given>
+        ensures value { (loader target : Bool) → option_map given_view result
+            ≡ loss_of (scene_in self.now loader target) number }
+        ensures named { IfSome result
+            (λ given. NamesPosted (length self.now.posted) (given_view given)) }
+    {
+        self.side_of(number)?;
+        match self.fates[number as usize - 1] {
+            Fate::Delivered => None,
+            Fate::Undelivered | Fate::Lost => Some(Given::Lost(number)),
+        }
+    }
+
+    /// The delivery of the undelivered datagram with the least number, if there is one.
+    pub fn least_delivery(&mut self) -> Option<Given>
+        ensures value { (loader target : Bool) → option_map given_view result
+            ≡ least_delivery (scene_in self.old loader target) }
+        ensures named { IfSome result
+            (λ given. NamesPosted (length self.old.posted) (given_view given)) }
+        ensures same { self.new ≡ self.old }
+    {
+        self.least = next_undelivered(self.fates.as_slice(), self.least);
+        if self.least == self.fates.len() {
+            return None;
+        }
+        self.delivery(self.least as u64 + 1)
+    }
+
+    /// Keeps what is given, or nothing.
+    pub fn give(&mut self, given: Given) -> Result<(), NoMemory>
+        requires { NamesPosted (length self.old.posted) (given_view given) }
+        ensures ok { OnOk result (self.new ≡ with_given self.old (given_view given)) }
+        ensures err { OnErr result (self.new ≡ self.old) }
+    {
+        self.given.reserve(1)?;
+        mark(&mut self.fates, &given);
+        self.given.push(given)
+    }
+
+    // The side that posted the datagram of this number.
+    fn side_of(&self, number: u64) -> Option<Side>
+        ensures side { result ≡ option_map (λ d. d.side) (numbered self.now.posted number) }
+        ensures within { OnSome result ((1 ≤ number) × (number ≤ length self.now.posted)) }
+    {
+        let index = (number as usize).checked_sub(1)?;
+        match self.datagrams.as_slice().get(index) {
+            Some(datagram) => Some(datagram.from_side),
+            None => None,
+        }
+    }
+}
+
+// The fates after a happening.
+fn mark(fates: &mut Vec<Fate>, given: &Given)
+    requires { NamesPosted (length fates.old.items) (given_view given.now) }
+    ensures { fates.new.items ≡ fates_after fates.old.items (given_view given.now) }
+{
+    match given {
+        Given::Delivered(_, number) => fates[*number as usize - 1] = Fate::Delivered,
+        Given::Lost(number) => {
+            let index = *number as usize - 1;
+            fates[index] = lost(fates[index]);
+        }
+        Given::Ticked(_) | Given::Info { .. } | Given::Ended => {}
+    }
+}
+
+// The fate of a datagram that is lost.
+fn lost(fate: Fate) -> Fate
+    ensures { result ≡ after_loss fate }
+{
+    match fate {
+        Fate::Undelivered | Fate::Lost => Fate::Lost,
+        Fate::Delivered => Fate::Delivered,
+    }
+}
+
+// The index of the first undelivered datagram from this one on, or how many there are.
+fn next_undelivered(fates: &[Fate], from: usize) -> usize
+    requires { from ≤ length fates.now }
+    ensures later { from ≤ result }
+    ensures within { result ≤ length fates.now }
+    ensures passed { (k : ℕ) → from ≤ k → k < result
+        → slice_index_or fates.now k Undelivered ≢ Undelivered }
+    ensures found { result < length fates.now
+        → slice_index_or fates.now result Undelivered ≡ Undelivered }
+{
+    let mut at = from;
+    while at < fates.len() && !is_undelivered(fates[at]) {
+        at += 1;
+    }
+    at
+}
+
+fn is_undelivered(fate: Fate) -> bool
+    ensures { IsTrue result ↔ (fate ≡ Undelivered) }
+{
+    matches!(fate, Fate::Undelivered)
+}
+
+/// The other side.
+pub fn other(side: Side) -> Side
+    ensures { result ≡ other_side side }
+{
+    match side {
+        Side::Loader => Side::Target,
+        Side::Target => Side::Loader,
+    }
+}
