@@ -3,6 +3,7 @@
 #![tactic(auto)]
 
 pub mod bitwise;
+mod entries;
 mod running;
 mod table_16;
 mod table_32;
