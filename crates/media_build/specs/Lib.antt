@@ -1,0 +1,4 @@
+pub mod Lines
+pub mod Recipes
+pub mod Partials
+pub mod FaultTexts
