@@ -2,3 +2,5 @@ pub mod Lines
 pub mod Recipes
 pub mod Partials
 pub mod FaultTexts
+pub mod HostWrites
+pub mod Generator
