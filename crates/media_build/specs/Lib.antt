@@ -4,3 +4,5 @@ pub mod Partials
 pub mod FaultTexts
 pub mod HostWrites
 pub mod Generator
+pub mod RecipeSets
+pub mod WorkedSet

@@ -18,6 +18,7 @@ mod statements;
 #[cfg(test)]
 mod tests;
 mod words;
+pub mod worked;
 mod writing;
 
 pub use fault::RecipeFault;
