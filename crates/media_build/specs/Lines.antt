@@ -1,0 +1,120 @@
+-- The lines of a recipe: their keywords, where they may stand, and what those before a line have in them
+-- (docs/FORMATS.md, "Recipe").
+use Rattle.std.specs.Prelude.{ℕ, List, [], ◌∷◌, length, codes, reverse, filter, Bool, true, false, not, ◌==◌, nat_le, Option, Some, None, if◌then◌else◌}
+use Rattle.std.specs.List.{flat_map, list_any, take_while, slice_split}
+use Rattle.load_base.specs.Bytes.{same_bytes}
+use Rattle.media_build.specs.declared.keywords.Keyword.{Keyword}
+use Rattle.media_build.specs.declared.keywords.Keyword.TheVariants as keywords
+use Rattle.media_build.specs.declared.statements.RecipeLine.{RecipeLine}
+use Rattle.media_build.specs.declared.statements.Statement.{Statement}
+use Rattle.media_build.specs.declared.statements.Statement.TheVariants.{Members, Load, Data, Support, User}
+
+-- ---- keywords
+
+-- the keyword that a word is
+unfoldable pub keyword_of : List ℕ → Option Keyword
+keyword_of word =
+    if same_bytes word (codes "set") then Some keywords.Set
+    else if same_bytes word (codes "members") then Some keywords.Members
+    else if same_bytes word (codes "load") then Some keywords.Load
+    else if same_bytes word (codes "hardware") then Some keywords.Hardware
+    else if same_bytes word (codes "position") then Some keywords.Position
+    else if same_bytes word (codes "data") then Some keywords.Data
+    else if same_bytes word (codes "support") then Some keywords.Support
+    else if same_bytes word (codes "user") then Some keywords.User
+    else None
+
+-- A line may stand after so many others: `set` first, `members` second, a load third, and from the fourth line on a
+-- load or a line of the load before it.
+unfoldable pub may_stand : (before : ℕ) → Keyword → Bool
+may_stand before keywords.Set = before == 0
+may_stand before keywords.Members = before == 1
+may_stand before keywords.Load = nat_le 2 before
+may_stand before keyword = nat_le 3 before
+
+-- ---- words
+
+-- what stands between separators, where something is left
+abbrev pub pieces_left : (separator : ℕ) → Option (List ℕ) → List (List ℕ)
+pieces_left separator (Some rest) = slice_split (λ byte. byte == separator) rest
+pieces_left separator None = []
+
+-- the words, where there are as many
+abbrev pub one_of : List (List ℕ) → Option (List ℕ)
+one_of (a ∷ []) = Some a
+one_of words = None
+
+abbrev pub two_of : List (List ℕ) → Option (List ℕ × List ℕ)
+two_of (a ∷ b ∷ []) = Some (a, b)
+two_of words = None
+
+abbrev pub four_of : List (List ℕ) → Option (List ℕ × List ℕ × List ℕ × List ℕ)
+four_of (a ∷ b ∷ c ∷ d ∷ []) = Some (a, b, c, d)
+four_of words = None
+
+-- five, of which the first stands alone
+abbrev pub five_of : List (List ℕ) → Option (List ℕ × (List ℕ × List ℕ × List ℕ × List ℕ))
+five_of (a ∷ b ∷ c ∷ d ∷ e ∷ []) = Some (a, (b, c, d, e))
+five_of words = None
+
+-- ---- the lines before a line
+
+abbrev pub is_load : Statement → Bool
+is_load (Load load) = true
+is_load statement = false
+
+-- a data or support file
+abbrev pub is_file : Statement → Bool
+is_file (Data file) = true
+is_file (Support file) = true
+is_file statement = false
+
+abbrev pub is_user : Statement → Bool
+is_user (User bytes) = true
+is_user statement = false
+
+-- the name that a line gives to a file
+abbrev pub names_in : Statement → List (List ℕ)
+names_in (Load load) = load.name ∷ []
+names_in (Data file) = file.name ∷ []
+names_in (Support file) = file.name ∷ []
+names_in statement = []
+
+-- the number of members that a line gives
+abbrev pub members_in : Statement → Option ℕ
+members_in (Members count) = Some count
+members_in statement = None
+
+-- the names of the files of the set
+unfoldable pub names_of : List RecipeLine → List (List ℕ)
+names_of lines = flat_map (λ line. names_in line.statement) lines
+
+-- a number that is given, or else another
+abbrev pub given : Option ℕ → ℕ → ℕ
+given (Some count) other = count
+given None other = other
+
+-- the first number of members that is given, or 0
+abbrev pub first_count : List RecipeLine → ℕ
+first_count [] = 0
+first_count (line ∷ lines) = given (members_in line.statement) (first_count lines)
+
+-- how many members there are, as the last `members` line says, which is the only one
+unfoldable pub members_of : List RecipeLine → ℕ
+members_of lines = first_count (reverse lines)
+
+-- the lines after the last load, from the last one back
+unfoldable pub lines_of_load : List RecipeLine → List RecipeLine
+lines_of_load lines = take_while (λ line. not (is_load line.statement)) (reverse lines)
+
+-- how many data and support files the last load has
+abbrev pub files_of_load : List RecipeLine → ℕ
+files_of_load lines = length (filter (λ line. is_file line.statement) (lines_of_load lines))
+
+-- whether the last load has user data
+abbrev pub has_user : List RecipeLine → Bool
+has_user lines = list_any (λ line. is_user line.statement) (lines_of_load lines)
+
+-- whether a file of this name stands there
+abbrev pub is_used : List RecipeLine → List ℕ → Bool
+is_used lines name = list_any (same_bytes name) (names_of lines)

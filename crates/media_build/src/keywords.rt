@@ -1,0 +1,55 @@
+//! The first words of the lines of a recipe, and where the lines may stand.
+ghost use Rattle.std.specs.Prelude.{◌≡◌};
+ghost use Rattle.media_build.specs.Lines.{keyword_of as keyword_in, may_stand as may_stand_after};
+
+/// The first word of a line.
+#[derive(Clone, Copy, Debug, PartialEq, Eq)]
+pub enum Keyword {
+    Set,
+    Members,
+    Load,
+    Hardware,
+    Position,
+    Data,
+    Support,
+    User,
+}
+
+/// The keyword that this word is; `None` where it is none.
+#[tactic(auto, unfolding(crate::specs::Lines::keyword_of))]
+pub(crate) fn keyword_of(word: &[u8]) -> Option<Keyword>
+    ensures { result ≡ keyword_in word.now }
+{
+    if word == b"set".as_slice() {
+        Some(Keyword::Set)
+    } else if word == b"members".as_slice() {
+        Some(Keyword::Members)
+    } else if word == b"load".as_slice() {
+        Some(Keyword::Load)
+    } else if word == b"hardware".as_slice() {
+        Some(Keyword::Hardware)
+    } else if word == b"position".as_slice() {
+        Some(Keyword::Position)
+    } else if word == b"data".as_slice() {
+        Some(Keyword::Data)
+    } else if word == b"support".as_slice() {
+        Some(Keyword::Support)
+    } else if word == b"user".as_slice() {
+        Some(Keyword::User)
+    } else {
+        None
+    }
+}
+
+/// Whether a line with this keyword may stand after so many lines.
+#[tactic(auto, unfolding(crate::specs::Lines::may_stand))]
+pub(crate) fn may_stand(before: usize, keyword: Keyword) -> bool
+    ensures { result ≡ may_stand_after before keyword }
+{
+    match keyword {
+        Keyword::Set => before == 0,
+        Keyword::Members => before == 1,
+        Keyword::Load => before >= 2,
+        _ => before >= 3,
+    }
+}

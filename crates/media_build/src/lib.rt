@@ -1,0 +1,29 @@
+//! Building media sets: what a recipe says, and how a built set is written (docs/FORMATS.md,
+//! "Recipe", "Media sets").
+//!
+//! Start from [`Recipe::read`], which gives the lines of a recipe, or the first fault of a text
+//! that is none, and [`write`], which writes a built set into a folder of the host. Nothing builds
+//! a set yet.
+#![tactic(auto)]
+
+mod fault;
+mod generated;
+mod keywords;
+pub mod laws;
+mod partial;
+mod pieces;
+mod printing;
+mod recipe;
+mod statements;
+#[cfg(test)]
+mod tests;
+mod words;
+pub mod worked;
+mod writing;
+
+pub use fault::RecipeFault;
+pub use generated::generated_bytes;
+pub use keywords::Keyword;
+pub use recipe::Recipe;
+pub use statements::{FileLine, LoadLine, RecipeLine, Statement, UserData};
+pub use writing::write;
