@@ -10,7 +10,7 @@ use Rattle.link_net.specs.declared.line.Keyword.TheVariants as keywords
 use Rattle.link_net.specs.declared.line.Line.{Line}
 use Rattle.link_net.specs.Lines.{line_view}
 
--- the parts of what is left of a text that is cut at each such byte; nothing is left behind the last part
+-- the parts of what is left of a text that is cut at each such byte; nothing is left after the last part
 abbrev pub parts_of : ℕ → Option (List ℕ) → List (List ℕ)
 parts_of separator None = []
 parts_of separator (Some text) = slice_split (λ byte. byte == separator) text
@@ -70,7 +70,7 @@ and_said number text later =
 abbrev pub lines_left : (number : ℕ) → Option (List ℕ) → Said
 lines_left number text = scripts.lines_said (scripts.written_from number (parts_of 10 text))
 
--- ---- what the words behind a keyword say, by how many they are
+-- ---- what the words after a keyword say, by how many they are
 
 abbrev pub info_of : (line : ℕ) → Option (List ℕ × List ℕ) → Result spec.Line ScriptFault
 info_of line None = Err (Word line)

@@ -62,7 +62,7 @@ pub fn read_line(line: u64, text: &[u8]) -> Result<Line, ScriptFault>
     }
 }
 
-// What the words behind a keyword say. What happens at some lines isn't built yet: they are
+// What the words after a keyword say. What happens at some lines isn't built yet: they are
 // refused.
 #[tactic(auto, using(crate::proofs::Parts::give_words, crate::proofs::Parts::lose_words, crate::proofs::Parts::next_words))]
 fn line_of(line: u64, keyword: Keyword, rest: Option<&[u8]>) -> Result<Line, ScriptFault>

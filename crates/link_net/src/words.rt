@@ -3,7 +3,7 @@ ghost use Rattle.std.specs.Prelude.{◌≡◌, ◌==◌, ◌∷◌, option_map, 
 ghost use Rattle.std.specs.List.{slice_split, position};
 ghost use Rattle.link_net.specs.Reading.{only_two, only_word, parts_of, words_of};
 
-/// What stands before the first such byte, and what stands behind it; the whole text where there is
+/// What stands before the first such byte, and what stands after it; the whole text where there is
 /// none.
 #[tactic(auto, using(crate::proofs::Parts::cut_some, crate::proofs::Parts::cut_none))]
 pub fn cut(text: &[u8], separator: u8) -> (&[u8], Option<&[u8]>)

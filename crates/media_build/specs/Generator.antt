@@ -4,7 +4,7 @@ use Rattle.std.specs.Prelude.{ℕ, zero, suc, ◌+◌, ◌*◌, ◌/◌, ◌%◌
 abbrev pub next_state : ℕ → ℕ
 next_state state = (1664525 * state + 1013904223) % 2 ^ 32
 
--- the state after so many steps from a number
+-- the state after N steps from a number
 unfoldable pub state_at : (number steps : ℕ) → ℕ
 state_at number zero = number
 state_at number (suc steps) = next_state (state_at number steps)

@@ -24,7 +24,7 @@ keyword_of word =
     else if same_bytes word (codes "user") then Some keywords.User
     else None
 
--- A line may stand after so many others: `set` first, `members` second, a load third, and from the fourth line on a
+-- A line may stand after this many others: `set` first, `members` second, a load third, and from the fourth line on a
 -- load or a line of the load before it.
 unfoldable pub may_stand : (before : ℕ) → Keyword → Bool
 may_stand before keywords.Set = before == 0

@@ -172,7 +172,7 @@ statement_said line before keywords.Data words = file_line line before words >>=
 statement_said line before keywords.Support words = file_line line before words >>= λ file. Ok (Support file)
 statement_said line before keywords.User words = user_line line before words >>= λ bytes. Ok (User bytes)
 
--- a line's keyword, where it may stand after so many lines
+-- a line's keyword, where it may stand after this many lines
 unfoldable pub keyword_said : (line before : ℕ) → List ℕ → Result Keyword RecipeFault
 keyword_said line before word = required (Word line) (keyword_of word) >>= λ keyword. passed (may_stand before keyword) (Order line) keyword
 

@@ -41,7 +41,7 @@ pub(crate) fn keyword_of(word: &[u8]) -> Option<Keyword>
     }
 }
 
-/// Whether a line with this keyword may stand after so many lines.
+/// Whether a line with this keyword may stand after this many lines.
 #[tactic(auto, unfolding(crate::specs::Lines::may_stand))]
 pub(crate) fn may_stand(before: usize, keyword: Keyword) -> bool
     ensures { result ≡ may_stand_after before keyword }
