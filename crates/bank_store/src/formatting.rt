@@ -7,7 +7,9 @@ ghost use Rattle.disk_layout.specs.Offsets.{IsBankSize, slot_a, slot_b};
 ghost use Rattle.disk_layout.specs.Slots.{IsSlotAt, slot_offset};
 ghost use Rattle.disk_layout.specs.Holds.{HoldsConfig};
 ghost use Rattle.bank_store.specs.DiskWrites.{WritesDisk, AddsOnly, IsFailure, IsRunning};
-ghost use Rattle.bank_store.specs.Formatting.{formatted, AreOpen, IsShut, IsLaidOut, KeepsRest, LeavesOldOrFormatted, ShutsGates, laid_out, with_gate};
+ghost use Rattle.bank_store.specs.Formatting.{formatted, AreOpen, IsShut, IsLaidOut, KeepsRest};
+ghost use Rattle.bank_store.specs.Formatting.{LeavesOldOrFormatted, ShutsGates, laid_out};
+ghost use Rattle.bank_store.specs.Formatting.{with_gate};
 
 use crate::StoreFault;
 use disk_layout::offsets::{BANKS, OPEN, SEQUENCE_IN_SLOT, SLOT_A, SLOT_LENGTH};

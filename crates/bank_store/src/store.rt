@@ -1,5 +1,6 @@
 //! Installs a configuration into the bank that isn't active.
-ghost use Rattle.std.specs.Prelude.{◌≡◌, ◌⊎◌, ℕ, ◌+◌, ◌-◌, ◌<◌, ◌≤◌, ◌↔◌, List, [], false, true, Some, length, IsOk, IfErr, OnOk, IsErrOf};
+ghost use Rattle.std.specs.Prelude.{◌≡◌, ◌⊎◌, ℕ, ◌+◌, ◌-◌, ◌<◌, ◌≤◌, ◌↔◌, List, [], false, true};
+ghost use Rattle.std.specs.Prelude.{Some, length, IsOk, IfErr, OnOk, IsErrOf};
 ghost use Rattle.std.specs.Option.{ForSome};
 ghost use Rattle.load_base.specs.Config.{LoadView};
 ghost use Rattle.disk_model.specs.Image.{Image};
@@ -7,7 +8,8 @@ ghost use Rattle.disk_model.specs.Moments.{LeavesOnly};
 ghost use Rattle.disk_model.specs.State.{HasCause};
 ghost use Rattle.disk_layout.specs.Offsets.{IsBankSize, most_files};
 ghost use Rattle.disk_layout.specs.Holds.{StandingView};
-ghost use Rattle.bank_store.specs.declared.fault.StoreFault.TheVariants.{BankFull, SequenceSpent, Memory};
+ghost use Rattle.bank_store.specs.declared.fault.StoreFault.TheVariants.{BankFull, SequenceSpent};
+ghost use Rattle.bank_store.specs.declared.fault.StoreFault.TheVariants.{Memory};
 ghost use Rattle.bank_store.specs.declared.stage.Filling.{Filling};
 ghost use Rattle.disk_layout.specs.Slots.{IsManifestRange};
 ghost use Rattle.bank_store.specs.Bounds.{IsStore};
@@ -42,11 +44,20 @@ pub struct Store {
 }
 
 impl Store {
-    ghost use Rattle.bank_store.specs.Store.{bank_size_of, active_of, active_slot, active_bank, active_sequence, is_other_open, stage_of, work_at, SameActive, IsIdle, IsFilling, IsSealed, IsPrepared, IsSpent, IsBetweenLoads, AwaitsLoad, AwaitsFile, AwaitsEnd, PassesBank, room_of, load_announced, file_ended, manifest_length, slot_body, with_gate_shut, with_manifest, with_slot};
+    ghost use Rattle.bank_store.specs.Store.{bank_size_of, active_of, active_slot, active_bank};
+    ghost use Rattle.bank_store.specs.Store.{active_sequence, is_other_open, stage_of, work_at};
+    ghost use Rattle.bank_store.specs.Store.{SameActive, IsIdle, IsFilling, IsSealed, IsPrepared};
+    ghost use Rattle.bank_store.specs.Store.{IsSpent, IsBetweenLoads, AwaitsLoad, AwaitsFile};
+    ghost use Rattle.bank_store.specs.Store.{AwaitsEnd, PassesBank, room_of, load_announced};
+    ghost use Rattle.bank_store.specs.Store.{file_ended, manifest_length, slot_body};
+    ghost use Rattle.bank_store.specs.Store.{with_gate_shut, with_manifest, with_slot};
     ghost use Rattle.bank_store.specs.Given.{Given, HasGiven, with_load, with_file, configured};
     ghost use Rattle.bank_store.specs.Fits.{HoldsFor, CanActivate};
-    ghost use Rattle.bank_store.specs.Keeps.{Keeps, Continues, Begins, Appends, Seals, Activates, LeavesActive, LeavesRest, IsShutFor, KeepsNear, IsOldOrNew};
-    ghost use Rattle.bank_store.specs.DiskWrites.{WritesDisk, AddsOnly, TimeGoesOn, IsAnswered, IsRunning};
+    ghost use Rattle.bank_store.specs.Keeps.{Keeps, Continues, Begins, Appends, Seals, Activates};
+    ghost use Rattle.bank_store.specs.Keeps.{LeavesActive, LeavesRest, IsShutFor, KeepsNear};
+    ghost use Rattle.bank_store.specs.Keeps.{IsOldOrNew};
+    ghost use Rattle.bank_store.specs.DiskWrites.{WritesDisk, AddsOnly, TimeGoesOn, IsAnswered};
+    ghost use Rattle.bank_store.specs.DiskWrites.{IsRunning};
     ghost use Rattle.disk_layout.specs.Slots.{other_slot};
 
     /// A store for a disk with banks of `size` bytes on which this is active, with a manifest that

@@ -1,7 +1,8 @@
 //! Both check sums bit by bit, as they are defined: the plain program that the tables are compared
 //! with.
 ghost use Rattle.std.specs.Prelude.{◌≡◌};
-ghost use Rattle.crc_fields.specs.CheckSums.{crc16_after, crc32_after, lowest_bits, register_after_bit, register_after_bits};
+ghost use Rattle.crc_fields.specs.CheckSums.{crc16_after, crc32_after, lowest_bits};
+ghost use Rattle.crc_fields.specs.CheckSums.{register_after_bit, register_after_bits};
 
 const POLYNOMIAL_16: u16 = 0x1021;
 

@@ -9,7 +9,8 @@ mod table_16;
 mod table_32;
 
 ghost use Rattle.std.specs.Prelude.{◌≡◌, ◌<◌, ◌^◌, ℕ, List, [], ◌++◌, codes};
-ghost use Rattle.crc_fields.specs.CheckSums.{crc16_of, crc32_of, crc16_after, crc32_after, register_after};
+ghost use Rattle.crc_fields.specs.CheckSums.{crc16_of, crc32_of, crc16_after, crc32_after};
+ghost use Rattle.crc_fields.specs.CheckSums.{register_after};
 
 pub use running::{Crc16, Crc32};
 

@@ -1,6 +1,7 @@
 //! CRC-16 eight bytes at a time, by tables of what each byte makes of an empty register.
 ghost use Rattle.std.specs.Prelude.{◌≡◌, ◌<◌, ◌∷◌, replicate};
-ghost use Rattle.crc_fields.specs.CheckSums.{crc16_after, lowest_bits, register_after, register_after_bits};
+ghost use Rattle.crc_fields.specs.CheckSums.{crc16_after, lowest_bits, register_after};
+ghost use Rattle.crc_fields.specs.CheckSums.{register_after_bits};
 
 use crate::entries::entries;
 

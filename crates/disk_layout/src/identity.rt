@@ -2,7 +2,8 @@
 ghost use Rattle.std.specs.Prelude.{◌≡◌, ◌≤◌, length, IfOk, IfErr};
 ghost use Rattle.field_grammar.specs.Grammar.{SpelledAtStart, Fault};
 ghost use Rattle.disk_layout.specs.Offsets.{IsBankSize, longest_identity};
-ghost use Rattle.disk_layout.specs.Identity.{IsIdentity, identity_text, fault_offset, exact_byte, signature, bank_size, ident, check_sum, identity};
+ghost use Rattle.disk_layout.specs.Identity.{IsIdentity, identity_text, fault_offset, exact_byte};
+ghost use Rattle.disk_layout.specs.Identity.{signature, bank_size, ident, check_sum, identity};
 ghost use Rattle.disk_layout.specs.Reading.{Parses};
 
 use crate::identity_bytes::IdentityBytes;

@@ -3,11 +3,15 @@ ghost use Rattle.std.specs.Prelude.{◌≡◌, ◌⊎◌, ◌↔◌, ◌<◌, �
 ghost use Rattle.std.specs.List.{concat};
 ghost use Rattle.disk_model.specs.Image.{Image, IsOfBytes, range};
 ghost use Rattle.field_grammar.specs.Grammar.{IsBytes, IsDecided, Spelled, Fault};
-ghost use Rattle.disk_layout.specs.Offsets.{IsBankSize, longest_identity, longest_manifest, most_loads, most_files, slot_a, slot_b, bank_at, number_at};
+ghost use Rattle.disk_layout.specs.Offsets.{IsBankSize, longest_identity, longest_manifest};
+ghost use Rattle.disk_layout.specs.Offsets.{most_loads, most_files, slot_a, slot_b, bank_at};
+ghost use Rattle.disk_layout.specs.Offsets.{number_at};
 ghost use Rattle.disk_layout.specs.Identity.{IsIdentity, identity_text, HasIdentity};
-ghost use Rattle.disk_layout.specs.Slots.{IsOpen, HasBody, sequence_of, bank_of, manifest_offset_of, manifest_length_of};
+ghost use Rattle.disk_layout.specs.Slots.{IsOpen, HasBody, sequence_of, bank_of};
+ghost use Rattle.disk_layout.specs.Slots.{manifest_offset_of, manifest_length_of};
 ghost use Rattle.disk_layout.specs.Manifest.{LoadEntry, ManifestFits, manifest, manifest_fields};
-ghost use Rattle.disk_layout.specs.Holds.{StandingView, Outline, outline_of, HasOutline, HoldsBy, HoldsConfig, HasDiskFault};
+ghost use Rattle.disk_layout.specs.Holds.{StandingView, Outline, outline_of, HasOutline, HoldsBy};
+ghost use Rattle.disk_layout.specs.Holds.{HoldsConfig, HasDiskFault};
 ghost use Rattle.disk_layout.specs.declared.active.ManifestRange.{ManifestRange};
 ghost use Rattle.disk_layout.specs.declared.fault.RecoverFault.{RecoverFault};
 ghost use Rattle.disk_layout.specs.declared.identity.Identity.{Identity};

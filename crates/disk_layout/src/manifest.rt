@@ -2,7 +2,10 @@
 ghost use Rattle.std.specs.Prelude.{◌≡◌, map, IfOk, IfErr};
 ghost use Rattle.field_grammar.specs.Grammar.{Spelled, times, ended};
 ghost use Rattle.field_grammar.specs.Answers.{answer, Decodes, Gives};
-ghost use Rattle.disk_layout.specs.Manifest.{ManifestFits, RefusesManifestBytes, entry_view, manifest_view, load_count, part, file_count, file_name, file_length, file_entry, load_entry, manifest};
+ghost use Rattle.disk_layout.specs.Manifest.{ManifestFits, RefusesManifestBytes, entry_view};
+ghost use Rattle.disk_layout.specs.Manifest.{manifest_view, load_count, part, file_count};
+ghost use Rattle.disk_layout.specs.Manifest.{file_name, file_length, file_entry, load_entry};
+ghost use Rattle.disk_layout.specs.Manifest.{manifest};
 ghost use Rattle.disk_layout.specs.declared.manifest.ManifestFault.TheVariants.{Wrong, Memory};
 
 use crate::offsets::{MOST_FILES, MOST_LOADS};

@@ -1,7 +1,9 @@
 //! A disk as recovery and the store see it.
-ghost use Rattle.std.specs.Prelude.{◌≡◌, ◌⊎◌, ℕ, ◌+◌, ◌≤◌, ◌^◌, ◌<◌, true, false, Some, length, OnOk};
+ghost use Rattle.std.specs.Prelude.{◌≡◌, ◌⊎◌, ℕ, ◌+◌, ◌≤◌, ◌^◌, ◌<◌, true, false, Some, length};
+ghost use Rattle.std.specs.Prelude.{OnOk};
 ghost use Rattle.disk_model.specs.Image.{Image, range, overlay};
-ghost use Rattle.disk_model.specs.State.{DiskState, IsSettled, Closed, KeepsClosed, OnlyReads, Torn, Elapses, HasCause};
+ghost use Rattle.disk_model.specs.State.{DiskState, IsSettled, Closed, KeepsClosed, OnlyReads};
+ghost use Rattle.disk_model.specs.State.{Torn, Elapses, HasCause};
 ghost use Rattle.load_base.specs.Counts.{Rose};
 
 use load_base::FaultCount;

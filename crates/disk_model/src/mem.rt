@@ -1,10 +1,14 @@
 //! A disk in memory.
-ghost use Rattle.std.specs.Prelude.{◌≡◌, ◌⊎◌, ◌↔◌, ℕ, ◌+◌, ◌<◌, ◌≤◌, Some, true, false, length, slice_index, [], ◌∷◌, ◌++◌, IfOk, OnOk, OnErr};
+ghost use Rattle.std.specs.Prelude.{◌≡◌, ◌⊎◌, ◌↔◌, ℕ, ◌+◌, ◌<◌, ◌≤◌, Some, true, false, length};
+ghost use Rattle.std.specs.Prelude.{slice_index, [], ◌∷◌, ◌++◌, IfOk, OnOk, OnErr};
 ghost use Rattle.std.specs.Bool.{OnTrue, OnFalse};
 ghost use Rattle.disk_model.specs.Image.{Image, image_of, range, overlay};
-ghost use Rattle.disk_model.specs.State.{IsSettled, Closed, KeepsClosed, OnlyReads, Torn, Elapses, HasCause};
-ghost use Rattle.disk_model.specs.Replay.{replayed, MayLeave, MightHaveLeft, recorded, AddsWrite, IsSettling};
-ghost use Rattle.disk_model.specs.ReplayLaws.{held_may_leave, counts_its_now, only_its_now, wider_time, split_time};
+ghost use Rattle.disk_model.specs.State.{IsSettled, Closed, KeepsClosed, OnlyReads, Torn, Elapses};
+ghost use Rattle.disk_model.specs.State.{HasCause};
+ghost use Rattle.disk_model.specs.Replay.{replayed, MayLeave, MightHaveLeft, recorded, AddsWrite};
+ghost use Rattle.disk_model.specs.Replay.{IsSettling};
+ghost use Rattle.disk_model.specs.ReplayLaws.{held_may_leave, counts_its_now, only_its_now};
+ghost use Rattle.disk_model.specs.ReplayLaws.{wider_time, split_time};
 
 use crate::disk::refuse;
 use crate::{Call, Disk, DiskFault, Note, SIZE};
@@ -31,7 +35,8 @@ pub struct MemDisk {
 }
 
 impl MemDisk {
-    ghost use Rattle.disk_model.specs.MemDisk.{contents_of, first_of, notes_of, calls_of, state_of, CountsCall, IsUnchanged, NotesCall};
+    ghost use Rattle.disk_model.specs.MemDisk.{contents_of, first_of, notes_of, calls_of, state_of};
+    ghost use Rattle.disk_model.specs.MemDisk.{CountsCall, IsUnchanged, NotesCall};
 
     /// A disk with these bytes from offset 0 on, that has not failed.
     pub fn new(alloc: Global, bytes: &[u8]) -> Result<MemDisk, NoMemory>
@@ -140,7 +145,8 @@ impl MemDisk {
 }
 
 impl Disk for MemDisk {
-    ghost use Rattle.disk_model.specs.MemDisk.{state_of, CountsCall, IsUnchanged, NotesCall, NotesWrite};
+    ghost use Rattle.disk_model.specs.MemDisk.{state_of, CountsCall, IsUnchanged, NotesCall};
+    ghost use Rattle.disk_model.specs.MemDisk.{NotesWrite};
 
     ghost state = { state_of };
 

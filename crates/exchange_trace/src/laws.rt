@@ -1,6 +1,7 @@
 //! Laws of traces and scripts, for callers and readers. Each function does nothing; its clauses are
 //! the law.
-ghost use Rattle.std.specs.Prelude.{◌≡◌, ◌↔◌, ◌≤◌, ◌+◌, ◌++◌, ◌∷◌, [], ℕ, List, Bool, filter, codes, None, Ok, Err};
+ghost use Rattle.std.specs.Prelude.{◌≡◌, ◌↔◌, ◌≤◌, ◌+◌, ◌++◌, ◌∷◌, [], ℕ, List, Bool, filter};
+ghost use Rattle.std.specs.Prelude.{codes, None, Ok, Err};
 ghost use Rattle.std.specs.List.{Contains, range_with_len};
 ghost use Rattle.std.specs.List.Sorted.{IsStrictlyIncreasing};
 ghost use Rattle.exchange_trace.specs.declared.trace.Side.{Side};
@@ -8,14 +9,17 @@ ghost use Rattle.exchange_trace.specs.Happenings.{DatagramView, HappeningView, E
 ghost use Rattle.exchange_trace.specs.Following.{FollowsScript, Plan, Scene, next_turn, plan_of};
 ghost use Rattle.exchange_trace.specs.declared.fault.ScriptFault.TheVariants as faults;
 ghost use Rattle.exchange_trace.specs.declared.trace.Side.TheVariants as sides;
-ghost use Rattle.exchange_trace.specs.Lines.{Line, Info, Upload, Lose, Tick, Inject, Blksize, Finish};
-ghost use Rattle.exchange_trace.specs.Posts.{AllHonest, IsAboveOwnPorts, IsHonest, IsUndelivered, NamesOnlyPosted, first_port_after, is_undelivered, posted_in, undelivered};
-ghost use Rattle.exchange_trace.specs.Scripts.{blksize, inject, line_said, lines, script_said, upload};
+ghost use Rattle.exchange_trace.specs.Lines.{Line, Info, Upload, Lose, Tick, Inject, Blksize};
+ghost use Rattle.exchange_trace.specs.Lines.{Finish};
+ghost use Rattle.exchange_trace.specs.Posts.{AllHonest, IsAboveOwnPorts, IsHonest, IsUndelivered};
+ghost use Rattle.exchange_trace.specs.Posts.{NamesOnlyPosted, first_port_after, is_undelivered};
+ghost use Rattle.exchange_trace.specs.Posts.{posted_in, undelivered};
+ghost use Rattle.exchange_trace.specs.Scripts.{blksize, inject, line_said, lines, script_said};
+ghost use Rattle.exchange_trace.specs.Scripts.{upload};
 ghost use Rattle.exchange_trace.specs.Steps.{Step};
 
 /// Which datagrams are undelivered, and how that changes. `specs/PostLaws.antt` says the same to
 /// proofs.
-#[tactic(auto, using(crate::specs::PostLaws::undelivered_ascends, crate::specs::PostLaws::undelivered_shrinks, crate::specs::PostLaws::undelivered_grows))]
 pub fn undelivered_datagrams()
     // Exactly those that were posted, and neither delivered nor lost, in ascending order.
     ensures exact { (count : ℕ) (happenings : List HappeningView) (n : ℕ)
@@ -34,7 +38,6 @@ pub fn undelivered_datagrams()
 
 /// The first port of a target that boots is the least one from 1024 on that is above each port, 59
 /// aside, from which the target posted.
-#[tactic(auto, using(crate::specs::PostLaws::port_above_least, crate::specs::PostLaws::port_above_all, crate::specs::PostLaws::port_above_no_more))]
 pub fn the_first_port_after_a_boot()
     ensures from_1024 { (steps : List Step) → 1024 ≤ first_port_after steps }
     ensures above { (steps : List Step)
@@ -45,7 +48,6 @@ pub fn the_first_port_after_a_boot()
 
 /// A script that is followed delivers only what was posted to that side, and ends only where
 /// nothing of it is left; after the end comes the end again.
-#[tactic(auto, using(crate::specs::FollowingLaws::turn_is_honest, crate::specs::FollowingLaws::following_is_honest, crate::specs::FollowingLaws::end_is_last))]
 pub fn following_a_script()
     ensures honest { (s : Scene) (p : Plan) → IsHonest s.posted (next_turn s p).given }
     ensures all_honest { (waiting : Side → List Step → Bool) (script : List Line)
@@ -58,7 +60,6 @@ pub fn following_a_script()
 
 /// What some scripts say, and how some are refused: the words of the definitions computed
 /// (docs/FORMATS.md, "Script").
-#[tactic(auto, unfolding(crate::specs::Scripts::script_said, crate::specs::Scripts::written_lines, crate::specs::Scripts::decimal_between, load_base::specs::Verdicts::ident_fault_of, load_base::specs::Verdicts::part_text_fault_of, hex::specs::Hex::decode_pairs))]
 pub fn worked_scripts()
     // Lines that are empty or begin with `#` say nothing, and are counted.
     ensures information { script_said (lines (codes "info HW1 L" ∷ codes "# late" ∷ codes "lose 3"

@@ -1,11 +1,15 @@
-ghost use Rattle.std.specs.Prelude.{◌≡◌, ◌+◌, ◌==◌, ◌≤◌, ◌++◌, ◌%◌, ◌⊎◌, length, drop, IfOk, IfErr, OnOk, OnErr};
+ghost use Rattle.std.specs.Prelude.{◌≡◌, ◌+◌, ◌==◌, ◌≤◌, ◌++◌, ◌%◌, ◌⊎◌, length, drop, IfOk, IfErr};
+ghost use Rattle.std.specs.Prelude.{OnOk, OnErr};
 ghost use Rattle.std.specs.List.{position};
 ghost use Rattle.field_grammar.specs.Cursor.{cursor_at, advanced};
 ghost use Rattle.field_grammar.specs.Answers.{Reads, ReadsAt};
-ghost use Rattle.field_grammar.specs.Fields.{number, number_bytes, raw, pad, padded, padded_parts, short, short_parts, text_fault, short_text, padded_text, pad_bytes};
+ghost use Rattle.field_grammar.specs.Fields.{number, number_bytes, raw, pad, padded, padded_parts};
+ghost use Rattle.field_grammar.specs.Fields.{short, short_parts, text_fault, short_text};
+ghost use Rattle.field_grammar.specs.Fields.{padded_text, pad_bytes};
 ghost use Rattle.field_grammar.specs.Grammar.{zero_ended};
 ghost use Rattle.field_grammar.specs.declared.fault.FieldFault.TheVariants.{Short};
-ghost use Rattle.field_codec.specs.Reader.{zero_ended_text, IsUnended, Passes, PassesAt, IsShort, IsPadFault, IsPaddedFault, short_size};
+ghost use Rattle.field_codec.specs.Reader.{zero_ended_text, IsUnended, Passes, PassesAt, IsShort};
+ghost use Rattle.field_codec.specs.Reader.{IsPadFault, IsPaddedFault, short_size};
 
 use byteorder::{BigEndian, ByteOrder};
 use field_grammar::FieldFault;

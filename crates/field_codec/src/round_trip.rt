@@ -3,7 +3,8 @@
 
 ghost use Rattle.std.specs.Prelude.{ℕ, List, ◌<◌, ◌^◌, length};
 ghost use Rattle.field_grammar.specs.Grammar.{IsBytes};
-ghost use Rattle.field_grammar.specs.Fields.{number, number_bytes, raw, pad, pad_bytes, padded, padded_text, short, short_text};
+ghost use Rattle.field_grammar.specs.Fields.{number, number_bytes, raw, pad, pad_bytes, padded};
+ghost use Rattle.field_grammar.specs.Fields.{padded_text, short, short_text};
 ghost use Rattle.field_grammar.specs.Spelling.{IsReadBack};
 
 /// A field that was written is read again, wherever it stands: its value is the one that was

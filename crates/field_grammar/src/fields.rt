@@ -1,6 +1,7 @@
 ghost use Rattle.std.specs.Prelude.{ℕ, List};
 ghost use Rattle.field_grammar.specs.Grammar.{IsBytes, IsDecidedAtStart};
-ghost use Rattle.field_grammar.specs.Fields.{raw, number, pad, padded_parts, padded, short_parts, short};
+ghost use Rattle.field_grammar.specs.Fields.{raw, number, pad, padded_parts, padded, short_parts};
+ghost use Rattle.field_grammar.specs.Fields.{short};
 
 /// Whatever the bytes, each field begins them and has one value, or is refused with one fault.
 pub fn fields_are_decided()

@@ -1,7 +1,8 @@
 ghost use Rattle.std.specs.Prelude.{◌≡◌, ◌++◌, ℕ, List, length};
 ghost use Rattle.std.specs.List.{concat};
 ghost use Rattle.field_grammar.specs.Cursor.{Cursor, at, behind};
-ghost use Rattle.field_grammar.specs.Grammar.{IsBytes, EndsTheBytes, IsDecided, IsDecidedAtStart, Follows, Stops, Took, Stopped, MovesOn, read};
+ghost use Rattle.field_grammar.specs.Grammar.{IsBytes, EndsTheBytes, IsDecided, IsDecidedAtStart};
+ghost use Rattle.field_grammar.specs.Grammar.{Follows, Stops, Took, Stopped, MovesOn, read};
 
 /// A format whose bytes say values of one type, or are refused with faults of another. It has no
 /// code: the laws that hold of all formats are stated over it.

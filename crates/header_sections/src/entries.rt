@@ -3,7 +3,8 @@ ghost use Rattle.std.specs.Prelude.{◌≡◌, ◌++◌, ◌+◌, ◌*◌, ◌==
 ghost use Rattle.std.specs.List.{concat, All};
 ghost use Rattle.field_grammar.specs.Spelling.{size_of};
 ghost use Rattle.header_sections.specs.Sections.{distance_of};
-ghost use Rattle.header_sections.specs.SectionFields.{entry_size, entry_fields, entries_fields, HaveDistances};
+ghost use Rattle.header_sections.specs.SectionFields.{entry_size, entry_fields, entries_fields};
+ghost use Rattle.header_sections.specs.SectionFields.{HaveDistances};
 
 use field_codec::Writer;
 use load_base::NoMemory;

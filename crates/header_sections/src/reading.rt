@@ -2,7 +2,9 @@
 ghost use Rattle.std.specs.Prelude.{◌≡◌};
 ghost use Rattle.field_grammar.specs.Answers.{Decodes, Gives};
 ghost use Rattle.load_base.specs.declared.text.TextFault.TheVariants as texts_faults;
-ghost use Rattle.header_sections.specs.Sections.{text, name, part, texts, text_verdict, name_verdict, part_verdict, start, section_at, user_data, end};
+ghost use Rattle.header_sections.specs.Sections.{text, name, part, texts, text_verdict};
+ghost use Rattle.header_sections.specs.Sections.{name_verdict, part_verdict, start, section_at};
+ghost use Rattle.header_sections.specs.Sections.{user_data, end};
 ghost use Rattle.header_sections.specs.declared.fault.SectionFault.TheVariants.{Memory};
 
 use crate::fault::SectionFault;

@@ -2,7 +2,8 @@
 ghost use Rattle.std.specs.Prelude.{◌≡◌, ◌==◌, option_map, option_copied};
 ghost use Rattle.std.specs.List.{slice_split};
 ghost use Rattle.exchange_trace.specs.Scripts as scripts;
-ghost use Rattle.link_net.specs.Reading.{count_of as only_count, keyword_view, line_result, only_word, words_of};
+ghost use Rattle.link_net.specs.Reading.{count_of as only_count, keyword_view, line_result};
+ghost use Rattle.link_net.specs.Reading.{only_word, words_of};
 
 use crate::number::count_in;
 use crate::words::{cut, only_two_in, only_word_in};

@@ -1,11 +1,14 @@
 //! The datagrams that a link was posted, and what became of them.
-ghost use Rattle.std.specs.Prelude.{◌≡◌, ◌≢◌, ◌↔◌, ◌+◌, ◌<◌, ◌≤◌, ◌∷◌, ◌++◌, [], ℕ, length, Bool, IsTrue, option_map, IfSome, OnSome, OnOk, OnErr};
+ghost use Rattle.std.specs.Prelude.{◌≡◌, ◌≢◌, ◌↔◌, ◌+◌, ◌<◌, ◌≤◌, ◌∷◌, ◌++◌, [], ℕ, length, Bool};
+ghost use Rattle.std.specs.Prelude.{IsTrue, option_map, IfSome, OnSome, OnOk, OnErr};
 ghost use Rattle.std.specs.List.{slice_index_or};
 ghost use Rattle.exchange_trace.specs.Happenings.{datagram_view, other as other_side};
-ghost use Rattle.exchange_trace.specs.Following.{delivery as delivery_of, least_delivery, loss as loss_of};
+ghost use Rattle.exchange_trace.specs.Following.{delivery as delivery_of, least_delivery};
+ghost use Rattle.exchange_trace.specs.Following.{loss as loss_of};
 ghost use Rattle.exchange_trace.specs.Posts.{numbered};
 ghost use Rattle.link_net.specs.declared.mail.Fate.TheVariants.{Undelivered};
-ghost use Rattle.link_net.specs.Mail.{NamesPosted, after_loss, fates_after, given_view, scene_in, with_given};
+ghost use Rattle.link_net.specs.Mail.{NamesPosted, after_loss, fates_after, given_view, scene_in};
+ghost use Rattle.link_net.specs.Mail.{with_given};
 
 use crate::given::Given;
 use exchange_trace::{Datagram, Side};

@@ -2,7 +2,8 @@
 ghost use Rattle.std.specs.Prelude.{◌≡◌, ◌≤◌, ℕ};
 ghost use Rattle.std.specs.Char.{is_ascii_digit};
 ghost use Rattle.std.specs.List.{list_all};
-ghost use Rattle.exchange_trace.specs.Scripts.{count_word, decimal_between, is_decimal as is_decimal_word};
+ghost use Rattle.exchange_trace.specs.Scripts.{count_word, decimal_between};
+ghost use Rattle.exchange_trace.specs.Scripts.{is_decimal as is_decimal_word};
 
 use exchange_trace::ScriptFault;
 

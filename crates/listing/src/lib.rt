@@ -8,7 +8,8 @@ ghost use Rattle.std.specs.Prelude.{◌≡◌, ◌++◌, map, OnOk, IfOk};
 ghost use Rattle.std.specs.List.{flat_map};
 ghost use Rattle.load_base.specs.Config.{file_view, load_view};
 ghost use Rattle.disk_layout.specs.Holds.{standing_view};
-ghost use Rattle.listing.specs.Listing.{file_line, load_line, load_lines, target_line, bank_line, loads_line, listing};
+ghost use Rattle.listing.specs.Listing.{file_line, load_line, load_lines, target_line, bank_line};
+ghost use Rattle.listing.specs.Listing.{loads_line, listing};
 
 use crc_fields::crc16;
 use disk_layout::{Identity, Standing};

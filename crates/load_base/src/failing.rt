@@ -1,5 +1,6 @@
 //! Calls that are set to fail, and counts of what failed.
-ghost use Rattle.std.specs.Prelude.{◌≡◌, ◌↔◌, ◌+◌, ◌-◌, ◌^◌, ◌≤◌, ◌∷◌, ◌++◌, [], IsTrue, min, OnOk, OnErr};
+ghost use Rattle.std.specs.Prelude.{◌≡◌, ◌↔◌, ◌+◌, ◌-◌, ◌^◌, ◌≤◌, ◌∷◌, ◌++◌, [], IsTrue, min, OnOk};
+ghost use Rattle.std.specs.Prelude.{OnErr};
 ghost use Rattle.load_base.specs.Counts.{Rose};
 ghost use Rattle.load_base.specs.Failing.{IsSetToFail, CountsCall};
 

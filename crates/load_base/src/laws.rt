@@ -6,7 +6,8 @@ ghost use Rattle.load_base.specs.Listed.{Listed};
 ghost use Rattle.load_base.specs.Name.{IsName, IsNameFault};
 ghost use Rattle.load_base.specs.PartText.{IsPartText, IsPartTextFault};
 ghost use Rattle.load_base.specs.Text.{IsText, IsTextFault};
-ghost use Rattle.load_base.specs.Verdicts.{TellsFaults, name_fault_of, text_fault_of, ident_fault_of, part_text_fault_of};
+ghost use Rattle.load_base.specs.Verdicts.{TellsFaults, name_fault_of, text_fault_of};
+ghost use Rattle.load_base.specs.Verdicts.{ident_fault_of, part_text_fault_of};
 ghost use Rattle.load_base.specs.declared.text.TextFault.TheVariants.{Memory};
 
 use crate::{Ident, List, Name, PartText, Text};

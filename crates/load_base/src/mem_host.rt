@@ -1,5 +1,6 @@
 //! A host in memory.
-ghost use Rattle.std.specs.Prelude.{◌≡◌, ◌↔◌, ◌≤◌, ◌∷◌, ◌++◌, [], Some, OnOk, OnErr, IfOk, IfErr, IsErrOf, length, option_map};
+ghost use Rattle.std.specs.Prelude.{◌≡◌, ◌↔◌, ◌≤◌, ◌∷◌, ◌++◌, [], Some, OnOk, OnErr, IfOk, IfErr};
+ghost use Rattle.std.specs.Prelude.{IsErrOf, length, option_map};
 ghost use Rattle.load_base.specs.Bytes.{same_bytes};
 ghost use Rattle.load_base.specs.Host.{ReadsFile, WritesFile, HasReadCause, longest_file};
 ghost use Rattle.load_base.specs.Sink.{HasWriteCause};

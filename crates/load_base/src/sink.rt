@@ -1,5 +1,6 @@
 //! Where output goes.
-ghost use Rattle.std.specs.Prelude.{◌≡◌, ◌↔◌, ◌++◌, [], ◌∷◌, List, ℕ, Option, Some, None, OnOk, OnErr, IsErrOf};
+ghost use Rattle.std.specs.Prelude.{◌≡◌, ◌↔◌, ◌++◌, [], ◌∷◌, List, ℕ, Option, Some, None, OnOk};
+ghost use Rattle.std.specs.Prelude.{OnErr, IsErrOf};
 ghost use Rattle.load_base.specs.Sink.{Puts, HasWriteCause};
 
 use crate::{Bytes, FailingCalls, FaultCount, List as Items, NoMemory};

@@ -3,7 +3,9 @@ ghost use Rattle.std.specs.Prelude.{◌≡◌, ◌+◌, ◌++◌, ◌/◌, ◌�
 ghost use Rattle.std.specs.List.{concat};
 ghost use Rattle.field_grammar.specs.Fields.{number_bytes as bytes_of_number};
 ghost use Rattle.load_header.specs.Header.{header_view};
-ghost use Rattle.load_header.specs.HeaderFields.{pointers_fields, head_fields, identity_fields, sections_fields, covered_fields, IsHeader, HeaderSpells};
+ghost use Rattle.load_header.specs.HeaderFields.{pointers_fields, head_fields, identity_fields};
+ghost use Rattle.load_header.specs.HeaderFields.{sections_fields, covered_fields, IsHeader};
+ghost use Rattle.load_header.specs.HeaderFields.{HeaderSpells};
 ghost use Rattle.load_header.specs.Encoding.{pointers_by, whole_size};
 
 use crate::header::LoadHeader;

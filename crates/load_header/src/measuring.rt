@@ -3,8 +3,12 @@ ghost use Rattle.std.specs.Prelude.{◌≡◌, ◌↔◌, ◌+◌, ◌*◌, ◌<
 ghost use Rattle.std.specs.List.{list_all, AllByRecursion};
 ghost use Rattle.load_header.specs.Header.{hardware_at_view, header_view};
 ghost use Rattle.field_grammar.specs.Spelling.{size_of};
-ghost use Rattle.load_header.specs.HeaderFields.{hardware_at_fields, positions_fields, header_size as size_of_header, IsHardwareAt, IsHeaderFile, IsHeader};
-ghost use Rattle.load_header.specs.Encoding.{few_positions, few_members as few_members_of, short_enough, AreSizes, AreSmall, HasFiles, HasParts, IsKind};
+ghost use Rattle.load_header.specs.HeaderFields.{hardware_at_fields, positions_fields};
+ghost use Rattle.load_header.specs.HeaderFields.{header_size as size_of_header, IsHardwareAt};
+ghost use Rattle.load_header.specs.HeaderFields.{IsHeaderFile, IsHeader};
+ghost use Rattle.load_header.specs.Encoding.{few_positions, few_members as few_members_of};
+ghost use Rattle.load_header.specs.Encoding.{short_enough, AreSizes, AreSmall, HasFiles, HasParts};
+ghost use Rattle.load_header.specs.Encoding.{IsKind};
 
 use crate::header::{FileEntry, HardwareAt, LoadHeader};
 use crate::reading::{LONGEST_FILE, LONGEST_HEADER, MOST_FILES};

@@ -2,7 +2,11 @@
 ghost use Rattle.std.specs.Prelude.{◌≡◌, [], ◌*◌, ◌/◌, ◌+◌, ◌==◌, ◌≤◌, ◌<◌, length, map, IfOk};
 ghost use Rattle.field_grammar.specs.Grammar.{times, listed};
 ghost use Rattle.field_grammar.specs.Answers.{answer, Decodes, Gives};
-ghost use Rattle.load_header.specs.Header.{counted_texts, four, pointers, head, identity, hardware_at, positions, targets, file_size, file_body, file_entry, entry_after, files, all_files, no_check_value, check_sums, tail, limit, header, hardware_at_view, header_view};
+ghost use Rattle.load_header.specs.Header.{counted_texts, four, pointers, head, identity};
+ghost use Rattle.load_header.specs.Header.{hardware_at, positions, targets, file_size, file_body};
+ghost use Rattle.load_header.specs.Header.{file_entry, entry_after, files, all_files};
+ghost use Rattle.load_header.specs.Header.{no_check_value, check_sums, tail, limit, header};
+ghost use Rattle.load_header.specs.Header.{hardware_at_view, header_view};
 ghost use Rattle.load_header.specs.declared.fault.HeaderFault.TheVariants.{Memory};
 
 use crate::fault::HeaderFault;

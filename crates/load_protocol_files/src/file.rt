@@ -1,6 +1,7 @@
 //! What the six files have in common: how a whole file is read and written, given how its fields
 //! are.
-ghost use Rattle.std.specs.Prelude.{◌≡◌, ◌++◌, ◌⊎◌, ◌+◌, ◌<◌, ◌^◌, List, ℕ, length, IfOk, IfErr, OnOk};
+ghost use Rattle.std.specs.Prelude.{◌≡◌, ◌++◌, ◌⊎◌, ◌+◌, ◌<◌, ◌^◌, List, ℕ, length, IfOk, IfErr};
+ghost use Rattle.std.specs.Prelude.{OnOk};
 ghost use Rattle.std.specs.List.{concat};
 ghost use Rattle.field_grammar.specs.Grammar.{Grammar, Fault};
 ghost use Rattle.field_grammar.specs.Answers.{Decodes, Gives, answer};

@@ -1,12 +1,16 @@
 //! Configuration list files.
-ghost use Rattle.std.specs.Prelude.{◌≡◌, ◌↔◌, ◌-◌, min, IsTrue, ◌+◌, ◌++◌, ◌⊎◌, ◌≤◌, ◌<◌, ◌^◌, List, ℕ, length, map, IfOk, IfErr, OnOk};
+ghost use Rattle.std.specs.Prelude.{◌≡◌, ◌↔◌, ◌-◌, min, IsTrue, ◌+◌, ◌++◌, ◌⊎◌, ◌≤◌, ◌<◌, ◌^◌};
+ghost use Rattle.std.specs.Prelude.{List, ℕ, length, map, IfOk, IfErr, OnOk};
 ghost use Rattle.std.specs.List.{concat, flat_map, All};
 ghost use Rattle.field_grammar.specs.Grammar.{Fault, times};
 ghost use Rattle.field_grammar.specs.Answers.{answer, Decodes, Gives};
 ghost use Rattle.load_protocol_files.specs.declared.fault.FileFault.{FileFault};
 ghost use Rattle.load_protocol_files.specs.declared.fault.FileFault.TheVariants.{Memory};
 ghost use Rattle.load_protocol_files.specs.Pieces.{counted};
-ghost use Rattle.load_protocol_files.specs.Lcl.{IsWritableLcl, installed, installed_fields, InstalledFits, hardware, hardware_fields, hardware_view, HardwareFits, LclView, lcl_view, lcl, lcl_body, lcl_fields, LclFits, LclSpells};
+ghost use Rattle.load_protocol_files.specs.Lcl.{IsWritableLcl, installed, installed_fields};
+ghost use Rattle.load_protocol_files.specs.Lcl.{InstalledFits, hardware, hardware_fields};
+ghost use Rattle.load_protocol_files.specs.Lcl.{hardware_view, HardwareFits, LclView, lcl_view};
+ghost use Rattle.load_protocol_files.specs.Lcl.{lcl, lcl_body, lcl_fields, LclFits, LclSpells};
 
 use crate::FileFault;
 use crate::file::{self, ProtocolFile};
@@ -85,7 +89,8 @@ impl Lcl {
 }
 
 impl ProtocolFile for Lcl {
-    ghost use Rattle.load_protocol_files.specs.Lcl.{LclView, lcl_view, lcl_body, lcl_fields, LclFits, IsWritableLcl};
+    ghost use Rattle.load_protocol_files.specs.Lcl.{LclView, lcl_view, lcl_body, lcl_fields};
+    ghost use Rattle.load_protocol_files.specs.Lcl.{LclFits, IsWritableLcl};
     ghost use Rattle.load_protocol_files.specs.LclLaws.{spelled-lcl, lcl_is_small};
 
     ghost Value = { LclView };

@@ -1,11 +1,14 @@
 //! Upload request files.
-ghost use Rattle.std.specs.Prelude.{◌≡◌, ◌↔◌, IsTrue, ◌++◌, ◌⊎◌, ◌≤◌, ◌<◌, ◌^◌, List, ℕ, length, IfOk, IfErr, OnOk};
+ghost use Rattle.std.specs.Prelude.{◌≡◌, ◌↔◌, IsTrue, ◌++◌, ◌⊎◌, ◌≤◌, ◌<◌, ◌^◌, List, ℕ, length};
+ghost use Rattle.std.specs.Prelude.{IfOk, IfErr, OnOk};
 ghost use Rattle.std.specs.List.{concat, flat_map, All};
 ghost use Rattle.field_grammar.specs.Grammar.{Fault, times};
 ghost use Rattle.field_grammar.specs.Answers.{answer, Decodes, Gives};
 ghost use Rattle.load_protocol_files.specs.declared.fault.FileFault.{FileFault};
 ghost use Rattle.load_protocol_files.specs.declared.fault.FileFault.TheVariants.{Memory};
-ghost use Rattle.load_protocol_files.specs.Lur.{IsWritableLur, wanted, wanted_fields, WantedFits, LurView, lur_view, lur, lur_body, lur_fields, LurFits, LurSpells};
+ghost use Rattle.load_protocol_files.specs.Lur.{IsWritableLur, wanted, wanted_fields, WantedFits};
+ghost use Rattle.load_protocol_files.specs.Lur.{LurView, lur_view, lur, lur_body, lur_fields};
+ghost use Rattle.load_protocol_files.specs.Lur.{LurFits, LurSpells};
 
 use crate::FileFault;
 use crate::file::{self, ProtocolFile};
@@ -61,7 +64,8 @@ impl Lur {
 }
 
 impl ProtocolFile for Lur {
-    ghost use Rattle.load_protocol_files.specs.Lur.{LurView, lur_view, lur_body, lur_fields, LurFits, IsWritableLur};
+    ghost use Rattle.load_protocol_files.specs.Lur.{LurView, lur_view, lur_body, lur_fields};
+    ghost use Rattle.load_protocol_files.specs.Lur.{LurFits, IsWritableLur};
     ghost use Rattle.load_protocol_files.specs.LurLaws.{spelled-lur, lur_is_small};
 
     ghost Value = { LurView };

@@ -1,12 +1,16 @@
 //! Upload status files.
-ghost use Rattle.std.specs.Prelude.{◌≡◌, ◌↔◌, IsTrue, ◌++◌, ◌⊎◌, ◌≤◌, ◌<◌, ◌^◌, List, ℕ, length, IfOk, IfErr, OnOk};
+ghost use Rattle.std.specs.Prelude.{◌≡◌, ◌↔◌, IsTrue, ◌++◌, ◌⊎◌, ◌≤◌, ◌<◌, ◌^◌, List, ℕ, length};
+ghost use Rattle.std.specs.Prelude.{IfOk, IfErr, OnOk};
 ghost use Rattle.std.specs.List.{concat, flat_map, All};
 ghost use Rattle.field_grammar.specs.Grammar.{Fault, times};
 ghost use Rattle.field_grammar.specs.Answers.{answer, Decodes, Gives};
 ghost use Rattle.load_protocol_files.specs.declared.fault.FileFault.{FileFault};
 ghost use Rattle.load_protocol_files.specs.declared.fault.FileFault.TheVariants.{Memory};
 ghost use Rattle.load_protocol_files.specs.Pieces.{counted};
-ghost use Rattle.load_protocol_files.specs.Lus.{IsWritableLus, load_status, load_status_fields, LoadStatusFits, LusView, lus_view, lus, lus_body, lus_fields, counts_fields, progress_fields, CountsFit, ProgressFits, LusFits, LusSpells};
+ghost use Rattle.load_protocol_files.specs.Lus.{IsWritableLus, load_status, load_status_fields};
+ghost use Rattle.load_protocol_files.specs.Lus.{LoadStatusFits, LusView, lus_view, lus, lus_body};
+ghost use Rattle.load_protocol_files.specs.Lus.{lus_fields, counts_fields, progress_fields};
+ghost use Rattle.load_protocol_files.specs.Lus.{CountsFit, ProgressFits, LusFits, LusSpells};
 
 use crate::FileFault;
 use crate::file::{self, ProtocolFile};
@@ -83,7 +87,8 @@ impl Lus {
 }
 
 impl ProtocolFile for Lus {
-    ghost use Rattle.load_protocol_files.specs.Lus.{LusView, lus_view, lus_body, lus_fields, LusFits, IsWritableLus};
+    ghost use Rattle.load_protocol_files.specs.Lus.{LusView, lus_view, lus_body, lus_fields};
+    ghost use Rattle.load_protocol_files.specs.Lus.{LusFits, IsWritableLus};
     ghost use Rattle.load_protocol_files.specs.LusLaws.{spelled-lus, lus_is_small};
 
     ghost Value = { LusView };

@@ -2,7 +2,9 @@
 ghost use Rattle.std.specs.Prelude.{◌≡◌, length, if◌then◌else◌};
 ghost use Rattle.field_grammar.specs.Answers.{Decodes, Gives};
 ghost use Rattle.load_protocol_files.specs.declared.fault.FileFault.TheVariants.{Memory};
-ghost use Rattle.load_protocol_files.specs.Pieces.{text, name, part, ratio, text_verdict, name_verdict, part_verdict, is_ratio, ratio_value};
+ghost use Rattle.load_protocol_files.specs.Pieces.{text, name, part, ratio, text_verdict};
+ghost use Rattle.load_protocol_files.specs.Pieces.{name_verdict, part_verdict, is_ratio};
+ghost use Rattle.load_protocol_files.specs.Pieces.{ratio_value};
 ghost use Rattle.load_protocol_files.specs.Files.{head, tail};
 
 use crate::FileFault;

@@ -5,7 +5,8 @@ ghost use Rattle.media_check.specs.Sets.{set_view};
 ghost use Rattle.printed_text.specs.Lines.{line};
 ghost use Rattle.loader_cli.specs.Answers.{status_of, text_of};
 ghost use Rattle.loader_cli.specs.Runs.{Checks, Finds};
-ghost use Rattle.loader_cli.specs.Texts.{detail_words, finding_line, findings_text as text_of_findings};
+ghost use Rattle.loader_cli.specs.Texts.{detail_words, finding_line};
+ghost use Rattle.loader_cli.specs.Texts.{findings_text as text_of_findings};
 
 use crate::answer::Answer;
 use load_base::{Bytes, Host, NoMemory, Text};

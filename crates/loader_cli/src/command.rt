@@ -5,7 +5,8 @@ ghost use Rattle.disk_layout.specs.Offsets.{IsBankSize};
 ghost use Rattle.disk_layout.specs.declared.identity.Identity.{Identity};
 ghost use Rattle.shown_files.specs.Kinds.{IsNameOf};
 ghost use Rattle.loader_cli.specs.Commands.CommandView.{show, check};
-ghost use Rattle.loader_cli.specs.Commands.{IsAny, IsCommand, IsNo, IsWord, NamesTarget, command_view, texts_of};
+ghost use Rattle.loader_cli.specs.Commands.{IsAny, IsCommand, IsNo, IsWord, NamesTarget};
+ghost use Rattle.loader_cli.specs.Commands.{command_view, texts_of};
 
 use disk_layout::Identity;
 use disk_layout::offsets::{LARGEST_BANK, SMALLEST_BANK};

@@ -5,7 +5,8 @@ ghost use Rattle.disk_layout.specs.Offsets.{IsBankSize};
 ghost use Rattle.disk_layout.specs.declared.identity.Identity.{Identity};
 ghost use Rattle.bank_store.specs.Formatting.{LeavesOldOrFormatted};
 ghost use Rattle.loader_cli.specs.Answers.{status_of, text_of};
-ghost use Rattle.loader_cli.specs.Commands.{texts_of, IsCommand, IsNo, UsesDisk, WritesDisk, UsesHost};
+ghost use Rattle.loader_cli.specs.Commands.{texts_of, IsCommand, IsNo, UsesDisk, WritesDisk};
+ghost use Rattle.loader_cli.specs.Commands.{UsesHost};
 ghost use Rattle.loader_cli.specs.Commands.CommandView.{format as format_command};
 ghost use Rattle.loader_cli.specs.Runs.{Run, Lists, Formats, Says, EndsAsPromised};
 

@@ -8,7 +8,9 @@ ghost use Rattle.media_build.specs.declared.fault.RecipeFault.{RecipeFault};
 ghost use Rattle.media_build.specs.declared.fault.RecipeFault.TheVariants as faults;
 ghost use Rattle.media_build.specs.declared.keywords.Keyword.TheVariants as keywords;
 ghost use Rattle.media_build.specs.declared.statements.RecipeLine.{RecipeLine};
-ghost use Rattle.media_build.specs.declared.statements.Statement.TheVariants.{Set, Members, Load, Hardware, Position, Data, User};
+ghost use Rattle.media_build.specs.declared.statements.Statement.TheVariants.{Set, Members, Load};
+ghost use Rattle.media_build.specs.declared.statements.Statement.TheVariants.{Hardware, Position};
+ghost use Rattle.media_build.specs.declared.statements.Statement.TheVariants.{Data, User};
 
 /// What lines are refused for is what the first of them is refused for that is wrong, after what
 /// those before it say.
@@ -20,7 +22,6 @@ pub fn the_first_wrong_line()
 
 /// What some recipes say, and how some are refused: the words of the definitions computed
 /// (docs/FORMATS.md, "Recipe").
-#[tactic(auto, unfolding(crate::specs::Recipes::recipe_said, crate::specs::Recipes::words_said, crate::specs::Recipes::keyword_said, crate::specs::Recipes::set_line, crate::specs::Recipes::members_line, crate::specs::Recipes::load_line, crate::specs::Recipes::load_said, crate::specs::Recipes::placed_words, crate::specs::Recipes::new_place, crate::specs::Recipes::type_words, crate::specs::Recipes::hardware_line, crate::specs::Recipes::position_line, crate::specs::Recipes::file_line, crate::specs::Recipes::file_said, crate::specs::Recipes::source_words, crate::specs::Recipes::user_line, crate::specs::Recipes::user_word, crate::specs::Recipes::part_word, crate::specs::Recipes::text_word, crate::specs::Recipes::name_word, crate::specs::Recipes::ends_with, crate::specs::Lines::keyword_of, crate::specs::Lines::may_stand, crate::specs::Lines::names_of, crate::specs::Lines::members_of, crate::specs::Lines::lines_of_load, exchange_trace::specs::Scripts::written_lines, exchange_trace::specs::Scripts::decimal_between, load_base::specs::Verdicts::name_fault_of, part_number::specs::Verdicts::part_fault_of, part_number::specs::PartNumber::is_good_at, part_number::specs::PartNumber::check_of, hex::specs::Hex::decode_pairs))]
 pub fn worked_recipes()
     // Lines that are empty or begin with `#` say nothing, and are counted.
     ensures smallest { recipe_said (lines (codes "set XYZ5A-0000-0001" ∷ codes "members 1"

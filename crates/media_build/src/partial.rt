@@ -2,8 +2,17 @@
 ghost use Rattle.std.specs.Prelude.{◌≡◌, ◌≤◌, ◌∷◌, ◌++◌, [], length, false, IfOk, OnOk};
 ghost use Rattle.field_grammar.specs.Answers.{Gives};
 ghost use Rattle.media_build.specs.Lines.{is_used, names_in, members_in, given};
-ghost use Rattle.media_build.specs.Partials.{MayFollow, IsNewFile, IsNewName, count_files, keeps_user};
-ghost use Rattle.media_build.specs.Recipes.{new_place, placed_words, type_words, load_said, source_words, file_said, set_line as set_words, members_line as members_words, load_line as load_words, hardware_line as hardware_words, position_line as position_words, file_line as file_words, user_line as user_words, statement_said, keyword_said, words_said, is_header_name as is_header, is_body_name as is_body, has_room as has_room_for_file};
+ghost use Rattle.media_build.specs.Partials.{MayFollow, IsNewFile, IsNewName, count_files};
+ghost use Rattle.media_build.specs.Partials.{keeps_user};
+ghost use Rattle.media_build.specs.Recipes.{new_place, placed_words, type_words, load_said};
+ghost use Rattle.media_build.specs.Recipes.{source_words, file_said, set_line as set_words};
+ghost use Rattle.media_build.specs.Recipes.{members_line as members_words, load_line as load_words};
+ghost use Rattle.media_build.specs.Recipes.{hardware_line as hardware_words};
+ghost use Rattle.media_build.specs.Recipes.{position_line as position_words};
+ghost use Rattle.media_build.specs.Recipes.{file_line as file_words, user_line as user_words};
+ghost use Rattle.media_build.specs.Recipes.{statement_said, keyword_said, words_said};
+ghost use Rattle.media_build.specs.Recipes.{is_header_name as is_header, is_body_name as is_body};
+ghost use Rattle.media_build.specs.Recipes.{has_room as has_room_for_file};
 ghost use Rattle.media_build.specs.declared.fault.RecipeFault.TheVariants.{Memory};
 
 use crate::fault::RecipeFault;

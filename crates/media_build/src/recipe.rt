@@ -3,7 +3,8 @@ ghost use Rattle.std.specs.Prelude.{◌≡◌, ◌≤◌, ◌⊎◌, [], length,
 ghost use Rattle.std.specs.List.{slice_split};
 ghost use Rattle.field_grammar.specs.Answers.{Gives};
 ghost use Rattle.exchange_trace.specs.Scripts.{written_lines, is_passed_over as is_passed};
-ghost use Rattle.media_build.specs.Recipes.{recipe_said, lines_said, line_count as count_lines, line_said};
+ghost use Rattle.media_build.specs.Recipes.{recipe_said, lines_said, line_count as count_lines};
+ghost use Rattle.media_build.specs.Recipes.{line_said};
 ghost use Rattle.media_build.specs.declared.fault.RecipeFault.TheVariants.{Memory};
 
 use crate::fault::RecipeFault;

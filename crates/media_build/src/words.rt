@@ -5,7 +5,10 @@ ghost use Rattle.std.specs.List.{list_all};
 ghost use Rattle.field_grammar.specs.Answers.{Gives};
 ghost use Rattle.load_base.specs.PartText.{is_graphic as is_graphic_byte};
 ghost use Rattle.exchange_trace.specs.Scripts.{decimal_between, is_decimal as is_decimal_word};
-ghost use Rattle.media_build.specs.Recipes.{number_word, part_word, text_word, name_word, user_word, is_graphic_word, is_header_name as is_header, is_body_name as is_body, ends_with as has_end};
+ghost use Rattle.media_build.specs.Recipes.{number_word, part_word, text_word, name_word};
+ghost use Rattle.media_build.specs.Recipes.{user_word, is_graphic_word};
+ghost use Rattle.media_build.specs.Recipes.{is_header_name as is_header, is_body_name as is_body};
+ghost use Rattle.media_build.specs.Recipes.{ends_with as has_end};
 ghost use Rattle.media_build.specs.declared.fault.RecipeFault.TheVariants.{Memory};
 
 use crate::fault::RecipeFault;

@@ -2,8 +2,10 @@
 ghost use Rattle.std.specs.Prelude.{◌≡◌, ◌++◌, ◌∷◌, [], codes, Ok};
 ghost use Rattle.hex.specs.Hex.{decode_of};
 ghost use Rattle.load_header.specs.HeaderFields.{header_size, pointers_of};
-ghost use Rattle.media_build.specs.RecipeSets.{files_list_bytes, gathered, header_bytes, header_of, header_start, loads_list_bytes};
-ghost use Rattle.media_build.specs.WorkedSet.{nine_bytes, no_bytes, one_load, one_load_recipe, three_files};
+ghost use Rattle.media_build.specs.RecipeSets.{files_list_bytes, gathered, header_bytes, header_of};
+ghost use Rattle.media_build.specs.RecipeSets.{header_start, loads_list_bytes};
+ghost use Rattle.media_build.specs.WorkedSet.{nine_bytes, no_bytes, one_load, one_load_recipe};
+ghost use Rattle.media_build.specs.WorkedSet.{three_files};
 
 /// The header and both lists of a recipe of one load with one data file, byte for byte; how long
 /// the header of a larger load is, and where its sections begin; and how positions are gathered.

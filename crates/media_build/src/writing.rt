@@ -1,7 +1,8 @@
 //! Writing a built set into a folder of the host.
 ghost use Rattle.std.specs.Prelude.{◌≡◌, ◌+◌, ◌∷◌, ◌++◌, ◌≤◌, [], length, codes, option_map};
 ghost use Rattle.load_base.specs.Sink.{HasWriteCause};
-ghost use Rattle.media_build.specs.HostWrites.{Writes, written_files, written_member, written_list, written_body, written_bodies};
+ghost use Rattle.media_build.specs.HostWrites.{Writes, written_files, written_member, written_list};
+ghost use Rattle.media_build.specs.HostWrites.{written_body, written_bodies};
 ghost use Rattle.media_check.specs.BuiltSets.{member_list};
 ghost use Rattle.media_check.specs.HostNames.{host_name, loads_name, files_name};
 

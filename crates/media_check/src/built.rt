@@ -1,14 +1,17 @@
 //! A media set that was built, and the set in memory that it is.
-ghost use Rattle.std.specs.Prelude.{◌≡◌, ◌≤◌, List as Items, ℕ, [], All, length, map, option_map, IfOk};
+ghost use Rattle.std.specs.Prelude.{◌≡◌, ◌≤◌, List as Items, ℕ, [], All, length, map, option_map};
+ghost use Rattle.std.specs.Prelude.{IfOk};
 ghost use Rattle.std.specs.HashMap.{values};
 ghost use Rattle.std.specs.List.{range_with_len};
 ghost use Rattle.std.specs.Map.{lookup};
 ghost use Rattle.load_base.specs.Bytes.{same_bytes};
 ghost use Rattle.media_lists.specs.Files.{files_list_view, file_name};
 ghost use Rattle.media_lists.specs.ListFields.{AreNew};
-ghost use Rattle.media_check.specs.BuiltSets.{built_media, member_list, body_of, built_lists, file_with, HasShortBodies, HasShortBytes};
+ghost use Rattle.media_check.specs.BuiltSets.{built_media, member_list, body_of, built_lists};
+ghost use Rattle.media_check.specs.BuiltSets.{file_with, HasShortBodies, HasShortBytes};
 ghost use Rattle.media_check.specs.Kept.{bytes_view, IsShortFile};
-ghost use Rattle.media_check.specs.Sets.{set_view, set_in, lists_view, found_view, files_view, entries_of, IsFoundFiles};
+ghost use Rattle.media_check.specs.Sets.{set_view, set_in, lists_view, found_view, files_view};
+ghost use Rattle.media_check.specs.Sets.{entries_of, IsFoundFiles};
 
 use crate::found::{Found, files_in, loads_in};
 use crate::opening::{count_further, keep};

@@ -1,5 +1,6 @@
 //! All findings of a media set.
-ghost use Rattle.std.specs.Prelude.{◌≡◌, ◌++◌, ◌∷◌, [], ℕ, List as Items, map, codes, not, ◌&&◌, true, IfOk, OnOk};
+ghost use Rattle.std.specs.Prelude.{◌≡◌, ◌++◌, ◌∷◌, [], ℕ, List as Items, map, codes, not, ◌&&◌};
+ghost use Rattle.std.specs.Prelude.{true, IfOk, OnOk};
 ghost use Rattle.std.specs.List.{flat_map};
 ghost use Rattle.load_base.specs.Bytes.{same_bytes};
 ghost use Rattle.load_base.specs.Text.{IsText};
@@ -7,7 +8,11 @@ ghost use Rattle.indexmap.specs.IndexSet.{contains as has};
 ghost use Rattle.media_lists.specs.Entries.{is_listed};
 ghost use Rattle.media_lists.specs.Files.{files_list_view};
 ghost use Rattle.media_lists.specs.Loads.{loads_list_view, load_entry_view, load_name};
-ghost use Rattle.media_check.specs.Findings.{findings_of, contents_findings, members_findings, member_findings, list_findings, entry_findings, body_findings, agrees, is_members_list, is_header_name as is_header, plain, where_it_holds, same_load, same_file, file_sums};
+ghost use Rattle.media_check.specs.Findings.{findings_of, contents_findings, members_findings};
+ghost use Rattle.media_check.specs.Findings.{member_findings, list_findings, entry_findings};
+ghost use Rattle.media_check.specs.Findings.{body_findings, agrees, is_members_list};
+ghost use Rattle.media_check.specs.Findings.{is_header_name as is_header, plain, where_it_holds};
+ghost use Rattle.media_check.specs.Findings.{same_load, same_file, file_sums};
 ghost use Rattle.media_check.specs.Sets.{set_view, lists_view, found_view, bytes_of};
 
 use crate::comparing::{same_files_list, same_loads_list};

@@ -3,7 +3,8 @@ ghost use Rattle.std.specs.Prelude.{◌≡◌, map};
 ghost use Rattle.std.specs.Cmp.Lexicographic.{pointwise};
 ghost use Rattle.media_lists.specs.Files.{files_list_view};
 ghost use Rattle.media_lists.specs.Loads.{loads_list_view, load_entry_view};
-ghost use Rattle.media_check.specs.Findings.{same_but_member, same_load as same_load_of, same_file as same_file_of};
+ghost use Rattle.media_check.specs.Findings.{same_but_member, same_load as same_load_of};
+ghost use Rattle.media_check.specs.Findings.{same_file as same_file_of};
 
 use media_lists::{FilesList, ListedFile, LoadEntry, LoadsList};
 

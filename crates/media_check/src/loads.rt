@@ -1,11 +1,15 @@
 //! What is found of the loads of a set.
-ghost use Rattle.std.specs.Prelude.{◌≡◌, ◌++◌, ◌≤◌, ℕ, List as Items, map, length, true, false, MatchOption, OnOk};
+ghost use Rattle.std.specs.Prelude.{◌≡◌, ◌++◌, ◌≤◌, ℕ, List as Items, map, length, true, false};
+ghost use Rattle.std.specs.Prelude.{MatchOption, OnOk};
 ghost use Rattle.std.specs.List.{flat_map};
 ghost use Rattle.crc_fields.specs.CheckSums.{crc32_of};
 ghost use Rattle.field_grammar.specs.Answers.{answer};
 ghost use Rattle.load_header.specs.Header.{header, header_view};
 ghost use Rattle.media_lists.specs.Loads.{load_entry_view};
-ghost use Rattle.media_check.specs.Findings.{load_findings, read_findings, header_findings, file_findings, files_of, are_there as all_there, has_other_crc as other_crc, load_crc_of, file_sums, is_file as is_file_of};
+ghost use Rattle.media_check.specs.Findings.{load_findings, read_findings, header_findings};
+ghost use Rattle.media_check.specs.Findings.{file_findings, files_of, are_there as all_there};
+ghost use Rattle.media_check.specs.Findings.{has_other_crc as other_crc, load_crc_of, file_sums};
+ghost use Rattle.media_check.specs.Findings.{is_file as is_file_of};
 ghost use Rattle.media_check.specs.Kept.{contents};
 ghost use Rattle.media_check.specs.Sets.{set_view, bytes_of};
 

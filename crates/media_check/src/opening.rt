@@ -1,5 +1,6 @@
 //! Opening a media set in a folder of the host.
-ghost use Rattle.std.specs.Prelude.{◌≡◌, ◌≤◌, ◌-◌, ◌∷◌, ◌++◌, All, [], length, map, None, IfOk, OnOk};
+ghost use Rattle.std.specs.Prelude.{◌≡◌, ◌≤◌, ◌-◌, ◌∷◌, ◌++◌, All, [], length, map, None, IfOk};
+ghost use Rattle.std.specs.Prelude.{OnOk};
 ghost use Rattle.std.specs.Option.{ForSome};
 ghost use Rattle.std.specs.HashMap.{get, keys, values};
 ghost use Rattle.std.specs.List.{range_with_len, flat_map};
@@ -8,10 +9,13 @@ ghost use Rattle.load_base.specs.Host.{longest_file};
 ghost use Rattle.media_lists.specs.Files.{files_list, files_list_view, file_name};
 ghost use Rattle.media_lists.specs.ListFields.{AreNew};
 ghost use Rattle.media_lists.specs.Loads.{loads_list, loads_list_view};
-ghost use Rattle.media_check.specs.HostNames.{loads_name, files_name, listed_name, list_names, host_media};
+ghost use Rattle.media_check.specs.HostNames.{loads_name, files_name, listed_name, list_names};
+ghost use Rattle.media_check.specs.HostNames.{host_media};
 ghost use Rattle.media_check.specs.Kept.{bytes_view, IsShortFile, contents};
-ghost use Rattle.media_check.specs.Openings.{Opens, OpensRest, ReadsNames, ReadsList, KeepsNext, KeepsListed, HasOpenCause, largest_set};
-ghost use Rattle.media_check.specs.Sets.{found_view, lists_view, lists_in, further_members, entries_of, IsFoundFiles};
+ghost use Rattle.media_check.specs.Openings.{Opens, OpensRest, ReadsNames, ReadsList, KeepsNext};
+ghost use Rattle.media_check.specs.Openings.{KeepsListed, HasOpenCause, largest_set};
+ghost use Rattle.media_check.specs.Sets.{found_view, lists_view, lists_in, further_members};
+ghost use Rattle.media_check.specs.Sets.{entries_of, IsFoundFiles};
 
 use crate::fault::{LARGEST_SET, OpenFault};
 use crate::found::{Found, files_in, loads_in};

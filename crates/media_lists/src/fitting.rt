@@ -5,8 +5,11 @@ ghost use Rattle.field_grammar.specs.Grammar.{IsBytes};
 ghost use Rattle.media_lists.specs.Paths.{IsPath};
 ghost use Rattle.media_lists.specs.ListFields.{IsMember as is_such_member, AreNew, AreEntries};
 ghost use Rattle.header_sections.specs.SectionFields.{entry_size, HaveDistances};
-ghost use Rattle.media_lists.specs.Files.{files_list_view, file_name, file_body_fields, IsListedFile as is_such_file, IsFilesList};
-ghost use Rattle.media_lists.specs.Loads.{load_entry_view, loads_list_view, load_name, load_body_fields, IsListedLoad as is_such_load, IsLoadsList};
+ghost use Rattle.media_lists.specs.Files.{files_list_view, file_name, file_body_fields};
+ghost use Rattle.media_lists.specs.Files.{IsListedFile as is_such_file, IsFilesList};
+ghost use Rattle.media_lists.specs.Loads.{load_entry_view, loads_list_view, load_name};
+ghost use Rattle.media_lists.specs.Loads.{load_body_fields, IsListedLoad as is_such_load};
+ghost use Rattle.media_lists.specs.Loads.{IsLoadsList};
 
 use crate::lists::{FilesList, ListedFile, LoadEntry, LoadsList};
 use crate::measuring::{list_size, load_body_size};

@@ -2,8 +2,10 @@
 ghost use Rattle.std.specs.Prelude.{◌≡◌, ◌⊎◌, ◌↔◌, IsTrue, IfOk, IfErr};
 ghost use Rattle.field_grammar.specs.Grammar.{Fault};
 ghost use Rattle.field_grammar.specs.Answers.{Gives};
-ghost use Rattle.media_lists.specs.Files.{files_list, files_list_view, FilesListView, FilesSpells, IsFilesList};
-ghost use Rattle.media_lists.specs.Loads.{loads_list, loads_list_view, LoadsListView, LoadsSpells, IsLoadsList};
+ghost use Rattle.media_lists.specs.Files.{files_list, files_list_view, FilesListView, FilesSpells};
+ghost use Rattle.media_lists.specs.Files.{IsFilesList};
+ghost use Rattle.media_lists.specs.Loads.{loads_list, loads_list_view, LoadsListView, LoadsSpells};
+ghost use Rattle.media_lists.specs.Loads.{IsLoadsList};
 ghost use Rattle.media_lists.specs.declared.fault.ListFault.{ListFault};
 ghost use Rattle.media_lists.specs.declared.fault.ListFault.TheVariants.{Memory};
 

@@ -1,5 +1,6 @@
 //! The texts of a media list's faults.
-ghost use Rattle.media_lists.specs.ListFaultText.{list_fault_text, word_fault_text, path_fault_text};
+ghost use Rattle.media_lists.specs.ListFaultText.{list_fault_text, word_fault_text};
+ghost use Rattle.media_lists.specs.ListFaultText.{path_fault_text};
 
 use crate::fault::{ListFault, PathFault, WordFault};
 use load_base::{NoMemory, Text};

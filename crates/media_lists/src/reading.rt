@@ -1,7 +1,8 @@
 //! What the decoders of the two media lists share, part by part of their formats.
 ghost use Rattle.std.specs.Prelude.{◌≡◌, ◌≤◌, IfOk};
 ghost use Rattle.field_grammar.specs.Answers.{Decodes};
-ghost use Rattle.media_lists.specs.Lists.{path, counted, pointers, head, is_member as has_member, membership, member_of, identity, check_sum, tail, limit};
+ghost use Rattle.media_lists.specs.Lists.{path, counted, pointers, head, is_member as has_member};
+ghost use Rattle.media_lists.specs.Lists.{membership, member_of, identity, check_sum, tail, limit};
 ghost use Rattle.media_lists.specs.declared.fault.ListFault.TheVariants.{Memory};
 
 use crate::fault::ListFault;

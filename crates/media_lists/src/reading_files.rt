@@ -4,7 +4,8 @@ ghost use Rattle.media_lists.specs.NameOrder.{IsOrder};
 ghost use Rattle.field_grammar.specs.Grammar.{listed};
 ghost use Rattle.field_grammar.specs.Answers.{answer, Decodes, Gives};
 ghost use Rattle.media_lists.specs.Entries.{numbered_entry, entry_after};
-ghost use Rattle.media_lists.specs.Files.{file_body, file_name, file_entries, files_list, files_list_view};
+ghost use Rattle.media_lists.specs.Files.{file_body, file_name, file_entries, files_list};
+ghost use Rattle.media_lists.specs.Files.{files_list_view};
 ghost use Rattle.media_lists.specs.declared.fault.ListFault.TheVariants.{Memory};
 
 use crate::fault::ListFault;

@@ -4,7 +4,8 @@ ghost use Rattle.media_lists.specs.NameOrder.{IsOrder};
 ghost use Rattle.field_grammar.specs.Grammar.{listed};
 ghost use Rattle.field_grammar.specs.Answers.{answer, Decodes, Gives};
 ghost use Rattle.media_lists.specs.Entries.{numbered_entry, entry_after};
-ghost use Rattle.media_lists.specs.Loads.{counted_texts, load_body, load_name, load_entries, loads_list, load_entry_view, loads_list_view};
+ghost use Rattle.media_lists.specs.Loads.{counted_texts, load_body, load_name, load_entries};
+ghost use Rattle.media_lists.specs.Loads.{loads_list, load_entry_view, loads_list_view};
 ghost use Rattle.media_lists.specs.declared.fault.ListFault.TheVariants.{Memory};
 
 use crate::fault::ListFault;

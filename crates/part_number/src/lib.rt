@@ -1,12 +1,18 @@
 //! Part numbers with their check digits.
 #![tactic(auto)]
 
-ghost use Rattle.std.specs.Prelude.{◌≡◌, ℕ, ◌<◌, ◌++◌, List, true, false, codes, length, fold, bit_xor, IsOk, IfOk, IfErr, IfSome, IfNone};
+ghost use Rattle.std.specs.Prelude.{◌≡◌, ℕ, ◌<◌, ◌++◌, List, true, false, codes, length, fold};
+ghost use Rattle.std.specs.Prelude.{bit_xor, IsOk, IfOk, IfErr, IfSome, IfNone};
 ghost use Rattle.std.specs.Bool.{Decides};
 ghost use Rattle.load_base.specs.Bytes.{AllGood};
 ghost use Rattle.load_base.specs.PartText.{IsPartText};
 ghost use Rattle.load_base.specs.Verdicts.{judged, TellsFaults};
-ghost use Rattle.part_number.specs.PartNumber.{IsPartNumber, IsPartNumberText, IsPartFault, IsFirstBadOffset, HasGoodCharacters, part_number_text, maker_of, product_of, check_digits_of, check_of, hexadecimal, hexadecimal_digit, is_part_character, is_hexadecimal_digit, is_hyphen_offset, is_good_at};
+ghost use Rattle.part_number.specs.PartNumber.{IsPartNumber, IsPartNumberText, IsPartFault};
+ghost use Rattle.part_number.specs.PartNumber.{IsFirstBadOffset, HasGoodCharacters};
+ghost use Rattle.part_number.specs.PartNumber.{part_number_text, maker_of, product_of};
+ghost use Rattle.part_number.specs.PartNumber.{check_digits_of, check_of, hexadecimal};
+ghost use Rattle.part_number.specs.PartNumber.{hexadecimal_digit, is_part_character};
+ghost use Rattle.part_number.specs.PartNumber.{is_hexadecimal_digit, is_hyphen_offset, is_good_at};
 ghost use Rattle.part_number.specs.Verdicts.{part_fault_of};
 
 mod printing;

@@ -2,7 +2,9 @@
 ghost use Rattle.std.specs.Prelude.{◌≡◌, ℕ, ◌+◌, ◌≤◌, ◌++◌, List, true, length, IfOk, OnOk};
 ghost use Rattle.std.specs.List.{list_all};
 ghost use Rattle.load_base.specs.Text.{is_printable};
-ghost use Rattle.printed_text.specs.FaultTexts.{coded as coded_text, nested as nested_text, number_text, longest_coded, name_fault_text, text_fault_text, ident_fault_text};
+ghost use Rattle.printed_text.specs.FaultTexts.{coded as coded_text, nested as nested_text};
+ghost use Rattle.printed_text.specs.FaultTexts.{number_text, longest_coded, name_fault_text};
+ghost use Rattle.printed_text.specs.FaultTexts.{text_fault_text, ident_fault_text};
 
 use load_base::{Bytes, IdentFault, NameFault, NoMemory, Text, TextFault};
 use std::alloc::Global;

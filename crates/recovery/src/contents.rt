@@ -5,7 +5,8 @@ ghost use Rattle.std.specs.List.{All};
 ghost use Rattle.load_base.specs.Config.{file_view, load_view};
 ghost use Rattle.disk_model.specs.Image.{Image, range};
 ghost use Rattle.disk_layout.specs.Manifest.{entry_view, total_length, size_of};
-ghost use Rattle.disk_layout.specs.Contents.{file_entry_of, entry_of, entries_of, bytes_of, contents_of_loads, HeaderIsFirst, HeadersAreFirst};
+ghost use Rattle.disk_layout.specs.Contents.{file_entry_of, entry_of, entries_of, bytes_of};
+ghost use Rattle.disk_layout.specs.Contents.{contents_of_loads, HeaderIsFirst, HeadersAreFirst};
 ghost use Rattle.disk_layout.specs.DiskReads.{IsOfDisk, ReadsDisk};
 ghost use Rattle.recovery.specs.Parts.{HasFiles};
 

@@ -1,5 +1,6 @@
 //! What is active on a disk: the identity, the slot, and the manifest that it names.
-ghost use Rattle.std.specs.Prelude.{◌≡◌, ◌+◌, ◌≤◌, ◌<◌, ◌↔◌, IsTrue, IfSome, IfNone, Some, false, map, OnOk, IfOk, IfErr};
+ghost use Rattle.std.specs.Prelude.{◌≡◌, ◌+◌, ◌≤◌, ◌<◌, ◌↔◌, IsTrue, IfSome, IfNone, Some, false};
+ghost use Rattle.std.specs.Prelude.{map, OnOk, IfOk, IfErr};
 ghost use Rattle.std.specs.List.{sum_by};
 ghost use Rattle.std.specs.Option.{ForSome};
 ghost use Rattle.disk_model.specs.Image.{Image, range};
@@ -8,14 +9,17 @@ ghost use Rattle.field_grammar.specs.Grammar.{Spelled};
 ghost use Rattle.disk_layout.specs.Offsets.{IsBankSize, bank_at};
 ghost use Rattle.disk_layout.specs.Identity.{HasIdentity};
 ghost use Rattle.disk_layout.specs.Slots.{slot_offset, bank_number, IsSlotAt};
-ghost use Rattle.disk_layout.specs.Manifest.{ManifestFits, manifest, manifest_view, entry_view, total_length, size_of};
+ghost use Rattle.disk_layout.specs.Manifest.{ManifestFits, manifest, manifest_view, entry_view};
+ghost use Rattle.disk_layout.specs.Manifest.{total_length, size_of};
 ghost use Rattle.disk_layout.specs.Holds.{StandingView, outline_of, Refuses};
 ghost use Rattle.disk_layout.specs.DiskReads.{IsOfDisk, ReadsDisk};
 ghost use Rattle.bank_store.specs.Store.{IsIdle};
 ghost use Rattle.bank_store.specs.DiskWrites.{IsRunning};
 ghost use Rattle.bank_store.specs.Fits.{HoldsFor, Fits, Works};
-ghost use Rattle.recovery.specs.Parts.{IsActiveSlotOn, RefusesSlots, IsSoundAt, RefusesSlot, RefusesBytes, RefusesManifest};
-ghost use Rattle.recovery.specs.Surveys.{IsSurveyed, IsSurveyInRange, FindsActive, IsFoundInRange, outline_of_survey};
+ghost use Rattle.recovery.specs.Parts.{IsActiveSlotOn, RefusesSlots, IsSoundAt, RefusesSlot};
+ghost use Rattle.recovery.specs.Parts.{RefusesBytes, RefusesManifest};
+ghost use Rattle.recovery.specs.Surveys.{IsSurveyed, IsSurveyInRange, FindsActive, IsFoundInRange};
+ghost use Rattle.recovery.specs.Surveys.{outline_of_survey};
 
 use crate::looking::{bytes_on, read_from};
 use bank_store::{Store, a_settled_disk_works, a_store_goes_on_fitting};

@@ -1,5 +1,7 @@
 //! What holds of both sides and their logs. These functions do nothing; their clauses are the law.
-ghost use Rattle.session_rules.specs.Laws.{AllArePlaced, LoaderAcksWhatCame, LoaderFollows, LoaderTakesWhatCame, LogsCountUp, TargetAcksWhatCame, TargetFollows, TargetTakesWhatCame, TwoAtMost};
+ghost use Rattle.session_rules.specs.Laws.{AllArePlaced, LoaderAcksWhatCame, LoaderFollows};
+ghost use Rattle.session_rules.specs.Laws.{LoaderTakesWhatCame, LogsCountUp, TargetAcksWhatCame};
+ghost use Rattle.session_rules.specs.Laws.{TargetFollows, TargetTakesWhatCame, TwoAtMost};
 ghost use Rattle.session_rules.specs.Sessions.{OneSessionAStart};
 ghost use Rattle.session_rules.specs.Soundness.{VerdictIsSound};
 ghost use Rattle.session_rules.specs.SoundLogs.{ChangesByVerdict};

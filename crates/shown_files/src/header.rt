@@ -4,7 +4,9 @@ ghost use Rattle.std.specs.List.{flat_map};
 ghost use Rattle.std.specs.Fmt.{decimal};
 ghost use Rattle.crc_fields.specs.CheckSums.{crc16_of};
 ghost use Rattle.load_header.specs.Header.{header_view, hardware_at_view};
-ghost use Rattle.shown_files.specs.HeaderText.{shown_header, head_lines, hardware_line, position_line, position_lines, file_line, header_crc_line, load_crc_line};
+ghost use Rattle.shown_files.specs.HeaderText.{shown_header, head_lines, hardware_line};
+ghost use Rattle.shown_files.specs.HeaderText.{position_line, position_lines, file_line};
+ghost use Rattle.shown_files.specs.HeaderText.{header_crc_line, load_crc_line};
 ghost use Rattle.printed_text.specs.Lines.{line, hex_16, hex_32};
 
 use crate::user::put_user;

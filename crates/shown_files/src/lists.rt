@@ -5,7 +5,10 @@ ghost use Rattle.std.specs.Fmt.{decimal};
 ghost use Rattle.media_lists.specs.Files.{files_list_view};
 ghost use Rattle.media_lists.specs.Loads.{load_entry_view, loads_list_view};
 ghost use Rattle.printed_text.specs.Lines.{hex_16};
-ghost use Rattle.shown_files.specs.ListText.{member_line, kind_line, set_lines, crc_line, listed_file_line, shown_files_list, listed_load_line, load_hardware_line, listed_load_lines, shown_loads_list};
+ghost use Rattle.shown_files.specs.ListText.{member_line, kind_line, set_lines, crc_line};
+ghost use Rattle.shown_files.specs.ListText.{listed_file_line, shown_files_list, listed_load_line};
+ghost use Rattle.shown_files.specs.ListText.{load_hardware_line, listed_load_lines};
+ghost use Rattle.shown_files.specs.ListText.{shown_loads_list};
 
 use crate::user::put_user;
 use crc_fields::crc16;

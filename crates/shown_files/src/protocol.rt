@@ -4,7 +4,11 @@ ghost use Rattle.std.specs.List.{flat_map};
 ghost use Rattle.load_protocol_files.specs.Lur.{lur_view};
 ghost use Rattle.load_protocol_files.specs.Lus.{lus_view};
 ghost use Rattle.load_protocol_files.specs.Lcl.{lcl_view, hardware_view};
-ghost use Rattle.shown_files.specs.ProtocolText.{type_line, status_line, state_lines, timer_lines, progress_lines, installed_lines, hardware_lines, wanted_lines, load_status_lines, shown_lci, shown_lcs, shown_lcl, shown_lui, shown_lur, shown_lus};
+ghost use Rattle.shown_files.specs.ProtocolText.{type_line, status_line, state_lines, timer_lines};
+ghost use Rattle.shown_files.specs.ProtocolText.{progress_lines, installed_lines, hardware_lines};
+ghost use Rattle.shown_files.specs.ProtocolText.{wanted_lines, load_status_lines, shown_lci};
+ghost use Rattle.shown_files.specs.ProtocolText.{shown_lcs, shown_lcl, shown_lui, shown_lur};
+ghost use Rattle.shown_files.specs.ProtocolText.{shown_lus};
 
 use load_base::{Bytes, NoMemory, Text};
 use load_protocol_files::{Hardware, Lci, Lcl, Lcs, LoadStatus, Lui, Lur, Lus, Part, Wanted};

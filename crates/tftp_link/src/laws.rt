@@ -1,5 +1,12 @@
 //! What holds of a transfer, whatever packets come. These functions do nothing.
-ghost use Rattle.tftp_link.specs.Laws.{ServedWriteArrives, AskedReadArrives, ServedLastMakesWhole, AskedLastMakesWhole, ServedWriteAcknowledges, AskedReadAcknowledges, OneStands, ArrivesAsPrefix, ArrivesWhole, ServedReadSends, AskedWriteSends, DoneWithTheLastAck, OneCountStands, SendsItsFile, DuplicateAckIsDropped, OtherAckIsDropped, OackIsAcknowledgedAgain, LateOackIsDropped, ReceiverFailsAtError, SenderFailsAtError};
+ghost use Rattle.tftp_link.specs.Laws.{ServedWriteArrives, AskedReadArrives, ServedLastMakesWhole};
+ghost use Rattle.tftp_link.specs.Laws.{AskedLastMakesWhole, ServedWriteAcknowledges};
+ghost use Rattle.tftp_link.specs.Laws.{AskedReadAcknowledges, OneStands, ArrivesAsPrefix};
+ghost use Rattle.tftp_link.specs.Laws.{ArrivesWhole, ServedReadSends, AskedWriteSends};
+ghost use Rattle.tftp_link.specs.Laws.{DoneWithTheLastAck, OneCountStands, SendsItsFile};
+ghost use Rattle.tftp_link.specs.Laws.{DuplicateAckIsDropped, OtherAckIsDropped};
+ghost use Rattle.tftp_link.specs.Laws.{OackIsAcknowledgedAgain, LateOackIsDropped};
+ghost use Rattle.tftp_link.specs.Laws.{ReceiverFailsAtError, SenderFailsAtError};
 
 /// A receiving end lends what arrived, and tells when that is the whole file.
 pub fn receiving_laws()

@@ -4,7 +4,10 @@ ghost use Rattle.tftp_packet.specs.Options.{AreInRange};
 ghost use Rattle.tftp_packet.specs.Packets.{Data, Oack, Error, packet_view, IsInRange};
 ghost use Rattle.tftp_link.specs.Answers.{is_sent_by, news_by, news_view};
 ghost use Rattle.tftp_link.specs.Blocks.{is_block};
-ghost use Rattle.tftp_link.specs.Receiver.{receiver_asking, receiver_serving, receiver_answer, receiver_moved, receiver_after, receiver_first, receiver_packet, taken_answer, is_next_block, is_last_block, were_granted};
+ghost use Rattle.tftp_link.specs.Receiver.{receiver_asking, receiver_serving, receiver_answer};
+ghost use Rattle.tftp_link.specs.Receiver.{receiver_moved, receiver_after, receiver_first};
+ghost use Rattle.tftp_link.specs.Receiver.{receiver_packet, taken_answer, is_next_block};
+ghost use Rattle.tftp_link.specs.Receiver.{is_last_block, were_granted};
 
 use crate::negotiation::{DEFAULT_BLOCK_SIZE, block_size_of, is_empty, may_grant, same_options};
 use crate::phase::Phase;

@@ -2,7 +2,8 @@
 ghost use Rattle.std.specs.Prelude.{◌≡◌, ◌↔◌, ◌≤◌, ℕ, List, length, Ok};
 ghost use Rattle.field_grammar.specs.Answers.{answer};
 ghost use Rattle.field_grammar.specs.Grammar.{IsBytes, IsDecided, Spelled};
-ghost use Rattle.tftp_packet.specs.Packets.{PacketView, IsARequest, IsInRange, IsTyped, PacketSpells, packet, packet_bytes};
+ghost use Rattle.tftp_packet.specs.Packets.{PacketView, IsARequest, IsInRange, IsTyped};
+ghost use Rattle.tftp_packet.specs.Packets.{PacketSpells, packet, packet_bytes};
 
 /// Laws of the format, for callers that compare packets and their bytes.
 pub fn packet_laws()

@@ -2,7 +2,9 @@
 ghost use Rattle.std.specs.Prelude.{◌≡◌, ◌≤◌, IfSome};
 ghost use Rattle.std.specs.Char.{is_ascii_digit};
 ghost use Rattle.std.specs.List.{list_all};
-ghost use Rattle.tftp_packet.specs.Options.{lower_name, is_named, known_of, number_between, value_of, said_by, most, admits, is_new, with_known, one_option, all_options};
+ghost use Rattle.tftp_packet.specs.Options.{lower_name, is_named, known_of, number_between};
+ghost use Rattle.tftp_packet.specs.Options.{value_of, said_by, most, admits, is_new, with_known};
+ghost use Rattle.tftp_packet.specs.Options.{one_option, all_options};
 ghost use Rattle.tftp_packet.specs.Reading.{ReadsOn, IsSmall};
 
 use crate::PacketFault;

@@ -3,7 +3,8 @@ ghost use Rattle.std.specs.Prelude.{◌≡◌, ◌≤◌, List, ℕ, length, IfO
 ghost use Rattle.field_grammar.specs.Answers.{answer};
 ghost use Rattle.field_grammar.specs.Grammar.{Fault};
 ghost use Rattle.tftp_packet.specs.declared.fault.PacketFault.{PacketFault};
-ghost use Rattle.tftp_packet.specs.Packets.{PacketView, packet_view, seen, IsInRange, IsTyped, PacketSpells, packet_bytes, packet, body};
+ghost use Rattle.tftp_packet.specs.Packets.{PacketView, packet_view, seen, IsInRange, IsTyped};
+ghost use Rattle.tftp_packet.specs.Packets.{PacketSpells, packet_bytes, packet, body};
 ghost use Rattle.tftp_packet.specs.Reading.{ReadsOn};
 
 use crate::PacketFault;

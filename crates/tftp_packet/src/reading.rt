@@ -4,7 +4,8 @@ ghost use Rattle.field_grammar.specs.Grammar.{ended};
 ghost use Rattle.load_base.specs.Verdicts.{verdict, name_fault_of};
 ghost use Rattle.tftp_packet.specs.declared.fault.PacketFault.TheVariants as faults;
 ghost use Rattle.tftp_packet.specs.Options.{zero_text};
-ghost use Rattle.tftp_packet.specs.Packets.{word, file_name, payload_bytes, is_octet, request_body, data_body, ack_body, error_body};
+ghost use Rattle.tftp_packet.specs.Packets.{word, file_name, payload_bytes, is_octet, request_body};
+ghost use Rattle.tftp_packet.specs.Packets.{data_body, ack_body, error_body};
 ghost use Rattle.tftp_packet.specs.Reading.{ReadsOn};
 
 use crate::PacketFault;

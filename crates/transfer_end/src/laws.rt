@@ -1,6 +1,8 @@
 //! What holds of the moves of an end. These functions do nothing; their clauses are the law.
-ghost use Rattle.transfer_end.specs.Came.{LastStaysAcked, MovesCame, MovesPostTwo, PostsAckWhatCame, TakenBlocksCame, TakenWasGot};
-ghost use Rattle.transfer_end.specs.Laws.{AcknowledgesTaken, EndIsOfLink, MovesCountUp, SendsNextBlock, TakenIsLent, ViewFollows, ViewsFollow};
+ghost use Rattle.transfer_end.specs.Came.{LastStaysAcked, MovesCame, MovesPostTwo};
+ghost use Rattle.transfer_end.specs.Came.{PostsAckWhatCame, TakenBlocksCame, TakenWasGot};
+ghost use Rattle.transfer_end.specs.Laws.{AcknowledgesTaken, EndIsOfLink, MovesCountUp};
+ghost use Rattle.transfer_end.specs.Laws.{SendsNextBlock, TakenIsLent, ViewFollows, ViewsFollow};
 
 /// What an end keeps is what is kept of its log, whatever moves it makes. So what it posts, which
 /// follows from what it keeps, follows from the log. `specs/ViewLaws.antt` says the same to proofs.

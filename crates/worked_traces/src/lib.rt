@@ -16,7 +16,9 @@ ghost use Rattle.worked_traces.specs.GivesUp.{run as gives_up_run};
 ghost use Rattle.worked_traces.specs.Boots.{run as boots_run};
 ghost use Rattle.worked_traces.specs.OtherHardware.{run as other_hardware_run};
 ghost use Rattle.worked_traces.specs.Walks.{IsWorked};
-ghost use Rattle.session_rules.specs.declared.outcome.Outcome.TheVariants.{Completed, GaveUp, PeerError, Replaced, TargetStopped};
+ghost use Rattle.session_rules.specs.declared.outcome.Outcome.TheVariants.{Completed, GaveUp};
+ghost use Rattle.session_rules.specs.declared.outcome.Outcome.TheVariants.{PeerError, Replaced};
+ghost use Rattle.session_rules.specs.declared.outcome.Outcome.TheVariants.{TargetStopped};
 
 /// An information session.
 pub fn information()
