@@ -13,3 +13,7 @@ pub mod Came
 pub mod CameLaws
 pub mod PostedLaws
 pub mod AckLaws
+pub mod OtherEnds
+pub mod OtherEndLaws
+pub mod SentPacketLaws
+pub mod ReceivedLaws

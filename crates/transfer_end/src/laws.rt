@@ -3,6 +3,7 @@ ghost use Rattle.transfer_end.specs.Came.{LastStaysAcked, MovesCame, MovesPostTw
 ghost use Rattle.transfer_end.specs.Came.{PostsAckWhatCame, TakenBlocksCame, TakenWasGot};
 ghost use Rattle.transfer_end.specs.Laws.{AcknowledgesTaken, EndIsOfLink, MovesCountUp};
 ghost use Rattle.transfer_end.specs.Laws.{SendsNextBlock, TakenIsLent, ViewFollows, ViewsFollow};
+ghost use Rattle.transfer_end.specs.OtherEnds.{MovesStayFair, ReceivesWhatWasSent};
 
 /// What an end keeps is what is kept of its log, whatever moves it makes. So what it posts, which
 /// follows from what it keeps, follows from the log. `specs/ViewLaws.antt` says the same to proofs.
@@ -56,4 +57,16 @@ pub fn what_is_acknowledged_came()
 /// `specs/PostedLaws.antt` says the same to proofs.
 pub fn two_datagrams_at_most()
     ensures { MovesPostTwo }
+{}
+
+/// What a side receives in a transfer is what the transfer's other end sent, wherever the datagrams
+/// of each side were posted by the other: each block that came is that block of its file, in the
+/// block size that both ends hold, and a file that was received whole is the file that was sent.
+/// `specs/OtherEndLaws.antt` and `specs/ReceivedLaws.antt` say the same to proofs.
+pub fn what_comes_was_sent()
+    // Whatever moves a side makes, each transfer goes on as it began: one end asked, the other
+    // serves it, and the packets of each are what the other sent to it.
+    ensures moves { MovesStayFair }
+    // So what is received was sent.
+    ensures receives { ReceivesWhatWasSent }
 {}
