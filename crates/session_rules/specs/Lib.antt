@@ -26,3 +26,5 @@ pub mod SoundLogs
 pub mod SoundLogLaws
 pub mod Sessions
 pub mod SessionLaws
+pub mod Fairness
+pub mod FairLaws

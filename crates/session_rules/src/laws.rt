@@ -1,4 +1,6 @@
 //! What holds of both sides and their logs. These functions do nothing; their clauses are the law.
+ghost use Rattle.session_rules.specs.Fairness.{LoaderGivesMediaFiles, LoaderMovesFit};
+ghost use Rattle.session_rules.specs.Fairness.{LoaderStaysFair, TargetMovesFit, TargetStaysFair};
 ghost use Rattle.session_rules.specs.Laws.{AllArePlaced, LoaderAcksWhatCame, LoaderFollows};
 ghost use Rattle.session_rules.specs.Laws.{LoaderTakesWhatCame, LogsCountUp, TargetAcksWhatCame};
 ghost use Rattle.session_rules.specs.Laws.{TargetFollows, TargetTakesWhatCame, TwoAtMost};
@@ -64,4 +66,17 @@ pub fn what_is_acknowledged_came()
 /// over like all others.
 pub fn one_session_for_each_start()
     ensures { OneSessionAStart }
+{}
+
+/// Whatever reaches a side, it gets only the packet that came, serves only a request that came, and
+/// asks for the files of its operations. So where the other side posted what comes, both sides stay
+/// as `transfer_end::laws::what_comes_was_sent` asks. `specs/FairLaws.antt` says the same to
+/// proofs.
+pub fn both_sides_stay_fair()
+    ensures loader_moves { LoaderMovesFit }
+    ensures target_moves { TargetMovesFit }
+    ensures loader { LoaderStaysFair }
+    ensures target { TargetStaysFair }
+    // Each file that the loader gives is the media set's file of its name.
+    ensures media { LoaderGivesMediaFiles }
 {}

@@ -16,7 +16,7 @@ use Rattle.transfer_end.specs.Came.{HeardIn}
 use Rattle.transfer_end.specs.CameLaws.{all_mapped}
 use Rattle.transfer_end.specs.Laws.{CountUp, IsLive}
 use Rattle.transfer_end.specs.Moves.{Asks, Asks_size, Hears, Move, Recalls, Refuses, Repeats, Serves, Stops, all_posts, datagram, heard_post, kept_post, last_of, last_post, past_with, posts_of, reading_after, reading_answered, reading_heard, reading_unchanged, readings_after, recalled_post, request}
-use Rattle.transfer_end.specs.OtherEnds.{Among, AreFair, Brought, BroughtFrom, EventWasPosted, GotIsPosted, HasBegun, IsAnsweredBy, IsFair, IsPostOf, IsPostOfSide, LastIsPost, MoveFits, MovesFit, MovesStayFair, OwnPortsRise, PortsFit, ServesIn, TookRequest, all_of, answered, is_asking, of_refusal, of_transfer, refused, request_taken, served, unanswered}
+use Rattle.transfer_end.specs.OtherEnds.{Among, AreFair, Brought, BroughtFrom, EventWasPosted, GotIsPosted, HasBegun, HasPosted, HaveRoles, IsAnsweredBy, IsFair, IsPostOf, IsPostOfSide, LastIsPost, MoveFits, MoveHasRole, MovesFit, MovesStayFair, OwnPortsRise, PortsFit, ServesIn, TookRequest, all_of, answered, is_asking, of_refusal, of_transfer, refused, request_taken, served, unanswered}
 use Rattle.transfer_end.specs.Packets.{is_peer, packet_in}
 use Rattle.transfer_end.specs.Readings.{Reading, kept_in, next_port_of}
 use Rattle.transfer_end.specs.RfcLaws.{moves_count_up}
@@ -143,12 +143,16 @@ begun_still posted more side theirs then t extends (unanswered asks unbound none
 begun_still posted more side theirs then t extends (refused asks by) = refused asks by
 begun_still posted more side theirs then t extends (answered asks s a h) = let (u, b, later) = extends s a in answered asks u b (answered_still t s u later h)
 
+sent_still : (posted more : List DatagramView) (side : Side) (from : ℕ) → HasPosted posted side from → HasPosted (posted ++ more) side from
+sent_still posted more side from h = record { datagram = h.datagram; among = among_left h.datagram posted more h.among; poster = h.poster; port = h.port }
+
 -- one side moves on, and posts these; the other side is as fair as it was
 pub other_stays_fair : (me them : Side) (mine then theirs : List Transfer) (posted more : List DatagramView) → (me ≡ them → ⊥) → Extends mine then → AllByRecursion (λ (d : DatagramView). d.side ≡ me) more
     → IsFair them me theirs mine posted → IsFair them me theirs then (posted ++ more)
 other_stays_fair me them mine then theirs posted more differ extends of_me fair = record {
   ports = fair.ports;
   posts = λ d a is. ⊎_elim (λ (b : Among d posted). fair.posts d b is) (λ (b : Among d more). absurd (differ (sym (all_at (λ (x : DatagramView). x.side ≡ me) more d of_me b) ∙ is))) (among_either d posted more a);
+  sent = λ t a. sent_still posted more them t.own (fair.sent t a);
   got = λ t a. got_still posted more me t (fair.got t a);
   begun = λ t a. begun_still posted more me mine then t extends (fair.begun t a);
 }
@@ -172,20 +176,26 @@ pub same_stays_fair : (me them : Side) (mine theirs : List Transfer) (posted mor
 same_stays_fair me them mine theirs posted more sent fair = record {
   ports = fair.ports;
   posts = λ d a is. ⊎_elim (λ (b : Among d posted). fair.posts d b is) (λ (b : Among d more). all_at (IsPostOfSide mine) more d sent b) (among_either d posted more a);
+  sent = λ t a. sent_still posted more me t.own (fair.sent t a);
   got = λ t a. got_still posted more them t (fair.got t a);
   begun = λ t a. begun_still posted more them theirs theirs t (extends_same theirs) (fair.begun t a);
 }
 
 -- a transfer begins
-pub new_stays_fair : (me them : Side) (n : Transfer) (mine theirs : List Transfer) (posted more : List DatagramView) → OwnPortsRise (n ∷ mine) → n.got ≡ [] → HasBegun (posted ++ more) them theirs n → AllByRecursion (IsPostOf n) more
+pub new_stays_fair : (me them : Side) (n : Transfer) (mine theirs : List Transfer) (posted more : List DatagramView) → OwnPortsRise (n ∷ mine) → n.got ≡ [] → HasBegun (posted ++ more) them theirs n → AllByRecursion (IsPostOf n) more → HasPosted (posted ++ more) me n.own
     → IsFair me them mine theirs posted → IsFair me them (n ∷ mine) theirs (posted ++ more)
-new_stays_fair me them n mine theirs posted more rise none begins sent fair = record {
+new_stays_fair me them n mine theirs posted more rise none begins sent first fair = record {
   ports = rise;
   posts = λ d a is. ⊎_elim (λ (b : Among d posted). later_side mine (n ∷ mine) d (extends_new n mine) (fair.posts d b is)) (λ (b : Among d more). of_transfer n (inl refl) (all_at (IsPostOf n) more d sent b)) (among_either d posted more a);
+  sent = sent_of;
   got = got_of;
   begun = begun_of;
 }
   where
+    sent_of : (t : Transfer) → Among t (n ∷ mine) → HasPosted (posted ++ more) me t.own
+    sent_of t (inl e) = subst (λ (x : Transfer). HasPosted (posted ++ more) me x.own) e first
+    sent_of t (inr a) = sent_still posted more me t.own (fair.sent t a)
+
     got_of : (t : Transfer) → Among t (n ∷ mine) → GotIsPosted (posted ++ more) them t
     got_of t (inl e) = subst (λ (x : Transfer). GotIsPosted (posted ++ more) them x) e (subst (λ (got : List PacketView). AllByRecursion (BroughtFrom (posted ++ more) them n.own n.peer) got) (sym none) tt)
     got_of t (inr a) = got_still posted more them t (fair.got t a)
@@ -314,10 +324,15 @@ heard_stays_fair me them t mine theirs posted more from p is taken b sent fair o
   ports = fair.ports;
   posts = λ d a e. ⊎_elim (λ (c : Among d posted). later_side (t ∷ mine) (with_packet t from p ∷ mine) d (extends_first t (with_packet t from p) mine (with_later t from p)) (fair.posts d c e))
       (λ (c : Among d more). of_transfer (with_packet t from p) (inl refl) (all_at (IsPostOf (with_packet t from p)) more d sent c)) (among_either d posted more a);
+  sent = sent_of;
   got = got_of;
   begun = begun_of;
 }
   where
+    sent_of : (u : Transfer) → Among u (with_packet t from p ∷ mine) → HasPosted (posted ++ more) me u.own
+    sent_of u (inl e) = subst (λ (x : Transfer). HasPosted (posted ++ more) me x.own) e (sent_still posted more me t.own (fair.sent t (inl refl)))
+    sent_of u (inr a) = sent_still posted more me u.own (fair.sent u (inr a))
+
     got_of : (u : Transfer) → Among u (with_packet t from p ∷ mine) → GotIsPosted (posted ++ more) them u
     got_of u (inl e) = subst (λ (x : Transfer). GotIsPosted (posted ++ more) them x) e
         (got_still posted more them (with_packet t from p) (got_more me them (t ∷ mine) theirs posted fair other t from p is b (fair.got t (inl refl))))
@@ -465,7 +480,7 @@ module _ (me them : Side) (former theirs : List Transfer) (posted : List Datagra
   new_stays : (n : Transfer) (ts : List Transfer) (last : Option DatagramView) (d : DatagramView) → OwnPortsRise (n ∷ ts) → n.got ≡ [] → HasBegun (posted ++ d ∷ []) them theirs n → d.side ≡ me → IsPostOf n d
       → AreFair me them ts theirs last posted → AreFair me them (n ∷ ts) theirs (Some d) (posted ++ d ∷ [])
   new_stays n ts last d rise empty begun is post h = record {
-    one = new_stays_fair me them n ts theirs posted (d ∷ []) rise empty begun (post, tt) h.one;
+    one = new_stays_fair me them n ts theirs posted (d ∷ []) rise empty begun (post, tt) (record { datagram = d; among = among_right d posted (d ∷ []) (inl refl); poster = is; port = post.port }) h.one;
     other = other_stays_fair me them ts (n ∷ ts) theirs posted (d ∷ []) differ (extends_new n ts) (is, tt) h.other;
     last_is = (is, of_transfer n (inl refl) post);
   }
@@ -737,3 +752,41 @@ module _ (me them : Side) (e : Event) (former theirs : List Transfer) (differ : 
 
 pub moves_stay_fair : MovesStayFair
 moves_stay_fair me them e r former theirs moves posted differ fits was live ports h = moves_stay me them e former theirs differ r moves posted fits was live ports h
+
+-- ---- roles
+
+-- what holds of the roles in which a side asks and serves, holds of those of all its transfers
+module _ (Has : Role → Type 0) where
+  unchanged_roles : (r : Reading) (t : Transfer) (from : ℕ) (p : PacketView) (peer : Option ℕ) → HaveRoles Has r → Has t.role → AllByRecursion (λ (u : Transfer). Has u.role) r.past → HaveRoles Has (reading_unchanged r t from p peer)
+  unchanged_roles r t from p None h one past = h
+  unchanged_roles r t from p (Some port) h one past = (one, past)
+
+  answered_roles : (side : Side) (r : Reading) (t : Transfer) (from : ℕ) (p : PacketView) (answer : Answer) → HaveRoles Has r → Has t.role → AllByRecursion (λ (u : Transfer). Has u.role) r.past → HaveRoles Has (reading_answered side r t from p answer)
+  answered_roles side r t from p Dropped h one past = unchanged_roles r t from p t.peer h one past
+  answered_roles side r t from p Again h one past = unchanged_roles r t from p t.peer h one past
+  answered_roles side r t from p (Grants o) h one past = (one, past)
+  answered_roles side r t from p (TakesBlock b) h one past = (one, past)
+  answered_roles side r t from p (TakesLast b) h one past = (one, past)
+  answered_roles side r t from p Proceeds h one past = (one, past)
+  answered_roles side r t from p Completes h one past = (one, past)
+  answered_roles side r t from p (Fails code) h one past = (one, past)
+
+  heard_roles : (side : Side) (first_port : ℕ) (past : List Transfer) (live : Option Transfer) (ticks : ℕ) (last : Option DatagramView) (size : Option ℕ) (from : ℕ) (p : PacketView) → AllByRecursion (λ (u : Transfer). Has u.role) (past_with live past)
+      → HaveRoles Has (reading_after side (record { first_port = first_port; past = past; live = live; ticks = ticks; last = last; asks_size = size }) (Hears from p))
+  heard_roles side first_port past None ticks last size from p h = h
+  heard_roles side first_port past (Some t) ticks last size from p (one, h) =
+      answered_roles side (record { first_port = first_port; past = past; live = Some t; ticks = ticks; last = last; asks_size = size }) t from p (end_answer (end_of t.role t.got) p) (one, h) one h
+
+  move_roles : (side : Side) (r : Reading) (move : Move) → MoveHasRole Has move → HaveRoles Has r → HaveRoles Has (reading_after side r move)
+  move_roles side r (Hears from p) has h = heard_roles side r.first_port r.past r.live r.ticks r.last r.asks_size from p h
+  move_roles side r (Recalls from p) has h = h
+  move_roles side r (Asks role) has h = (has, h)
+  move_roles side r (Serves from role) has h = (has, h)
+  move_roles side r (Refuses from) has h = h
+  move_roles side r Repeats has h = h
+  move_roles side r Stops has h = h
+  move_roles side r (Asks_size n) has h = h
+
+  pub moves_roles : (side : Side) (r : Reading) (moves : List Move) → AllByRecursion (MoveHasRole Has) moves → HaveRoles Has r → HaveRoles Has (readings_after side r moves)
+  moves_roles side r [] has h = h
+  moves_roles side r (move ∷ moves) (one, has) h = moves_roles side (reading_after side r move) moves has (move_roles side r move one h)

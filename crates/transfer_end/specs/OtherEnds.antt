@@ -135,12 +135,20 @@ abbrev pub OwnPortsRise : List Transfer → Type 0
 OwnPortsRise [] = ⊤
 OwnPortsRise (t ∷ earlier) = (59 < t.own) × AllByRecursion (λ (u : Transfer). u.own < t.own) earlier × OwnPortsRise earlier
 
+-- the side posted a datagram from this port
+pub record HasPosted (posted : List DatagramView) (side : Side) (from : ℕ) : Type 0 where
+  pub datagram : DatagramView
+  pub among : Among datagram posted
+  pub poster : datagram.side ≡ side
+  pub port : datagram.from ≡ from
+
 -- ---- a side among both
 
 -- What holds of the transfers of one side, where these are those of the other, and these datagrams were posted by both.
 pub record IsFair (me them : Side) (mine theirs : List Transfer) (posted : List DatagramView) : Type 0 where
   pub ports : OwnPortsRise mine
   pub posts : (d : DatagramView) → Among d posted → d.side ≡ me → IsPostOfSide mine d
+  pub sent : (t : Transfer) → Among t mine → HasPosted posted me t.own
   pub got : (t : Transfer) → Among t mine → GotIsPosted posted them t
   pub begun : (t : Transfer) → Among t mine → HasBegun posted them theirs t
 
@@ -164,6 +172,16 @@ MoveFits event live kept move = ⊤
 abbrev pub MovesFit : Event → (live kept : Option TransferView) → List Move → Type 0
 MovesFit event live kept [] = ⊤
 MovesFit event live kept (move ∷ moves) = MoveFits event live kept move × AllByRecursion (MoveFits event None None) moves
+
+-- what holds of the role of the transfer that a move begins
+abbrev pub MoveHasRole : (Role → Type 0) → Move → Type 0
+MoveHasRole Has (Asks role) = Has role
+MoveHasRole Has (Serves from role) = Has role
+MoveHasRole Has move = ⊤
+
+-- of the roles of all transfers of a log
+abbrev pub HaveRoles : (Role → Type 0) → Reading → Type 0
+HaveRoles Has r = AllByRecursion (λ (t : Transfer). Has t.role) (past_with r.live r.past)
 
 -- ---- both sides
 
