@@ -12,3 +12,5 @@ pub mod CameTraces
 pub mod CameTraceLaws
 pub mod Changes
 pub mod ChangeLaws
+pub mod OtherEndTraces
+pub mod OtherEndTraceLaws

@@ -1,6 +1,7 @@
 //! What ties both ends to the trace. These functions do nothing; their clauses are the law.
 ghost use Rattle.replay_rules.specs.CameTraces.{BothTakeWhatCame, DueIsAcked};
 ghost use Rattle.replay_rules.specs.Changes.{ChangesAreNew, InstallsAreGood};
+ghost use Rattle.replay_rules.specs.OtherEndTraces.{LoaderGivesMedia, WhatArrivesWasSent};
 ghost use Rattle.replay_rules.specs.PlacedTraces.{DueIsPlaced, DueIsTwoAtMost, PortsRise};
 ghost use Rattle.replay_rules.specs.Ties.{StepKeepsTie};
 
@@ -30,6 +31,18 @@ pub fn what_was_taken_came()
     ensures taken { BothTakeWhatCame }
     ensures acknowledged { DueIsAcked }
 {}
+
+/// Whatever is delivered, lost, repeated, reordered or delayed in a run, and wherever power fails,
+/// where nothing is injected what arrives in a transfer is what its other end sent: that is the
+/// transfer of the other side with its other port, in whichever life of the target; each block is
+/// that block of its file, and what was received whole is the file.
+pub fn what_arrives_was_sent()
+    ensures sent { WhatArrivesWasSent }
+    // Each file that the loader gives is the media set's file of its name.
+    ensures media { LoaderGivesMedia }
+{
+    check_sum_laws();
+}
 
 /// Whatever is delivered, lost, repeated, reordered, delayed or injected in a run, and wherever
 /// power fails, the configuration changes by good verdicts alone: each is the new configuration of

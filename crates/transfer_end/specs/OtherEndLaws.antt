@@ -698,7 +698,7 @@ ports_stay side r former (move ∷ moves) fit = ports_stay side (reading_after s
 
 -- ---- several moves
 
-was_posted_still : (posted more : List DatagramView) (side : Side) (e : Event) → EventWasPosted posted side e → EventWasPosted (posted ++ more) side e
+pub was_posted_still : (posted more : List DatagramView) (side : Side) (e : Event) → EventWasPosted posted side e → EventWasPosted (posted ++ more) side e
 was_posted_still posted more side (Gets from to bytes) (among, fit) = (among_left _ posted more among, fit)
 was_posted_still posted more side Ticks h = tt
 was_posted_still posted more side (Learns n) h = tt
