@@ -50,7 +50,7 @@ module _ (v : EndView) (Has : Role → Type 0) (from to : ℕ) (bytes : List ℕ
   any_fits (Asks role) h = h
   any_fits (Serves source role) h = h
   any_fits (Refuses source) h = tt
-  any_fits Repeats h = tt
+  any_fits Repeats h = h
   any_fits Stops h = tt
   any_fits (Asks_size n) h = tt
 

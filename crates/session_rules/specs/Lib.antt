@@ -28,3 +28,5 @@ pub mod Sessions
 pub mod SessionLaws
 pub mod Fairness
 pub mod FairLaws
+pub mod FirstPosts
+pub mod FirstPostLaws

@@ -1,6 +1,8 @@
 //! What holds of both sides and their logs. These functions do nothing; their clauses are the law.
 ghost use Rattle.session_rules.specs.Fairness.{LoaderGivesMediaFiles, LoaderMovesFit};
 ghost use Rattle.session_rules.specs.Fairness.{LoaderStaysFair, TargetMovesFit, TargetStaysFair};
+ghost use Rattle.session_rules.specs.FirstPosts.{LoaderBlocksInOrder, TargetBlocksInOrder};
+ghost use Rattle.session_rules.specs.FirstPosts.{TicksRepeat};
 ghost use Rattle.session_rules.specs.Laws.{AllArePlaced, LoaderAcksWhatCame, LoaderFollows};
 ghost use Rattle.session_rules.specs.Laws.{LoaderTakesWhatCame, LogsCountUp, TargetAcksWhatCame};
 ghost use Rattle.session_rules.specs.Laws.{TargetFollows, TargetTakesWhatCame, TwoAtMost};
@@ -80,3 +82,15 @@ pub fn both_sides_stay_fair()
     // Each file that the loader gives is the media set's file of its name.
     ensures media { LoaderGivesMediaFiles }
 {}
+
+/// In each transfer of each log in which a side sends a file, the datagrams that it posts from its
+/// own port, ticks aside, are its request or OACK, if it has one, and then blocks 1, 2, 3 .. of the
+/// file in their order, each once (RFC 1350, section 2). At a tick it posts what it posted last.
+pub fn blocks_are_first_posted_in_order()
+    ensures loader { LoaderBlocksInOrder }
+    // Since it came up.
+    ensures target { TargetBlocksInOrder }
+    ensures ticks { TicksRepeat }
+{
+    check_sum_laws();
+}

@@ -17,3 +17,5 @@ pub mod OtherEnds
 pub mod OtherEndLaws
 pub mod SentPacketLaws
 pub mod ReceivedLaws
+pub mod FirstPosts
+pub mod FirstPostLaws

@@ -446,6 +446,15 @@ heard_is_post me t from p answer is mine = by (is_sent_by answer)
       tt,
     )
 
+-- the kept transfer is one that is over, and was received whole
+pub kept_among : (past : List Transfer) (x : Transfer) → kept_in past ≡ Some x → Among x past × (is_received (end_in x) ≡ true)
+kept_among [] x e = absurd cc
+kept_among (y ∷ past) x e = by (is_received (end_in y)) refl (λ f. kept_among past x f) e
+  where
+    by : (b : Bool) → is_received (end_in y) ≡ b → (kept_in past ≡ Some x → Among x past × (is_received (end_in x) ≡ true)) → cond b (Some y) (kept_in past) ≡ Some x → Among x (y ∷ past) × (is_received (end_in x) ≡ true)
+    by true is before f = let same : y ≡ x = cc in (inl same, subst (λ (z : Transfer). is_received (end_in z) ≡ true) same is)
+    by false is before f = let found = before f in (inr found.0, found.1)
+
 module _ (me them : Side) (former theirs : List Transfer) (posted : List DatagramView) (differ : me ≡ them → ⊥) where
   abbrev Stays : Reading → List DatagramView → Type 0
   Stays r more = AreFair me them (all_of r former) theirs r.last (posted ++ more)
@@ -522,14 +531,6 @@ module _ (me them : Side) (former theirs : List Transfer) (posted : List Datagra
 
   abbrev Kept : Reading → Move → Type 0
   Kept r move = AreFair me them (all_of (reading_after me r move) former) theirs (reading_after me r move).last (posted ++ posts_of me (end_view r) move)
-
-  kept_among : (past : List Transfer) (x : Transfer) → kept_in past ≡ Some x → Among x past × (is_received (end_in x) ≡ true)
-  kept_among [] x e = absurd cc
-  kept_among (y ∷ past) x e = by (is_received (end_in y)) refl (λ f. kept_among past x f) e
-    where
-      by : (b : Bool) → is_received (end_in y) ≡ b → (kept_in past ≡ Some x → Among x past × (is_received (end_in x) ≡ true)) → cond b (Some y) (kept_in past) ≡ Some x → Among x (y ∷ past) × (is_received (end_in x) ≡ true)
-      by true is before f = let same : y ≡ x = cc in (inl same, subst (λ (z : Transfer). is_received (end_in z) ≡ true) same is)
-      by false is before f = let found = before f in (inr found.0, found.1)
 
   -- the kept transfer acknowledges its last block again
   recalled_is_post : (ts : List Transfer) (t : Transfer) (from : ℕ) (p : PacketView) (answer : Answer) → Among t ts → t.peer ≡ Some from → AllByRecursion (IsPostOfSide ts) (recalled_post me (transfer_view t) from answer)
@@ -643,7 +644,7 @@ all_append : {A : Type 0} (P : A → Type 0) (xs ys : List A) → AllByRecursion
 all_append P [] ys all rest = rest
 all_append P (x ∷ xs) ys (one, all) rest = (one, all_append P xs ys all rest)
 
-count_rise : (first_port : ℕ) (ts former : List Transfer) → 59 < first_port → CountUp first_port ts → AllByRecursion (λ (u : Transfer). u.own < first_port) former → OwnPortsRise former → OwnPortsRise (ts ++ former)
+pub count_rise : (first_port : ℕ) (ts former : List Transfer) → 59 < first_port → CountUp first_port ts → AllByRecursion (λ (u : Transfer). u.own < first_port) former → OwnPortsRise former → OwnPortsRise (ts ++ former)
 count_rise first_port [] former above counts below rise = rise
 count_rise first_port (t ∷ ts) former above (own, counts) below rise = (
   omega (arith, above, own),
@@ -674,7 +675,7 @@ heard_first : (side : Side) (r : Reading) (live : Option Transfer) (from : ℕ) 
 heard_first side r None from p = refl
 heard_first side r (Some t) from p = answered_first side r t from p (end_answer (end_of t.role t.got) p)
 
-first_stays : (side : Side) (r : Reading) (move : Move) → (reading_after side r move).first_port ≡ r.first_port
+pub first_stays : (side : Side) (r : Reading) (move : Move) → (reading_after side r move).first_port ≡ r.first_port
 first_stays side r (Hears from p) = heard_first side r r.live from p
 first_stays side r (Recalls from p) = refl
 first_stays side r (Asks role) = refl
@@ -712,13 +713,13 @@ heard_of_none A (Learns n) from p h = absurd h
 heard_of_none A (Starts_info hw pos) from p h = absurd h
 heard_of_none A (Starts_upload hw pos parts) from p h = absurd h
 
-fits_any : (e : Event) (live kept : Option TransferView) (move : Move) → MoveFits e None None move → MoveFits e live kept move
+pub fits_any : (e : Event) (live kept : Option TransferView) (move : Move) → MoveFits e None None move → MoveFits e live kept move
 fits_any e live kept (Hears from p) h = heard_of_none _ e from p h
 fits_any e live kept (Recalls from p) h = heard_of_none _ e from p h
 fits_any e live kept (Asks role) h = h
 fits_any e live kept (Serves from role) h = h
 fits_any e live kept (Refuses from) h = tt
-fits_any e live kept Repeats h = tt
+fits_any e live kept Repeats h = h
 fits_any e live kept Stops h = tt
 fits_any e live kept (Asks_size n) h = tt
 

@@ -7,10 +7,10 @@ use Rattle.tftp_link.specs.Answers.{Dropped}
 use Rattle.tftp_link.specs.Blocks.{IsOfFile}
 use Rattle.exchange_trace.specs.declared.trace.Side.{Side}
 use Rattle.exchange_trace.specs.Happenings.{DatagramView}
-use Rattle.exchange_trace.specs.Logs.{Event, Gets}
+use Rattle.exchange_trace.specs.Logs.{Event, Gets, Ticks}
 use Rattle.transfer_end.specs.Came.{HasData, HeardIn}
 use Rattle.transfer_end.specs.Laws.{IsLive, PortsCountUp}
-use Rattle.transfer_end.specs.Moves.{Asks, Hears, Move, Recalls, Serves, all_posts, past_with, readings_after}
+use Rattle.transfer_end.specs.Moves.{Asks, Hears, Move, Recalls, Repeats, Serves, all_posts, past_with, readings_after}
 use Rattle.transfer_end.specs.Packets.{packet_in}
 use Rattle.transfer_end.specs.Readings.{Reading, kept_in}
 use Rattle.transfer_end.specs.Transfers.{LinkEnd, Reads, Receives, Role, Sends, ServesRead, ServesWrite, Transfer, Writes, arrived_of, end_answer, end_in, end_of, end_packet, first_packet, is_received}
@@ -159,13 +159,22 @@ abbrev pub ServesIn : Event → (from : ℕ) → Role → Type 0
 ServesIn (Gets source to bytes) from role = (source ≡ from) × (to ≡ 59) × (is_asking role ≡ false) × (packet_in bytes ≡ request_taken role)
 ServesIn event from role = ⊥
 
+abbrev pub IsTick : Event → Type 0
+IsTick Ticks = ⊤
+IsTick event = ⊥
+
+abbrev pub IsNoTick : Event → Type 0
+IsNoTick Ticks = ⊥
+IsNoTick event = ⊤
+
 -- What a move may be at an event, where these transfers are live and kept: what either gets is in the datagram of this
--- moment, a side asks in a role that asks, and serves a request that came.
+-- moment, a side asks in a role that asks, serves a request that came, and repeats at a tick.
 abbrev pub MoveFits : Event → (live kept : Option TransferView) → Move → Type 0
 MoveFits event live kept (Hears from packet) = HeardIn event live from packet
 MoveFits event live kept (Recalls from packet) = HeardIn event kept from packet
 MoveFits event live kept (Asks role) = is_asking role ≡ true
 MoveFits event live kept (Serves from role) = ServesIn event from role
+MoveFits event live kept Repeats = IsTick event
 MoveFits event live kept move = ⊤
 
 -- the moves of a side at an event: the first may get a packet

@@ -1,6 +1,7 @@
 //! What holds of the moves of an end. These functions do nothing; their clauses are the law.
 ghost use Rattle.transfer_end.specs.Came.{LastStaysAcked, MovesCame, MovesPostTwo};
 ghost use Rattle.transfer_end.specs.Came.{PostsAckWhatCame, TakenBlocksCame, TakenWasGot};
+ghost use Rattle.transfer_end.specs.FirstPosts.{MovesPostInOrder};
 ghost use Rattle.transfer_end.specs.Laws.{AcknowledgesTaken, EndIsOfLink, MovesCountUp};
 ghost use Rattle.transfer_end.specs.Laws.{SendsNextBlock, TakenIsLent, ViewFollows, ViewsFollow};
 ghost use Rattle.transfer_end.specs.OtherEnds.{MovesStayFair, ReceivesWhatWasSent};
@@ -69,4 +70,11 @@ pub fn what_comes_was_sent()
     ensures moves { MovesStayFair }
     // So what is received was sent.
     ensures receives { ReceivesWhatWasSent }
+{}
+
+/// Whatever moves a side makes at an event that is no tick, in each transfer in which it sends a
+/// file its request or OACK goes out from its own port, and then blocks 1, 2, 3 .. of the file,
+/// each once (RFC 1350, section 2). `specs/FirstPostLaws.antt` says the same to proofs.
+pub fn blocks_are_first_posted_in_order()
+    ensures { MovesPostInOrder }
 {}
