@@ -30,3 +30,5 @@ pub mod Fairness
 pub mod FairLaws
 pub mod FirstPosts
 pub mod FirstPostLaws
+pub mod LoaderRoles
+pub mod LoaderRoleLaws

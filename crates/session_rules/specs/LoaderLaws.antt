@@ -36,10 +36,10 @@ abbrev after : Reading → List Move → Reading
 after end moves = readings_after sides.Loader end moves
 
 -- a transfer is over, and nothing has arrived of another
-abbrev HasEnded : Reading → Type 0
+abbrev pub HasEnded : Reading → Type 0
 HasEnded end = (t : Transfer) × (newest end.past ≡ t ∷ []) × (arriving_in end.live ≡ [])
 
-abbrev FitsChange : Reading → Option SessionLog → List Move → LoaderChange → Type 0
+abbrev pub FitsChange : Reading → Option SessionLog → List Move → LoaderChange → Type 0
 FitsChange end None moves (Begins s) = arriving_in (after end moves).live ≡ []
 FitsChange end None moves change = Unit {0}
 FitsChange end (Some s) moves (Continues more) = arriving_in (after end moves).live ≡ arriving_in end.live ++ more
@@ -56,11 +56,11 @@ fits_if end live false x y p q = q refl
 
 -- ---- one step
 
-row_of_more : (kind : SessionKind) (done : List Transfer) (t : Transfer) → row_of kind (done ++ t ∷ []) ≡ row_after (row_of kind done)
+pub row_of_more : (kind : SessionKind) (done : List Transfer) (t : Transfer) → row_of kind (done ++ t ∷ []) ≡ row_after (row_of kind done)
 unfolding row_of
 row_of_more kind done t = fold-append (λ (row : LoaderRow) (t : Transfer). row_after row) (first_row kind) done (t ∷ [])
 
-row_of_none : (kind : SessionKind) → row_of kind [] ≡ first_row kind
+pub row_of_none : (kind : SessionKind) → row_of kind [] ≡ first_row kind
 unfolding row_of
 row_of_none kind = refl
 
@@ -212,7 +212,7 @@ learns_fits : (end : Reading) (live : Option SessionLog) (size : Option ℕ) →
 learns_fits end None size = tt
 learns_fits end (Some s) size = same_fits end s (Asks_size size ∷ []) refl
 
-decision_fits : (media : Media) (end : Reading) (live : Option SessionLog) (ended : List EndedSession) (e : Event) → Fits end live (loader_decision media (loader_view (reading end live ended)) e)
+pub decision_fits : (media : Media) (end : Reading) (live : Option SessionLog) (ended : List EndedSession) (e : Event) → Fits end live (loader_decision media (loader_view (reading end live ended)) e)
 decision_fits media end live ended (Starts_info hw pos) =
     begins_fits end live (record { kind = Info; hw = hw; pos = pos; loads = [] }) (row_request end.asks_size (record { kind = Info; hw = hw; pos = pos; loads = [] }) (first_row Info))
 decision_fits media end live ended (Starts_upload hw pos parts) = fits_if end live (nat_lt 32 (length parts)) _ _ (λ e. over_fits end live TooMany) (λ e. listed_fits end live hw pos (wanted_of media.loads parts))

@@ -6,6 +6,7 @@ ghost use Rattle.session_rules.specs.FirstPosts.{TicksRepeat};
 ghost use Rattle.session_rules.specs.Laws.{AllArePlaced, LoaderAcksWhatCame, LoaderFollows};
 ghost use Rattle.session_rules.specs.Laws.{LoaderTakesWhatCame, LogsCountUp, TargetAcksWhatCame};
 ghost use Rattle.session_rules.specs.Laws.{TargetFollows, TargetTakesWhatCame, TwoAtMost};
+ghost use Rattle.session_rules.specs.LoaderRoles.{CompletedListsArrived, LoaderRolesFit};
 ghost use Rattle.session_rules.specs.Sessions.{OneSessionAStart};
 ghost use Rattle.session_rules.specs.Soundness.{VerdictIsSound};
 ghost use Rattle.session_rules.specs.SoundLogs.{ChangesByVerdict};
@@ -94,3 +95,11 @@ pub fn blocks_are_first_posted_in_order()
 {
     check_sum_laws();
 }
+
+/// In a row in which the loader takes a file of one kind, the transfer that is live is of that
+/// file. A completed information session lists what the LCL says that arrived whole in the transfer
+/// that completed it.
+pub fn a_completed_session_lists_what_arrived()
+    ensures roles { LoaderRolesFit }
+    ensures listed { CompletedListsArrived }
+{}

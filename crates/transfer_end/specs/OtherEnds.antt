@@ -231,14 +231,19 @@ pub record AreEnds (t u : Transfer) : Type 0 where
   pub back : u.peer ≡ Some t.own
   pub request : AnswersRequest t u ⊎ AnswersRequest u t
 
--- What came in a transfer is of the file that its other end sends, if that has no more bytes than `tsize` can tell: each
--- DATA is the block of its number, in the block size that holds, and what was received whole is the file.
+-- a file that is given to a reader has no more bytes than the option `tsize` can tell (RFC 2349)
+abbrev pub TellsLength : Role → Type 0
+TellsLength (ServesRead name options file) = length file ≤ 4294967295
+TellsLength role = ⊤
+
+-- What came in a transfer is of the file that its other end sends: each DATA is the block of its number, in the block size
+-- that holds, and what was received whole is the file.
 pub record BringsFile (t u : Transfer) : Type 0 where
   pub ends : AreEnds t u
   pub file : List ℕ
   pub sent : file_sent u.role ≡ Some file
-  pub blocks : length file ≤ 4294967295 → AllByRecursion (IsOfFile file (size_of (end_in t))) t.got
-  pub whole : length file ≤ 4294967295 → is_received (end_in t) ≡ true → arrived_of t ≡ file
+  pub blocks : TellsLength u.role → AllByRecursion (IsOfFile file (size_of (end_in t))) t.got
+  pub whole : TellsLength u.role → is_received (end_in t) ≡ true → arrived_of t ≡ file
 
 -- what a transfer gets comes from a transfer of the other side, or no block of a file came
 pub data ComesFromEnd (theirs : List Transfer) (t : Transfer) : Type 0 where

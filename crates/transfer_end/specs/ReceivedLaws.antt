@@ -23,7 +23,7 @@ use Rattle.transfer_end.specs.ArrivalLaws.{taken_is_lent}
 use Rattle.transfer_end.specs.Came.{HasData, IsData}
 use Rattle.transfer_end.specs.CameLaws.{all_mapped}
 use Rattle.transfer_end.specs.OtherEndLaws.{all_at, first_is_sent, own_is_one, own_not_59, posted_by}
-use Rattle.transfer_end.specs.OtherEnds.{Among, AnswersRequest, AreEnds, Brought, BringsFile, ComesFromEnd, ReceivesWhatWasSent, is_receiving, of_end, of_none, BroughtFrom, HasBegun, IsAnsweredBy, IsFair, IsPostOf, IsPostOfSide, TookRequest, answered, file_sent, is_asking, of_refusal, of_transfer, refused, request_taken, served, size_of, unanswered}
+use Rattle.transfer_end.specs.OtherEnds.{TellsLength, Among, AnswersRequest, AreEnds, Brought, BringsFile, ComesFromEnd, ReceivesWhatWasSent, is_receiving, of_end, of_none, BroughtFrom, HasBegun, IsAnsweredBy, IsFair, IsPostOf, IsPostOfSide, TookRequest, answered, file_sent, is_asking, of_refusal, of_transfer, refused, request_taken, served, size_of, unanswered}
 use Rattle.transfer_end.specs.Packets.{packet_in}
 use Rattle.transfer_end.specs.RfcLaws.{end_is_of_link}
 use Rattle.transfer_end.specs.SentPacketLaws.{IsSendingFile, IsSmallAck, IsSomeData, IsThatData, all_sending, data_is_read, data_is_that, has_begun, read_is_spelled, sent_is_block, spelled_small, written_is_read}
@@ -347,7 +347,7 @@ module _ (me them : Side) (mine theirs : List Transfer) (posted : List DatagramV
 pub record Sending (t u : Transfer) : Type 0 where
   pub file : List ℕ
   pub sent : file_sent u.role ≡ Some file
-  pub blocks : length file ≤ 4294967295 → SendsBlocks file (size_of (end_of t.role t.got)) u.role u.got
+  pub blocks : TellsLength u.role → SendsBlocks file (size_of (end_of t.role t.got)) u.role u.got
 
 -- the options of a request that was taken are in their range
 abbrev OptionsInRange : Role → Type 0
@@ -519,7 +519,7 @@ module _ (me them : Side) (mine theirs : List Transfer) (posted : List DatagramV
 
   brings : (u : Transfer) → Among u theirs → Tie t u → Sending t u → BringsFile t u
   brings u b how s =
-      let all : length s.file ≤ 4294967295 → AllByRecursion (IsOfFile s.file (size_of (end_in t))) t.got = λ few. each_block u s.file (size_of (end_in t)) b how.ends.port (s.blocks few) in
+      let all : TellsLength u.role → AllByRecursion (IsOfFile s.file (size_of (end_in t))) t.got = λ few. each_block u s.file (size_of (end_in t)) b how.ends.port (s.blocks few) in
       record {
         ends = how.ends;
         file = s.file;
