@@ -133,14 +133,14 @@ changes_are_new joins spells payloads set steps permits all = all_stay_or_are_ne
 -- ---- the target stays the same, and each installed load is good for it
 
 module _ (set : Setting) where
-  abbrev IsTarget : StandingView → Type 0
+  abbrev pub IsTarget : StandingView → Type 0
   IsTarget s = s.identity ≡ set.start.identity
 
-  abbrev IsTargetIf : Option StandingView → Type 0
+  abbrev pub IsTargetIf : Option StandingView → Type 0
   IsTargetIf None = Unit {0}
   IsTargetIf (Some s) = IsTarget s
 
-  abbrev HasTarget : TargetState → Type 0
+  abbrev pub HasTarget : TargetState → Type 0
   HasTarget (Is_up r) = IsTarget r.active
   HasTarget (Is_down active interrupted) = IsTarget active × IsTargetIf interrupted
 
@@ -165,7 +165,7 @@ module _ (set : Setting) where
   come_target first_port sequence (Is_up r) is = is
   come_target first_port sequence (Is_down active interrupted) is = settled_target sequence active interrupted is.0 is.1
 
-  noted_target : (notes : List Note) (before after : TargetState) → HasTarget before → HasTarget after → HasTarget (noted notes before after)
+  pub noted_target : (notes : List Note) (before after : TargetState) → HasTarget before → HasTarget after → HasTarget (noted notes before after)
   noted_target [] before after is then = then
   noted_target (Went_down ∷ notes) before after is then =
       let down = gone_target before after is then in noted_target notes (gone_down before after) (gone_down before after) down down

@@ -14,3 +14,5 @@ pub mod Changes
 pub mod ChangeLaws
 pub mod OtherEndTraces
 pub mod OtherEndTraceLaws
+pub mod ListTraces
+pub mod ListTraceLaws

@@ -1,12 +1,14 @@
 //! What ties both ends to the trace. These functions do nothing; their clauses are the law.
 ghost use Rattle.replay_rules.specs.CameTraces.{BothTakeWhatCame, DueIsAcked};
 ghost use Rattle.replay_rules.specs.Changes.{ChangesAreNew, InstallsAreGood};
+ghost use Rattle.replay_rules.specs.ListTraces.{CompletedListsActive, TargetWritesInTime};
 ghost use Rattle.replay_rules.specs.OtherEndTraces.{LoaderGivesMedia, WhatArrivesWasSent};
 ghost use Rattle.replay_rules.specs.PlacedTraces.{DueIsPlaced, DueIsTwoAtMost, PortsRise};
 ghost use Rattle.replay_rules.specs.Ties.{StepKeepsTie};
 
 use crc_fields::check_sum_laws;
 use load_header::header_laws;
+use load_protocol_files::protocol_file_laws;
 use tftp_packet::packet_laws;
 
 /// Where each end does what its rules say in a step, what it keeps is what the trace says of it,
@@ -42,6 +44,18 @@ pub fn what_arrives_was_sent()
     ensures media { LoaderGivesMedia }
 {
     check_sum_laws();
+}
+
+/// A completed information session lists exactly what was active at the step whose datagram made
+/// the list due, through losses, repeats, power losses and boots, where nothing is injected, the
+/// target's file names are names, and what is active can be listed.
+pub fn a_completed_session_lists_what_was_active()
+    // Whatever comes, a target writes only lists of what was active when they became due.
+    ensures written { TargetWritesInTime }
+    ensures lists { CompletedListsActive }
+{
+    check_sum_laws();
+    protocol_file_laws();
 }
 
 /// Whatever is delivered, lost, repeated, reordered, delayed or injected in a run, and wherever

@@ -32,3 +32,5 @@ pub mod FirstPosts
 pub mod FirstPostLaws
 pub mod LoaderRoles
 pub mod LoaderRoleLaws
+pub mod Lists
+pub mod ListLaws

@@ -6,6 +6,7 @@ ghost use Rattle.session_rules.specs.FirstPosts.{TicksRepeat};
 ghost use Rattle.session_rules.specs.Laws.{AllArePlaced, LoaderAcksWhatCame, LoaderFollows};
 ghost use Rattle.session_rules.specs.Laws.{LoaderTakesWhatCame, LogsCountUp, TargetAcksWhatCame};
 ghost use Rattle.session_rules.specs.Laws.{TargetFollows, TargetTakesWhatCame, TwoAtMost};
+ghost use Rattle.session_rules.specs.Lists.{TargetAsksForItsFiles, TargetAsksInTurn};
 ghost use Rattle.session_rules.specs.LoaderRoles.{CompletedListsArrived, LoaderRolesFit};
 ghost use Rattle.session_rules.specs.Sessions.{OneSessionAStart};
 ghost use Rattle.session_rules.specs.Soundness.{VerdictIsSound};
@@ -103,3 +104,12 @@ pub fn a_completed_session_lists_what_arrived()
     ensures roles { LoaderRolesFit }
     ensures listed { CompletedListsArrived }
 {}
+
+/// A target asks only for what the row asks for to which its session turns. Each file that it asks
+/// to write is one of its own, and its list is of what is active as it becomes due.
+pub fn a_target_asks_for_its_files()
+    ensures in_turn { TargetAsksInTurn }
+    ensures files { TargetAsksForItsFiles }
+{
+    check_sum_laws();
+}

@@ -224,6 +224,7 @@ pub record AnswersRequest (s t : Transfer) : Type 0 where
   pub serves : is_asking s.role ≡ false
   pub asks : is_asking t.role ≡ true
   pub request : packet_in (packet_bytes (first_packet t.role)) ≡ request_taken s.role
+  pub are_bytes : IsBytes (packet_bytes (first_packet t.role))
 
 -- Two transfers are the ends of one: each has the other's port, and one serves the request of the other.
 pub record AreEnds (t u : Transfer) : Type 0 where

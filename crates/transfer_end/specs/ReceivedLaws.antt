@@ -2,6 +2,7 @@
 use Rattle.std.proofs.Common.{◌≡◌, ◌⊎◌, inl, inr, ⊎_elim, ℕ, zero, suc, ◌≤◌, Bool, true, false, cond, ◌&&◌, List, [], ◌∷◌, ◌++◌, length, Option, Some, None, refl, sym, ap, subst, ◌∙◌, arith}
 use Rattle.std.specs.Prelude.{nat_lt, ◌==◌, is_none, IfSome}
 use Rattle.std.specs.List.{AllByRecursion, concat}
+use Rattle.field_grammar.specs.Grammar.{IsBytes}
 use Rattle.tftp_packet.specs.declared.options.Options.{Options}
 use Rattle.tftp_packet.specs.Options.{AreInRange}
 use Rattle.tftp_packet.specs.PacketLaws.{spelled_in_range}
@@ -266,11 +267,15 @@ request_tie me them mine theirs posted s c fair other a b serves took back not_5
     unbound (inr some) e = not_59 (port_is s.own 59 (sym some ∙ e))
 
     by : IsPostOf c (record { side = them; from = took.peer; to = 59; bytes = took.brought.bytes }) → AnswersRequest s c
-    by post = ⊎_elim (λ (e : c.peer ≡ Some 59). absurd (unbound peer e)) (λ (r : (59 ≡ 59) × (post.heard ≡ []) × (is_asking c.role ≡ true)). record {
-      serves = serves;
-      asks = r.2;
-      request = ap packet_in (ap packet_bytes (first_is_sent c.role) ∙ ap (λ (heard : List PacketView). packet_bytes (end_packet (end_of c.role heard))) (sym r.1) ∙ sym post.bytes) ∙ took.brought.spells ∙ sym took.taken;
-    }) post.goes
+    by post = ⊎_elim (λ (e : c.peer ≡ Some 59). absurd (unbound peer e)) (λ (r : (59 ≡ 59) × (post.heard ≡ []) × (is_asking c.role ≡ true)).
+        let same : packet_bytes (first_packet c.role) ≡ took.brought.bytes =
+        ap packet_bytes (first_is_sent c.role) ∙ ap (λ (heard : List PacketView). packet_bytes (end_packet (end_of c.role heard))) (sym r.1) ∙ sym post.bytes in
+        record {
+          serves = serves;
+          asks = r.2;
+          request = ap packet_in same ∙ took.brought.spells ∙ sym took.taken;
+          are_bytes = subst IsBytes (sym same) took.brought.are_bytes;
+        }) post.goes
 
 -- ---- the other end
 

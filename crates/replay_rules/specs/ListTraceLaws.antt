@@ -1,0 +1,384 @@
+-- Proofs that completed information sessions list what was active.
+use Rattle.std.proofs.Common.{◌≡◌, inl, inr, ℕ, suc, Bool, true, false, cond, List, [], ◌∷◌, ◌++◌, length, ◌⊎◌, ◌↔◌, Option, Some, None, Result, Ok, refl, sym, ap, subst, ◌∙◌, append_assoc, length-append, arith}
+use Rattle.std.specs.Prelude.{bytes_eq}
+use Rattle.std.specs.List.{AllByRecursion}
+use Rattle.std.proofs.lemmas.List.{append_cancel_left}
+use Rattle.std.specs.Result.{result_ok}
+use Rattle.field_grammar.specs.Answers.{answer}
+use Rattle.field_grammar.specs.ExactLaws.{answer-spelled, spelled_at_start}
+use Rattle.field_grammar.specs.Fields.{number_bytes}
+use Rattle.field_grammar.specs.Grammar.{IsBytes, Spelled}
+use Rattle.load_protocol_files.specs.declared.fault.FileFault.{FileFault}
+use Rattle.load_protocol_files.specs.Lcl.{LclSpells, LclView, lcl}
+use Rattle.load_base.specs.Bytes.{AllGood}
+use Rattle.load_base.specs.Name.{IsName, is_name_byte}
+use Rattle.tftp_packet.specs.declared.options.Options.{Options}
+use Rattle.tftp_packet.specs.Options.{ended_text}
+use Rattle.tftp_packet.specs.Packets.{PacketSpells, Wrq, packet_bytes}
+use Rattle.load_header.specs.Header.{HeaderView}
+use Rattle.disk_layout.specs.declared.identity.Identity.{Identity}
+use Rattle.disk_layout.specs.Holds.{outline_of}
+use Rattle.exchange_trace.specs.declared.trace.Side.TheVariants as sides
+use Rattle.exchange_trace.specs.declared.trace.Side.{Side}
+use Rattle.exchange_trace.specs.Happenings.{Booted, DatagramView, Delivered, Ended, HappeningView, Info_started, Injected, Lost, Power_cut, Size_told, Ticked, Upload_started, is_same_side}
+use Rattle.exchange_trace.specs.Logs.{Event, Learns, event_for, gets, logged, loader_log}
+use Rattle.exchange_trace.specs.Posts.{posted_in}
+use Rattle.exchange_trace.specs.Steps.{Boot_refused, Came_up, Note, Step, Went_down}
+use Rattle.transfer_end.specs.CameLaws.{all_mapped}
+use Rattle.transfer_end.specs.Moves.{Asks, Asks_size, Hears, Move, Recalls, Refuses, Repeats, Serves, Stops, past_with, readings_after}
+use Rattle.transfer_end.specs.OtherEndLaws.{all_at, among_left, moves_roles}
+use Rattle.transfer_end.specs.OtherEnds.{Among, AnswersRequest, BringsFile, ComesFromEnd, HaveRoles, MoveHasRole, TellsLength, all_of, file_sent, is_asking, is_receiving, of_end, of_none, request_taken}
+use Rattle.transfer_end.specs.Packets.{packet_in}
+use Rattle.transfer_end.specs.SentPacketLaws.{read_is_spelled}
+use Rattle.transfer_end.specs.Readings.{Reading}
+use Rattle.transfer_end.specs.Transfers.{Reads, Role, ServesRead, ServesWrite, Transfer, Writes, first_packet}
+use Rattle.session_rules.specs.declared.outcome.FileKind.{FileKind}
+use Rattle.session_rules.specs.declared.outcome.FileKind.TheVariants as kinds
+use Rattle.session_rules.specs.BufferLaws.{SumsJoin}
+use Rattle.session_rules.specs.FileNames.{extension, file_name}
+use Rattle.session_rules.specs.ListLaws.{moves_ask}
+use Rattle.session_rules.specs.Lists.{IsAskedRole, ListIsAsked}
+use Rattle.session_rules.specs.Loader.{EndedSession}
+use Rattle.session_rules.specs.LoaderLog.{loader_extended, loader_reading, newest}
+use Rattle.session_rules.specs.LoaderRoleLaws.{completed_lists_arrived}
+use Rattle.session_rules.specs.LoaderRoles.{ListsArrived, TakesFile}
+use Rattle.session_rules.specs.Reports.{lcl_file, lcl_of}
+use Rattle.session_rules.specs.declared.outcome.Outcome.TheVariants.{Completed}
+use Rattle.session_rules.specs.declared.outcome.SessionKind.TheVariants.{Info}
+use Rattle.session_rules.specs.Target.{Begins, Continues, Ends, TargetChange, Turns, Turns_without_port, target_decision}
+use Rattle.session_rules.specs.TargetLaws.{end_stays, identity_stays}
+use Rattle.session_rules.specs.TargetLog.{TargetReading, TargetSessionLog, log_turned, reading_turned, reading_without_port, target_extended, target_reading_changed, target_view}
+use Rattle.replay_rules.specs.BothEnds.{Is_down, Is_up, Setting, TargetState, come_up, loader_at, gone_down, noted, reached, target_at}
+use Rattle.replay_rules.specs.ChangeLaws.{HasTarget, noted_target}
+use Rattle.replay_rules.specs.Histories.{active_at, active_in}
+use Rattle.replay_rules.specs.ListTraces.{AllCanBeListed, AllListActive, CanBeListed, CompletedListsActive, IsWrittenInTime, ListWasDue, OwnFilesAreNamed, TargetWritesInTime}
+use Rattle.replay_rules.specs.OtherEndTraceLaws.{what_arrives_was_sent}
+use Rattle.replay_rules.specs.OtherEndTraces.{AllArriveAsSent, ArrivesAsSent, former_at, loader_transfers, target_transfers, transfers_of}
+use Rattle.replay_rules.specs.PlacedTraceLaws.{all_append}
+use Rattle.replay_rules.specs.Promises.{ListIsDue, ListsActive, SessionWritesList, WritesList}
+use Rattle.replay_rules.specs.TieLaws.{HasLive, target_is_live}
+
+-- ---- the target stays the same
+
+changed_identity : (accepts : HeaderView → Bool) (end : Reading) (r : TargetReading) (live : Option TargetSessionLog) (change : TargetChange) → r.live ≡ live → (target_reading_changed accepts end r change).active.identity ≡ r.active.identity
+changed_identity accepts end r live (Continues more) is = refl
+changed_identity accepts end r live (Begins kind) is = identity_stays r.active _
+changed_identity accepts end r None (Turns move more) is = ap (λ (l : Option TargetSessionLog). (log_turned (reading_turned accepts) end r l).active.identity) is
+changed_identity accepts end r (Some s) (Turns move more) is = ap (λ (l : Option TargetSessionLog). (log_turned (reading_turned accepts) end r l).active.identity) is ∙ identity_stays r.active _
+changed_identity accepts end r None (Turns_without_port move more) is = ap (λ (l : Option TargetSessionLog). (log_turned (reading_without_port accepts) end r l).active.identity) is
+changed_identity accepts end r (Some s) (Turns_without_port move more) is = ap (λ (l : Option TargetSessionLog). (log_turned (reading_without_port accepts) end r l).active.identity) is ∙ identity_stays r.active _
+changed_identity accepts end r live (Ends reason) is = refl
+
+reached_target : (set : Setting) (e : Option Event) (state : TargetState) → HasTarget set state → HasTarget set (reached set e state)
+reached_target set None (Is_up r) is = is
+reached_target set (Some e) (Is_up r) is =
+    let d = target_decision set.accepts (target_view set.accepts r) e in
+    changed_identity set.accepts (readings_after sides.Target r.end d.moves) r r.live d.change refl ∙ is
+reached_target set None (Is_down active interrupted) is = is
+reached_target set (Some e) (Is_down active interrupted) is = is
+
+same_target : (set : Setting) (steps : List Step) → HasTarget set (target_at set steps)
+same_target set [] = refl
+same_target set (s ∷ earlier) =
+    noted_target set s.notes (target_at set earlier) _ (same_target set earlier) (reached_target set (event_for sides.Target (posted_in earlier) s.given) (target_at set earlier) (same_target set earlier))
+
+-- ---- lives
+
+gone_none : (before after : TargetState) → transfers_of (gone_down before after) ≡ []
+gone_none (Is_up r) (Is_up s) = refl
+gone_none (Is_up r) (Is_down active interrupted) = refl
+gone_none (Is_down active interrupted) after = refl
+
+come_none : (first_port sequence : ℕ) (state : TargetState) → transfers_of state ≡ [] → transfers_of (come_up first_port sequence state) ≡ []
+come_none first_port sequence (Is_up r) none = none
+come_none first_port sequence (Is_down active interrupted) none = refl
+
+noted_none : (notes : List Note) (before after : TargetState) → transfers_of after ≡ [] → transfers_of (noted notes before after) ≡ []
+noted_none [] before after none = none
+noted_none (Went_down ∷ notes) before after none = noted_none notes (gone_down before after) (gone_down before after) (gone_none before after)
+noted_none (Came_up first_port sequence ∷ notes) before after none =
+    let up = come_up first_port sequence (gone_down before after) in noted_none notes up up (come_none first_port sequence (gone_down before after) (gone_none before after))
+noted_none (Boot_refused fault ∷ notes) before after none = noted_none notes (gone_down before after) (gone_down before after) (gone_none before after)
+
+one_noted : (note : Note) (notes : List Note) (before after : TargetState) → transfers_of (noted (note ∷ notes) before after) ≡ []
+one_noted Went_down notes before after = noted_none notes (gone_down before after) (gone_down before after) (gone_none before after)
+one_noted (Came_up first_port sequence) notes before after =
+    let up = come_up first_port sequence (gone_down before after) in noted_none notes up up (come_none first_port sequence (gone_down before after) (gone_none before after))
+one_noted (Boot_refused fault) notes before after = noted_none notes (gone_down before after) (gone_down before after) (gone_none before after)
+
+-- ---- what the target writes
+
+still_due : (set : Setting) (s : Step) (steps : List Step) (file : List ℕ) → ListWasDue set steps file → ListWasDue set (s ∷ steps) file
+still_due set s steps file h = record { since = s ∷ h.since; made = h.made; before = h.before; split = ap (λ (x : List Step). s ∷ x) h.split; due = h.due; lists = h.lists }
+
+still_written : (set : Setting) (s : Step) (steps : List Step) (role : Role) → IsWrittenInTime set steps role → IsWrittenInTime set (s ∷ steps) role
+still_written set s steps (Writes name o file) (kind, named, due) = (kind, named, λ e. still_due set s steps file (due e))
+still_written set s steps (Reads name o) h = tt
+still_written set s steps (ServesRead name o file) h = tt
+still_written set s steps (ServesWrite name o) h = tt
+
+abbrev InTime : Setting → List Step → Transfer → Type 0
+InTime set steps t = IsWrittenInTime set steps t.role
+
+-- the list is due once it is asked for
+list_due : (set : Setting) (r : TargetReading) (e : Event) (file : List ℕ) → ListIsAsked set.accepts r e file → ListIsDue set (Is_up (target_extended set.accepts r e))
+list_due set r e file h =
+    subst (λ (live : Option TargetSessionLog). SessionWritesList set (target_extended set.accepts r e) live) (sym h.live) (subst WritesList (sym h.row) tt)
+
+module _ (joins : SumsJoin) (set : Setting) (given : HappeningView) (posts : List DatagramView) (earlier : List Step) where
+  abbrev quiet_step : Step
+  quiet_step = record { given = given; posts = posts; notes = [] }
+
+  -- a role that is asked for now
+  asked_in_time : (r : TargetReading) (e : Event) (role : Role) → target_at set earlier ≡ Is_up r → event_for sides.Target (posted_in earlier) given ≡ Some e → IsAskedRole set.accepts r e role → IsWrittenInTime set (quiet_step ∷ earlier) role
+  asked_in_time r e (Writes name o file) up comes (kind, named, lists) = (
+    kind,
+    named ∙ ap (λ (id : Identity). file_name id.hw id.pos kind) (subst (λ (state : TargetState). HasTarget set state) up (same_target set earlier)),
+    λ is. let asked = lists is in record {
+      since = [];
+      made = quiet_step;
+      before = earlier;
+      split = refl;
+      due = subst (λ (x : Option Event). ListIsDue set (reached set x (target_at set earlier))) (sym comes) (subst (λ (state : TargetState). ListIsDue set (reached set (Some e) state)) (sym up) (list_due set r e file asked));
+      lists = asked.lists ∙ ap (λ (state : TargetState). lcl_file (outline_of (active_in state))) (sym up);
+    },
+  )
+  asked_in_time r e (Reads name o) up comes h = tt
+  asked_in_time r e (ServesRead name o file) up comes h = tt
+  asked_in_time r e (ServesWrite name o) up comes h = tt
+
+  asked_moves : (r : TargetReading) (e : Event) → target_at set earlier ≡ Is_up r → event_for sides.Target (posted_in earlier) given ≡ Some e → (move : Move) → MoveHasRole (IsAskedRole set.accepts r e) move → MoveHasRole (IsWrittenInTime set (quiet_step ∷ earlier)) move
+  asked_moves r e up comes (Asks role) h = asked_in_time r e role up comes h
+  asked_moves r e up comes (Serves from role) h = asked_in_time r e role up comes h
+  asked_moves r e up comes (Hears from p) h = tt
+  asked_moves r e up comes (Recalls from p) h = tt
+  asked_moves r e up comes (Refuses from) h = tt
+  asked_moves r e up comes Repeats h = tt
+  asked_moves r e up comes Stops h = tt
+  asked_moves r e up comes (Asks_size n) h = tt
+
+  reached_in_time : (state : TargetState) (e : Option Event) → target_at set earlier ≡ state → event_for sides.Target (posted_in earlier) given ≡ e → AllByRecursion (InTime set earlier) (transfers_of state)
+      → AllByRecursion (InTime set (quiet_step ∷ earlier)) (transfers_of (reached set e state))
+  reached_in_time (Is_down active interrupted) None up comes h = tt
+  reached_in_time (Is_down active interrupted) (Some e) up comes h = tt
+  reached_in_time (Is_up r) None up comes h = all_mapped (InTime set earlier) (InTime set (quiet_step ∷ earlier)) (λ t. still_written set quiet_step earlier t.role) (past_with r.end.live r.end.past) h
+  reached_in_time (Is_up r) (Some e) up comes h =
+      let d = target_decision set.accepts (target_view set.accepts r) e in
+      subst (λ (x : Reading). HaveRoles (IsWrittenInTime set (quiet_step ∷ earlier)) x) (sym (end_stays set.accepts (readings_after sides.Target r.end d.moves) r d.change))
+      (moves_roles (IsWrittenInTime set (quiet_step ∷ earlier)) sides.Target r.end d.moves
+      (all_mapped (MoveHasRole (IsAskedRole set.accepts r e)) (MoveHasRole (IsWrittenInTime set (quiet_step ∷ earlier))) (asked_moves r e up comes) d.moves
+      (moves_ask joins set.accepts r e (subst (λ (state : TargetState). HasLive state) up (target_is_live joins set earlier))))
+      (all_mapped (InTime set earlier) (InTime set (quiet_step ∷ earlier)) (λ t. still_written set quiet_step earlier t.role) (past_with r.end.live r.end.past) h))
+
+step_in_time : SumsJoin → (set : Setting) (given : HappeningView) (posts : List DatagramView) (notes : List Note) (earlier : List Step) → AllByRecursion (InTime set earlier) (transfers_of (target_at set earlier)) → AllByRecursion (InTime set earlier) (former_at set earlier)
+    → AllByRecursion (InTime set (record { given = given; posts = posts; notes = notes } ∷ earlier)) (transfers_of (target_at set (record { given = given; posts = posts; notes = notes } ∷ earlier)))
+    × AllByRecursion (InTime set (record { given = given; posts = posts; notes = notes } ∷ earlier)) (former_at set (record { given = given; posts = posts; notes = notes } ∷ earlier))
+step_in_time joins set given posts [] earlier now former = (
+  reached_in_time joins set given posts earlier (target_at set earlier) (event_for sides.Target (posted_in earlier) given) refl refl now,
+  all_mapped (InTime set earlier) (InTime set (record { given = given; posts = posts; notes = [] } ∷ earlier)) (λ t. still_written set (record { given = given; posts = posts; notes = [] }) earlier t.role) (former_at set earlier) former,
+)
+step_in_time joins set given posts (note ∷ notes) earlier now former =
+    let s : Step = record { given = given; posts = posts; notes = note ∷ notes } in (
+      subst (λ (ts : List Transfer). AllByRecursion (InTime set (s ∷ earlier)) ts) (sym (one_noted note notes (target_at set earlier) (reached set (event_for sides.Target (posted_in earlier) given) (target_at set earlier)))) tt,
+      all_mapped (InTime set earlier) (InTime set (s ∷ earlier)) (λ t. still_written set s earlier t.role) (transfers_of (target_at set earlier) ++ former_at set earlier) (all_append (InTime set earlier) (transfers_of (target_at set earlier)) (former_at set earlier) now former),
+    )
+
+all_in_time : SumsJoin → (set : Setting) (steps : List Step) → AllByRecursion (InTime set steps) (transfers_of (target_at set steps)) × AllByRecursion (InTime set steps) (former_at set steps)
+all_in_time joins set [] = (tt, tt)
+all_in_time joins set (s ∷ earlier) = let before = all_in_time joins set earlier in step_in_time joins set s.given s.posts s.notes earlier before.0 before.1
+
+pub target_writes_in_time : SumsJoin → TargetWritesInTime
+target_writes_in_time joins set steps t a =
+    let all = all_in_time joins set steps in
+    all_at (InTime set steps) (transfers_of (target_at set steps) ++ former_at set steps) t (all_append (InTime set steps) (transfers_of (target_at set steps)) (former_at set steps) all.0 all.1) a
+
+-- ---- names
+
+ends_same : (xs ys a b : List ℕ) → length a ≡ length b → xs ++ a ≡ ys ++ b → a ≡ b
+ends_same [] [] a b size e = e
+ends_same [] (y ∷ ys) a b size e = let long : length a ≡ length (y ∷ ys ++ b) = ap length e in let sum = length-append (y ∷ ys) b in absurd (omega (arith, size, long, sum))
+ends_same (x ∷ xs) [] a b size e = let long : length (x ∷ xs ++ a) ≡ length b = ap length e in let sum = length-append (x ∷ xs) a in absurd (omega (arith, size, long, sum))
+ends_same (x ∷ xs) (y ∷ ys) a b size e = let rest : xs ++ a ≡ ys ++ b = cc in ends_same xs ys a b size rest
+
+four_bytes : (kind : FileKind) → length (extension kind) ≡ 4
+four_bytes kinds.Lci = refl
+four_bytes kinds.Lcl = refl
+four_bytes kinds.Lcs = refl
+four_bytes kinds.Lui = refl
+four_bytes kinds.Lur = refl
+four_bytes kinds.Lus = refl
+
+false_is_true : false ≡ true → ⊥
+false_is_true e = cc
+
+list_extension : (kind : FileKind) → extension kind ≡ extension kinds.Lcl → kind ≡ kinds.Lcl
+list_extension kinds.Lcl e = refl
+list_extension kinds.Lci e = absurd (false_is_true (ap (λ (x : List ℕ). bytes_eq x (extension kinds.Lcl)) e))
+list_extension kinds.Lcs e = absurd (false_is_true (ap (λ (x : List ℕ). bytes_eq x (extension kinds.Lcl)) e))
+list_extension kinds.Lui e = absurd (false_is_true (ap (λ (x : List ℕ). bytes_eq x (extension kinds.Lcl)) e))
+list_extension kinds.Lur e = absurd (false_is_true (ap (λ (x : List ℕ). bytes_eq x (extension kinds.Lcl)) e))
+list_extension kinds.Lus e = absurd (false_is_true (ap (λ (x : List ℕ). bytes_eq x (extension kinds.Lcl)) e))
+
+name_ends : (hw pos : List ℕ) (kind : FileKind) → file_name hw pos kind ≡ (hw ++ 95 ∷ pos) ++ extension kind
+unfolding file_name
+name_ends hw pos kind = refl
+
+list_named : (hw pos one two : List ℕ) (kind : FileKind) → file_name hw pos kind ≡ file_name one two kinds.Lcl → kind ≡ kinds.Lcl
+list_named hw pos one two kind e =
+    list_extension kind (ends_same (hw ++ 95 ∷ pos) (one ++ 95 ∷ two) (extension kind) (extension kinds.Lcl) (four_bytes kind) (sym (name_ends hw pos kind) ∙ e ∙ name_ends one two kinds.Lcl))
+
+-- a name has no zero, so that it stands before the first one
+no_zero_at_0 : (b : ℕ) (bytes : List ℕ) → AllGood is_name_byte (b ∷ bytes) → b ≡ 0 → ⊥
+no_zero_at_0 b bytes good e = never (subst (λ (x : ℕ). is_name_byte x ≡ true) e (good 0 (omega arith)))
+  where
+    never : false ≡ true → ⊥
+    never f = cc
+
+later_good : (b : ℕ) (bytes : List ℕ) → AllGood is_name_byte (b ∷ bytes) → AllGood is_name_byte bytes
+later_good b bytes good = λ k less. good (suc k) (omega (arith, less))
+
+before_zero_same : (a b x y : List ℕ) → AllGood is_name_byte a → AllGood is_name_byte b → a ++ 0 ∷ x ≡ b ++ 0 ∷ y → a ≡ b
+before_zero_same [] [] x y good other e = refl
+before_zero_same [] (c ∷ b) x y good other e = let same : c ≡ 0 = cc in absurd (no_zero_at_0 c b other same)
+before_zero_same (c ∷ a) [] x y good other e = let same : c ≡ 0 = cc in absurd (no_zero_at_0 c a good same)
+before_zero_same (c ∷ a) (d ∷ b) x y good other e =
+    let first : c ≡ d = cc in
+    let rest : a ++ 0 ∷ x ≡ b ++ 0 ∷ y = cc in
+    ap (λ (h : ℕ). h ∷ a) first ∙ ap (λ (t : List ℕ). d ∷ t) (before_zero_same a b x y (later_good c a good) (later_good d b other) rest)
+
+-- a request that is read from what was written has the name that was written
+written_name_is_read : (name uname : List ℕ) (asked o : Options) → IsName uname → PacketSpells (Wrq name asked) (packet_bytes (Wrq uname o)) → name ≡ uname
+written_name_is_read name uname asked o named spells =
+    let same : number_bytes 2 2 ++ (ended_text uname ++ _) ≡ number_bytes 2 2 ++ (ended_text name ++ _) = spells.parts in
+    let rest = append_cancel_left (number_bytes 2 2) _ _ same in
+    sym (before_zero_same uname name _ _ named.good spells.is_name.good (sym (append_assoc uname (0 ∷ []) _) ∙ rest ∙ append_assoc name (0 ∷ []) _))
+
+-- ---- the list that arrives
+
+-- a spelled list is read (`protocol_file_laws` of load_protocol_files)
+abbrev pub ListsAreRead : Type 0
+ListsAreRead = (v : LclView) (bytes : List ℕ) → LclSpells v bytes → answer lcl bytes ≡ Ok v
+
+pub lists_are_read : ((bytes : List ℕ) (v : LclView) → Spelled lcl bytes v ↔ LclSpells v bytes) → ListsAreRead
+lists_are_read spells v bytes is = answer-spelled lcl bytes v (spelled_at_start lcl bytes v ((spells bytes v).1 is))
+
+takes_receives : (wanted : List ℕ) (role : Role) → TakesFile wanted role → (is_receiving role ≡ true) × (is_asking role ≡ false)
+takes_receives wanted (ServesWrite name o) takes = (refl, refl)
+takes_receives wanted (ServesRead name o file) takes = absurd takes
+takes_receives wanted (Reads name o) takes = absurd takes
+takes_receives wanted (Writes name o file) takes = absurd takes
+
+-- the file that the target wrote was due
+written_list : (set : Setting) (steps : List Step) (one two : List ℕ) (role urole : Role) (file : List ℕ) → OwnFilesAreNamed set → TakesFile (file_name one two kinds.Lcl) role → is_asking urole ≡ true → file_sent urole ≡ Some file
+    → packet_in (packet_bytes (first_packet urole)) ≡ request_taken role → IsBytes (packet_bytes (first_packet urole)) → IsWrittenInTime set steps urole → TellsLength urole × ListWasDue set steps file
+written_list set steps one two (ServesWrite name asked) (Writes uname wanted f) file named takes asks sent request fit (kind, is, due) =
+    let same : name ≡ uname = written_name_is_read name uname asked _ (subst IsName (sym is) (named kind)) (read_is_spelled (packet_bytes (first_packet (Writes uname wanted f))) (Wrq name asked) fit request) in
+    let list : kind ≡ kinds.Lcl = list_named set.start.identity.hw set.start.identity.pos one two kind (sym is ∙ sym same ∙ takes) in
+    (tt, subst (λ (x : List ℕ). ListWasDue set steps x) (some_file f file sent) (due list))
+  where
+    some_file : (a b : List ℕ) → Some a ≡ Some b → a ≡ b
+    some_file a b e = cc
+written_list set steps one two (ServesWrite name asked) (Reads uname o) file named takes asks sent request fit h = absurd cc
+written_list set steps one two (ServesWrite name asked) (ServesRead uname o f) file named takes asks sent request fit h = absurd cc
+written_list set steps one two (ServesWrite name asked) (ServesWrite uname o) file named takes asks sent request fit h = absurd cc
+written_list set steps one two (ServesRead name o f) urole file named takes asks sent request fit h = absurd takes
+written_list set steps one two (Reads name o) urole file named takes asks sent request fit h = absurd takes
+written_list set steps one two (Writes name o f) urole file named takes asks sent request fit h = absurd takes
+
+-- ---- the step that completes a session
+
+-- what reaches the loader alone
+only_loader : (posted : List DatagramView) (h : HappeningView) (e : Event) → event_for sides.Loader posted h ≡ Some e → (event_for sides.Target posted h ≡ None) ⊎ ((size : Option ℕ) × (e ≡ Learns size))
+only_loader posted (Delivered to n) e is = by to is
+  where
+    by : (to : Side) → event_for sides.Loader posted (Delivered to n) ≡ Some e → (event_for sides.Target posted (Delivered to n) ≡ None) ⊎ ((size : Option ℕ) × (e ≡ Learns size))
+    by sides.Loader is = inl refl
+    by sides.Target is = absurd cc
+only_loader posted (Injected d) e is = by d.side is
+  where
+    by : (side : Side) → cond (is_same_side sides.Loader side) None (gets (Some d)) ≡ Some e → (cond (is_same_side sides.Target side) None (gets (Some d)) ≡ None) ⊎ ((size : Option ℕ) × (e ≡ Learns size))
+    by sides.Loader is = absurd cc
+    by sides.Target is = inl refl
+only_loader posted (Ticked whose) e is = by whose is
+  where
+    by : (whose : Side) → event_for sides.Loader posted (Ticked whose) ≡ Some e → (event_for sides.Target posted (Ticked whose) ≡ None) ⊎ ((size : Option ℕ) × (e ≡ Learns size))
+    by sides.Loader is = inl refl
+    by sides.Target is = absurd cc
+only_loader posted (Size_told size) e is = inr (size, let same : Learns size ≡ e = cc in sym same)
+only_loader posted (Info_started hw pos) e is = inl refl
+only_loader posted (Upload_started hw pos parts) e is = inl refl
+only_loader posted (Lost n) e is = inl refl
+only_loader posted (Power_cut calls pick) e is = inl refl
+only_loader posted Booted e is = inl refl
+only_loader posted Ended e is = inl refl
+
+reached_none : (set : Setting) (state : TargetState) → reached set None state ≡ state
+reached_none set (Is_up r) = refl
+reached_none set (Is_down active interrupted) = refl
+
+longer : (xs : List EndedSession) (x : EndedSession) → xs ≡ x ∷ xs → ⊥
+longer xs x e = let same : length xs ≡ length (x ∷ xs) = ap length e in omega (arith, same)
+
+among_past : (live : Option Transfer) (past : List Transfer) (t : Transfer) → newest past ≡ t ∷ [] → Among t (past_with live past)
+among_past None [] t e = absurd cc
+among_past (Some x) [] t e = absurd cc
+among_past None (y ∷ past) t e = let same : y ≡ t = cc in inl same
+among_past (Some x) (y ∷ past) t e = let same : y ≡ t = cc in inr (inl same)
+
+can_be_listed : (set : Setting) (since : List Step) (made : Step) (before : List Step) → AllCanBeListed set (since ++ made ∷ before) → CanBeListed (active_at set before)
+can_be_listed set [] made [] (now, all) = all
+can_be_listed set [] made (s ∷ before) (now, all) = all.0
+can_be_listed set (s ∷ since) made before (now, all) = can_be_listed set since made before all
+
+module _ (joins : SumsJoin) (reads : ListsAreRead) (set : Setting) (s : Step) (earlier : List Step) (named : OwnFilesAreNamed set) (listable : AllCanBeListed set (s ∷ earlier)) (sent : ArrivesAsSent set s earlier) (session : EndedSession) where
+  -- what was listed was due
+  lists_due : (file : List ℕ) → ListWasDue set (s ∷ earlier) file → session.listed ≡ result_ok (answer lcl file) → ListsActive set (s ∷ earlier) session.listed
+  lists_due file h is =
+      let o = outline_of (active_at set h.before) in
+      let spelled : LclSpells (lcl_of o) (lcl_file o) = can_be_listed set h.since h.made h.before (subst (λ (steps : List Step). AllCanBeListed set steps) h.split listable) in
+      let listed : session.listed ≡ Some (lcl_of o) = is ∙ ap (λ (bytes : List ℕ). result_ok (answer lcl bytes)) h.lists ∙ ap (λ (x : Result LclView FileFault). result_ok x) (reads (lcl_of o) (lcl_file o) spelled) in
+      subst (λ (x : Option LclView). ListsActive set (s ∷ earlier) x) (sym listed) (h.since, h.made, h.before, h.split, h.due, refl)
+
+  -- the transfer that completed it
+  by_transfer : (e : Event) → event_for sides.Target (posted_in earlier) s.given ≡ None → (h : ListsArrived set.media (loader_at set earlier) e session) → Among h.transfer (loader_transfers set (s ∷ earlier)) → ListsActive set (s ∷ earlier) session.listed
+  by_transfer e alone h a = by (sent.at_loader h.transfer a (takes_receives _ h.transfer.role h.role).0)
+    where
+      by : ComesFromEnd (target_transfers set s earlier) h.transfer → ListsActive set (s ∷ earlier) session.listed
+      by (of_none none not) = absurd (false_is_true (sym not ∙ h.received))
+      by (of_end u b brings) =
+          let same : reached set (event_for sides.Target (posted_in earlier) s.given) (target_at set earlier) ≡ target_at set earlier = ap (λ (x : Option Event). reached set x (target_at set earlier)) alone ∙ reached_none set (target_at set earlier) in
+          let there : Among u (transfers_of (target_at set earlier) ++ former_at set earlier) = subst (λ (state : TargetState). Among u (transfers_of state ++ former_at set earlier)) same b in
+          let written : IsWrittenInTime set (s ∷ earlier) u.role = still_written set s earlier u.role (target_writes_in_time joins set earlier u there) in
+          from_request u brings written brings.ends.request
+        where
+          from_request : (u : Transfer) (brings : BringsFile h.transfer u) → IsWrittenInTime set (s ∷ earlier) u.role → AnswersRequest h.transfer u ⊎ AnswersRequest u h.transfer → ListsActive set (s ∷ earlier) session.listed
+          from_request u brings written (inr request) = absurd (false_is_true (sym (takes_receives _ h.transfer.role h.role).1 ∙ request.asks))
+          from_request u brings written (inl request) =
+              let (tells, due) = written_list set (s ∷ earlier) h.start.hw h.start.pos h.transfer.role u.role brings.file named h.role request.asks brings.sent request.request request.are_bytes written in
+              lists_due brings.file due (h.listed ∙ ap (λ (bytes : List ℕ). result_ok (answer lcl bytes)) (brings.whole tells h.received))
+
+  by_event : (e : Option Event) → event_for sides.Loader (posted_in earlier) s.given ≡ e → (loader_reading set.media (logged e (loader_log earlier))).ended ≡ session ∷ (loader_at set earlier).ended → session.kind ≡ Info → session.outcome ≡ Completed → ListsActive set (s ∷ earlier) session.listed
+  by_event None comes grows info completed = absurd (longer (loader_at set earlier).ended session grows)
+  by_event (Some e) comes grows info completed = by (only_loader (posted_in earlier) s.given e comes)
+    where
+      there : (h : ListsArrived set.media (loader_at set earlier) e session) → Among h.transfer (loader_transfers set (s ∷ earlier))
+      there h =
+          subst (λ (x : Option Event). Among h.transfer (all_of (loader_reading set.media (logged x (loader_log earlier))).end [])) (sym comes)
+          (among_left h.transfer _ [] (among_past (loader_extended set.media (loader_at set earlier) e).end.live (loader_extended set.media (loader_at set earlier) e).end.past h.transfer h.is_newest))
+
+      by : (event_for sides.Target (posted_in earlier) s.given ≡ None) ⊎ ((size : Option ℕ) × (e ≡ Learns size)) → ListsActive set (s ∷ earlier) session.listed
+      by (inl alone) = let h = completed_lists_arrived set.media (loader_log earlier) e session grows info completed in by_transfer e alone h (there h)
+      by (inr (size, learns)) = absurd (longer (loader_at set earlier).ended session (subst (λ (x : Event). (loader_extended set.media (loader_at set earlier) x).ended ≡ session ∷ (loader_at set earlier).ended) learns grows))
+
+  pub lists_where_completed : (loader_at set (s ∷ earlier)).ended ≡ session ∷ (loader_at set earlier).ended → session.kind ≡ Info → session.outcome ≡ Completed → ListsActive set (s ∷ earlier) session.listed
+  lists_where_completed grows info completed = by_event (event_for sides.Loader (posted_in earlier) s.given) refl grows info completed
+
+all_list_active : SumsJoin → ListsAreRead → (set : Setting) (steps : List Step) → OwnFilesAreNamed set → AllCanBeListed set steps → AllArriveAsSent set steps → AllListActive set steps
+all_list_active joins reads set [] named listable sent = tt
+all_list_active joins reads set (s ∷ earlier) named listable (now, sent) = (
+  λ session. lists_where_completed joins reads set s earlier named listable now session,
+  all_list_active joins reads set earlier named listable.1 sent,
+)
+
+pub completed_lists_active : SumsJoin → ListsAreRead → CompletedListsActive
+completed_lists_active joins reads set steps is named listable = all_list_active joins reads set steps named listable (what_arrives_was_sent joins set steps is)

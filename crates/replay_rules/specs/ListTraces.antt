@@ -1,0 +1,68 @@
+-- The lists of a run: each that is listed was active when it became due (docs/EXCHANGE.md, "Runs").
+use Rattle.std.specs.Prelude.{◌≡◌, ℕ, List, [], ◌∷◌, ◌++◌, ⊤}
+use Rattle.load_base.specs.Name.{IsName}
+use Rattle.load_protocol_files.specs.Lcl.{LclSpells}
+use Rattle.disk_layout.specs.Holds.{StandingView, outline_of}
+use Rattle.exchange_trace.specs.Steps.{Step}
+use Rattle.transfer_end.specs.OtherEnds.{Among}
+use Rattle.transfer_end.specs.Transfers.{Role, Transfer, Writes}
+use Rattle.session_rules.specs.declared.outcome.FileKind.{FileKind}
+use Rattle.session_rules.specs.declared.outcome.FileKind.TheVariants.{Lcl}
+use Rattle.session_rules.specs.declared.outcome.Outcome.TheVariants.{Completed}
+use Rattle.session_rules.specs.declared.outcome.SessionKind.TheVariants.{Info}
+use Rattle.session_rules.specs.FileNames.{file_name}
+use Rattle.session_rules.specs.Loader.{EndedSession}
+use Rattle.session_rules.specs.Reports.{lcl_file, lcl_of}
+use Rattle.replay_rules.specs.BothEnds.{Setting, loader_at, target_at}
+use Rattle.replay_rules.specs.Histories.{active_at}
+use Rattle.replay_rules.specs.OtherEndTraces.{IsUninjected, former_at, transfers_of}
+use Rattle.replay_rules.specs.Promises.{ListIsDue, ListsActive}
+
+-- ---- what the target writes
+
+-- the file is the list of what was active at an earlier step whose datagram made the list due
+pub record ListWasDue (set : Setting) (steps : List Step) (file : List ℕ) : Type 0 where
+  pub since : List Step
+  pub made : Step
+  pub before : List Step
+  pub split : steps ≡ since ++ made ∷ before
+  pub due : ListIsDue set (target_at set (made ∷ before))
+  pub lists : file ≡ lcl_file (outline_of (active_at set before))
+
+-- a file that the target asks to write is one of its own, and a list is of what was active when it became due
+abbrev pub IsWrittenInTime : Setting → List Step → Role → Type 0
+IsWrittenInTime set steps (Writes name options file) = (kind : FileKind) × (name ≡ file_name set.start.identity.hw set.start.identity.pos kind) × (kind ≡ Lcl → ListWasDue set steps file)
+IsWrittenInTime set steps role = ⊤
+
+-- In each trace, whatever comes, so is each file that the target writes, in each of its lives.
+abbrev pub TargetWritesInTime : Type 0
+TargetWritesInTime = (set : Setting) (steps : List Step) (t : Transfer) → Among t (transfers_of (target_at set steps) ++ former_at set steps) → IsWrittenInTime set steps t.role
+
+-- ---- what is listed
+
+-- the list of a configuration is a file of its format
+abbrev pub CanBeListed : StandingView → Type 0
+CanBeListed s = LclSpells (lcl_of (outline_of s)) (lcl_file (outline_of s))
+
+-- what is active at each moment can be listed
+abbrev pub AllCanBeListed : Setting → List Step → Type 0
+AllCanBeListed set [] = CanBeListed (active_at set [])
+AllCanBeListed set (s ∷ earlier) = CanBeListed (active_at set (s ∷ earlier)) × AllCanBeListed set earlier
+
+-- the names of the target's own files are names
+abbrev pub OwnFilesAreNamed : Setting → Type 0
+OwnFilesAreNamed set = (kind : FileKind) → IsName (file_name set.start.identity.hw set.start.identity.pos kind)
+
+-- a session that ends in the newest step as a completed information session
+abbrev pub ListsWhereCompleted : Setting → Step → List Step → Type 0
+ListsWhereCompleted set s earlier = (session : EndedSession) → (loader_at set (s ∷ earlier)).ended ≡ session ∷ (loader_at set earlier).ended → session.kind ≡ Info → session.outcome ≡ Completed
+    → ListsActive set (s ∷ earlier) session.listed
+
+abbrev pub AllListActive : Setting → List Step → Type 0
+AllListActive set [] = ⊤
+AllListActive set (s ∷ earlier) = ListsWhereCompleted set s earlier × AllListActive set earlier
+
+-- Without injection each completed information session lists exactly what was active at the step whose datagram made the
+-- list due, through losses, repeats, power losses and boots.
+abbrev pub CompletedListsActive : Type 0
+CompletedListsActive = (set : Setting) (steps : List Step) → IsUninjected set steps → OwnFilesAreNamed set → AllCanBeListed set steps → AllListActive set steps
