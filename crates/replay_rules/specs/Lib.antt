@@ -13,6 +13,4 @@ pub mod CameTraceLaws
 pub mod Changes
 pub mod ChangeLaws
 pub mod OtherEndTraces
-pub mod OtherEndTraceLaws
 pub mod ListTraces
-pub mod ListTraceLaws

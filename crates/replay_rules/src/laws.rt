@@ -10,6 +10,7 @@ use crc_fields::check_sum_laws;
 use load_header::header_laws;
 use load_protocol_files::protocol_file_laws;
 use tftp_packet::packet_laws;
+use transfer_end::laws::what_comes_was_sent;
 
 /// Where each end does what its rules say in a step, what it keeps is what the trace says of it,
 /// and all that was posted was due.
@@ -44,6 +45,7 @@ pub fn what_arrives_was_sent()
     ensures media { LoaderGivesMedia }
 {
     check_sum_laws();
+    what_comes_was_sent();
 }
 
 /// A completed information session lists exactly what was active at the step whose datagram made
@@ -56,6 +58,7 @@ pub fn a_completed_session_lists_what_was_active()
 {
     check_sum_laws();
     protocol_file_laws();
+    what_comes_was_sent();
 }
 
 /// Whatever is delivered, lost, repeated, reordered, delayed or injected in a run, and wherever

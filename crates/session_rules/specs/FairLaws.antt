@@ -10,8 +10,8 @@ use Rattle.tftp_link.specs.Answers.{Again, Answer, Completes, Dropped, Fails, Gr
 use Rattle.exchange_trace.specs.declared.trace.Side.TheVariants as sides
 use Rattle.exchange_trace.specs.Logs.{Event, Gets, Learns, Starts_info, Starts_upload, Ticks}
 use Rattle.transfer_end.specs.Moves.{Asks, Asks_size, Hears, Move, Recalls, Refuses, Repeats, Serves, Stops, readings_after}
-use Rattle.transfer_end.specs.OtherEndLaws.{moves_roles, moves_stay_fair, ports_stay}
-use Rattle.transfer_end.specs.OtherEnds.{AreFair, HaveRoles, MoveFits, MoveHasRole, PortsFit, all_of, is_asking, request_taken}
+use Rattle.transfer_end.specs.OtherEndLaws.{moves_roles, ports_stay}
+use Rattle.transfer_end.specs.OtherEnds.{MovesStayFair, AreFair, HaveRoles, MoveFits, MoveHasRole, PortsFit, all_of, is_asking, request_taken}
 use Rattle.transfer_end.specs.Packets.{belongs, has_port, heard_answer, is_busy, is_fresh, may_repeat, packet_in, transfer_moves}
 use Rattle.transfer_end.specs.Readings.{Reading}
 use Rattle.transfer_end.specs.Transfers.{Reads, Role, ServesRead, ServesWrite, Transfer, Writes}
@@ -312,14 +312,15 @@ target_moves_fit accepts v (Starts_upload hw pos parts) = (tt, tt)
 
 -- ---- one event more
 
-pub loader_stays_fair : LoaderStaysFair
-loader_stays_fair media r e theirs posted was live ports h =
+-- which transfer_end promises of all moves (`what_comes_was_sent`)
+pub loader_stays_fair : MovesStayFair → LoaderStaysFair
+loader_stays_fair moves_stay_fair media r e theirs posted was live ports h =
     let d = loader.loader_decision media (loader_view r) e in
     subst (λ (x : Reading). AreFair sides.Loader sides.Target (all_of x []) theirs x.last (posted ++ loader_due media r e)) (sym (loader_end_stays (readings_after sides.Loader r.end d.moves) r d.change))
     (moves_stay_fair sides.Loader sides.Target e r.end [] theirs d.moves posted (λ same. cc) (loader_moves_fit media (loader_view r) e).0 was live ports h)
 
-pub target_stays_fair : TargetStaysFair
-target_stays_fair accepts r e former theirs posted was live ports h =
+pub target_stays_fair : MovesStayFair → TargetStaysFair
+target_stays_fair moves_stay_fair accepts r e former theirs posted was live ports h =
     let d = target.target_decision accepts (target_view accepts r) e in
     subst (λ (x : Reading). AreFair sides.Target sides.Loader (all_of x former) theirs x.last (posted ++ target_due accepts r e)) (sym (target_end_stays accepts (readings_after sides.Target r.end d.moves) r d.change))
     (moves_stay_fair sides.Target sides.Loader e r.end former theirs d.moves posted (λ same. cc) (target_moves_fit accepts (target_view accepts r) e).0 was live ports h)

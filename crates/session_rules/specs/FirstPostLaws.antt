@@ -7,8 +7,8 @@ use Rattle.exchange_trace.specs.declared.trace.Side.{Side}
 use Rattle.exchange_trace.specs.declared.trace.Side.TheVariants as sides
 use Rattle.exchange_trace.specs.Happenings.{DatagramView}
 use Rattle.exchange_trace.specs.Logs.{Event, Gets, Learns, Starts_info, Starts_upload, Ticks}
-use Rattle.transfer_end.specs.FirstPosts.{AllInOrder}
-use Rattle.transfer_end.specs.FirstPostLaws.{moves_post_in_order, stopped_in_order}
+use Rattle.transfer_end.specs.FirstPosts.{AllInOrder, MovesPostInOrder}
+use Rattle.transfer_end.specs.FirstPostLaws.{stopped_in_order}
 use Rattle.transfer_end.specs.Moves.{Move, Repeats, Stops, all_posts, last_post, readings_after}
 use Rattle.transfer_end.specs.OtherEnds.{IsNoTick, PortsFit}
 use Rattle.transfer_end.specs.Packets.{may_repeat}
@@ -78,9 +78,9 @@ tick_in_order side r moves posts stops h = subst (λ (all : List DatagramView). 
 
 -- ---- logs
 
-loader_moves_in_order : (media : Media) (log : List Event) (e : Event) → AllInOrder (loader_reading media log).end (loader_first_posts media log)
+loader_moves_in_order : MovesPostInOrder → (media : Media) (log : List Event) (e : Event) → AllInOrder (loader_reading media log).end (loader_first_posts media log)
     → AllInOrder (readings_after sides.Loader (loader_reading media log).end (loader.loader_decision media (loader_view (loader_reading media log)) e).moves) (loader_first_posts media log ++ unless_tick e (loader_due media (loader_reading media log) e))
-loader_moves_in_order media log e h = by e
+loader_moves_in_order moves_post_in_order media log e h = by e
   where
     r : LoaderReading
     r = loader_reading media log
@@ -96,17 +96,18 @@ loader_moves_in_order media log e h = by e
     by (Starts_info hw pos) = other (Starts_info hw pos) tt
     by (Starts_upload hw pos parts) = other (Starts_upload hw pos parts) tt
 
-loader_in_order : (media : Media) (log : List Event) → AllInOrder (loader_reading media log).end (loader_first_posts media log)
-loader_in_order media [] = record { each = λ t a. absurd a; below = tt }
-loader_in_order media (e ∷ log) =
+loader_in_order : MovesPostInOrder → (media : Media) (log : List Event) → AllInOrder (loader_reading media log).end (loader_first_posts media log)
+loader_in_order in_order media [] = record { each = λ t a. absurd a; below = tt }
+loader_in_order in_order media (e ∷ log) =
     let r = loader_reading media log in
     let d = loader.loader_decision media (loader_view r) e in
-    subst (λ (x : Reading). AllInOrder x (loader_first_posts media (e ∷ log))) (sym (loader_end_stays (readings_after sides.Loader r.end d.moves) r d.change)) (loader_moves_in_order media log e (loader_in_order media log))
+    subst (λ (x : Reading). AllInOrder x (loader_first_posts media (e ∷ log))) (sym (loader_end_stays (readings_after sides.Loader r.end d.moves) r d.change)) (loader_moves_in_order in_order media log e (loader_in_order in_order media log))
 
-pub loader_blocks_in_order : LoaderBlocksInOrder
-loader_blocks_in_order media log = (loader_in_order media log).each
+-- which transfer_end promises of all moves (`blocks_are_first_posted_in_order`)
+pub loader_blocks_in_order : MovesPostInOrder → LoaderBlocksInOrder
+loader_blocks_in_order in_order media log = (loader_in_order in_order media log).each
 
-module _ (joins : SumsJoin) (accepts : HeaderView → Bool) (first_port : ℕ) (active : StandingView) (above : 59 < first_port) where
+module _ (joins : SumsJoin) (moves_post_in_order : MovesPostInOrder) (accepts : HeaderView → Bool) (first_port : ℕ) (active : StandingView) (above : 59 < first_port) where
   ports_fit : (log : List Event) → PortsFit (target_reading accepts first_port active log).end []
   ports_fit [] = record { counts = tt; first = above; below = tt; rise = tt }
   ports_fit (e ∷ log) = target_ports_stay accepts (target_reading accepts first_port active log) e [] (ports_fit log)
@@ -140,5 +141,5 @@ module _ (joins : SumsJoin) (accepts : HeaderView → Bool) (first_port : ℕ) (
       let d = target.target_decision accepts (target_view accepts r) e in
       subst (λ (x : Reading). AllInOrder x (target_first_posts accepts first_port active (e ∷ log))) (sym (target_end_stays accepts (readings_after sides.Target r.end d.moves) r d.change)) (target_moves_in_order log e (target_in_order log))
 
-pub target_blocks_in_order : SumsJoin → TargetBlocksInOrder
-target_blocks_in_order joins accepts first_port active log above = (target_in_order joins accepts first_port active above log).each
+pub target_blocks_in_order : SumsJoin → MovesPostInOrder → TargetBlocksInOrder
+target_blocks_in_order joins in_order accepts first_port active log above = (target_in_order joins in_order accepts first_port active above log).each

@@ -15,6 +15,7 @@ ghost use Rattle.session_rules.specs.SoundLogs.{ChangesByVerdict};
 use crc_fields::check_sum_laws;
 use load_header::header_laws;
 use tftp_packet::packet_laws;
+use transfer_end::laws::{blocks_are_first_posted_in_order, what_comes_was_sent};
 
 /// What each end keeps is what is kept of its log, event by event, whatever bytes come from
 /// whatever ports. So what it posts, which follows from what it keeps, follows from the log.
@@ -83,18 +84,21 @@ pub fn both_sides_stay_fair()
     ensures target { TargetStaysFair }
     // Each file that the loader gives is the media set's file of its name.
     ensures media { LoaderGivesMediaFiles }
-{}
+{
+    what_comes_was_sent();
+}
 
 /// In each transfer of each log in which a side sends a file, the datagrams that it posts from its
 /// own port, ticks aside, are its request or OACK, if it has one, and then blocks 1, 2, 3 .. of the
 /// file in their order, each once (RFC 1350, section 2). At a tick it posts what it posted last.
-pub fn blocks_are_first_posted_in_order()
+pub fn both_sides_first_post_blocks_in_order()
     ensures loader { LoaderBlocksInOrder }
     // Since it came up.
     ensures target { TargetBlocksInOrder }
     ensures ticks { TicksRepeat }
 {
     check_sum_laws();
+    blocks_are_first_posted_in_order();
 }
 
 /// In a row in which the loader takes a file of one kind, the transfer that is live is of that

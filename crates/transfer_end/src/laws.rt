@@ -63,7 +63,7 @@ pub fn two_datagrams_at_most()
 /// What a side receives in a transfer is what the transfer's other end sent, wherever the datagrams
 /// of each side were posted by the other: each block that came is that block of its file, in the
 /// block size that both ends hold, and a file that was received whole is the file that was sent.
-/// `specs/OtherEndLaws.antt` and `specs/ReceivedLaws.antt` say the same to proofs.
+/// `specs/ReceivedLaws.antt` says the latter to proofs.
 pub fn what_comes_was_sent()
     // Whatever moves a side makes, each transfer goes on as it began: one end asked, the other
     // serves it, and the packets of each are what the other sent to it.
@@ -74,7 +74,7 @@ pub fn what_comes_was_sent()
 
 /// Whatever moves a side makes at an event that is no tick, in each transfer in which it sends a
 /// file its request or OACK goes out from its own port, and then blocks 1, 2, 3 .. of the file,
-/// each once (RFC 1350, section 2). `specs/FirstPostLaws.antt` says the same to proofs.
+/// each once (RFC 1350, section 2).
 pub fn blocks_are_first_posted_in_order()
     ensures { MovesPostInOrder }
 {}

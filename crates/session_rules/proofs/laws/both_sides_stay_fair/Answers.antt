@@ -8,10 +8,10 @@ pub returns-clause-target_moves : goal.returns-clause-target_moves
 returns-clause-target_moves c = target_moves_fit
 
 pub returns-clause-loader : goal.returns-clause-loader
-returns-clause-loader c = loader_stays_fair
+returns-clause-loader c = loader_stays_fair c.what_comes_was_sent.ensures.moves
 
 pub returns-clause-target : goal.returns-clause-target
-returns-clause-target c = target_stays_fair
+returns-clause-target c = target_stays_fair c.what_comes_was_sent.ensures.moves
 
 pub returns-clause-media : goal.returns-clause-media
 returns-clause-media c = loader_gives_media_files

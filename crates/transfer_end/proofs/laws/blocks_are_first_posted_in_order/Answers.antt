@@ -1,4 +1,4 @@
-use Rattle.transfer_end.specs.FirstPostLaws.{moves_post_in_order}
+use Rattle.transfer_end.proofs.InOrder.{moves_post_in_order}
 use Rattle.transfer_end.proofs.laws.blocks_are_first_posted_in_order.Goals as goal
 
 pub returns : goal.returns

@@ -1,4 +1,4 @@
-use Rattle.transfer_end.specs.OtherEndLaws.{moves_stay_fair}
+use Rattle.transfer_end.proofs.FairMoves.{moves_stay_fair}
 use Rattle.transfer_end.specs.ReceivedLaws.{receives_what_was_sent}
 use Rattle.transfer_end.proofs.laws.what_comes_was_sent.Goals as goal
 

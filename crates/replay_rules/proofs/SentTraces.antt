@@ -12,7 +12,7 @@ use Rattle.exchange_trace.specs.PostLaws.{port_above_all, port_above_least}
 use Rattle.exchange_trace.specs.Posts.{IsHonest, first_port_after, is_from_own_port, numbered, posted_in}
 use Rattle.exchange_trace.specs.Steps.{Boot_refused, Came_up, Note, Step, Went_down}
 use Rattle.transfer_end.specs.OtherEndLaws.{all_at, own_not_59, was_posted_still}
-use Rattle.transfer_end.specs.OtherEnds.{Among, AreFair, EventWasPosted, IsFair, LastIsPost, PortsFit, all_of}
+use Rattle.transfer_end.specs.OtherEnds.{MovesStayFair, Among, AreFair, EventWasPosted, IsFair, LastIsPost, PortsFit, all_of}
 use Rattle.transfer_end.specs.ReceivedLaws.{receives_what_was_sent}
 use Rattle.transfer_end.specs.Transfers.{Transfer}
 use Rattle.session_rules.specs.BufferLaws.{SumsJoin}
@@ -142,22 +142,22 @@ none_posted P posted h = subst P (sym (append-nil posted)) h
 
 module _ (set : Setting) where
   -- what reaches the loader
-  loader_fair : (log : List Event) (e : Option Event) (theirs : List Transfer) (posted : List DatagramView) → WasPosted posted sides.Target e
+  loader_fair : MovesStayFair → (log : List Event) (e : Option Event) (theirs : List Transfer) (posted : List DatagramView) → WasPosted posted sides.Target e
       → AreFair sides.Loader sides.Target (all_of (loader_reading set.media log).end []) theirs (loader_reading set.media log).end.last posted
       → AreFair sides.Loader sides.Target (all_of (loader_reading set.media (logged e log)).end []) theirs (loader_reading set.media (logged e log)).end.last (posted ++ due_of_loader set (loader_reading set.media log) e)
-  loader_fair log None theirs posted was h =
+  loader_fair moves log None theirs posted was h =
       none_posted (λ (all : List DatagramView). AreFair sides.Loader sides.Target (all_of (loader_reading set.media log).end []) theirs (loader_reading set.media log).end.last all) posted h
-  loader_fair log (Some e) theirs posted was h = loader_stays_fair set.media (loader_reading set.media log) e theirs posted was (loader_live set.media log) (loader_ports_stay set.media log) h
+  loader_fair moves log (Some e) theirs posted was h = loader_stays_fair moves set.media (loader_reading set.media log) e theirs posted was (loader_live set.media log) (loader_ports_stay set.media log) h
 
   -- what reaches the target
-  target_fair : (state : TargetState) (e : Option Event) (former theirs : List Transfer) (posted : List DatagramView) → WasPosted posted sides.Loader e → HasLive state → TargetIsFair state former theirs posted
+  target_fair : MovesStayFair → (state : TargetState) (e : Option Event) (former theirs : List Transfer) (posted : List DatagramView) → WasPosted posted sides.Loader e → HasLive state → TargetIsFair state former theirs posted
       → TargetIsFair (reached set e state) former theirs (posted ++ due_of_target set state e)
-  target_fair (Is_up r) None former theirs posted was live h = none_posted (λ (all : List DatagramView). TargetIsFair (Is_up r) former theirs all) posted h
-  target_fair (Is_up r) (Some e) former theirs posted was live h =
-      let then = target_stays_fair set.accepts r e former theirs posted was live h.has.1 (record { one = h.one; other = h.other_one; last_is = h.has.0 }) in
+  target_fair moves (Is_up r) None former theirs posted was live h = none_posted (λ (all : List DatagramView). TargetIsFair (Is_up r) former theirs all) posted h
+  target_fair moves (Is_up r) (Some e) former theirs posted was live h =
+      let then = target_stays_fair moves set.accepts r e former theirs posted was live h.has.1 (record { one = h.one; other = h.other_one; last_is = h.has.0 }) in
       record { one = then.one; other_one = then.other; has = (then.last_is, target_ports_stay set.accepts r e former h.has.1) }
-  target_fair (Is_down active interrupted) None former theirs posted was live h = none_posted (λ (all : List DatagramView). TargetIsFair (Is_down active interrupted) former theirs all) posted h
-  target_fair (Is_down active interrupted) (Some e) former theirs posted was live h = none_posted (λ (all : List DatagramView). TargetIsFair (Is_down active interrupted) former theirs all) posted h
+  target_fair moves (Is_down active interrupted) None former theirs posted was live h = none_posted (λ (all : List DatagramView). TargetIsFair (Is_down active interrupted) former theirs all) posted h
+  target_fair moves (Is_down active interrupted) (Some e) former theirs posted was live h = none_posted (λ (all : List DatagramView). TargetIsFair (Is_down active interrupted) former theirs all) posted h
 
   -- a life ends
   gone_fair : (before after : TargetState) (former theirs : List Transfer) (posted : List DatagramView) → TargetIsFair before former theirs posted → TargetIsFair (gone_down before after) (transfers_of before ++ former) theirs posted
@@ -233,7 +233,7 @@ was_still : (posted more : List DatagramView) (side : Side) (e : Option Event) �
 was_still posted more side None h = tt
 was_still posted more side (Some e) h = was_posted_still posted more side e h
 
-module _ (joins : SumsJoin) (set : Setting) (s : Step) (earlier : List Step) (honest : IsHonest (posted_in earlier) s.given) (none : IsNoInjection s.given) (bytes : AllByRecursion CarriesBytes (posted_in earlier)) (h : TraceIsFair set earlier) where
+module _ (joins : SumsJoin) (moves : MovesStayFair) (set : Setting) (s : Step) (earlier : List Step) (honest : IsHonest (posted_in earlier) s.given) (none : IsNoInjection s.given) (bytes : AllByRecursion CarriesBytes (posted_in earlier)) (h : TraceIsFair set earlier) where
   abbrev to_loader : Option Event
   to_loader = event_for sides.Loader (posted_in earlier) s.given
 
@@ -248,7 +248,7 @@ module _ (joins : SumsJoin) (set : Setting) (s : Step) (earlier : List Step) (ho
 
   loader_now : AreFair sides.Loader sides.Target (loader_transfers set (s ∷ earlier)) (transfers_of (target_at set earlier) ++ former_at set earlier) (loader_at set (s ∷ earlier)).end.last (posted_in earlier ++ loader_posts_now)
   loader_now =
-      loader_fair set (loader_log earlier) to_loader (transfers_of (target_at set earlier) ++ former_at set earlier) (posted_in earlier) (event_was_posted sides.Loader (posted_in earlier) s.given bytes honest none)
+      loader_fair set moves (loader_log earlier) to_loader (transfers_of (target_at set earlier) ++ former_at set earlier) (posted_in earlier) (event_was_posted sides.Loader (posted_in earlier) s.given bytes honest none)
       (record { one = h.target.other_one; other = h.target.one; last_is = h.last })
 
   target_before : TargetIsFair (target_at set earlier) (former_at set earlier) (loader_transfers set (s ∷ earlier)) (posted_in earlier ++ loader_posts_now)
@@ -256,7 +256,7 @@ module _ (joins : SumsJoin) (set : Setting) (s : Step) (earlier : List Step) (ho
 
   target_now : TargetIsFair (reached set to_target (target_at set earlier)) (former_at set earlier) (loader_transfers set (s ∷ earlier)) ((posted_in earlier ++ loader_posts_now) ++ target_posts_now)
   target_now =
-      target_fair set (target_at set earlier) to_target (former_at set earlier) (loader_transfers set (s ∷ earlier)) (posted_in earlier ++ loader_posts_now)
+      target_fair set moves (target_at set earlier) to_target (former_at set earlier) (loader_transfers set (s ∷ earlier)) (posted_in earlier ++ loader_posts_now)
       (was_still (posted_in earlier) loader_posts_now sides.Loader to_target (event_was_posted sides.Target (posted_in earlier) s.given bytes honest none)) (target_is_live joins set earlier) target_before
 
   pub arrives_as_sent : ArrivesAsSent set s earlier
@@ -277,23 +277,23 @@ module _ (joins : SumsJoin) (set : Setting) (s : Step) (earlier : List Step) (ho
         last = loader_now.last_is;
       }
 
-module _ (joins : SumsJoin) (set : Setting) where
+module _ (joins : SumsJoin) (moves : MovesStayFair) (set : Setting) where
   trace_is_fair : (steps : List Step) → IsUninjected set steps → TraceIsFair set steps
   trace_is_fair [] is = record {
     target = record { one = nothing_is_fair sides.Target sides.Loader; other_one = nothing_is_fair sides.Loader sides.Target; has = (tt, record { counts = tt; first = omega arith; below = tt; rise = tt }) };
     last = tt;
   }
   trace_is_fair (s ∷ earlier) is =
-      step_is_fair joins set s earlier is.honest.0 is.injected.0 (posted_bytes earlier is.carries.1) (trace_is_fair earlier (record { due = is.due.1; noted = is.noted.1; honest = is.honest.1; injected = is.injected.1; carries = is.carries.1 })) is.due.0 is.noted.0
+      step_is_fair joins moves set s earlier is.honest.0 is.injected.0 (posted_bytes earlier is.carries.1) (trace_is_fair earlier (record { due = is.due.1; noted = is.noted.1; honest = is.honest.1; injected = is.injected.1; carries = is.carries.1 })) is.due.0 is.noted.0
 
   pub all_arrive_as_sent : (steps : List Step) → IsUninjected set steps → AllArriveAsSent set steps
   all_arrive_as_sent [] is = tt
   all_arrive_as_sent (s ∷ earlier) is =
       let before : IsUninjected set earlier = record { due = is.due.1; noted = is.noted.1; honest = is.honest.1; injected = is.injected.1; carries = is.carries.1 } in
-      (arrives_as_sent joins set s earlier is.honest.0 is.injected.0 (posted_bytes earlier is.carries.1) (trace_is_fair earlier before), all_arrive_as_sent earlier before)
+      (arrives_as_sent joins moves set s earlier is.honest.0 is.injected.0 (posted_bytes earlier is.carries.1) (trace_is_fair earlier before), all_arrive_as_sent earlier before)
 
-pub what_arrives_was_sent : SumsJoin → WhatArrivesWasSent
-what_arrives_was_sent joins set steps is = all_arrive_as_sent joins set steps is
+pub what_arrives_was_sent : SumsJoin → MovesStayFair → WhatArrivesWasSent
+what_arrives_was_sent joins moves set steps is = all_arrive_as_sent joins moves set steps is
 
 pub loader_gives_media : LoaderGivesMedia
 loader_gives_media set steps = loader_gives_media_files set.media (loader_log steps)

@@ -27,7 +27,7 @@ use Rattle.exchange_trace.specs.Steps.{Boot_refused, Came_up, Note, Step, Went_d
 use Rattle.transfer_end.specs.CameLaws.{all_mapped}
 use Rattle.transfer_end.specs.Moves.{Asks, Asks_size, Hears, Move, Recalls, Refuses, Repeats, Serves, Stops, past_with, readings_after}
 use Rattle.transfer_end.specs.OtherEndLaws.{all_at, among_left, moves_roles}
-use Rattle.transfer_end.specs.OtherEnds.{Among, AnswersRequest, BringsFile, ComesFromEnd, HaveRoles, MoveHasRole, TellsLength, all_of, file_sent, is_asking, is_receiving, of_end, of_none, request_taken}
+use Rattle.transfer_end.specs.OtherEnds.{MovesStayFair, Among, AnswersRequest, BringsFile, ComesFromEnd, HaveRoles, MoveHasRole, TellsLength, all_of, file_sent, is_asking, is_receiving, of_end, of_none, request_taken}
 use Rattle.transfer_end.specs.Packets.{packet_in}
 use Rattle.transfer_end.specs.SentPacketLaws.{read_is_spelled}
 use Rattle.transfer_end.specs.Readings.{Reading}
@@ -52,7 +52,7 @@ use Rattle.replay_rules.specs.BothEnds.{Is_down, Is_up, Setting, TargetState, co
 use Rattle.replay_rules.specs.ChangeLaws.{HasTarget, noted_target}
 use Rattle.replay_rules.specs.Histories.{active_at, active_in}
 use Rattle.replay_rules.specs.ListTraces.{AllCanBeListed, AllListActive, CanBeListed, CompletedListsActive, IsWrittenInTime, ListWasDue, OwnFilesAreNamed, TargetWritesInTime}
-use Rattle.replay_rules.specs.OtherEndTraceLaws.{what_arrives_was_sent}
+use Rattle.replay_rules.proofs.SentTraces.{what_arrives_was_sent}
 use Rattle.replay_rules.specs.OtherEndTraces.{AllArriveAsSent, ArrivesAsSent, former_at, loader_transfers, target_transfers, transfers_of}
 use Rattle.replay_rules.specs.PlacedTraceLaws.{all_append}
 use Rattle.replay_rules.specs.Promises.{ListIsDue, ListsActive, SessionWritesList, WritesList}
@@ -380,5 +380,5 @@ all_list_active joins reads set (s ∷ earlier) named listable (now, sent) = (
   all_list_active joins reads set earlier named listable.1 sent,
 )
 
-pub completed_lists_active : SumsJoin → ListsAreRead → CompletedListsActive
-completed_lists_active joins reads set steps is named listable = all_list_active joins reads set steps named listable (what_arrives_was_sent joins set steps is)
+pub completed_lists_active : SumsJoin → MovesStayFair → ListsAreRead → CompletedListsActive
+completed_lists_active joins moves reads set steps is named listable = all_list_active joins reads set steps named listable (what_arrives_was_sent joins moves set steps is)

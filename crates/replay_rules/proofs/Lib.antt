@@ -1,0 +1,2 @@
+pub mod SentTraces
+pub mod ListedTraces

@@ -1,0 +1,2 @@
+pub mod FairMoves
+pub mod InOrder
