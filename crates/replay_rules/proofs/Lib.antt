@@ -1,2 +1,3 @@
 pub mod SentTraces
 pub mod ListedTraces
+pub mod InstalledMedia

@@ -208,7 +208,7 @@ four_bytes kinds.Lui = refl
 four_bytes kinds.Lur = refl
 four_bytes kinds.Lus = refl
 
-false_is_true : false ≡ true → ⊥
+pub false_is_true : false ≡ true → ⊥
 false_is_true e = cc
 
 list_extension : (kind : FileKind) → extension kind ≡ extension kinds.Lcl → kind ≡ kinds.Lcl
@@ -237,7 +237,7 @@ no_zero_at_0 b bytes good e = never (subst (λ (x : ℕ). is_name_byte x ≡ tru
 later_good : (b : ℕ) (bytes : List ℕ) → AllGood is_name_byte (b ∷ bytes) → AllGood is_name_byte bytes
 later_good b bytes good = λ k less. good (suc k) (omega (arith, less))
 
-before_zero_same : (a b x y : List ℕ) → AllGood is_name_byte a → AllGood is_name_byte b → a ++ 0 ∷ x ≡ b ++ 0 ∷ y → a ≡ b
+pub before_zero_same : (a b x y : List ℕ) → AllGood is_name_byte a → AllGood is_name_byte b → a ++ 0 ∷ x ≡ b ++ 0 ∷ y → a ≡ b
 before_zero_same [] [] x y good other e = refl
 before_zero_same [] (c ∷ b) x y good other e = let same : c ≡ 0 = cc in absurd (no_zero_at_0 c b other same)
 before_zero_same (c ∷ a) [] x y good other e = let same : c ≡ 0 = cc in absurd (no_zero_at_0 c a good same)

@@ -75,7 +75,7 @@ posted_bytes (s ∷ earlier) ((posts, given), all) = all_append CarriesBytes (po
 -- ---- the target's session is sound at every moment
 
 -- of a target that is up, with its log since then
-abbrev TargetIsSound : Setting → Life → TargetState → Type 0
+abbrev pub TargetIsSound : Setting → Life → TargetState → Type 0
 TargetIsSound set (Up first_port log) (Is_up r) = LogIsBytes log × SessionIsSound set.accepts r
 TargetIsSound set Down (Is_down active interrupted) = Unit {0}
 TargetIsSound set life state = ⊥
@@ -99,7 +99,7 @@ noted_sound set (Boot_refused fault ∷ notes) life before after h = noted_sound
 
 module _ (joins : SumsJoin) (spells : HeadersAreSpelled) (payloads : PayloadsAreBytes) (set : Setting) (permits : (h : HeaderView) → set.accepts h ≡ true → Permits h) where
   -- what one event makes of a target
-  abbrev Reached : Life → TargetState → Option Event → Type 0
+  abbrev pub Reached : Life → TargetState → Option Event → Type 0
   Reached life state e = TargetIsSound set (life_reached e life) (reached set e state) × TargetStaysOrIsNew set state (reached set e state)
 
   reached_sound : (life : Life) (state : TargetState) (e : Option Event) → BringsBytes e → TargetTakes life state → HasLive state → TargetIsSound set life state → Reached life state e
@@ -112,12 +112,12 @@ module _ (joins : SumsJoin) (spells : HeadersAreSpelled) (payloads : PayloadsAre
   reached_sound Down (Is_down active interrupted) None bytes takes live sound = (tt, tt)
   reached_sound Down (Is_down active interrupted) (Some e) bytes takes live sound = (tt, tt)
 
-  step_sound : (s : Step) (earlier : List Step) → AllCarryBytes (s ∷ earlier) → TargetIsSound set (target_life earlier) (target_at set earlier) → Reached (target_life earlier) (target_at set earlier) (event_for sides.Target (posted_in earlier) s.given)
+  pub step_sound : (s : Step) (earlier : List Step) → AllCarryBytes (s ∷ earlier) → TargetIsSound set (target_life earlier) (target_at set earlier) → Reached (target_life earlier) (target_at set earlier) (event_for sides.Target (posted_in earlier) s.given)
   step_sound s earlier ((posts, given), all) sound =
       reached_sound (target_life earlier) (target_at set earlier) (event_for sides.Target (posted_in earlier) s.given) (event_bytes (posted_in earlier) s.given (posted_bytes earlier all) given)
       (target_takes set earlier) (target_is_live joins set earlier) sound
 
-  target_sound : (steps : List Step) → AllCarryBytes steps → TargetIsSound set (target_life steps) (target_at set steps)
+  pub target_sound : (steps : List Step) → AllCarryBytes steps → TargetIsSound set (target_life steps) (target_at set steps)
   target_sound [] all = (tt, tt)
   target_sound (s ∷ earlier) (now, all) =
       let e = event_for sides.Target (posted_in earlier) s.given in

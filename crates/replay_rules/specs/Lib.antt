@@ -14,3 +14,4 @@ pub mod Changes
 pub mod ChangeLaws
 pub mod OtherEndTraces
 pub mod ListTraces
+pub mod MediaTraces

@@ -2,6 +2,7 @@
 ghost use Rattle.replay_rules.specs.CameTraces.{BothTakeWhatCame, DueIsAcked};
 ghost use Rattle.replay_rules.specs.Changes.{ChangesAreNew, InstallsAreGood};
 ghost use Rattle.replay_rules.specs.ListTraces.{CompletedListsActive, TargetWritesInTime};
+ghost use Rattle.replay_rules.specs.MediaTraces.{InstallsAreOfMedia};
 ghost use Rattle.replay_rules.specs.OtherEndTraces.{LoaderGivesMedia, WhatArrivesWasSent};
 ghost use Rattle.replay_rules.specs.PlacedTraces.{DueIsPlaced, DueIsTwoAtMost, PortsRise};
 ghost use Rattle.replay_rules.specs.Ties.{StepKeepsTie};
@@ -45,6 +46,18 @@ pub fn what_arrives_was_sent()
     ensures media { LoaderGivesMedia }
 {
     check_sum_laws();
+    what_comes_was_sent();
+}
+
+/// Where nothing is injected, each file of each configuration that an install step brings is the
+/// media set's file of its name, through losses, repeats, other orders, power losses and boots.
+pub fn what_is_installed_is_of_the_media_set()
+    ensures { InstallsAreOfMedia }
+{
+    check_sum_laws();
+    header_laws();
+    packet_laws();
+    protocol_file_laws();
     what_comes_was_sent();
 }
 

@@ -34,3 +34,5 @@ pub mod LoaderRoles
 pub mod LoaderRoleLaws
 pub mod Lists
 pub mod ListLaws
+pub mod ReadFiles
+pub mod ReadFileLaws

@@ -232,7 +232,7 @@ begins_role Lui sequence (Some t) none = by (eqb sequence 4294967295)
     by false = none
 begins_role kind sequence (Some t) none = none
 
-begins_active : (active : StandingView) (kind : FileKind) (sequence : ℕ) → standing_in active (first_row kind sequence) ≡ active
+pub begins_active : (active : StandingView) (kind : FileKind) (sequence : ℕ) → standing_in active (first_row kind sequence) ≡ active
 begins_active active Lci sequence = refl
 begins_active active Lui sequence = by (eqb sequence 4294967295)
   where

@@ -1,6 +1,6 @@
 -- Proofs that what the target keeps follows its log.
-use Rattle.std.proofs.Common.{◌≡◌, ℕ, Bool, true, false, cond, eqb, List, [], ◌∷◌, ◌++◌, Option, Some, None, refl, sym, ap, subst, ◌∙◌, append-nil}
-use Rattle.std.specs.Prelude.{bytes_eq}
+use Rattle.std.proofs.Common.{◌≡◌, ℕ, Bool, true, false, cond, eqb, ◌&&◌, length, List, [], ◌∷◌, ◌++◌, Option, Some, None, refl, sym, ap, subst, ◌∙◌, append-nil}
+use Rattle.std.specs.Prelude.{bytes_eq, nat_lt, ◌==◌}
 use Rattle.std.specs.List.{concat}
 use Rattle.std.proofs.lemmas.List.Sums.{fold-append}
 use Rattle.load_header.specs.Header.{HeaderView}
@@ -10,7 +10,10 @@ use Rattle.tftp_packet.specs.declared.options.Options.{Options}
 use Rattle.tftp_packet.specs.Packets.{PacketView, Rrq, Wrq, Data, Ack, Error, Oack}
 use Rattle.tftp_link.specs.declared.phase.Phase.{Phase}
 use Rattle.tftp_link.specs.declared.phase.Phase.TheVariants.{Waiting, Running, Finished, Failed}
-use Rattle.tftp_link.specs.Answers.{Again, Answer, Completes, Dropped, Fails, Grants, Proceeds, TakesBlock, TakesLast, code_of, is_ended_by, is_live, lent_by}
+use Rattle.tftp_link.specs.Answers.{Again, Answer, Completes, Dropped, Fails, Grants, Proceeds, TakesBlock, TakesLast, code_of, error_answer, is_ended_by, is_live, lent_by}
+use Rattle.tftp_link.specs.Negotiation.{fits_said, may_grant}
+use Rattle.tftp_link.specs.Receiver.{Receiver, data_answer, is_last_block, is_next_block, receiver_answer, receiver_oack_answer, taken_answer, were_granted}
+use Rattle.tftp_link.specs.Sender.{Sender, ack_answer, awaited_answer, last_of, sender_answer, sender_oack_answer}
 use Rattle.exchange_trace.specs.declared.trace.Side.TheVariants as sides
 use Rattle.exchange_trace.specs.Happenings.{DatagramView}
 use Rattle.exchange_trace.specs.Logs.{Event, Gets, Learns, Starts_info, Starts_upload, Ticks}
@@ -48,6 +51,7 @@ pub record HasTurned (accepts : HeaderView → Bool) (id : Identity) (end : Read
   pub arrived : with_bytes (arriving_of (seen_row accepts id s) (arriving_in end.live)) more ≡ arriving_of (seen_row accepts id s) (arrived_of ended)
   pub comes_to : move ≡ row_move accepts id (seen_row accepts id s) (record { error = error_of ended; arriving = arriving_of (seen_row accepts id s) (arrived_of ended) })
   pub was_live : HasRole end.live ended.role
+  pub over : is_live (phase_of (end_in ended)) ≡ false
 
 -- the row that a session comes to then
 abbrev pub turned_view : (accepts : HeaderView → Bool) → Identity → Reading → TargetSessionLog → RowMove → List ℕ → RowView
@@ -310,7 +314,7 @@ newest_stops r t one free = rw free one
 turned_on : (accepts : HeaderView → Bool) (id : Identity) (end : Reading) (s : TargetSessionLog) (moves : List Move) (move : RowMove) (more : List ℕ) (next : Move) → (h : HasTurned accepts id end s moves move more)
     → newest (reading_after sides.Target (after end moves) next).past ≡ h.ended ∷ [] → HasTurned accepts id end s (moves ++ next ∷ []) move more
 turned_on accepts id end s moves move more next h one =
-    record { ended = h.ended; is_newest = ap (λ (r : Reading). newest r.past) (after_more end moves next) ∙ one; arrived = h.arrived; comes_to = h.comes_to; was_live = h.was_live }
+    record { ended = h.ended; is_newest = ap (λ (r : Reading). newest r.past) (after_more end moves next) ∙ one; arrived = h.arrived; comes_to = h.comes_to; was_live = h.was_live; over = h.over }
 
 -- what a row asks for is of the row
 abbrev RoleFits : RowView → Option Role → Type 0
@@ -357,6 +361,87 @@ error_with : (t : Transfer) (p : PacketView) (answer : Answer) → end_answer (e
 error_with t p answer e live from =
     ap (λ (x : LinkEnd). code_of (phase_of x)) (end_of_more t.role t.got p) ∙ (ap (λ (x : Answer). code_of (phase_of (end_moved (end_of t.role t.got) x))) e ∙ ended_error (end_of t.role t.got) answer live)
 
+-- an answer that ends a transfer leaves it over
+not_over_if : (b : Bool) (x y : Answer) → (x ≡ Completes → ⊥) → (y ≡ Completes → ⊥) → cond b x y ≡ Completes → ⊥
+not_over_if true x y f g e = f e
+not_over_if false x y f g e = g e
+
+receiver_not_done : (r : Receiver) (p : PacketView) → receiver_answer r p ≡ Completes → ⊥
+receiver_not_done r (Data k b) e = by r.phase e
+  where
+    taken : taken_answer r b ≡ Completes → ⊥
+    taken = not_over_if (nat_lt (length b) r.size) (TakesLast b) (TakesBlock b) (λ f. cc) (λ f. cc)
+
+    by : (phase : Phase) → data_answer phase r k b ≡ Completes → ⊥
+    by Waiting = not_over_if (is_next_block r k b) (taken_answer r b) Dropped taken (λ f. cc)
+    by Running = not_over_if (is_next_block r k b) (taken_answer r b) (cond (is_last_block r k b) Again Dropped) taken (not_over_if (is_last_block r k b) Again Dropped (λ f. cc) (λ f. cc))
+    by Finished = not_over_if (is_last_block r k b) Again Dropped (λ f. cc) (λ f. cc)
+    by (Failed code) = λ f. cc
+receiver_not_done r (Oack o) e = by r.phase e
+  where
+    by : (phase : Phase) → receiver_oack_answer phase r o ≡ Completes → ⊥
+    by Waiting = not_over_if (may_grant r.asked o) (Grants o) Dropped (λ f. cc) (λ f. cc)
+    by Running = not_over_if ((r.taken == 0) && were_granted r.granted o) Again Dropped (λ f. cc) (λ f. cc)
+    by Finished = λ f. cc
+    by (Failed code) = λ f. cc
+receiver_not_done r (Error code m) e = by r.phase e
+  where
+    by : (phase : Phase) → error_answer phase code ≡ Completes → ⊥
+    by Waiting = λ f. cc
+    by Running = λ f. cc
+    by Finished = λ f. cc
+    by (Failed before) = λ f. cc
+receiver_not_done r (Ack k) e = cc
+receiver_not_done r (Rrq name o) e = cc
+receiver_not_done r (Wrq name o) e = cc
+
+sender_if : (b : Bool) (x y : Answer) (bytes : List ℕ) → (x ≡ TakesLast bytes → ⊥) → (y ≡ TakesLast bytes → ⊥) → cond b x y ≡ TakesLast bytes → ⊥
+sender_if true x y bytes f g e = f e
+sender_if false x y bytes f g e = g e
+
+sender_takes_none : (s : Sender) (p : PacketView) (bytes : List ℕ) → sender_answer s p ≡ TakesLast bytes → ⊥
+sender_takes_none s (Ack k) bytes e = by s.phase e
+  where
+    by : (phase : Phase) → ack_answer phase s k ≡ TakesLast bytes → ⊥
+    by Waiting = sender_if (k == 0) Proceeds Dropped bytes (λ f. cc) (λ f. cc)
+    by Running = sender_if (k == s.sent) (awaited_answer s) Dropped bytes (sender_if (s.sent == last_of s) Completes Proceeds bytes (λ f. cc) (λ f. cc)) (λ f. cc)
+    by Finished = λ f. cc
+    by (Failed code) = λ f. cc
+sender_takes_none s (Oack o) bytes e = by s.phase e
+  where
+    by : (phase : Phase) → sender_oack_answer phase s o ≡ TakesLast bytes → ⊥
+    by Waiting = sender_if (may_grant s.options o && fits_said (length s.file) o.blksize) (Grants o) Dropped bytes (λ f. cc) (λ f. cc)
+    by Running = λ f. cc
+    by Finished = λ f. cc
+    by (Failed code) = λ f. cc
+sender_takes_none s (Error code m) bytes e = by s.phase e
+  where
+    by : (phase : Phase) → error_answer phase code ≡ TakesLast bytes → ⊥
+    by Waiting = λ f. cc
+    by Running = λ f. cc
+    by Finished = λ f. cc
+    by (Failed before) = λ f. cc
+sender_takes_none s (Data k b) bytes e = cc
+sender_takes_none s (Rrq name o) bytes e = cc
+sender_takes_none s (Wrq name o) bytes e = cc
+
+over_end : (end : LinkEnd) (p : PacketView) (answer : Answer) → end_answer end p ≡ answer → is_ended_by answer ≡ true → is_live (phase_of (end_moved end answer)) ≡ false
+over_end (Receives r) p (TakesLast b) e ends = refl
+over_end (Receives r) p (Fails code) e ends = refl
+over_end (Receives r) p Completes e ends = absurd (receiver_not_done r p e)
+over_end (Sends s) p Completes e ends = refl
+over_end (Sends s) p (Fails code) e ends = refl
+over_end (Sends s) p (TakesLast b) e ends = absurd (sender_takes_none s p b e)
+over_end end p Dropped e ends = absurd cc
+over_end end p Again e ends = absurd cc
+over_end end p (Grants o) e ends = absurd cc
+over_end end p (TakesBlock b) e ends = absurd cc
+over_end end p Proceeds e ends = absurd cc
+
+over_with : (t : Transfer) (p : PacketView) (answer : Answer) → end_answer (end_of t.role t.got) p ≡ answer → is_ended_by answer ≡ true → (from : ℕ) → is_live (phase_of (end_in (with_packet t from p))) ≡ false
+over_with t p answer e ends from =
+    ap (λ (x : LinkEnd). is_live (phase_of x)) (end_of_more t.role t.got p) ∙ ap (λ (x : Answer). is_live (phase_of (end_moved (end_of t.role t.got) x))) e ∙ over_end (end_of t.role t.got) p answer e ends
+
 abbrev transfer_end : Option ℕ → Arriving → TransferEnd
 transfer_end error arriving = record { error = error; arriving = arriving }
 
@@ -371,10 +456,10 @@ module _ (joins : SumsJoin) (accepts : HeaderView → Bool) (first_port : ℕ) (
   session end = record { row = seen_row accepts active.identity s; arriving = arriving_of (seen_row accepts active.identity s) (arriving_in end.live) }
 
   -- the packet ends the transfer
-  turn_fits : (t : Transfer) (answer : Answer) (bytes : List ℕ) → end_answer (end_of t.role t.got) p ≡ answer → is_live (phase_of (end_in t)) ≡ true → concat (lent_by answer) ≡ bytes
+  turn_fits : (t : Transfer) (answer : Answer) (bytes : List ℕ) → end_answer (end_of t.role t.got) p ≡ answer → is_live (phase_of (end_in t)) ≡ true → is_live (phase_of (end_in (with_packet t from p))) ≡ false → concat (lent_by answer) ≡ bytes
       → newest (after (with_live (Some t)) (Hears from p ∷ [])).past ≡ with_packet t from p ∷ [] → (after (with_live (Some t)) (Hears from p ∷ [])).live ≡ None
       → Fits accepts active.identity (with_live (Some t)) (Some s) (turn_decision accepts (viewed accepts (with_live (Some t)) (Some s) active reason) (session (with_live (Some t))) (Hears from p ∷ []) bytes (error_by answer))
-  turn_fits t answer bytes e live lent one free =
+  turn_fits t answer bytes e live over lent one free =
       let end = with_live (Some t) in
       let row = row_in accepts active.identity s in
       let all : with_bytes (arriving_of (row_view row) (arrived_of t)) bytes ≡ arriving_of (row_view row) (arrived_of (with_packet t from p)) =
@@ -384,7 +469,7 @@ module _ (joins : SumsJoin) (accepts : HeaderView → Bool) (first_port : ℕ) (
       (view_moved (row_view row) (with_bytes (arriving_of (row_view row) (arrived_of t)) bytes) (row_move accepts active.identity (row_view row) (transfer_end (error_by answer) (with_bytes (arriving_of (row_view row) (arrived_of t)) bytes))))
       (row_request (viewed accepts end (Some s) active reason) (view_moved (row_view row) (with_bytes (arriving_of (row_view row) (arrived_of t)) bytes) (row_move accepts active.identity (row_view row) (transfer_end (error_by answer) (with_bytes (arriving_of (row_view row) (arrived_of t)) bytes)))))
       (record {
-        turned = record { ended = with_packet t from p; is_newest = one; arrived = all; comes_to = move_same accepts active.identity (row_view row) _ _ _ _ (sym (error_with t p answer e live from)) all; was_live = refl };
+        turned = record { ended = with_packet t from p; is_newest = one; arrived = all; comes_to = move_same accepts active.identity (row_view row) _ _ _ _ (sym (error_with t p answer e live from)) all; was_live = refl; over = over };
         free = free;
       })
       refl (row_request_fits (viewed accepts end (Some s) active reason) _)
@@ -411,9 +496,9 @@ module _ (joins : SumsJoin) (accepts : HeaderView → Bool) (first_port : ℕ) (
   answered_fits t (Grants o) e live = rw e (arriving_more sides.Target (with_live (Some t)) t from p (Grants o) refl e refl, answer_keeps t (Grants o) refl (seen_row accepts active.identity s))
   answered_fits t (TakesBlock b) e live = rw e (arriving_more sides.Target (with_live (Some t)) t from p (TakesBlock b) refl e refl ∙ ap (λ (x : List ℕ). arrived_of t ++ x) (append-nil b), answer_keeps t (TakesBlock b) refl (seen_row accepts active.identity s))
   answered_fits t Proceeds e live = rw e (arriving_more sides.Target (with_live (Some t)) t from p Proceeds refl e refl, answer_keeps t Proceeds refl (seen_row accepts active.identity s))
-  answered_fits t (TakesLast b) e live = turn_fits t (TakesLast b) b e live (append-nil b) (rw e refl) (rw e refl)
-  answered_fits t Completes e live = turn_fits t Completes [] e live refl (rw e refl) (rw e refl)
-  answered_fits t (Fails code) e live = turn_fits t (Fails code) [] e live refl (rw e refl) (rw e refl)
+  answered_fits t (TakesLast b) e live = turn_fits t (TakesLast b) b e live (over_with t p (TakesLast b) e refl from) (append-nil b) (rw e refl) (rw e refl)
+  answered_fits t Completes e live = turn_fits t Completes [] e live (over_with t p Completes e refl from) refl (rw e refl) (rw e refl)
+  answered_fits t (Fails code) e live = turn_fits t (Fails code) [] e live (over_with t p (Fails code) e refl from) refl (rw e refl) (rw e refl)
 
   abbrev recalls : EndView → (to : ℕ) → List Move
   recalls v to = cond (belongs v.kept from to) (Recalls from p ∷ []) []

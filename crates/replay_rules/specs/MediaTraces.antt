@@ -1,0 +1,20 @@
+-- What is installed in a run are the media set's files (docs/EXCHANGE.md, "Runs").
+use Rattle.std.specs.Prelude.{◌≡◌, ◌≤◌, List, length, true}
+use Rattle.std.specs.List.{AllByRecursion}
+use Rattle.load_base.specs.Config.{FileView}
+use Rattle.load_header.specs.Header.{HeaderView}
+use Rattle.exchange_trace.specs.Steps.{Step}
+use Rattle.accept_rules.specs.Permissions.{Permits}
+use Rattle.session_rules.specs.MediaFiles.{Media}
+use Rattle.replay_rules.specs.BothEnds.{Setting}
+use Rattle.replay_rules.specs.OtherEndTraces.{IsUninjected}
+use Rattle.replay_rules.specs.Promises.{AllOfMedia}
+
+-- each file of the media set has no more bytes than the option `tsize` can tell (RFC 2349)
+abbrev pub LengthsAreTold : Media → Type 0
+LengthsAreTold media = AllByRecursion (λ (file : FileView). length file.bytes ≤ 4294967295) media.files
+
+-- Where nothing is injected, each file of each configuration that an install step brings is the media set's file of its
+-- name, through losses, repeats, other orders, power losses and boots.
+abbrev pub InstallsAreOfMedia : Type 0
+InstallsAreOfMedia = (set : Setting) (steps : List Step) → ((h : HeaderView) → set.accepts h ≡ true → Permits h) → LengthsAreTold set.media → IsUninjected set steps → AllOfMedia set steps
