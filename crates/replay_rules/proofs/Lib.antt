@@ -1,3 +1,4 @@
 pub mod SentTraces
 pub mod ListedTraces
 pub mod InstalledMedia
+pub mod FirstPosting

@@ -112,7 +112,7 @@ may_boot port (Went_down ∷ notes) may = absurd may
 may_boot port (Came_up first_port sequence ∷ note ∷ notes) may = absurd may
 may_boot port (Boot_refused fault ∷ note ∷ notes) may = absurd may
 
-noted_as : (up : Bool) (port : ℕ) (h : HappeningView) (notes : List Note) → MayBeNoted up port h notes → NotedAs port h notes
+pub noted_as : (up : Bool) (port : ℕ) (h : HappeningView) (notes : List Note) → MayBeNoted up port h notes → NotedAs port h notes
 noted_as up port Booted notes may = may_boot port notes may
 noted_as up port (Power_cut zero pick) notes may = may_cut up port (Power_cut 0 pick) notes may
 noted_as up port (Power_cut (suc calls) pick) notes may = as_none port (Power_cut (suc calls) pick) notes may
@@ -192,7 +192,7 @@ all_from_among : (P : Transfer → Type 0) (ts : List Transfer) → ((t : Transf
 all_from_among P [] f = tt
 all_from_among P (t ∷ ts) f = (f t (inl refl), all_from_among P ts (λ u a. f u (inr a)))
 
-own_port_is : (d : DatagramView) → d.side ≡ sides.Target → (d.from ≡ 59 → ⊥) → is_from_own_port d ≡ true
+pub own_port_is : (d : DatagramView) → d.side ≡ sides.Target → (d.from ≡ 59 → ⊥) → is_from_own_port d ≡ true
 own_port_is d poster not_59 = by d.side (d.from == 59) poster refl
   where
     by : (side : Side) (b : Bool) → side ≡ sides.Target → (d.from == 59) ≡ b → (is_loader (other side) && not b) ≡ true
@@ -210,7 +210,7 @@ below_next set state former theirs steps h = all_from_among (λ (u : Transfer). 
         subst (λ (port : ℕ). port < first_port_after steps) sent.port
         (all_at (λ (d : DatagramView). is_from_own_port d ≡ true → d.from < first_port_after steps) (posted_in steps) sent.datagram (port_above_all 1024 (posted_in steps)) sent.among (own_port_is sent.datagram sent.poster not_59))
 
-above_59 : (steps : List Step) → 59 < first_port_after steps
+pub above_59 : (steps : List Step) → 59 < first_port_after steps
 above_59 steps = let least = port_above_least 1024 (posted_in steps) in omega (arith, least)
 
 -- ---- a trace
@@ -222,7 +222,7 @@ pub record TraceIsFair (set : Setting) (steps : List Step) : Type 0 where
 nothing_is_fair : (me them : Side) → IsFair me them [] [] []
 nothing_is_fair me them = record { ports = tt; posts = λ d a is. absurd a; sent = λ t a. absurd a; got = λ t a. absurd a; begun = λ t a. absurd a }
 
-no_due_at_boot : (set : Setting) (state : TargetState) (posted : List DatagramView) (h : HappeningView) → h ≡ Booted → due_of_target set state (event_for sides.Target posted h) ≡ []
+pub no_due_at_boot : (set : Setting) (state : TargetState) (posted : List DatagramView) (h : HappeningView) → h ≡ Booted → due_of_target set state (event_for sides.Target posted h) ≡ []
 no_due_at_boot set state posted h boots = ap (λ (x : HappeningView). due_of_target set state (event_for sides.Target posted x)) boots ∙ by state
   where
     by : (state : TargetState) → due_of_target set state None ≡ []

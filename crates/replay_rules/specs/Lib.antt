@@ -15,3 +15,4 @@ pub mod ChangeLaws
 pub mod OtherEndTraces
 pub mod ListTraces
 pub mod MediaTraces
+pub mod FirstPostTraces

@@ -1,6 +1,7 @@
 //! What ties both ends to the trace. These functions do nothing; their clauses are the law.
 ghost use Rattle.replay_rules.specs.CameTraces.{BothTakeWhatCame, DueIsAcked};
 ghost use Rattle.replay_rules.specs.Changes.{ChangesAreNew, InstallsAreGood};
+ghost use Rattle.replay_rules.specs.FirstPostTraces.{LoaderPostsInOrder, TargetPostsInOrder};
 ghost use Rattle.replay_rules.specs.ListTraces.{CompletedListsActive, TargetWritesInTime};
 ghost use Rattle.replay_rules.specs.MediaTraces.{InstallsAreOfMedia};
 ghost use Rattle.replay_rules.specs.OtherEndTraces.{LoaderGivesMedia, WhatArrivesWasSent};
@@ -11,7 +12,7 @@ use crc_fields::check_sum_laws;
 use load_header::header_laws;
 use load_protocol_files::protocol_file_laws;
 use tftp_packet::packet_laws;
-use transfer_end::laws::what_comes_was_sent;
+use transfer_end::laws::{blocks_are_first_posted_in_order, what_comes_was_sent};
 
 /// Where each end does what its rules say in a step, what it keeps is what the trace says of it,
 /// and all that was posted was due.
@@ -47,6 +48,16 @@ pub fn what_arrives_was_sent()
 {
     check_sum_laws();
     what_comes_was_sent();
+}
+
+/// In each transfer in which a side sends a file, what it posts in a trace from its own port is,
+/// ticks aside, its request or OACK and then blocks 1, 2, 3 .. of the file, each once.
+pub fn blocks_of_a_trace_are_first_posted_in_order()
+    ensures loader { LoaderPostsInOrder }
+    ensures target { TargetPostsInOrder }
+{
+    check_sum_laws();
+    blocks_are_first_posted_in_order();
 }
 
 /// Where nothing is injected, each file of each configuration that an install step brings is the

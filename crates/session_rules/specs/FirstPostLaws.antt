@@ -9,10 +9,12 @@ use Rattle.exchange_trace.specs.Happenings.{DatagramView}
 use Rattle.exchange_trace.specs.Logs.{Event, Gets, Learns, Starts_info, Starts_upload, Ticks}
 use Rattle.transfer_end.specs.FirstPosts.{AllInOrder, MovesPostInOrder}
 use Rattle.transfer_end.specs.FirstPostLaws.{stopped_in_order}
+use Rattle.transfer_end.specs.Laws.{IsLive}
 use Rattle.transfer_end.specs.Moves.{Move, Repeats, Stops, all_posts, last_post, readings_after}
 use Rattle.transfer_end.specs.OtherEnds.{IsNoTick, PortsFit}
 use Rattle.transfer_end.specs.Packets.{may_repeat}
 use Rattle.transfer_end.specs.Readings.{Reading}
+use Rattle.transfer_end.specs.Transfers.{Transfer}
 use Rattle.transfer_end.specs.Views.{EndView}
 use Rattle.session_rules.specs.declared.outcome.Outcome.TheVariants.{GaveUp}
 use Rattle.session_rules.specs.declared.reason.Reason.TheVariants as reasons
@@ -21,11 +23,11 @@ use Rattle.session_rules.specs.FairLaws.{loader_moves_fit, loader_ports_stay, ta
 use Rattle.session_rules.specs.FirstPosts.{LoaderBlocksInOrder, TargetBlocksInOrder, TicksRepeat, loader_first_posts, target_first_posts, unless_tick}
 use Rattle.session_rules.specs.Loader as loader
 use Rattle.session_rules.specs.LoaderLaws.{end_stays as loader_end_stays}
-use Rattle.session_rules.specs.LoaderLog.{LoaderReading, loader_due, loader_reading, loader_view}
+use Rattle.session_rules.specs.LoaderLog.{LoaderReading, loader_due, loader_extended, loader_reading, loader_view}
 use Rattle.session_rules.specs.MediaFiles.{Media}
 use Rattle.session_rules.specs.Target as target
 use Rattle.session_rules.specs.TargetLaws.{end_stays as target_end_stays}
-use Rattle.session_rules.specs.TargetLog.{TargetReading, target_due, target_reading, target_view}
+use Rattle.session_rules.specs.TargetLog.{TargetReading, target_due, target_extended, target_reading, target_view}
 use Rattle.session_rules.specs.ViewLaws.{loader_live, target_live}
 
 -- ---- ticks
@@ -143,3 +145,35 @@ module _ (joins : SumsJoin) (moves_post_in_order : MovesPostInOrder) (accepts : 
 
 pub target_blocks_in_order : SumsJoin → MovesPostInOrder → TargetBlocksInOrder
 target_blocks_in_order joins in_order accepts first_port active log above = (target_in_order joins in_order accepts first_port active above log).each
+
+-- ---- one event more, after any posts
+
+pub loader_step_in_order : MovesPostInOrder → (media : Media) (r : LoaderReading) (e : Event) (posts : List DatagramView) → IsLive r.end.live → PortsFit r.end [] → AllInOrder r.end posts
+    → AllInOrder (loader_extended media r e).end (posts ++ unless_tick e (loader_due media r e))
+loader_step_in_order in_order media r e posts live ports h =
+    subst (λ (x : Reading). AllInOrder x (posts ++ unless_tick e (loader_due media r e))) (sym (loader_end_stays (readings_after sides.Loader r.end (loader.loader_decision media (loader_view r) e).moves) r (loader.loader_decision media (loader_view r) e).change)) (by e)
+  where
+    other : (e : Event) → IsNoTick e → AllInOrder (readings_after sides.Loader r.end (loader.loader_decision media (loader_view r) e).moves) (posts ++ loader_due media r e)
+    other e none = in_order sides.Loader e r.end (loader.loader_decision media (loader_view r) e).moves posts none (loader_moves_fit media (loader_view r) e).0 live ports.counts ports.first h
+
+    by : (e : Event) → AllInOrder (readings_after sides.Loader r.end (loader.loader_decision media (loader_view r) e).moves) (posts ++ unless_tick e (loader_due media r e))
+    by Ticks = tick_in_order sides.Loader r.end (loader.loader_decision media (loader_view r) Ticks).moves posts (loader_at_tick (loader_view r).end (loader_view r).live) h
+    by (Gets from to bytes) = other (Gets from to bytes) tt
+    by (Learns size) = other (Learns size) tt
+    by (Starts_info hw pos) = other (Starts_info hw pos) tt
+    by (Starts_upload hw pos parts) = other (Starts_upload hw pos parts) tt
+
+pub target_step_in_order : MovesPostInOrder → (accepts : HeaderView → Bool) (r : TargetReading) (e : Event) (posts : List DatagramView) (former : List Transfer) → IsLive r.end.live → PortsFit r.end former → AllInOrder r.end posts
+    → AllInOrder (target_extended accepts r e).end (posts ++ unless_tick e (target_due accepts r e))
+target_step_in_order in_order accepts r e posts former live ports h =
+    subst (λ (x : Reading). AllInOrder x (posts ++ unless_tick e (target_due accepts r e))) (sym (target_end_stays accepts (readings_after sides.Target r.end (target.target_decision accepts (target_view accepts r) e).moves) r (target.target_decision accepts (target_view accepts r) e).change)) (by e)
+  where
+    other : (e : Event) → IsNoTick e → AllInOrder (readings_after sides.Target r.end (target.target_decision accepts (target_view accepts r) e).moves) (posts ++ target_due accepts r e)
+    other e none = in_order sides.Target e r.end (target.target_decision accepts (target_view accepts r) e).moves posts none (target_moves_fit accepts (target_view accepts r) e).0 live ports.counts ports.first h
+
+    by : (e : Event) → AllInOrder (readings_after sides.Target r.end (target.target_decision accepts (target_view accepts r) e).moves) (posts ++ unless_tick e (target_due accepts r e))
+    by Ticks = tick_in_order sides.Target r.end (target.target_decision accepts (target_view accepts r) Ticks).moves posts (target_at_tick (target_view accepts r).end (target_view accepts r).live) h
+    by (Gets from to bytes) = other (Gets from to bytes) tt
+    by (Learns size) = other (Learns size) tt
+    by (Starts_info hw pos) = other (Starts_info hw pos) tt
+    by (Starts_upload hw pos parts) = other (Starts_upload hw pos parts) tt
