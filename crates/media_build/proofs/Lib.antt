@@ -1,3 +1,5 @@
+pub mod AcceptedLines
+pub mod AcceptedRecipes
 pub mod Counts
 pub mod Cuts
 pub mod Digits

@@ -6,3 +6,4 @@ pub mod HostWrites
 pub mod Generator
 pub mod RecipeSets
 pub mod WorkedSet
+pub mod Accepted
