@@ -1,5 +1,10 @@
 pub mod AcceptedLines
 pub mod AcceptedRecipes
+pub mod BuiltFindings
+pub mod BuiltHeaders
+pub mod BuiltLists
+pub mod BuiltNames
+pub mod BuiltSet
 pub mod Counts
 pub mod Cuts
 pub mod Digits

@@ -7,3 +7,4 @@ pub mod Generator
 pub mod RecipeSets
 pub mod WorkedSet
 pub mod Accepted
+pub mod NoFindings

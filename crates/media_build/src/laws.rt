@@ -5,6 +5,8 @@ ghost use Rattle.exchange_trace.specs.Scripts.{WrittenLine, lines};
 ghost use Rattle.media_build.specs.Accepted.{IsRecipe};
 ghost use Rattle.media_build.specs.Generator.{generated, state_at};
 ghost use Rattle.media_build.specs.Recipes.{IsFirstWrong, lines_said, recipe_said, statement_said};
+ghost use Rattle.media_build.specs.NoFindings.{SizesFit, built_view, media_of};
+ghost use Rattle.media_build.specs.RecipeSets.{Sources, recipe_set};
 ghost use Rattle.media_build.specs.declared.fault.RecipeFault.{RecipeFault};
 ghost use Rattle.media_build.specs.declared.fault.RecipeFault.TheVariants as faults;
 ghost use Rattle.media_build.specs.declared.keywords.Keyword.TheVariants as keywords;
@@ -12,6 +14,13 @@ ghost use Rattle.media_build.specs.declared.statements.RecipeLine.{RecipeLine};
 ghost use Rattle.media_build.specs.declared.statements.Statement.TheVariants.{Set, Members, Load};
 ghost use Rattle.media_build.specs.declared.statements.Statement.TheVariants.{Hardware, Position};
 ghost use Rattle.media_build.specs.declared.statements.Statement.TheVariants.{Data, User};
+ghost use Rattle.media_check.specs.BuiltSets.{built_media};
+ghost use Rattle.media_check.specs.Findings.{findings_of};
+ghost use Rattle.media_check.specs.Sets.{set_in};
+ghost use Rattle.media_check.specs.declared.built.Built.{Built};
+
+use load_header::header_laws;
+use media_lists::{files_list_laws, loads_list_laws};
 
 /// What lines are refused for is what the first of them is refused for that is wrong, after what
 /// those before it say.
@@ -22,11 +31,28 @@ pub fn the_first_wrong_line()
 {}
 
 /// What a text says as a recipe keeps to the limits of one: its lines stand in their order, each
-/// has sound words, names are used once, and there are no more files than a load and a set may have.
+/// has sound words, names are used once, and neither a load nor the set has too many files.
 pub fn what_a_text_says_is_a_recipe()
     ensures { (text : List ℕ) (lines : List RecipeLine) → recipe_said text ≡ Ok lines
         → IsRecipe lines }
 {}
+
+/// The set of a recipe has no finding, where no header, list or source is too long: whatever bytes
+/// its sources have, and whichever members its files lie in.
+pub fn a_built_set_has_no_finding()
+    // As `MediaSet::from_parts` takes it.
+    ensures built { (sources : Sources) (lines : List RecipeLine) (built : Built) → IsRecipe lines
+        → SizesFit sources lines → built_view built ≡ recipe_set sources lines
+        → findings_of (set_in (built_media built)) ≡ [] }
+    // As any media tell it.
+    ensures told { (sources : Sources) (lines : List RecipeLine) → IsRecipe lines
+        → SizesFit sources lines
+        → findings_of (set_in (media_of (recipe_set sources lines))) ≡ [] }
+{
+    header_laws();
+    files_list_laws();
+    loads_list_laws();
+}
 
 /// What some recipes say, and how some are refused: the words of the definitions computed
 /// (docs/FORMATS.md, "Recipe").
