@@ -166,39 +166,50 @@ pub record IsGoodLoad (sources : Sources) (members : ℕ) (load : LoadView) : Ty
   pub short : IsShortLoad sources load
   pub files : HasShortSources sources load
 
-pub start_is_header : (sources : Sources) (members : ℕ) (load : LoadView) → IsGoodLoad sources members load → IsHeader (header_start sources load)
+hardware_within : (h : HeaderView) → size_of (texts_fields h.hardware) ≤ header_size h
+unfolding header_size
+hardware_within h = omega arith
+
+-- a header of at most 65,536 bytes
+pub short_is_header : (sources : Sources) (members : ℕ) (load : LoadView) → IsSoundLoad members load → IsSmallLoad load → HasShortSources sources load
+    → header_size (header_start sources load) ≤ 65536 → IsHeader (header_start sources load)
 unfolding header_start
-start_is_header sources members load is =
+short_is_header sources members load sound small files short =
     let h : HeaderView = header_start sources load in
     let pairs : List Pair = flat_map position_in load.own in
-    let words = gathered_words pairs (all_flat (IsSound members) IsPair position_in (pair_in members) load.own is.sound.own) in
-    let size : header_size h ≤ 65536 = is.short.header in
+    let words = gathered_words pairs (all_flat (IsSound members) IsPair position_in (pair_in members) load.own sound.own) in
+    let size : header_size h ≤ 65536 = short in
     let within = positions_within h in
+    let texts : size_of (texts_fields (hardware_of load)) ≤ 65536 = omega (arith, size, hardware_within h) in
+    let few : length (hardware_of load) < 65536 = omega (arith, texts, size_texts (hardware_of load), few_texts (hardware_of load)) in
     let total = size_positions (gathered pairs) in
     let kinds = few_kinds (gathered pairs) in
     let room : size_of (flat_map hardware_at_fields (gathered pairs)) ≤ 65536 - 2 = omega (arith, size, within, total) in
     let each = all_both AreWords (λ at. length at.positions ≤ 65536 - 2) (gathered pairs) words (few_positions (65536 - 2) (gathered pairs) room) in
-    let user = user_of members load.own is.sound.own in
-    let data_sources = first_part (λ file. length (bytes_of sources file) ≤ longest_file) (data_of load) (support_of load) is.files in
-    let support_sources = second_part (λ file. length (bytes_of sources file) ≤ longest_file) (data_of load) (support_of load) is.files in
-    let data_entries = all_both (IsFileLine members) (λ file. length (bytes_of sources file) ≤ longest_file) (data_of load) (data_files members load is.sound) data_sources in
-    let support_entries = all_both (IsFileLine members) (λ file. length (bytes_of sources file) ≤ longest_file) (support_of load) (support_files members load is.sound) support_sources in
+    let user = user_of members load.own sound.own in
+    let data_sources = first_part (λ file. length (bytes_of sources file) ≤ longest_file) (data_of load) (support_of load) files in
+    let support_sources = second_part (λ file. length (bytes_of sources file) ≤ longest_file) (data_of load) (support_of load) files in
+    let data_entries = all_both (IsFileLine members) (λ file. length (bytes_of sources file) ≤ longest_file) (data_of load) (data_files members load sound) data_sources in
+    let support_entries = all_both (IsFileLine members) (λ file. length (bytes_of sources file) ≤ longest_file) (support_of load) (support_files members load sound) support_sources in
     record {
       flags = omega arith;
-      part = is.sound.line.part;
-      type_name = word_is_text 64 load.load.type_name (omega arith) is.sound.line.type_name;
-      type_id = is.sound.line.type_id;
-      hardware = (omega (arith, is.short.hardware), words_are_texts (hardware_of load) (hardware_words members load is.sound));
+      part = sound.line.part;
+      type_name = word_is_text 64 load.load.type_name (omega arith) sound.line.type_name;
+      type_id = sound.line.type_id;
+      hardware = (omega (arith, few), words_are_texts (hardware_of load) (hardware_words members load sound));
       positions_count = omega (arith, kinds, room);
       positions = all_same _ IsHardwareAt is_hardware_at (gathered pairs) each;
       data_files = all_map _ IsHeaderFile (file_entry sources) (entry_of sources members) (data_of load) data_entries;
       support_files = all_map _ IsHeaderFile (file_entry sources) (entry_of sources members) (support_of load) support_entries;
-      files = omega (arith, is.small.files, length-append (data_of load) (support_of load), length-map (data_of load) (file_entry sources), length-map (support_of load) (file_entry sources));
+      files = omega (arith, small.files, length-append (data_of load) (support_of load), length-map (data_of load) (file_entry sources), length-map (support_of load) (file_entry sources));
       user = user.each;
       user_even = user.even;
       load_crc = omega arith;
       size = size;
     }
+
+pub start_is_header : (sources : Sources) (members : ℕ) (load : LoadView) → IsGoodLoad sources members load → IsHeader (header_start sources load)
+start_is_header sources members load is = short_is_header sources members load is.sound is.small is.files is.short.header
 
 with_crc : (h : HeaderView) (crc : ℕ) → crc < 2 ^ 32 → IsHeader h → IsHeader (with_load_crc h crc)
 unfolding header_size type_fields

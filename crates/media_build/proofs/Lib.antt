@@ -13,3 +13,7 @@ pub mod Generating
 pub mod HostFiles
 pub mod Reading
 pub mod Texts
+pub mod PositionKinds
+pub mod Taking
+pub mod OwnLines
+pub mod HeaderLimits

@@ -8,3 +8,5 @@ pub mod RecipeSets
 pub mod WorkedSet
 pub mod Accepted
 pub mod NoFindings
+pub mod Parts
+pub mod Building

@@ -6,14 +6,20 @@
 //! a set yet.
 #![tactic(auto)]
 
+mod building_fault;
 mod fault;
+mod gathering;
 mod generated;
 mod keywords;
 pub mod laws;
+mod loads;
 mod partial;
 mod pieces;
+mod positions;
 mod printing;
 mod recipe;
+mod sizes;
+mod source_files;
 mod statements;
 #[cfg(test)]
 mod tests;
@@ -21,6 +27,7 @@ mod words;
 pub mod worked;
 mod writing;
 
+pub use building_fault::BuildFault;
 pub use fault::RecipeFault;
 pub use generated::generated_bytes;
 pub use keywords::Keyword;
