@@ -211,7 +211,7 @@ short_is_header sources members load sound small files short =
 pub start_is_header : (sources : Sources) (members : ℕ) (load : LoadView) → IsGoodLoad sources members load → IsHeader (header_start sources load)
 start_is_header sources members load is = short_is_header sources members load is.sound is.small is.files is.short.header
 
-with_crc : (h : HeaderView) (crc : ℕ) → crc < 2 ^ 32 → IsHeader h → IsHeader (with_load_crc h crc)
+pub with_crc : (h : HeaderView) (crc : ℕ) → crc < 2 ^ 32 → IsHeader h → IsHeader (with_load_crc h crc)
 unfolding header_size type_fields
 with_crc h crc fits is = record {
   flags = is.flags;

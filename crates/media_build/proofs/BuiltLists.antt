@@ -1,7 +1,7 @@
 -- The lists of a recipe's set meet the limits of their formats.
 use Rattle.std.proofs.Common.{◌≡◌, ℕ, ◌+◌, ◌*◌, ◌%◌, ◌≤◌, Bool, true, false, cond, not, List, [], ◌∷◌, ◌++◌, length, refl, sym, ap, subst, ◌∙◌, arith, length-append}
 use Rattle.std.specs.Prelude.{map, codes, slice_index}
-use Rattle.std.specs.List.{AllByRecursion, flat_map, concat}
+use Rattle.std.specs.List.{AllByRecursion, flat_map, concat, IsDistinct}
 use Rattle.std.proofs.lemmas.List.{append-nil, length-map}
 use Rattle.crc_fields.specs.WidthLaws.{crc16_fits}
 use Rattle.load_base.specs.Name.{IsName}
@@ -15,7 +15,8 @@ use Rattle.field_grammar.specs.SectionLaws.{size_more, size_number, size_padded}
 use Rattle.field_grammar.specs.Spelling.{size_of}
 use Rattle.header_sections.specs.SectionFields.{texts_fields, user_fields, entry_size, entries_fields, HaveDistances}
 use Rattle.header_sections.specs.SizeLaws.{size_texts, size_user, size_entries, total_of}
-use Rattle.media_lists.specs.Files.{file_body_fields, file_name, IsListedFile, IsFilesList}
+use Rattle.load_base.specs.Bytes.{same_bytes}
+use Rattle.media_lists.specs.Files.{FilesListView, file_body_fields, file_name, IsListedFile, IsFilesList}
 use Rattle.media_lists.specs.Lists.{ListView}
 use Rattle.media_lists.specs.ListFields.{IsMember, identity_fields, list_size}
 use Rattle.media_lists.specs.Loads.{LoadEntryView, load_body_fields, load_name, IsListedLoad, IsLoadsList}
@@ -187,6 +188,12 @@ module _ (lines : List RecipeLine) (is : IsRecipe lines) where
   members_are : members_of whole ≡ is.order.members
   members_are = members_stay (a ∷ b ∷ []) (c ∷ is.order.later) (refl, is.order.others) ∙ two_members
 
+  pub set_of_is : set_of lines ≡ is.order.set
+  set_of_is = ap set_of is.order.stands ∙ set_is
+
+  pub members_of_is : members_of lines ≡ is.order.members
+  members_of_is = ap members_of is.order.stands ∙ members_are
+
   pub has_start : HasStart lines
   has_start =
       let same : lines ≡ whole = is.order.stands in
@@ -325,17 +332,18 @@ total_bound : {E X : Type 0} (f : E → List (List ℕ)) (view : X → E) (xs : 
 total_bound f view [] all = omega arith
 total_bound f view (x ∷ xs) all = omega (arith, all.0, total_bound f view xs all.1)
 
-pub files_fit : (sources : Sources) (lines : List RecipeLine) (member : ℕ) → IsRecipe lines → IsMemberOf (members_of lines) member
-    → IsFilesList (recipe_files sources lines member)
-unfolding recipe_files
-files_fit sources lines member is in_set =
+-- FILES.LUM of a member, of these files
+abbrev pub files_with : List RecipeLine → List BodyView → ℕ → FilesListView
+files_with lines bodies member = record { set = set_of lines; member = member; members = members_of lines; entries = map listed_body bodies; user = [] }
+
+-- a list of files whose names and members are those of the set's
+pub bodies_fit : (lines : List RecipeLine) (bodies : List BodyView) (member : ℕ) → IsRecipe lines → IsMemberOf (members_of lines) member
+    → AllByRecursion (IsSoundBody (members_of lines)) bodies → IsDistinct same_bytes (map body_name bodies) → length bodies ≤ 1024 → IsFilesList (files_with lines bodies member)
+bodies_fit lines bodies member is in_set each new count =
     let start = has_start lines is in
     let few : members_of lines ≤ 255 = start.members.last in
-    let bodies : List BodyView = recipe_bodies sources lines in
-    let each = sound_bodies sources lines is in
     let names = map_map file_name listed_body bodies in
     let sizes = all_same _ (λ body. entry_size file_body_fields (listed_body body) ≤ 76) (short_file (members_of lines)) bodies each in
-    let count : length bodies ≤ 1024 = omega (arith, few_bodies sources lines is, length-map bodies body_name) in
     record {
       set = start.set;
       member = member_is (members_of lines) member few in_set;
@@ -344,14 +352,14 @@ files_fit sources lines member is in_set =
         count = omega (arith, count, length-map bodies listed_body);
         each = all_map _ (IsListedFile (members_of lines)) listed_body (λ body. listed_file (members_of lines) body few) bodies each;
         distances = distances file_body_fields listed_body bodies (short_enough (λ body. entry_size file_body_fields (listed_body body)) bodies sizes);
-        names = names_are_new file_name (map listed_body bodies) (rw names (bodies_are_distinct sources lines is));
+        names = names_are_new file_name (map listed_body bodies) (rw names new);
       };
       user = λ i. omega arith;
       user_even = refl;
       user_size = omega arith;
       size = omega (
         arith,
-        whole_size file_body_fields (recipe_files sources lines member),
+        whole_size file_body_fields (files_with lines bodies member),
         part_size (set_of lines) start.set,
         size_entries file_body_fields (map listed_body bodies),
         total_bound file_body_fields listed_body bodies sizes,
@@ -359,3 +367,10 @@ files_fit sources lines member is in_set =
         size_user [],
       );
     }
+
+pub files_fit : (sources : Sources) (lines : List RecipeLine) (member : ℕ) → IsRecipe lines → IsMemberOf (members_of lines) member
+    → IsFilesList (recipe_files sources lines member)
+unfolding recipe_files
+files_fit sources lines member is in_set =
+    bodies_fit lines (recipe_bodies sources lines) member is in_set (sound_bodies sources lines is) (bodies_are_distinct sources lines is)
+    (omega (arith, few_bodies sources lines is, length-map (recipe_bodies sources lines) body_name))

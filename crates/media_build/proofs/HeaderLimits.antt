@@ -36,7 +36,7 @@ unread_start load header is = is ∙ start_with unread load
 
 -- ---- which are too long
 
-no_bytes_short : (files : List FileLine) → AllByRecursion (λ file. length (bytes_of unread file) ≤ longest_file) files
+pub no_bytes_short : (files : List FileLine) → AllByRecursion (λ file. length (bytes_of unread file) ≤ longest_file) files
 no_bytes_short [] = tt
 no_bytes_short (file ∷ files) = (omega arith, no_bytes_short files)
 

@@ -17,3 +17,9 @@ pub mod PositionKinds
 pub mod Taking
 pub mod OwnLines
 pub mod HeaderLimits
+pub mod ReadLines
+pub mod WholeHeaders
+pub mod AddedLoads
+pub mod AddedBodies
+pub mod MemberLists
+pub mod BuildAnswers

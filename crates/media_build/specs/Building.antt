@@ -1,22 +1,28 @@
 -- What building a set answers: the set that a recipe names, or the first refusal (docs/FORMATS.md, "Recipe").
-use Rattle.std.specs.Prelude.{◌≡◌, ◌≢◌, ℕ, ◌+◌, ◌<◌, ◌≤◌, ◌⊎◌, List, [], ◌∷◌, ◌++◌, All, length, None, Result, Ok, Err, IsErrOf, IfErr}
-use Rattle.std.specs.List.{flat_map, sum_by, AllByRecursion}
+use Rattle.std.specs.Prelude.{◌≡◌, ◌≢◌, ℕ, ◌+◌, ◌<◌, ◌≤◌, ◌⊎◌, List, [], ◌∷◌, ◌++◌, All, length, map, Option, Some, None, option_to_list, Result, Ok, Err, IsErrOf, IfErr}
+use Rattle.std.specs.List.{concat, flat_map, range_with_len, sum_by, AllByRecursion}
 use Rattle.load_base.specs.Counts.{Rose}
 use Rattle.load_base.specs.Host.{Files, longest_file}
+use Rattle.load_base.specs.Listed.{Listed}
 use Rattle.load_header.specs.HeaderFields.{header_size, IsHeader}
-use Rattle.media_lists.specs.Files.{IsFilesList}
-use Rattle.media_lists.specs.Loads.{IsLoadsList}
+use Rattle.media_lists.specs.Files.{FilesListView, IsFilesList, file_body_fields}
+use Rattle.media_lists.specs.ListFields.{list_fields}
+use Rattle.media_lists.specs.Lists.{ListView}
+use Rattle.media_lists.specs.Loads.{LoadsListView, IsLoadsList, load_body_fields, loads_list_view}
+use Rattle.media_lists.specs.declared.lists.LoadsList.{LoadsList}
 use Rattle.media_check.specs.BuiltSets.{HasShortBodies}
 use Rattle.media_check.specs.Kept.{contents}
 use Rattle.media_check.specs.Openings.{IsShort, size_of, total_of, largest_set}
 use Rattle.media_check.specs.declared.built.Built.{Built}
-use Rattle.media_build.specs.NoFindings.{built_view}
-use Rattle.media_build.specs.RecipeSets.{LoadView, Sources, loads_of, header_start, recipe_loads, recipe_files, recipe_set}
+use Rattle.media_check.specs.declared.built.Placed.{Placed}
+use Rattle.media_build.specs.NoFindings.{body_view, built_view}
+use Rattle.media_build.specs.Parts.{LoadFilesView, AreFiles, bytes_from, files_from, with_file}
+use Rattle.media_build.specs.RecipeSets.{LoadView, listed_body, BodyView, load_bodies, recipe_bodies, data_in, support_in, Sources, loads_of, header_start, recipe_loads, recipe_files, recipe_set}
 use Rattle.media_build.specs.declared.building_fault.BuildFault.{BuildFault}
 use Rattle.media_build.specs.declared.building_fault.BuildFault.TheVariants.{Absent, TooLong, TooLarge, HeaderTooLong, ListTooLong, Failed, Memory}
 use Rattle.media_build.specs.declared.statements.RecipeLine.{RecipeLine}
 use Rattle.media_build.specs.declared.statements.Statement.{Statement}
-use Rattle.media_build.specs.declared.statements.Statement.TheVariants.{Data, Support}
+use Rattle.media_build.specs.declared.statements.Statement.TheVariants.{Set, Members, Data, Support}
 
 -- ---- the sizes, which the recipe alone decides
 
@@ -81,10 +87,14 @@ AnswersSizes lines (Err fault) = IsSizeFault lines fault ⊎ (HaveSizes lines ×
 
 -- ---- the sources
 
+-- the source that a line names
+abbrev pub source_of : Statement → Option (List ℕ)
+source_of (Data file) = Some file.source
+source_of (Support file) = Some file.source
+source_of statement = None
+
 abbrev pub source_in : Statement → List (List ℕ)
-source_in (Data file) = file.source ∷ []
-source_in (Support file) = file.source ∷ []
-source_in statement = []
+source_in statement = option_to_list (source_of statement)
 
 -- the names of the sources of a load, in the order of its lines
 abbrev pub sources_of : LoadView → List (List ℕ)
@@ -183,3 +193,126 @@ AnswersHeaders lines (Ok length) = HaveShortHeaders lines × (length ≡ headers
 AnswersHeaders lines (Err (HeaderTooLong line)) = IsFirstLongHeader lines line
 AnswersHeaders lines (Err Memory) = Unit {0}
 AnswersHeaders lines (Err fault) = ⊥
+
+-- ---- reading the sources of a load
+
+-- how many bytes files have together
+abbrev pub files_length : LoadFilesView → ℕ
+files_length files = sum_by (λ file. length file.bytes) files.data_files + sum_by (λ file. length file.bytes) files.support_files
+
+-- A source that was read beside this many other bytes isn't too long, and they aren't too large together.
+pub record IsSmallSource (others : ℕ) (bytes : Listed ℕ) : Type 0 where
+  pub short : length bytes.items ≤ longest_file
+  pub together : others + length bytes.items ≤ largest_set
+
+-- What was read for one more line beside this many other bytes: the file that it names, if it names one, and the bytes
+-- of all.
+pub record ReadsLine (statement : Statement) (old : LoadFilesView) (others : ℕ) (new : LoadFilesView) (total : ℕ) : Type 0 where
+  pub bytes : List ℕ
+  pub is : new ≡ with_file old statement bytes
+  pub short : length bytes ≤ longest_file
+  pub total_is : total ≡ others + length bytes
+  pub some : source_in statement ≡ [] → bytes ≡ []
+  pub small : total ≤ largest_set
+
+-- What was read for the lines of a load beside this many other bytes.
+pub record ReadsFiles (own : List Statement) (others : ℕ) (files : LoadFilesView) (total : ℕ) : Type 0 where
+  pub are : AreFiles own files
+  pub total_is : total ≡ others + files_length files
+  pub small : total ≤ largest_set
+
+-- with the file that a line names, if it names one, of the bytes of its source
+abbrev pub with_source : Sources → LoadFilesView → Statement → LoadFilesView
+with_source sources old statement = record {
+  data_files = old.data_files ++ map (bytes_from sources) (data_in statement);
+  support_files = old.support_files ++ map (bytes_from sources) (support_in statement);
+}
+
+-- What was taken for one more line: the file of its source, and the bytes of all.
+pub record TakesLine (statement : Statement) (old : LoadFilesView) (others : ℕ) (files : Files) (read : LoadFilesView × ℕ) : Type 0 where
+  pub new : read.0 ≡ with_source (sources_in files) old statement
+  pub total : read.1 ≡ others + total_of files (source_in statement)
+
+-- What was taken for all lines of a load: the files of their sources, and the bytes of all.
+pub record TakesFiles (own : List Statement) (others : ℕ) (files : Files) (read : LoadFilesView × ℕ) : Type 0 where
+  pub new : read.0 ≡ files_from (sources_in files) own
+  pub total : read.1 ≡ others + total_of files (flat_map source_in own)
+
+-- ---- the files of the set
+
+-- the name of a file, and the member that has it
+abbrev pub body_place : BodyView → List ℕ × ℕ
+body_place body = (body.name, body.member)
+
+-- at most 16,777,215 bytes
+abbrev pub IsShortView : BodyView → Type 0
+IsShortView body = length body.bytes ≤ longest_file
+
+-- how many bytes files have together
+abbrev pub bodies_length : List BodyView → ℕ
+bodies_length bodies = sum_by (λ body. length body.bytes) bodies
+
+-- What a load adds to the files of the set beside this many bytes of headers and sources: its files, whatever their
+-- bytes are, and the bytes of its sources.
+pub record AddsLoad (load : LoadView) (others : ℕ) (old new : List BodyView) (total : ℕ) : Type 0 where
+  pub bodies : List BodyView
+  pub new_are : new ≡ old ++ bodies
+  pub places : map body_place bodies ≡ map body_place (load_bodies unread load)
+  pub short : All IsShortView bodies
+  pub together : others + bodies_length bodies ≡ header_length load + total
+  pub small : total ≤ largest_set
+
+-- What was taken for a load: its files as the recipe names them, and the bytes of all.
+pub record TakesLoad (load : LoadView) (others : ℕ) (old : List BodyView) (files : Files) (read : Listed Placed × ℕ) : Type 0 where
+  pub new : map body_view read.0.items ≡ old ++ load_bodies (sources_in files) load
+  pub total : read.1 ≡ others + total_of files (sources_of load)
+
+-- These are the files of the set, whatever their bytes are; none is too long, and they aren't too large together.
+pub record AreBodies (lines : List RecipeLine) (bodies : List BodyView) : Type 0 where
+  pub places : map body_place bodies ≡ map body_place (recipe_bodies unread lines)
+  pub short : All IsShortView bodies
+  pub together : bodies_length bodies ≤ largest_set
+
+-- ---- lists
+
+-- the same list of another member
+abbrev pub of_member : {E : Type 0} → ListView E → (member : ℕ) → ListView E
+of_member list member = record { set = list.set; member = member; members = list.members; entries = list.entries; user = list.user }
+
+abbrev pub loads_bytes : LoadsListView → List ℕ
+loads_bytes list = concat (list_fields 0x9004 load_body_fields list)
+
+abbrev pub files_bytes : FilesListView → List ℕ
+files_bytes list = concat (list_fields 0xA004 file_body_fields list)
+
+-- the part number of a set, and how many members it has, as the first two lines of a recipe say
+abbrev pub start_in : (first second : Statement) → Option (List ℕ × ℕ)
+start_in (Set set) (Members members) = Some (set, members)
+start_in first second = None
+
+abbrev pub start_of : List RecipeLine → Option (List ℕ × ℕ)
+start_of (first ∷ second ∷ later) = start_in first.statement second.statement
+start_of lines = None
+
+-- the list of loads of a recipe, or the refusal of one that breaks a limit of its format
+abbrev pub AnswersLoads : List RecipeLine → Result LoadsList BuildFault → Type 0
+AnswersLoads lines (Ok list) = (loads_list_view list ≡ recipe_loads lines 1) × IsLoadsList (recipe_loads lines 1)
+AnswersLoads lines (Err ListTooLong) = ¬ IsLoadsList (recipe_loads lines 1)
+AnswersLoads lines (Err Memory) = Unit {0}
+AnswersLoads lines (Err fault) = ⊥
+
+-- a list of files of a set with this list of loads
+abbrev pub files_beside : LoadsListView → List Placed → (member : ℕ) → FilesListView
+files_beside loads bodies member = record {
+  set = loads.set;
+  member = member;
+  members = loads.members;
+  entries = map (λ body. listed_body (body_view body)) bodies;
+  user = [];
+}
+
+-- Each member has this list of loads, and a list of these files.
+pub record HasLists (loads : LoadsListView) (bodies : List Placed) (built : Built) : Type 0 where
+  pub loads_are : map (λ list. list.items) built.loads.items ≡ map (λ member. loads_bytes (of_member loads member)) (range_with_len 1 loads.members)
+  pub files_are : map (λ list. list.items) built.files.items ≡ map (λ member. files_bytes (files_beside loads bodies member)) (range_with_len 1 loads.members)
+  pub bodies_are : built.bodies.items ≡ bodies

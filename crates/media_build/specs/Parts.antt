@@ -1,12 +1,13 @@
 -- The parts of a load, as building gathers them from its lines.
-use Rattle.std.specs.Prelude.{◌≡◌, ℕ, ◌≤◌, List, All, length, [], ◌∷◌, ◌++◌, map, slice_index_or, slice_set, Option, Some, None, if◌then◌else◌}
+use Rattle.std.specs.Prelude.{◌≡◌, ℕ, ◌≤◌, List, All, length, [], ◌∷◌, ◌++◌, map, slice_index_or, slice_set, Option, Some, None, if◌then◌else◌, ◌-◌, take}
 use Rattle.std.specs.List.{flat_map}
-use Rattle.crc_fields.specs.CheckSums.{crc16_of}
+use Rattle.crc_fields.specs.CheckSums.{crc16_of, crc32_of}
 use Rattle.load_base.specs.Bytes.{same_bytes}
 use Rattle.load_base.specs.Host.{longest_file}
 use Rattle.load_header.specs.Header.{HeaderView, HardwareAtView}
+use Rattle.load_header.specs.HeaderChanges.{with_load_crc}
 use Rattle.load_header.specs.declared.header.FileEntry.{FileEntry}
-use Rattle.media_build.specs.RecipeSets.{LoadView, BodyView, Sources, bytes_of, hardware_of, gathered, position_in, data_in, support_in, user_in}
+use Rattle.media_build.specs.RecipeSets.{LoadView, BodyView, Sources, bytes_of, hardware_of, gathered, position_in, data_in, support_in, user_in, header_bytes}
 use Rattle.media_build.specs.declared.statements.FileLine.{FileLine}
 use Rattle.media_build.specs.declared.statements.LoadLine.{LoadLine}
 use Rattle.media_build.specs.declared.statements.RecipeLine.{RecipeLine}
@@ -111,3 +112,22 @@ pub record HasOneMore (index : ℕ) (position : List ℕ) (old new : List Hardwa
 -- a file, as one of the set
 abbrev pub body_of : FileBytes → BodyView
 body_of file = record { name = file.line.name; member = file.line.member; bytes = file.bytes }
+
+-- the data files and then the support files
+abbrev pub all_files : LoadFilesView → List FileBytes
+all_files files = files.data_files ++ files.support_files
+
+-- the CRC-32 over the header of a load but its last 4 bytes, and over its files
+unfoldable pub crc_with : LoadView → LoadFilesView → ℕ
+crc_with load files =
+    let start = header_bytes (header_with load files) in
+    crc32_of (take (length start - 4) start ++ flat_map (λ file. file.bytes) (all_files files))
+
+-- the whole header of a load with these files
+unfoldable pub whole_header : LoadView → LoadFilesView → HeaderView
+whole_header load files = with_load_crc (header_with load files) (crc_with load files)
+
+-- the header of a load, its data files and its support files
+unfoldable pub bodies_with : LoadView → LoadFilesView → List BodyView
+bodies_with load files =
+    record { name = load.load.name; member = load.load.member; bytes = header_bytes (whole_header load files) } ∷ map body_of (all_files files)

@@ -6,12 +6,15 @@
 //! a set yet.
 #![tactic(auto)]
 
+mod bodies;
+mod building;
 mod building_fault;
 mod fault;
 mod gathering;
 mod generated;
 mod keywords;
 pub mod laws;
+mod lists;
 mod loads;
 mod partial;
 mod pieces;
@@ -20,6 +23,7 @@ mod printing;
 mod recipe;
 mod sizes;
 mod source_files;
+mod sources;
 mod statements;
 #[cfg(test)]
 mod tests;
@@ -27,6 +31,7 @@ mod words;
 pub mod worked;
 mod writing;
 
+pub use building::build;
 pub use building_fault::BuildFault;
 pub use fault::RecipeFault;
 pub use generated::generated_bytes;

@@ -1,12 +1,13 @@
 //! Data and support files with the bytes of their sources.
-ghost use Rattle.std.specs.Prelude.{◌≡◌, [], IfOk};
+ghost use Rattle.std.specs.Prelude.{◌≡◌, ◌++◌, [], map, IfOk};
 ghost use Rattle.media_build.specs.Building.{unread};
 ghost use Rattle.media_build.specs.NoFindings.{body_view};
-ghost use Rattle.media_build.specs.Parts.{body_of, files_from, statements, with_file as and_file};
+ghost use Rattle.media_build.specs.Parts.{all_files, body_of, files_from, statements};
+ghost use Rattle.media_build.specs.Parts.{with_file as and_file};
 
 use crate::gathering::copy_of;
 use crate::statements::{FileLine, RecipeLine, Statement};
-use load_base::{Bytes, NoMemory};
+use load_base::{Bytes, List, NoMemory};
 use media_check::Placed;
 use std::alloc::Global;
 use std::marker::Model;
@@ -136,6 +137,31 @@ impl LoadFiles {
     {
         self.support_files.as_slice()
     }
+
+    /// The files as those of the set, after those before them: the data files first.
+    pub(crate) fn add_to(self, bodies: List<Placed>) -> Result<List<Placed>, NoMemory>
+        ensures { IfOk result (λ all. map body_view all.items
+            ≡ map body_view bodies.items ++ map body_of (all_files self)) }
+    {
+        let LoadFiles {
+            data_files,
+            support_files,
+        } = self;
+        let bodies = add_all(data_files, bodies)?;
+        add_all(support_files, bodies)
+    }
+}
+
+// Files as those of the set, after those before them.
+fn add_all(files: Vec<SourceFile>, bodies: List<Placed>) -> Result<List<Placed>, NoMemory>
+    ensures { IfOk result (λ all. map body_view all.items
+        ≡ map body_view bodies.items ++ map body_of files.items) }
+{
+    let mut bodies = bodies;
+    for file in files {
+        bodies.push(file.into_placed())?;
+    }
+    Ok(bodies)
 }
 
 /// The files that the lines of a load name, without bytes.
