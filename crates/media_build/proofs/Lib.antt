@@ -9,6 +9,7 @@ pub mod Counts
 pub mod Cuts
 pub mod Digits
 pub mod FirstWrong
+pub mod GeneratedSets
 pub mod Generating
 pub mod HostFiles
 pub mod Reading

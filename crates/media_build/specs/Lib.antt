@@ -8,3 +8,4 @@ pub mod RecipeSets
 pub mod WorkedSet
 pub mod Accepted
 pub mod NoFindings
+pub mod GeneratedSet

@@ -2,11 +2,14 @@
 //! clauses are the law.
 ghost use Rattle.std.specs.Prelude.{◌≡◌, ◌↔◌, ◌∷◌, [], ℕ, List, codes, Ok, Err};
 ghost use Rattle.exchange_trace.specs.Scripts.{WrittenLine, lines};
+ghost use Rattle.load_header.specs.HeaderFields.{header_size};
 ghost use Rattle.media_build.specs.Accepted.{IsRecipe};
 ghost use Rattle.media_build.specs.Generator.{generated, state_at};
+ghost use Rattle.media_build.specs.GeneratedSet.{generated_recipe, generated_lines};
+ghost use Rattle.media_build.specs.GeneratedSet.{generated_load_view, generated_sources};
 ghost use Rattle.media_build.specs.Recipes.{IsFirstWrong, lines_said, recipe_said, statement_said};
 ghost use Rattle.media_build.specs.NoFindings.{SizesFit, built_view, media_of};
-ghost use Rattle.media_build.specs.RecipeSets.{Sources, recipe_set};
+ghost use Rattle.media_build.specs.RecipeSets.{Sources, header_start, recipe_set};
 ghost use Rattle.media_build.specs.declared.fault.RecipeFault.{RecipeFault};
 ghost use Rattle.media_build.specs.declared.fault.RecipeFault.TheVariants as faults;
 ghost use Rattle.media_build.specs.declared.keywords.Keyword.TheVariants as keywords;
@@ -39,6 +42,7 @@ pub fn what_a_text_says_is_a_recipe()
 
 /// The set of a recipe has no finding, where no header, list or source is too long: whatever bytes
 /// its sources have, and whichever members its files lie in.
+// For the proof: does nothing.
 pub fn a_built_set_has_no_finding()
     // As `MediaSet::from_parts` takes it.
     ensures built { (sources : Sources) (lines : List RecipeLine) (built : Built) → IsRecipe lines
@@ -118,6 +122,14 @@ pub fn worked_recipes()
         } ∷ [])
         keywords.Support (codes "A" ∷ codes "3" ∷ codes "a" ∷ codes "P" ∷ [])
         ≡ Err (faults.Repeated 9) }
+{}
+
+/// The recipe of the generated set as it is written in docs/FORMATS.md, what it says, and how many
+/// bytes its header has.
+pub fn worked_generated_set()
+    ensures said { recipe_said generated_recipe ≡ Ok generated_lines }
+    ensures header { (number : ℕ)
+        → header_size (header_start (generated_sources number) generated_load_view) ≡ 122 }
 {}
 
 /// The first state after 7, and the first byte.

@@ -10,6 +10,9 @@ mod fault;
 mod generated;
 mod keywords;
 pub mod laws;
+mod making;
+#[cfg(test)]
+mod making_tests;
 mod partial;
 mod pieces;
 mod printing;
@@ -24,6 +27,7 @@ mod writing;
 pub use fault::RecipeFault;
 pub use generated::generated_bytes;
 pub use keywords::Keyword;
+pub use making::make;
 pub use recipe::Recipe;
 pub use statements::{FileLine, LoadLine, RecipeLine, Statement, UserData};
 pub use writing::write;
