@@ -5,6 +5,7 @@ pub mod BuiltHeaders
 pub mod BuiltLists
 pub mod BuiltNames
 pub mod BuiltSet
+pub mod BuiltSizes
 pub mod Counts
 pub mod Cuts
 pub mod Digits
