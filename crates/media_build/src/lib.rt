@@ -1,9 +1,9 @@
-//! Building media sets: what a recipe says, and how a built set is written (docs/FORMATS.md,
-//! "Recipe", "Media sets").
+//! Building media sets: what a recipe says, the generated set of a number, and how a built set is
+//! written (docs/FORMATS.md, "Recipe", "Generated set", "Media sets").
 //!
 //! Start from [`Recipe::read`], which gives the lines of a recipe, or the first fault of a text
-//! that is none, and [`write`], which writes a built set into a folder of the host. Nothing builds
-//! a set yet.
+//! that is none, and from [`make`], which makes the generated set; [`write`] writes a built set
+//! into a folder of the host. Nothing builds the set of a recipe yet.
 #![tactic(auto)]
 
 mod fault;
