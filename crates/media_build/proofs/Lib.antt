@@ -15,3 +15,4 @@ pub mod Generating
 pub mod HostFiles
 pub mod Reading
 pub mod Texts
+pub mod WrittenSets

@@ -3,13 +3,15 @@
 ghost use Rattle.std.specs.Prelude.{◌≡◌, ◌↔◌, ◌≤◌, ◌∷◌, [], ℕ, List, codes, Ok, Err};
 ghost use Rattle.std.specs.List.{AllByRecursion};
 ghost use Rattle.exchange_trace.specs.Scripts.{WrittenLine, lines};
+ghost use Rattle.load_base.specs.Host.{Files};
 ghost use Rattle.load_header.specs.HeaderFields.{header_size};
 ghost use Rattle.media_build.specs.Accepted.{IsRecipe};
 ghost use Rattle.media_build.specs.Generator.{generated, state_at};
 ghost use Rattle.media_build.specs.GeneratedSet.{generated_recipe, generated_lines};
 ghost use Rattle.media_build.specs.GeneratedSet.{generated_load_view, generated_sources};
 ghost use Rattle.media_build.specs.Recipes.{IsFirstWrong, lines_said, recipe_said, statement_said};
-ghost use Rattle.media_build.specs.NoFindings.{HasShortSources, SizesFit, built_view, media_of};
+ghost use Rattle.media_build.specs.HostWrites.{WritesFiles, written_files};
+ghost use Rattle.media_build.specs.NoFindings.{HasShortSources, HaveSet, SizesFit, built_view};
 ghost use Rattle.media_build.specs.RecipeSets.{Sources, header_start, loads_of, recipe_loads};
 ghost use Rattle.media_build.specs.RecipeSets.{recipe_set};
 ghost use Rattle.media_build.specs.declared.fault.RecipeFault.{RecipeFault};
@@ -20,8 +22,9 @@ ghost use Rattle.media_build.specs.declared.statements.Statement.TheVariants.{Se
 ghost use Rattle.media_build.specs.declared.statements.Statement.TheVariants.{Hardware, Position};
 ghost use Rattle.media_build.specs.declared.statements.Statement.TheVariants.{Data, User};
 ghost use Rattle.media_check.specs.BuiltSets.{built_media};
+ghost use Rattle.media_check.specs.HostNames.{host_media};
 ghost use Rattle.media_check.specs.Findings.{findings_of};
-ghost use Rattle.media_check.specs.Sets.{set_in};
+ghost use Rattle.media_check.specs.Sets.{Media, set_in};
 ghost use Rattle.media_check.specs.declared.built.Built.{Built};
 ghost use Rattle.media_lists.specs.Loads.{IsLoadsList};
 
@@ -51,10 +54,16 @@ pub fn a_built_set_has_no_finding()
     ensures built { (sources : Sources) (lines : List RecipeLine) (built : Built) → IsRecipe lines
         → SizesFit sources lines → built_view built ≡ recipe_set sources lines
         → findings_of (set_in (built_media built)) ≡ [] }
-    // As any media tell it.
-    ensures told { (sources : Sources) (lines : List RecipeLine) → IsRecipe lines
-        → SizesFit sources lines
-        → findings_of (set_in (media_of (recipe_set sources lines))) ≡ [] }
+    // As a folder of the host has it into which it was written.
+    ensures written { (folder : List ℕ) (sources : Sources) (lines : List RecipeLine)
+        (built : Built) (old new : Files) → IsRecipe lines → SizesFit sources lines
+        → built_view built ≡ recipe_set sources lines
+        → WritesFiles (written_files folder built) old new (Ok tt)
+        → findings_of (set_in (host_media new folder)) ≡ [] }
+    // As any media tell it that have it.
+    ensures told { (media : Media) (sources : Sources) (lines : List RecipeLine) → IsRecipe lines
+        → SizesFit sources lines → HaveSet media sources lines
+        → findings_of (set_in media) ≡ [] }
 {
     header_laws();
     files_list_laws();
