@@ -12,7 +12,7 @@ use Rattle.field_grammar.specs.ExactLaws.{answer-spelled, spelled_at_start}
 use Rattle.field_grammar.specs.Grammar.{Grammar, Spelled}
 use Rattle.load_header.specs.Header.{header, HeaderView}
 use Rattle.load_header.specs.HeaderChanges.{with_load_crc}
-use Rattle.load_header.specs.HeaderFields.{HeaderSpells}
+use Rattle.load_header.specs.HeaderFields.{header_size, HeaderSpells}
 use Rattle.media_lists.specs.Files.{FilesListView, files_list, FilesSpells}
 use Rattle.media_lists.specs.Loads.{LoadsListView, loads_list, LoadsSpells}
 use Rattle.media_check.specs.BuiltSets.{member_list, body_of, built_media}
@@ -34,6 +34,7 @@ pub record FormatLaws : Type 0 where
   pub loads : (v : LoadsListView) (bytes : List ℕ) → LoadsSpells v bytes → Spelled loads_list bytes v
   pub files : (v : FilesListView) (bytes : List ℕ) → FilesSpells v bytes → Spelled files_list bytes v
   pub headers : (h : HeaderView) (bytes : List ℕ) → HeaderSpells h bytes → Spelled header bytes h
+  pub header_length : (h : HeaderView) (bytes : List ℕ) → HeaderSpells h bytes → length bytes ≡ header_size h
   pub before_load_crc : (h : HeaderView) (crc : ℕ) (bytes others : List ℕ) → HeaderSpells h bytes → HeaderSpells (with_load_crc h crc) others
       → take (length bytes - 4) bytes ≡ take (length others - 4) others
 
@@ -86,7 +87,7 @@ module _ (media : Media) (sources : Sources) (lines : List RecipeLine) (has : Ha
       ap (λ (bytes : Option (List ℕ)). found_in files_list bytes) (has.files member in_set)
       ∙ ap (λ (r : _). found_as r) (answer_is files_list (files_list_bytes sources lines member) (recipe_files sources lines member) (laws.files (recipe_files sources lines member) (files_list_bytes sources lines member) spells))
 
-  member_found : (member : ℕ) → IsMemberOf (members_of lines) member → lists_in media member ≡ lists_of_member sources lines member
+  pub member_found : (member : ℕ) → IsMemberOf (members_of lines) member → lists_in media member ≡ lists_of_member sources lines member
   member_found member in_set = same_lists _ _ _ _ (loads_found member in_set) (files_found member in_set)
 
   members_found : (from count : ℕ) → 1 ≤ from → from + count ≤ members_of lines + 1

@@ -13,6 +13,7 @@ pub mod FirstWrong
 pub mod GeneratedSets
 pub mod Generating
 pub mod HostFiles
+pub mod ReadableSets
 pub mod Reading
 pub mod Texts
 pub mod WrittenSets

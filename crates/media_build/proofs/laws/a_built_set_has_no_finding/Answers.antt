@@ -11,6 +11,7 @@ returns c =
       loads = λ v bytes. (c.loads_list_laws.ensures.spelled v bytes).1;
       files = λ v bytes. (c.files_list_laws.ensures.spelled v bytes).1;
       headers = λ h bytes. (c.header_laws.ensures.spelled h bytes).1;
+      header_length = c.header_laws.ensures.length;
       before_load_crc = c.header_laws.ensures.before_load_crc;
     } in
     record {
