@@ -1,7 +1,7 @@
 -- The generated set is one that a recipe names, and its sizes fit.
 use Rattle.std.proofs.Common.{◌≡◌, ℕ, zero, suc, ◌/◌, ◌^◌, ◌≤◌, List, [], ◌∷◌, ◌++◌, ◌-◌, length, take, Result, Ok, Err, refl, sym, ap, ◌∙◌, arith, length-append}
 use Rattle.std.specs.Prelude.{codes, IfOk}
-use Rattle.std.specs.List.{concat}
+use Rattle.std.specs.List.{concat, sum_by}
 use Rattle.std.proofs.lemmas.List.{append-nil}
 use Rattle.crc_fields.specs.CheckSums.{crc16_of, crc32_of}
 use Rattle.load_base.specs.Listed.{Listed}
@@ -25,6 +25,7 @@ use Rattle.media_lists.specs.Files.{FilesListView, FilesSpells, IsFilesList, fil
 use Rattle.media_lists.specs.Loads.{LoadsListView, LoadsSpells, load_body_fields, IsLoadsList}
 use Rattle.media_check.specs.BuiltSets.{built_media}
 use Rattle.media_check.specs.Findings.{findings_of}
+use Rattle.media_check.specs.Openings.{largest_set}
 use Rattle.media_check.specs.Sets.{set_in}
 use Rattle.media_check.specs.declared.built.Built.{Built}
 use Rattle.media_build.specs.Accepted.{IsMemberOf, IsRecipe}
@@ -33,11 +34,12 @@ use Rattle.media_build.specs.GeneratedSet.{generated_recipe, generated_lines, ge
 use Rattle.media_build.specs.Lines.{keyword_of, may_stand, names_of, members_of, lines_of_load}
 use Rattle.media_build.specs.NoFindings.{SizesFit, built_view}
 use Rattle.media_build.specs.Recipes.{recipe_said, words_said, keyword_said, set_line, members_line, load_line, load_said, placed_words, new_place, type_words, hardware_line, file_line, file_said, source_words, part_word, text_word, name_word, ends_with}
-use Rattle.media_build.specs.RecipeSets.{Sources, header_start, header_bytes, header_of, load_crc_of, load_bodies, recipe_bodies, recipe_loads, recipe_files, loads_list_bytes, files_list_bytes, recipe_set}
+use Rattle.media_build.specs.RecipeSets.{Sources, BuiltView, header_start, header_bytes, header_of, load_crc_of, load_bodies, recipe_bodies, recipe_loads, recipe_files, loads_list_bytes, files_list_bytes, recipe_set}
 use Rattle.media_build.specs.declared.statements.RecipeLine.{RecipeLine}
 use Rattle.media_build.proofs.AcceptedRecipes.{what_a_text_says_is_a_recipe}
 use Rattle.media_build.proofs.BuiltHeaders.{IsGoodLoad, good_loads, start_is_header, header_spells}
 use Rattle.media_build.proofs.BuiltLists.{word_is_text, loads_fit, files_fit}
+use Rattle.media_build.proofs.ReadableSets.{total_built}
 
 pub generated_said : recipe_said generated_recipe ≡ Ok generated_lines
 unfolding recipe_said words_said keyword_said set_line members_line load_line load_said placed_words new_place type_words hardware_line file_line file_said source_words part_word text_word name_word ends_with keyword_of may_stand names_of members_of lines_of_load written_lines decimal_between name_fault_of part_fault_of is_good_at check_of
@@ -173,3 +175,12 @@ made_sound (Ok built) number law is =
     let size = generated_size number 4194304 in
     law (generated_sources number) generated_lines built is_recipe (sizes_fit (generated number 4194304) (rw size (omega arith))) is
 made_sound (Err fault) number law is = is
+
+-- its two files together
+pub made_small : {E : Type 0} (r : Result Built E) (loads files header file : List ℕ) → length header ≤ 65536 → length file ≤ 16777215
+    → IfOk r (λ built. built_view built ≡ set_of_one loads files header file) → IfOk r (λ built. sum_by (λ body. length body.bytes.items) built.bodies.items ≤ largest_set)
+made_small (Ok built) loads files header file small short parts =
+    let total = total_built built.bodies.items in
+    let these = ap (λ (set : BuiltView). sum_by (λ body. length body.bytes) set.bodies) parts in
+    omega (arith, total, these, small, short)
+made_small (Err fault) loads files header file small short parts = parts

@@ -140,7 +140,7 @@ module _ (folder : List ℕ) (files : Files) (sources : Sources) (lines : List R
       let first : IsMemberOf (members_of lines) 1 = record { first = omega arith; last = start.members.first } in
       subst (λ (m : MemberView). CanRead files (whole_reading folder m)) (sym (member_found (host_media files folder) sources lines has is fits laws 1 first)) (can_read_rest small)
 
-total_built : (bodies : List Placed) → sum_by (λ body. length body.bytes.items) bodies ≡ sum_by (λ body. length body.bytes) (map body_view bodies)
+pub total_built : (bodies : List Placed) → sum_by (λ body. length body.bytes.items) bodies ≡ sum_by (λ body. length body.bytes) (map body_view bodies)
 total_built [] = refl
 total_built (body ∷ bodies) =
     sum_by-cons (λ (b : Placed). length b.bytes.items) body bodies

@@ -1,5 +1,5 @@
 use Rattle.std.proofs.Common.{sym, arith, ◌∙◌}
-use Rattle.media_build.proofs.GeneratedSets.{generated_size, made_set, made_sound}
+use Rattle.media_build.proofs.GeneratedSets.{generated_size, made_set, made_small, made_sound}
 use Rattle.media_build.proofs.making.make.Goals as goal
 
 pub header_of_file-requires : goal.header_of_file-requires
@@ -22,3 +22,8 @@ pub built_of-requires-clause-file : goal.built_of-requires-clause-file
 built_of-requires-clause-file c =
     let size = generated_size c.args.number 4194304 in
     rw c.in_ok-file.ensures (omega (arith, size))
+
+pub returns-clause-together : goal.returns-clause-together
+returns-clause-together c =
+    let size = generated_size c.args.number 4194304 in
+    made_small c.built_of.result _ _ _ _ c.in_ok-header.ensures.short (rw c.in_ok-file.ensures (omega (arith, size))) c.built_of.ensures.parts
