@@ -44,7 +44,7 @@ lines_are before (this ∷ later) lines e =
 
 -- ---- names
 
-flips : (a b : List ℕ) → same_bytes a b ≡ false → same_bytes b a ≡ false
+pub flips : (a b : List ℕ) → same_bytes a b ≡ false → same_bytes b a ≡ false
 flips a b e = sym (nat_list_eq_equiv.symm a b) ∙ e
 
 pub neither : (a b : Bool) → (a || b) ≡ false → (a ≡ false) × (b ≡ false)

@@ -1,39 +1,33 @@
 -- The set of a recipe has no finding.
 use Rattle.std.proofs.Common.{◌≡◌, ℕ, zero, suc, ◌+◌, ◌-◌, ◌&&◌, ◌||◌, Bool, true, false, not, List, [], ◌∷◌, ◌++◌, length, Some, refl, sym, ap, subst, ◌∙◌}
-use Rattle.std.specs.Prelude.{map, codes, slice_get, ◌==◌}
+use Rattle.std.specs.Prelude.{map, codes, ◌==◌}
 use Rattle.std.specs.Cmp.Lexicographic.{pointwise}
-use Rattle.std.specs.Map.{lookup}
 use Rattle.std.specs.List.{AllByRecursion, flat_map, range_with_len}
 use Rattle.std.proofs.lemmas.Bool.{eq-eqb}
 use Rattle.std.proofs.lemmas.List.{map-append}
-use Rattle.std.proofs.lemmas.Option.{slice_get-map}
 use Rattle.crc_fields.specs.CheckSums.{crc16_of}
 use Rattle.load_base.specs.Bytes.{same_bytes}
-use Rattle.load_base.specs.Listed.{Listed}
 use Rattle.load_header.specs.Header.{header}
 use Rattle.load_header.specs.declared.header.FileEntry.{FileEntry}
 use Rattle.media_lists.specs.Entries.{is_listed}
 use Rattle.media_lists.specs.Loads.{LoadEntryView, load_name}
 use Rattle.media_lists.specs.declared.lists.ListedFile.{ListedFile}
-use Rattle.media_check.specs.BuiltSets.{member_list, body_of, built_media}
 use Rattle.media_check.specs.Findings.{plain, where_it_holds, same_load, same_file, same_but_member, is_members_list, list_findings, member_findings, members_findings, body_findings, entry_findings, is_file, file_findings, load_findings, header_findings, has_other_crc, findings_of}
 use Rattle.media_check.specs.Findings as findings
 use Rattle.media_check.specs.Sets as sets
 use Rattle.media_check.specs.Kept.{contents}
 use Rattle.media_check.specs.Sets.{SetView, Media, find, set_in}
-use Rattle.media_check.specs.declared.built.Built.{Built}
-use Rattle.media_check.specs.declared.built.Placed.{Placed}
 use Rattle.media_check.specs.declared.finding.Finding.{Finding}
 use Rattle.media_check.specs.declared.found.Found.TheVariants.{Read}
 use Rattle.media_build.specs.Accepted.{IsFileLine, IsRecipe}
 use Rattle.media_build.specs.Lines.{members_of}
-use Rattle.media_build.specs.NoFindings.{SizesFit, media_of, body_view, built_view}
+use Rattle.media_build.specs.NoFindings.{SizesFit, HaveSet}
 use Rattle.media_build.specs.Recipes.{ends_with, is_body_name}
-use Rattle.media_build.specs.RecipeSets.{Sources, LoadView, BodyView, set_of, loads_of, hardware_of, data_of, support_of, files_of, bytes_of, file_entry, header_start, header_bytes, load_crc_of, header_of, file_body, load_bodies, recipe_bodies, load_entry, recipe_loads, listed_body, recipe_files, recipe_set}
+use Rattle.media_build.specs.RecipeSets.{Sources, LoadView, BodyView, set_of, loads_of, hardware_of, data_of, support_of, files_of, bytes_of, file_entry, header_start, header_bytes, load_crc_of, header_of, file_body, load_bodies, recipe_bodies, load_entry, recipe_loads, listed_body, recipe_files}
 use Rattle.media_build.specs.declared.statements.FileLine.{FileLine}
 use Rattle.media_build.specs.declared.statements.RecipeLine.{RecipeLine}
 use Rattle.media_build.proofs.BuiltHeaders.{first_part, second_part, IsGoodLoad, start_spells, header_spells, good_loads}
-use Rattle.media_build.proofs.BuiltLists.{all_append, all_map, all_same, all_both, map_map, data_files, support_files}
+use Rattle.media_build.proofs.BuiltLists.{all_append, all_map, all_same, all_both, data_files, support_files}
 use Rattle.media_build.proofs.BuiltNames.{body_name, itself, bodies_are_distinct, each_is_found}
 use Rattle.media_build.proofs.BuiltSet.{FormatLaws, answer_is, lists_of_member, file_there, read_set, set_is_read}
 
@@ -50,7 +44,7 @@ none_of : {A : Type 0} (f : A → List Finding) (xs : List A) → AllByRecursion
 none_of f [] all = refl
 none_of f (x ∷ xs) all = none_both (f x) (flat_map f xs) all.0 (none_of f xs all.1)
 
-all_of_map : {A B : Type 0} (P : B → Type 0) (f : A → B) (xs : List A) → AllByRecursion P (map f xs) → AllByRecursion (λ x. P (f x)) xs
+pub all_of_map : {A B : Type 0} (P : B → Type 0) (f : A → B) (xs : List A) → AllByRecursion P (map f xs) → AllByRecursion (λ x. P (f x)) xs
 all_of_map P f [] all = tt
 all_of_map P f (x ∷ xs) all = (all.0, all_of_map P f xs all.1)
 
@@ -305,26 +299,6 @@ module _ (sources : Sources) (lines : List RecipeLine) (is : IsRecipe lines) (fi
   unfolding findings_of recipe_loads recipe_files
   no_finding_in_set = none_both _ _ no_list_findings (none_both _ _ no_entry_findings no_load_findings)
 
-  -- the set of a recipe whose sizes fit has no finding
-  pub nothing_is_found : findings_of (set_in (media_of (recipe_set sources lines))) ≡ []
-  nothing_is_found = ap findings_of (set_is_read sources lines is fits laws) ∙ no_finding_in_set
-
--- ---- as it is built
-
-lists_are : (lists : List (Listed ℕ)) (member : ℕ) → member_list lists member ≡ slice_get (map (λ list. list.items) lists) (member - 1)
-lists_are lists member = sym (slice_get-map (λ (list : Listed ℕ). list.items) lists (member - 1))
-
-bodies_are : (bodies : List Placed) (name : List ℕ) → body_of bodies name ≡ lookup (same_bytes name) (map (λ body. (body.name, body.bytes)) (map body_view bodies))
-bodies_are bodies name = ap (lookup (same_bytes name)) (sym (map_map (λ (body : BodyView). (body.name, body.bytes)) body_view bodies))
-
-media_are : (built : Built) → built_media built ≡ media_of (built_view built)
-media_are built = λ i. record {
-  loads_list = λ member. lists_are built.loads.items member i;
-  files_list = λ member. lists_are built.files.items member i;
-  listed = λ entry. bodies_are built.bodies.items entry.name i;
-}
-
-pub nothing_is_found_in_it : (sources : Sources) (lines : List RecipeLine) (built : Built) → IsRecipe lines → SizesFit sources lines → FormatLaws → built_view built ≡ recipe_set sources lines
-    → findings_of (set_in (built_media built)) ≡ []
-nothing_is_found_in_it sources lines built is fits laws same =
-    ap (λ (m : Media). findings_of (set_in m)) (media_are built ∙ ap media_of same) ∙ nothing_is_found sources lines is fits laws
+  -- media that have the set of a recipe whose sizes fit have no finding
+  pub nothing_is_found : (media : Media) → HaveSet media sources lines → findings_of (set_in media) ≡ []
+  nothing_is_found media has = ap findings_of (set_is_read media sources lines has is fits laws) ∙ no_finding_in_set

@@ -43,7 +43,7 @@ pair_in members (Data file) is = tt
 pair_in members (Support file) is = tt
 pair_in members (User bytes) is = tt
 
-all_filter : {A : Type 0} (P : A → Type 0) (p : A → Bool) (xs : List A) → AllByRecursion P xs → AllByRecursion P (filter p xs)
+pub all_filter : {A : Type 0} (P : A → Type 0) (p : A → Bool) (xs : List A) → AllByRecursion P xs → AllByRecursion P (filter p xs)
 all_filter P p [] all = tt
 all_filter P p (x ∷ xs) all = by (p x) (all_filter P p xs all.1)
   where

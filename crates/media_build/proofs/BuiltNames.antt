@@ -16,7 +16,7 @@ use Rattle.media_build.specs.declared.statements.FileLine.{FileLine}
 use Rattle.media_build.specs.declared.statements.RecipeLine.{RecipeLine}
 use Rattle.media_build.specs.declared.statements.Statement.{Statement}
 use Rattle.media_build.specs.declared.statements.Statement.TheVariants.{Set, Members, Load, Hardware, Position, Data, Support, User}
-use Rattle.media_build.proofs.AcceptedRecipes.{neither, own, own_with, own_more}
+use Rattle.media_build.proofs.AcceptedRecipes.{flips, neither, own, own_with, own_more}
 
 -- ---- how many of some names pass a test
 
@@ -92,15 +92,8 @@ names_of_loads sources (load ∷ loads) =
 
 -- ---- names that differ
 
-flips : (a b : List ℕ) → same_bytes a b ≡ false → same_bytes b a ≡ false
-flips a b e = sym (nat_list_eq_equiv.symm a b) ∙ e
-
 pub itself : (a : List ℕ) → same_bytes a a ≡ true
 itself a = nat_list_eq_equiv.refl a
-
-true_or_false : (b : Bool) → b ≡ true → b ≡ false → ⊥
-true_or_false true one other = absurd cc
-true_or_false false one other = absurd cc
 
 -- a name occurs nowhere among names that differ from it
 none_occurs : (name : List ℕ) (names : List (List ℕ)) → AllByRecursion (λ other. same_bytes name other ≡ false) names → occurs (same_bytes name) names ≡ 0

@@ -5,12 +5,15 @@ pub mod BuiltHeaders
 pub mod BuiltLists
 pub mod BuiltNames
 pub mod BuiltSet
+pub mod BuiltSizes
 pub mod Counts
 pub mod Cuts
 pub mod Digits
 pub mod FirstWrong
+pub mod GeneratedSets
 pub mod Generating
 pub mod HostFiles
+pub mod ReadableSets
 pub mod Reading
 pub mod Texts
 pub mod PositionKinds
@@ -23,3 +26,4 @@ pub mod AddedLoads
 pub mod AddedBodies
 pub mod MemberLists
 pub mod BuildAnswers
+pub mod WrittenSets

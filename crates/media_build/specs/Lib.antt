@@ -10,3 +10,4 @@ pub mod Accepted
 pub mod NoFindings
 pub mod Parts
 pub mod Building
+pub mod GeneratedSet

@@ -1,8 +1,6 @@
--- When the set of a recipe keeps to the limits of its formats, and the media that a built set is.
-use Rattle.std.specs.Prelude.{◌-◌, ◌≤◌, List, length, map, slice_get}
+-- When the set of a recipe keeps to the limits of its formats, and media that have it.
+use Rattle.std.specs.Prelude.{◌≡◌, ℕ, ◌≤◌, List, length, map, Some}
 use Rattle.std.specs.List.{AllByRecursion}
-use Rattle.std.specs.Map.{lookup}
-use Rattle.load_base.specs.Bytes.{same_bytes}
 use Rattle.load_base.specs.Host.{longest_file}
 use Rattle.load_header.specs.HeaderFields.{header_size}
 use Rattle.media_lists.specs.ListFields.{list_size}
@@ -10,7 +8,9 @@ use Rattle.media_lists.specs.Loads.{load_body_fields}
 use Rattle.media_check.specs.Sets.{Media}
 use Rattle.media_check.specs.declared.built.Built.{Built}
 use Rattle.media_check.specs.declared.built.Placed.{Placed}
-use Rattle.media_build.specs.RecipeSets.{Sources, LoadView, loads_of, hardware_of, files_of, bytes_of, header_start, recipe_loads, BodyView, BuiltView}
+use Rattle.media_build.specs.Accepted.{IsMemberOf}
+use Rattle.media_build.specs.Lines.{members_of}
+use Rattle.media_build.specs.RecipeSets.{Sources, LoadView, loads_of, hardware_of, files_of, bytes_of, header_start, recipe_loads, loads_list_bytes, files_list_bytes, listed_body, recipe_bodies, BodyView, BuiltView}
 use Rattle.media_build.specs.declared.statements.RecipeLine.{RecipeLine}
 
 -- ---- the limits
@@ -43,10 +43,8 @@ built_view built = record {
   bodies = map body_view built.bodies.items;
 }
 
--- The media that a built set is: the lists of each member, and for an entry of FILES.LUM the file of its name.
-abbrev pub media_of : BuiltView → Media
-media_of set = record {
-  loads_list = λ member. slice_get set.loads (member - 1);
-  files_list = λ member. slice_get set.files (member - 1);
-  listed = λ entry. lookup (same_bytes entry.name) (map (λ body. (body.name, body.bytes)) set.bodies);
-}
+-- Media have the set of a recipe: both lists of each member, and for each entry of FILES.LUM its file.
+pub record HaveSet (media : Media) (sources : Sources) (lines : List RecipeLine) : Type 0 where
+  pub loads : (member : ℕ) → IsMemberOf (members_of lines) member → media.loads_list member ≡ Some (loads_list_bytes lines member)
+  pub files : (member : ℕ) → IsMemberOf (members_of lines) member → media.files_list member ≡ Some (files_list_bytes sources lines member)
+  pub bodies : AllByRecursion (λ body. media.listed (listed_body body) ≡ Some body.bytes) (recipe_bodies sources lines)

@@ -1,9 +1,9 @@
-//! Building media sets: what a recipe says, and how a built set is written (docs/FORMATS.md,
-//! "Recipe", "Media sets").
+//! Building media sets: what a recipe says, the set that it names, the generated set of a number,
+//! and how a built set is written (docs/FORMATS.md, "Recipe", "Generated set", "Media sets").
 //!
 //! Start from [`Recipe::read`], which gives the lines of a recipe, or the first fault of a text
-//! that is none, and [`write`], which writes a built set into a folder of the host. Nothing builds
-//! a set yet.
+//! that is none, and [`build`], which builds its set of sources that the host has; or from
+//! [`make`], which makes the generated set. [`write`] writes a built set into a folder of the host.
 #![tactic(auto)]
 
 mod bodies;
@@ -16,6 +16,9 @@ mod keywords;
 pub mod laws;
 mod lists;
 mod loads;
+mod making;
+#[cfg(test)]
+mod making_tests;
 mod partial;
 mod pieces;
 mod positions;
@@ -36,6 +39,7 @@ pub use building_fault::BuildFault;
 pub use fault::RecipeFault;
 pub use generated::generated_bytes;
 pub use keywords::Keyword;
+pub use making::make;
 pub use recipe::Recipe;
 pub use statements::{FileLine, LoadLine, RecipeLine, Statement, UserData};
 pub use writing::write;
