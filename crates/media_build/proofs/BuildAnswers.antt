@@ -35,7 +35,7 @@ no_sources : (loads : List LoadView) → AllByRecursion (HasShortSources unread)
 no_sources [] = tt
 no_sources (load ∷ loads) = (no_bytes_short (files_of load), no_sources loads)
 
-unread_sizes : (lines : List RecipeLine) → HaveShortHeaders lines → IsLoadsList (recipe_loads lines 1) → SizesFit unread lines
+pub unread_sizes : (lines : List RecipeLine) → HaveShortHeaders lines → IsLoadsList (recipe_loads lines 1) → SizesFit unread lines
 unfolding recipe_loads
 unread_sizes lines short is = record {
   loads = few_hardware (members_of lines) (loads_of lines) short is.entries.each;

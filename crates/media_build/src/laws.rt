@@ -5,7 +5,11 @@ ghost use Rattle.std.specs.List.{AllByRecursion, sum_by};
 ghost use Rattle.exchange_trace.specs.Scripts.{WrittenLine, lines};
 ghost use Rattle.load_base.specs.Host.{Files};
 ghost use Rattle.load_header.specs.HeaderFields.{header_size};
+ghost use Rattle.load_base.specs.Host.{Files};
 ghost use Rattle.media_build.specs.Accepted.{IsRecipe};
+ghost use Rattle.media_build.specs.Building.{CanTake, HaveSizes, IsFirstRefused, IsSizeFault};
+ghost use Rattle.media_build.specs.declared.building_fault.BuildFault.{BuildFault};
+ghost use Rattle.media_build.specs.declared.building_fault.BuildFault.TheVariants as build_faults;
 ghost use Rattle.media_build.specs.Generator.{generated, state_at};
 ghost use Rattle.media_build.specs.GeneratedSet.{generated_recipe, generated_lines};
 ghost use Rattle.media_build.specs.GeneratedSet.{generated_load_view, generated_sources};
@@ -99,6 +103,16 @@ pub fn sizes_need_no_sources()
 {
     header_laws();
 }
+
+/// What [`build`](crate::build) refuses and what it takes exclude each other, so that it is refused
+/// exactly where its contract says so: sizes that are right aren't refused, and no source is that
+/// can be taken beside those before it.
+pub fn building_laws()
+    ensures sizes { (lines : List RecipeLine) (fault : BuildFault) → HaveSizes lines
+        → IsSizeFault lines fault → fault ≡ build_faults.Memory }
+    ensures sources { (files : Files) (others : ℕ) (names : List (List ℕ)) (fault : BuildFault)
+        → CanTake files others names → ¬ IsFirstRefused files others names fault }
+{}
 
 /// What some recipes say, and how some are refused: the words of the definitions computed
 /// (docs/FORMATS.md, "Recipe").
