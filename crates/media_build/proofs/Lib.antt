@@ -27,3 +27,4 @@ pub mod AddedBodies
 pub mod MemberLists
 pub mod BuildAnswers
 pub mod WrittenSets
+pub mod BuildFindings

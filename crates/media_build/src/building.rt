@@ -1,6 +1,9 @@
 //! Building the media set that a recipe names.
-ghost use Rattle.std.specs.Prelude.{◌≡◌, ℕ, ◌≤◌, IfOk};
+ghost use Rattle.std.specs.Prelude.{◌≡◌, ℕ, ◌≤◌, [], IfOk};
 ghost use Rattle.std.specs.Option.{ForSome};
+ghost use Rattle.media_check.specs.BuiltSets.{built_media};
+ghost use Rattle.media_check.specs.Findings.{findings_of};
+ghost use Rattle.media_check.specs.Sets.{set_in};
 ghost use Rattle.media_lists.specs.Files.{IsFilesList};
 ghost use Rattle.media_lists.specs.Loads.{IsLoadsList, loads_list_view};
 ghost use Rattle.media_build.specs.Building.{AnswersSizes, Builds, HasBuildCause, HasLists};
@@ -8,6 +11,7 @@ ghost use Rattle.media_build.specs.Building.{IsSmall, files_beside, of_member};
 
 use crate::bodies::read_bodies;
 use crate::building_fault::BuildFault;
+use crate::laws::what_is_built_has_no_finding;
 use crate::lists::{files_list, files_lists, loads_list, loads_lists};
 use crate::recipe::Recipe;
 use crate::sizes::headers_length;
@@ -30,10 +34,13 @@ pub fn build<H: Host>(alloc: Global, recipe: &Recipe, host: &mut H) -> Result<Bu
     // With Ok the set that the recipe names; else the first source that is refused.
     ensures builds { ForSome (H.files host.old) (Builds recipe.now result) }
     ensures small { IfOk result IsSmall }
+    ensures sound { ForSome (H.files host.old) (λ files. IfOk result (λ built.
+        findings_of (set_in (built_media built)) ≡ [])) }
     // Whatever it answers.
     ensures cause { HasBuildCause (H.faults host.old) (H.faults host.new) result }
     ensures kept { H.files host.new ≡ H.files host.old }
 {
+    what_is_built_has_no_finding();
     let lines = recipe.lines();
     let headers = headers_length(alloc, lines)?;
     let loads = loads_list(alloc, lines)?;

@@ -47,3 +47,8 @@ returns-clause-builds g c =
 pub returns-clause-small : goal.returns-clause-small
 returns-clause-small g c =
     built_is_small c.lines-lines.result.now (loads_list_view c.in_ok-loads.loads) c.in_ok-bodies.bodies.items c.in_ok-with_lists.field-0 c.in_ok-bodies.ensures.are c.in_ok-with_lists.ensures
+
+pub returns-clause-sound : goal.returns-clause-sound
+returns-clause-sound g c =
+    let built = c.in_ok-with_lists.field-0 in
+    λ files told. c.what_is_built_has_no_finding.ensures c.args.recipe.now built files c.lines-lines.ensures.accepted (returns-clause-sizes g c) (returns-clause-builds g c files told)
