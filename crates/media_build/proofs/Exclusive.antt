@@ -1,5 +1,6 @@
 -- A recipe whose sizes are right isn't refused for one, nor are sources that can be taken.
-use Rattle.std.proofs.Common.{◌≡◌, ℕ, ◌+◌, ◌≤◌, List, ◌∷◌, refl, ap, subst, ◌∙◌, arith}
+use Rattle.std.proofs.Common.{◌≡◌, ℕ, suc, ◌+◌, ◌≤◌, List, ◌∷◌, refl, ap, subst, ◌∙◌, arith, []}
+use Rattle.std.specs.Prelude.{All}
 use Rattle.std.specs.List.{AllByRecursion}
 use Rattle.std.proofs.lemmas.List.Sums.{sum_by-cons}
 use Rattle.load_base.specs.Host.{Files}
@@ -9,8 +10,11 @@ use Rattle.media_build.specs.declared.building_fault.BuildFault.{BuildFault}
 use Rattle.media_build.specs.declared.building_fault.BuildFault.TheVariants.{Absent, TooLong, TooLarge, HeaderTooLong, ListTooLong, Failed, Memory}
 use Rattle.media_build.specs.declared.statements.RecipeLine.{RecipeLine}
 use Rattle.media_build.proofs.BuiltHeaders.{second_part}
-use Rattle.media_build.proofs.SoundBuilds.{by_parts}
 use Rattle.media_build.proofs.Taking.{total_both}
+
+by_parts : {A : Type 0} (P : A → Type 0) (xs : List A) → All P xs → AllByRecursion P xs
+by_parts P [] all = tt
+by_parts P (x ∷ xs) all = (all 0 x (omega arith), by_parts P xs (λ k d lt. all (suc k) d (omega (arith, lt))))
 
 pub no_size_is_refused : (lines : List RecipeLine) (fault : BuildFault) → HaveSizes lines → IsSizeFault lines fault → fault ≡ Memory
 no_size_is_refused lines (HeaderTooLong line) sizes refused =

@@ -23,12 +23,12 @@ use Rattle.media_lists.specs.ListFields as lists
 use Rattle.media_lists.specs.ListFields.{list_size, list_fields}
 use Rattle.media_lists.specs.Files.{FilesListView, FilesSpells, IsFilesList, file_body_fields}
 use Rattle.media_lists.specs.Loads.{LoadsListView, LoadsSpells, load_body_fields, IsLoadsList}
-use Rattle.media_check.specs.BuiltSets.{built_media}
+use Rattle.media_check.specs.BuiltSets.{built_media, HasShortBodies}
 use Rattle.media_check.specs.Findings.{findings_of}
-use Rattle.media_check.specs.Openings.{largest_set}
 use Rattle.media_check.specs.Sets.{set_in}
 use Rattle.media_check.specs.declared.built.Built.{Built}
 use Rattle.media_build.specs.Accepted.{IsMemberOf, IsRecipe}
+use Rattle.media_build.specs.Building.{IsSmall}
 use Rattle.media_build.specs.Generator.{generated, state_at}
 use Rattle.media_build.specs.GeneratedSet.{generated_recipe, generated_lines, generated_load_view, always, generated_sources, set_of_one}
 use Rattle.media_build.specs.Lines.{keyword_of, may_stand, names_of, members_of, lines_of_load}
@@ -176,11 +176,11 @@ made_sound (Ok built) number law is =
     law (generated_sources number) generated_lines built is_recipe (sizes_fit (generated number 4194304) (rw size (omega arith))) is
 made_sound (Err fault) number law is = is
 
--- its two files together
+-- its two files, one by one and together
 pub made_small : {E : Type 0} (r : Result Built E) (loads files header file : List ℕ) → length header ≤ 65536 → length file ≤ 16777215
-    → IfOk r (λ built. built_view built ≡ set_of_one loads files header file) → IfOk r (λ built. sum_by (λ body. length body.bytes.items) built.bodies.items ≤ largest_set)
-made_small (Ok built) loads files header file small short parts =
+    → IfOk r (λ built. built_view built ≡ set_of_one loads files header file) → IfOk r HasShortBodies → IfOk r IsSmall
+made_small (Ok built) loads files header file small short parts bodies =
     let total = total_built built.bodies.items in
     let these = ap (λ (set : BuiltView). sum_by (λ body. length body.bytes) set.bodies) parts in
-    omega (arith, total, these, small, short)
-made_small (Err fault) loads files header file small short parts = parts
+    record { bodies = bodies; together = omega (arith, total, these, small, short) }
+made_small (Err fault) loads files header file small short parts bodies = parts

@@ -27,5 +27,5 @@ pub mod AddedBodies
 pub mod MemberLists
 pub mod BuildAnswers
 pub mod WrittenSets
-pub mod SoundBuilds
 pub mod Exclusive
+pub mod BuildFindings

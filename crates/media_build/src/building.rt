@@ -11,12 +11,11 @@ ghost use Rattle.media_build.specs.Building.{IsSmall, files_beside, of_member};
 
 use crate::bodies::read_bodies;
 use crate::building_fault::BuildFault;
-use crate::laws::a_built_set_has_no_finding;
+use crate::laws::what_is_built_has_no_finding;
 use crate::lists::{files_list, files_lists, loads_list, loads_lists};
 use crate::recipe::Recipe;
 use crate::sizes::headers_length;
 use load_base::{Host, List, NoMemory};
-use load_header::header_laws;
 use media_check::{Built, Placed};
 use media_lists::LoadsList;
 use std::alloc::Global;
@@ -35,16 +34,13 @@ pub fn build<H: Host>(alloc: Global, recipe: &Recipe, host: &mut H) -> Result<Bu
     // With Ok the set that the recipe names; else the first source that is refused.
     ensures builds { ForSome (H.files host.old) (Builds recipe.now result) }
     ensures small { IfOk result IsSmall }
-    // What is built of sources that the host tells has no finding.
-    ensures sound { ForSome (H.files host.old) (λ files. IfOk result
-        (λ built. findings_of (set_in (built_media built)) ≡ [])) }
+    ensures sound { ForSome (H.files host.old) (λ files. IfOk result (λ built.
+        findings_of (set_in (built_media built)) ≡ [])) }
     // Whatever it answers.
     ensures cause { HasBuildCause (H.faults host.old) (H.faults host.new) result }
     ensures kept { H.files host.new ≡ H.files host.old }
 {
-    // For the proof: both do nothing.
-    a_built_set_has_no_finding();
-    header_laws();
+    what_is_built_has_no_finding();
     let lines = recipe.lines();
     let headers = headers_length(alloc, lines)?;
     let loads = loads_list(alloc, lines)?;

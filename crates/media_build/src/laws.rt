@@ -11,6 +11,7 @@ ghost use Rattle.media_build.specs.Building.{CanTake, HaveSizes, IsFirstRefused,
 ghost use Rattle.media_build.specs.declared.building_fault.BuildFault.{BuildFault};
 ghost use Rattle.media_build.specs.declared.building_fault.BuildFault.TheVariants as build_faults;
 ghost use Rattle.media_build.specs.Generator.{generated, state_at};
+ghost use Rattle.media_build.specs.Building.{AnswersSizes, Builds};
 ghost use Rattle.media_build.specs.GeneratedSet.{generated_recipe, generated_lines};
 ghost use Rattle.media_build.specs.GeneratedSet.{generated_load_view, generated_sources};
 ghost use Rattle.media_build.specs.Recipes.{IsFirstWrong, lines_said, recipe_said, statement_said};
@@ -89,6 +90,17 @@ pub fn a_written_set_can_be_read()
     header_laws();
     files_list_laws();
     loads_list_laws();
+}
+
+/// What is built of a host's files has no finding: `build` promises what this asks for.
+// For the proof: does nothing.
+pub fn what_is_built_has_no_finding()
+    ensures { (lines : List RecipeLine) (built : Built) (files : Files) → IsRecipe lines
+        → AnswersSizes lines (Ok built) → Builds lines (Ok built) files
+        → findings_of (set_in (built_media built)) ≡ [] }
+{
+    a_built_set_has_no_finding();
+    header_laws();
 }
 
 /// Sizes that are right with some sources are so with others, where these aren't too long: no

@@ -1,10 +1,10 @@
 //! The generated set.
 ghost use Rattle.std.specs.Prelude.{◌≡◌, ◌≤◌, ◌-◌, ◌∷◌, ◌++◌, [], length, take, codes, IfOk};
-ghost use Rattle.std.specs.List.{sum_by};
 ghost use Rattle.crc_fields.specs.CheckSums.{crc32_of};
 ghost use Rattle.load_base.specs.Name.{IsName};
 ghost use Rattle.load_base.specs.Text.{IsText};
 ghost use Rattle.load_header.specs.Header.{header_view};
+ghost use Rattle.media_build.specs.Building.{IsSmall};
 ghost use Rattle.media_build.specs.GeneratedSet.{always, generated_lines, generated_load_view};
 ghost use Rattle.media_build.specs.GeneratedSet.{generated_sources, generated_file, set_of_one};
 ghost use Rattle.media_build.specs.NoFindings.{built_view};
@@ -17,7 +17,6 @@ ghost use Rattle.media_lists.specs.Files.{files_list_view};
 ghost use Rattle.media_lists.specs.Loads.{loads_list_view};
 ghost use Rattle.media_check.specs.BuiltSets.{built_media, HasShortBodies};
 ghost use Rattle.media_check.specs.Findings.{findings_of};
-ghost use Rattle.media_check.specs.Openings.{largest_set};
 ghost use Rattle.media_check.specs.Sets.{set_in};
 ghost use Rattle.part_number.specs.PartNumber.{IsPartNumberText};
 
@@ -40,9 +39,7 @@ const GENERATED_SIZE: usize = 4_194_304;
 pub fn make(alloc: Global, number: u32) -> Result<Built, NoMemory>
     ensures set { IfOk result (λ built.
         built_view built ≡ recipe_set (generated_sources number) generated_lines) }
-    ensures short { IfOk result HasShortBodies }
-    ensures together { IfOk result (λ built.
-        sum_by (λ body. length body.bytes.items) built.bodies.items ≤ largest_set) }
+    ensures small { IfOk result IsSmall }
     ensures sound { IfOk result (λ built. findings_of (set_in (built_media built)) ≡ []) }
 {
     a_built_set_has_no_finding();

@@ -6,7 +6,6 @@ use Rattle.media_build.specs.Accepted.{IsRecipe}
 use Rattle.media_build.specs.Building.{AnswersSizes, Builds}
 use Rattle.media_build.specs.declared.statements.RecipeLine.{RecipeLine}
 use Rattle.media_build.proofs.BuildAnswers.{sizes_are_right, later_fault, each_loads_list, each_files_list, set_built, built_is_small}
-use Rattle.media_build.proofs.SoundBuilds.{sound_set}
 use Rattle.media_build.proofs.building.build.Goals as goal
 
 pub returns-in_err-bodies-clause-sizes : goal.returns-in_err-bodies-clause-sizes
@@ -45,16 +44,11 @@ returns-clause-builds g c =
     (set_built (g.H.Host.files c.args.host.now) lines c.in_ok-headers.headers (loads_list_view c.in_ok-loads.loads) c.in_ok-bodies.bodies.items built c.in_ok-loads.ensures.0 c.in_ok-headers.ensures.1
     c.in_ok-with_lists.ensures c.in_ok-bodies.ensures.takes)
 
-pub returns-clause-sound : goal.returns-clause-sound
-returns-clause-sound g c =
-    let o = g.H.Host.files c.args.host.now in
-    let lines = c.lines-lines.result.now in
-    let built = c.in_ok-with_lists.field-0 in
-    let recipe = subst IsRecipe (sym c.lines-lines.ensures.lines) c.lines-lines.ensures.accepted in
-    sound_set c.a_built_set_has_no_finding.ensures.built c.header_laws.ensures.same_size o lines built recipe c.in_ok-headers.ensures.0 c.in_ok-loads.ensures.1
-    (set_built o lines c.in_ok-headers.headers (loads_list_view c.in_ok-loads.loads) c.in_ok-bodies.bodies.items built c.in_ok-loads.ensures.0 c.in_ok-headers.ensures.1
-    c.in_ok-with_lists.ensures c.in_ok-bodies.ensures.takes)
-
 pub returns-clause-small : goal.returns-clause-small
 returns-clause-small g c =
     built_is_small c.lines-lines.result.now (loads_list_view c.in_ok-loads.loads) c.in_ok-bodies.bodies.items c.in_ok-with_lists.field-0 c.in_ok-bodies.ensures.are c.in_ok-with_lists.ensures
+
+pub returns-clause-sound : goal.returns-clause-sound
+returns-clause-sound g c =
+    let built = c.in_ok-with_lists.field-0 in
+    λ files told. c.what_is_built_has_no_finding.ensures c.args.recipe.now built files c.lines-lines.ensures.accepted (returns-clause-sizes g c) (returns-clause-builds g c files told)

@@ -23,7 +23,7 @@ built_of-requires-clause-file c =
     let size = generated_size c.args.number 4194304 in
     rw c.in_ok-file.ensures (omega (arith, size))
 
-pub returns-clause-together : goal.returns-clause-together
-returns-clause-together c =
+pub returns-clause-small : goal.returns-clause-small
+returns-clause-small c =
     let size = generated_size c.args.number 4194304 in
-    made_small c.built_of.result _ _ _ _ c.in_ok-header.ensures.short (rw c.in_ok-file.ensures (omega (arith, size))) c.built_of.ensures.parts
+    made_small c.built_of.result _ _ _ _ c.in_ok-header.ensures.short (rw c.in_ok-file.ensures (omega (arith, size))) c.built_of.ensures.parts c.built_of.ensures.short
