@@ -13,7 +13,7 @@ use Rattle.media_build.specs.declared.statements.Statement.TheVariants.{Set, Mem
 
 -- ---- one more line
 
-names_more : (lines : List RecipeLine) (line : RecipeLine) → names_of (lines ++ line ∷ []) ≡ names_of lines ++ names_in line.statement
+pub names_more : (lines : List RecipeLine) (line : RecipeLine) → names_of (lines ++ line ∷ []) ≡ names_of lines ++ names_in line.statement
 unfolding names_of
 names_more lines line =
     flat_map-append (λ (l : RecipeLine). names_in l.statement) lines (line ∷ [])
@@ -22,7 +22,7 @@ names_more lines line =
 last_first : (lines : List RecipeLine) (line : RecipeLine) → reverse (lines ++ line ∷ []) ≡ line ∷ reverse lines
 last_first lines line = reverse-append lines (line ∷ [])
 
-members_more : (lines : List RecipeLine) (line : RecipeLine) → members_of (lines ++ line ∷ []) ≡ given (members_in line.statement) (members_of lines)
+pub members_more : (lines : List RecipeLine) (line : RecipeLine) → members_of (lines ++ line ∷ []) ≡ given (members_in line.statement) (members_of lines)
 unfolding members_of
 members_more lines line = ap first_count (last_first lines line)
 
@@ -37,7 +37,7 @@ load_more lines line =
 abbrev more : List RecipeLine → ℕ → Statement → List RecipeLine
 more lines number statement = lines ++ record { number = number; statement = statement } ∷ []
 
-files_more : (lines : List RecipeLine) (number : ℕ) (statement : Statement) → files_of_load (more lines number statement) ≡ count_files statement (files_of_load lines)
+pub files_more : (lines : List RecipeLine) (number : ℕ) (statement : Statement) → files_of_load (more lines number statement) ≡ count_files statement (files_of_load lines)
 files_more lines number statement = ap (λ (some : List RecipeLine). length (filter (λ (l : RecipeLine). is_file l.statement) some)) (load_more lines (record { number = number; statement = statement })) ∙ by statement
   where
     by : (s : Statement) → length (filter (λ (l : RecipeLine). is_file l.statement) (cond (not (is_load s)) (record { number = number; statement = s } ∷ lines_of_load lines) []))
@@ -51,7 +51,7 @@ files_more lines number statement = ap (λ (some : List RecipeLine). length (fil
     by (Support file) = omega arith
     by (User bytes) = omega arith
 
-user_more : (lines : List RecipeLine) (number : ℕ) (statement : Statement) → has_user (more lines number statement) ≡ keeps_user statement (has_user lines)
+pub user_more : (lines : List RecipeLine) (number : ℕ) (statement : Statement) → has_user (more lines number statement) ≡ keeps_user statement (has_user lines)
 user_more lines number statement = ap (list_any (λ (l : RecipeLine). is_user l.statement)) (load_more lines (record { number = number; statement = statement })) ∙ by statement
   where
     by : (s : Statement) → list_any (λ (l : RecipeLine). is_user l.statement) (cond (not (is_load s)) (record { number = number; statement = s } ∷ lines_of_load lines) [])

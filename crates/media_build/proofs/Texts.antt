@@ -8,18 +8,18 @@ use Rattle.load_base.specs.PartText.{is_graphic}
 use Rattle.load_base.specs.Text.{IsText, is_printable}
 use Rattle.media_build.specs.Recipes.{is_graphic_word}
 
-second_test : (a b : Bool) → (a && b) ≡ true → b ≡ true
+pub second_test : (a b : Bool) → (a && b) ≡ true → b ≡ true
 second_test true b e = e
 second_test false b e = absurd cc
 
-first_test : (a b : Bool) → (a && b) ≡ true → a ≡ true
+pub first_test : (a b : Bool) → (a && b) ≡ true → a ≡ true
 first_test true b e = refl
 first_test false b e = absurd cc
 
-graphic_is_printable : (byte : ℕ) → is_graphic byte ≡ true → is_printable byte ≡ true
+pub graphic_is_printable : (byte : ℕ) → is_graphic byte ≡ true → is_printable byte ≡ true
 graphic_is_printable byte e = grind (arith, nat_tests)
 
-each_graphic : (word : List ℕ) (k : ℕ) → list_all is_graphic word ≡ true → k < length word → is_graphic (get_or word k 0) ≡ true
+pub each_graphic : (word : List ℕ) (k : ℕ) → list_all is_graphic word ≡ true → k < length word → is_graphic (get_or word k 0) ≡ true
 each_graphic word k all lt = by (is_graphic (get_or word k 0)) refl
   where
     by : (b : Bool) → is_graphic (get_or word k 0) ≡ b → is_graphic (get_or word k 0) ≡ true

@@ -6,3 +6,8 @@ pub mod HostWrites
 pub mod Generator
 pub mod RecipeSets
 pub mod WorkedSet
+pub mod Accepted
+pub mod NoFindings
+pub mod Parts
+pub mod Building
+pub mod GeneratedSet

@@ -1,19 +1,34 @@
-//! Building media sets: what a recipe says, and how a built set is written (docs/FORMATS.md,
-//! "Recipe", "Media sets").
+//! Building media sets: what a recipe says, the set that it names, the generated set of a number,
+//! and how a built set is written (docs/FORMATS.md, "Recipe", "Generated set", "Media sets").
 //!
 //! Start from [`Recipe::read`], which gives the lines of a recipe, or the first fault of a text
-//! that is none, and [`write`], which writes a built set into a folder of the host. Nothing builds
-//! a set yet.
+//! that is none, and [`build`], which builds its set of sources that the host has; or from
+//! [`make`], which makes the generated set. [`write`] writes a built set into a folder of the host.
 #![tactic(auto)]
 
+mod bodies;
+mod building;
+mod building_fault;
+#[cfg(test)]
+mod building_tests;
 mod fault;
+mod gathering;
 mod generated;
 mod keywords;
 pub mod laws;
+mod lists;
+mod loads;
+mod making;
+#[cfg(test)]
+mod making_tests;
 mod partial;
 mod pieces;
+mod positions;
 mod printing;
 mod recipe;
+mod sizes;
+mod source_files;
+mod sources;
 mod statements;
 #[cfg(test)]
 mod tests;
@@ -21,9 +36,12 @@ mod words;
 pub mod worked;
 mod writing;
 
+pub use building::build;
+pub use building_fault::BuildFault;
 pub use fault::RecipeFault;
 pub use generated::generated_bytes;
 pub use keywords::Keyword;
+pub use making::make;
 pub use recipe::Recipe;
 pub use statements::{FileLine, LoadLine, RecipeLine, Statement, UserData};
 pub use writing::write;

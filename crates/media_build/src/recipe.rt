@@ -3,6 +3,7 @@ ghost use Rattle.std.specs.Prelude.{◌≡◌, ◌≤◌, ◌⊎◌, [], length,
 ghost use Rattle.std.specs.List.{slice_split};
 ghost use Rattle.field_grammar.specs.Answers.{Gives};
 ghost use Rattle.exchange_trace.specs.Scripts.{written_lines, is_passed_over as is_passed};
+ghost use Rattle.media_build.specs.Accepted.{IsRecipe};
 ghost use Rattle.media_build.specs.Recipes.{recipe_said, lines_said, line_count as count_lines};
 ghost use Rattle.media_build.specs.Recipes.{line_said};
 ghost use Rattle.media_build.specs.declared.fault.RecipeFault.TheVariants.{Memory};
@@ -22,7 +23,8 @@ const LONGEST_RECIPE: usize = 1_000_000;
 const FEWEST_LINES: usize = 3;
 
 /// A recipe: what its lines say that aren't passed over, in their order (docs/FORMATS.md,
-/// "Recipe"). A contract sees it as the list of these lines.
+/// "Recipe"). A contract sees it as the list of these lines, which are a recipe whatever text they
+/// were read from (`IsRecipe`).
 #[derive(Drop)]
 pub struct Recipe {
     lines: List<RecipeLine>,
@@ -34,7 +36,11 @@ impl Model for Recipe {
 
     ghost Value = { List RecipeLine };
 
+    ghost use Rattle.media_build.specs.Accepted.{IsRecipe};
+
     ghost view = { λ recipe. recipe.lines.items };
+
+    ghost invariant = { λ recipe. IsRecipe recipe.lines.items };
 }
 
 impl Recipe {
@@ -61,7 +67,8 @@ impl Recipe {
 
     /// Its lines.
     pub fn lines(&self) -> &[RecipeLine]
-        ensures { result.now ≡ self.now }
+        ensures lines { result.now ≡ self.now }
+        ensures accepted { IsRecipe self.now }
     {
         self.lines.as_slice()
     }

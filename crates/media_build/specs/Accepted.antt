@@ -1,0 +1,97 @@
+-- What every recipe says that is accepted (docs/FORMATS.md, "Recipe").
+use Rattle.std.specs.Prelude.{◌≡◌, ℕ, ◌%◌, ◌<◌, ◌≤◌, ◌^◌, List, ◌∷◌, length, filter, Bool, true, false}
+use Rattle.std.specs.List.{AllByRecursion, IsDistinct}
+use Rattle.load_base.specs.Bytes.{same_bytes, AllGood}
+use Rattle.load_base.specs.Name.{IsName}
+use Rattle.load_base.specs.PartText.{is_graphic}
+use Rattle.part_number.specs.PartNumber.{IsPartNumberText}
+use Rattle.field_grammar.specs.Grammar.{IsBytes}
+use Rattle.media_build.specs.Lines.{is_user, names_of, members_of}
+use Rattle.media_build.specs.RecipeSets.{LoadView, loads_of, files_of}
+use Rattle.media_build.specs.Recipes.{is_header_name, is_body_name}
+use Rattle.media_build.specs.declared.statements.FileLine.{FileLine}
+use Rattle.media_build.specs.declared.statements.LoadLine.{LoadLine}
+use Rattle.media_build.specs.declared.statements.RecipeLine.{RecipeLine}
+use Rattle.media_build.specs.declared.statements.Statement.{Statement}
+use Rattle.media_build.specs.declared.statements.Statement.TheVariants.{Set, Members, Load, Hardware, Position, Data, Support, User}
+
+-- ---- what a line says
+
+-- 1 to this many bytes 0x21 to 0x7E
+pub record IsWord (most : ℕ) (word : List ℕ) : Type 0 where
+  pub some : 1 ≤ length word
+  pub few : length word ≤ most
+  pub graphic : AllGood is_graphic word
+
+-- the number of one of this many members
+pub record IsMemberOf (members member : ℕ) : Type 0 where
+  pub first : 1 ≤ member
+  pub last : member ≤ members
+
+-- a load whose header has a name that ends with `.LUH` and lies in one of the members
+pub record IsLoadLine (members : ℕ) (load : LoadLine) : Type 0 where
+  pub part : IsPartNumberText load.part
+  pub name : IsName load.name
+  pub header : is_header_name load.name ≡ true
+  pub member : IsMemberOf members load.member
+  pub type_id : load.type_id < 2 ^ 16
+  pub type_name : IsWord 64 load.type_name
+
+-- a file whose name ends neither with `.LUH` nor with `.LUM`, in one of the members
+pub record IsFileLine (members : ℕ) (file : FileLine) : Type 0 where
+  pub name : IsName file.name
+  pub body : is_body_name file.name ≡ true
+  pub member : IsMemberOf members file.member
+  pub source : IsWord 150 file.source
+  pub part : IsWord 64 file.part
+
+-- some bytes, an even number of them
+pub record IsUserLine (bytes : List ℕ) : Type 0 where
+  pub each : IsBytes bytes
+  pub some : 1 ≤ length bytes
+  pub even : length bytes % 2 ≡ 0
+
+-- a line of a recipe of a set of this many members
+abbrev pub IsSound : (members : ℕ) → Statement → Type 0
+IsSound members (Set part) = IsPartNumberText part
+IsSound members (Members count) = IsMemberOf 255 count
+IsSound members (Load load) = IsLoadLine members load
+IsSound members (Hardware id) = IsWord 64 id
+IsSound members (Position hardware position) = IsWord 64 hardware × IsWord 64 position
+IsSound members (Data file) = IsFileLine members file
+IsSound members (Support file) = IsFileLine members file
+IsSound members (User bytes) = IsUserLine bytes
+
+-- ---- in which order
+
+-- whether a line tells of a load
+abbrev pub is_of_loads : Statement → Bool
+is_of_loads (Set part) = false
+is_of_loads (Members count) = false
+is_of_loads statement = true
+
+-- `set PART`, `members N`, a load, and lines of loads alone
+pub record IsInOrder (lines : List RecipeLine) : Type 0 where
+  pub numbers : ℕ × ℕ × ℕ
+  pub set : List ℕ
+  pub members : ℕ
+  pub load : LoadLine
+  pub later : List RecipeLine
+  pub stands : lines ≡ record { number = numbers.0; statement = Set set } ∷ record { number = numbers.1; statement = Members members }
+      ∷ record { number = numbers.2; statement = Load load } ∷ later
+  pub others : AllByRecursion (λ line. is_of_loads line.statement ≡ true) later
+
+-- ---- the whole
+
+-- at most 255 data and support files, and at most one line of user data
+pub record IsSmallLoad (load : LoadView) : Type 0 where
+  pub files : length (files_of load) ≤ 255
+  pub user : length (filter is_user load.own) ≤ 1
+
+-- Lines in their order, each of them sound, with at most 1,024 files, of which no two have one name.
+pub record IsRecipe (lines : List RecipeLine) : Type 0 where
+  pub order : IsInOrder lines
+  pub each : AllByRecursion (λ line. IsSound (members_of lines) line.statement) lines
+  pub names : IsDistinct same_bytes (names_of lines)
+  pub few : length (names_of lines) ≤ 1024
+  pub loads : AllByRecursion IsSmallLoad (loads_of lines)

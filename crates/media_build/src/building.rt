@@ -1,0 +1,65 @@
+//! Building the media set that a recipe names.
+ghost use Rattle.std.specs.Prelude.{◌≡◌, ℕ, ◌≤◌, [], IfOk};
+ghost use Rattle.std.specs.Option.{ForSome};
+ghost use Rattle.media_check.specs.BuiltSets.{built_media};
+ghost use Rattle.media_check.specs.Findings.{findings_of};
+ghost use Rattle.media_check.specs.Sets.{set_in};
+ghost use Rattle.media_lists.specs.Files.{IsFilesList};
+ghost use Rattle.media_lists.specs.Loads.{IsLoadsList, loads_list_view};
+ghost use Rattle.media_build.specs.Building.{AnswersSizes, Builds, HasBuildCause, HasLists};
+ghost use Rattle.media_build.specs.Building.{IsSmall, files_beside, of_member};
+
+use crate::bodies::read_bodies;
+use crate::building_fault::BuildFault;
+use crate::laws::what_is_built_has_no_finding;
+use crate::lists::{files_list, files_lists, loads_list, loads_lists};
+use crate::recipe::Recipe;
+use crate::sizes::headers_length;
+use load_base::{Host, List, NoMemory};
+use media_check::{Built, Placed};
+use media_lists::LoadsList;
+use std::alloc::Global;
+
+/// Builds the set that a recipe names, of sources that the host has (docs/FORMATS.md, "Recipe").
+///
+/// The sizes that the recipe alone decides are tested first, before a source is read:
+/// [`BuildFault::HeaderTooLong`] for the first load whose header has more than 65,536 bytes, and
+/// then [`BuildFault::ListTooLong`] where a list breaks a limit of its format. The sources are read
+/// in the order of their lines, each as often as it is named, and refused at the first that is
+/// absent, that has more than 16,777,215 bytes, or with which all headers and the sources so far
+/// have more than 268,435,456 bytes together.
+pub fn build<H: Host>(alloc: Global, recipe: &Recipe, host: &mut H) -> Result<Built, BuildFault>
+    // The sizes come first.
+    ensures sizes { AnswersSizes recipe.now result }
+    // With Ok the set that the recipe names; else the first source that is refused.
+    ensures builds { ForSome (H.files host.old) (Builds recipe.now result) }
+    ensures small { IfOk result IsSmall }
+    ensures sound { ForSome (H.files host.old) (λ files. IfOk result (λ built.
+        findings_of (set_in (built_media built)) ≡ [])) }
+    // Whatever it answers.
+    ensures cause { HasBuildCause (H.faults host.old) (H.faults host.new) result }
+    ensures kept { H.files host.new ≡ H.files host.old }
+{
+    what_is_built_has_no_finding();
+    let lines = recipe.lines();
+    let headers = headers_length(alloc, lines)?;
+    let loads = loads_list(alloc, lines)?;
+    let bodies = read_bodies(alloc, host, lines, headers)?;
+    Ok(with_lists(alloc, loads, bodies)?)
+}
+
+// The set of these files, with this list of loads in each member.
+fn with_lists(alloc: Global, loads: LoadsList, bodies: List<Placed>) -> Result<Built, NoMemory>
+    requires loads { (member : ℕ) → 1 ≤ member → member ≤ loads.members
+        → IsLoadsList (of_member (loads_list_view loads) member) }
+    requires files { (member : ℕ) → 1 ≤ member → member ≤ loads.members
+        → IsFilesList (files_beside (loads_list_view loads) bodies.items member) }
+    ensures { IfOk result (HasLists (loads_list_view loads) bodies.items) }
+{
+    let files = files_list(alloc, &loads, bodies.as_slice())?;
+    Ok(Built {
+        loads: loads_lists(alloc, loads)?,
+        files: files_lists(alloc, files)?,
+        bodies,
+    })
+}
