@@ -2,7 +2,8 @@
 ghost use Rattle.std.specs.Prelude.{◌≡◌, ◌+◌, []};
 ghost use Rattle.tftp_packet.specs.Options.{AreInRange};
 ghost use Rattle.tftp_packet.specs.Packets.{Data, Oack, Error, packet_view, IsInRange};
-ghost use Rattle.tftp_link.specs.Answers.{is_sent_by, news_by, news_view};
+ghost use Rattle.tftp_link.specs.Answers.{is_awaited_by, is_finished, is_sent_by};
+ghost use Rattle.tftp_link.specs.Answers.{news_by, news_view};
 ghost use Rattle.tftp_link.specs.Blocks.{is_block};
 ghost use Rattle.tftp_link.specs.Receiver.{receiver_asking, receiver_serving, receiver_answer};
 ghost use Rattle.tftp_link.specs.Receiver.{receiver_moved, receiver_after, receiver_first};
@@ -92,6 +93,13 @@ impl Receiving {
         }
     }
 
+    /// Whether the file was taken whole.
+    pub fn is_whole(&self) -> bool
+        ensures { result ≡ is_finished self.now.phase }
+    {
+        matches!(self.phase, Phase::Finished)
+    }
+
     /// The packet that this end sent last.
     pub fn again(&self) -> Packet<'_>
         ensures is { packet_view result ≡ receiver_packet self.now }
@@ -111,12 +119,14 @@ impl Receiving {
             ≡ news_by (receiver_answer self.old (packet_view packet.now)) }
         ensures send { result.send
             ≡ is_sent_by (receiver_answer self.old (packet_view packet.now)) }
+        ensures awaited { result.awaited
+            ≡ is_awaited_by (receiver_answer self.old (packet_view packet.now)) }
     {
         match packet {
             Packet::Data { block, payload } => self.on_data(*block, payload),
             Packet::Oack { options } => self.on_oack(options),
             Packet::Error { code, text: _ } => self.on_error(*code),
-            _ => Step::without_news(false),
+            _ => Step::unawaited(false),
         }
     }
 
@@ -126,13 +136,15 @@ impl Receiving {
             ≡ news_by (receiver_answer self.old (Data block payload.now)) }
         ensures send { result.send
             ≡ is_sent_by (receiver_answer self.old (Data block payload.now)) }
+        ensures awaited { result.awaited
+            ≡ is_awaited_by (receiver_answer self.old (Data block payload.now)) }
     {
         let is_next = self.is_next_block(block, payload);
         let is_again = self.is_last_block(block, payload);
         match self.phase {
             Phase::Waiting | Phase::Running if is_next => self.take(block, payload),
-            Phase::Running | Phase::Finished if is_again => Step::without_news(true),
-            _ => Step::without_news(false),
+            Phase::Running | Phase::Finished if is_again => Step::unawaited(true),
+            _ => Step::unawaited(false),
         }
     }
 
@@ -156,18 +168,21 @@ impl Receiving {
         ensures state { self.new ≡ receiver_moved self.old (taken_answer self.old payload.now) }
         ensures news { news_view result.news ≡ news_by (taken_answer self.old payload.now) }
         ensures send { result.send ≡ is_sent_by (taken_answer self.old payload.now) }
+        ensures awaited { result.awaited ≡ is_awaited_by (taken_answer self.old payload.now) }
     {
         self.taken = block;
         if payload.len() < usize::from(self.size) {
             self.phase = Phase::Finished;
             return Step {
                 send: true,
+                awaited: true,
                 news: News::Last(payload),
             };
         }
         self.phase = Phase::Running;
         Step {
             send: true,
+            awaited: true,
             news: News::Block(payload),
         }
     }
@@ -177,16 +192,18 @@ impl Receiving {
         ensures news { news_view result.news
             ≡ news_by (receiver_answer self.old (Oack options.now)) }
         ensures send { result.send ≡ is_sent_by (receiver_answer self.old (Oack options.now)) }
+        ensures awaited { result.awaited
+            ≡ is_awaited_by (receiver_answer self.old (Oack options.now)) }
     {
         match self.phase {
             Phase::Waiting if may_grant(&self.asked, options) => {
                 self.granted = Some(*options);
                 self.size = block_size_of(options);
                 self.phase = Phase::Running;
-                Step::without_news(true)
+                Step::proceeding()
             }
-            Phase::Running => Step::without_news(self.taken == 0 && self.were_granted(options)),
-            _ => Step::without_news(false),
+            Phase::Running => Step::unawaited(self.taken == 0 && self.were_granted(options)),
+            _ => Step::unawaited(false),
         }
     }
 
@@ -204,13 +221,16 @@ impl Receiving {
         ensures state { self.new ≡ receiver_after self.old (Error code []) }
         ensures news { news_view result.news ≡ news_by (receiver_answer self.old (Error code [])) }
         ensures send { result.send ≡ is_sent_by (receiver_answer self.old (Error code [])) }
+        ensures awaited { result.awaited
+            ≡ is_awaited_by (receiver_answer self.old (Error code [])) }
     {
         if !self.phase.is_live() {
-            return Step::without_news(false);
+            return Step::unawaited(false);
         }
         self.phase = Phase::Failed(code);
         Step {
             send: false,
+            awaited: true,
             news: News::PeerError(code),
         }
     }

@@ -2,7 +2,7 @@
 ghost use Rattle.std.specs.Prelude.{◌≡◌, ◌+◌, ◌≤◌, ◌&&◌, [], length, true};
 ghost use Rattle.tftp_packet.specs.Options.{AreInRange};
 ghost use Rattle.tftp_packet.specs.Packets.{Ack, Oack, Error, packet_view, IsInRange};
-ghost use Rattle.tftp_link.specs.Answers.{Nothing, is_sent_by, news_by, news_view};
+ghost use Rattle.tftp_link.specs.Answers.{Nothing, is_awaited_by, is_sent_by, news_by, news_view};
 ghost use Rattle.tftp_link.specs.Negotiation.{may_grant, fits_said, block_count};
 ghost use Rattle.tftp_link.specs.Sender.{contents, sender_asking, sender_serving, sender_granting};
 ghost use Rattle.tftp_link.specs.Sender.{sender_answer, sender_moved, sender_after, sender_first};
@@ -143,12 +143,14 @@ impl<'f> Sending<'f> {
         ensures news { news_view result.news
             ≡ news_by (sender_answer self.old (packet_view packet.now)) }
         ensures send { result.send ≡ is_sent_by (sender_answer self.old (packet_view packet.now)) }
+        ensures awaited { result.awaited
+            ≡ is_awaited_by (sender_answer self.old (packet_view packet.now)) }
     {
         match packet {
             Packet::Ack { block } => self.on_ack(*block),
             Packet::Oack { options } => self.on_oack(options),
             Packet::Error { code, text: _ } => self.on_error(*code),
-            _ => Step::without_news(false),
+            _ => Step::unawaited(false),
         }
     }
 
@@ -156,11 +158,12 @@ impl<'f> Sending<'f> {
         ensures state { self.new ≡ sender_after self.old (Ack block) }
         ensures news { news_view result.news ≡ news_by (sender_answer self.old (Ack block)) }
         ensures send { result.send ≡ is_sent_by (sender_answer self.old (Ack block)) }
+        ensures awaited { result.awaited ≡ is_awaited_by (sender_answer self.old (Ack block)) }
     {
         match self.phase {
             Phase::Waiting if block == 0 => self.send_next(self.size),
             Phase::Running if block == self.sent => self.go_on(),
-            _ => Step::without_news(false),
+            _ => Step::unawaited(false),
         }
     }
 
@@ -169,12 +172,14 @@ impl<'f> Sending<'f> {
         ensures state { self.new ≡ sender_moved self.old (awaited_answer self.old) }
         ensures news { news_view result.news ≡ news_by (awaited_answer self.old) }
         ensures send { result.send ≡ is_sent_by (awaited_answer self.old) }
+        ensures awaited { result.awaited ≡ is_awaited_by (awaited_answer self.old) }
     {
         let length = self.file.as_slice().len();
         if usize::from(self.sent) == length / usize::from(self.size) + 1 {
             self.phase = Phase::Finished;
             return Step {
                 send: false,
+                awaited: true,
                 news: News::Done,
             };
         }
@@ -189,11 +194,12 @@ impl<'f> Sending<'f> {
         ensures state { self.new ≡ with_next self.old size }
         ensures news { news_view result.news ≡ Nothing }
         ensures send { result.send ≡ true }
+        ensures awaited { result.awaited ≡ true }
     {
         self.size = size;
         self.sent += 1;
         self.phase = Phase::Running;
-        Step::without_news(true)
+        Step::proceeding()
     }
 
     #[tactic(auto, using(crate::proofs::Fits::said_fits))]
@@ -202,10 +208,12 @@ impl<'f> Sending<'f> {
         ensures state { self.new ≡ sender_after self.old (Oack options.now) }
         ensures news { news_view result.news ≡ news_by (sender_answer self.old (Oack options.now)) }
         ensures send { result.send ≡ is_sent_by (sender_answer self.old (Oack options.now)) }
+        ensures awaited { result.awaited
+            ≡ is_awaited_by (sender_answer self.old (Oack options.now)) }
     {
         match self.phase {
             Phase::Waiting if self.is_bound_by(options) => self.send_next(block_size_of(options)),
-            _ => Step::without_news(false),
+            _ => Step::unawaited(false),
         }
     }
 
@@ -223,13 +231,15 @@ impl<'f> Sending<'f> {
         ensures state { self.new ≡ sender_after self.old (Error code []) }
         ensures news { news_view result.news ≡ news_by (sender_answer self.old (Error code [])) }
         ensures send { result.send ≡ is_sent_by (sender_answer self.old (Error code [])) }
+        ensures awaited { result.awaited ≡ is_awaited_by (sender_answer self.old (Error code [])) }
     {
         if !self.phase.is_live() {
-            return Step::without_news(false);
+            return Step::unawaited(false);
         }
         self.phase = Phase::Failed(code);
         Step {
             send: false,
+            awaited: true,
             news: News::PeerError(code),
         }
     }
