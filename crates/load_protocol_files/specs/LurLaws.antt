@@ -15,7 +15,7 @@ use Rattle.load_base.specs.Name.{IsName}
 use Rattle.part_number.specs.PartNumber.{IsPartNumberText}
 use Rattle.load_protocol_files.specs.declared.lur.Wanted.{Wanted}
 use Rattle.load_protocol_files.specs.Pieces.{name, part, counted, counted_fields}
-use Rattle.load_protocol_files.specs.Lur.{to_wanted, wanted, wanted_fields, WantedFits, LurView, to_lur, lur_body, lur_fields, LurFits}
+use Rattle.load_protocol_files.specs.Lur.{to_wanted, wanted, wanted_fields, WantedFits, LurView, to_lur, lur_body, lur_fields, LurFits, LurSpells}
 use Rattle.load_protocol_files.specs.PieceLaws.{spelled-name, spelled-part, spelled-counted_list}
 
 from_wanted : Wanted → List ℕ × List ℕ
@@ -45,9 +45,18 @@ wanted_size : (v : Wanted) → WantedFits v → length (concat (wanted_fields v)
 wanted_size v fits =
     rw (concat-append, length-append, size_short v.header, size_short v.part) (omega (arith, fits.header.size.1, part_size v.part fits.part))
 
+-- the bytes of its fields: the count of its loads, and at most 81 each
+lur_size : (v : LurView) → LurFits v → length (concat (lur_fields v)) ≤ 2 + length v.loads * 81
+unfolding counted_fields
+lur_size v fits =
+    let loads : length (concat (flat_map wanted_fields v.loads)) ≤ length v.loads * 81 = at_most_each wanted_fields (λ w. WantedFits w) 81 wanted_size v.loads fits.loads in
+    rw (length-append, length_number_bytes) (omega (arith, loads))
+
 -- it always fits the four bytes of its length
 pub lur_is_small : (v : LurView) → LurFits v → 6 + length (concat (lur_fields v)) < 2 ^ 32
-unfolding counted_fields
-lur_is_small v fits =
-    let loads : length (concat (flat_map wanted_fields v.loads)) ≤ length v.loads * 81 = at_most_each wanted_fields (λ w. WantedFits w) 81 wanted_size v.loads fits.loads in
-    rw (length-append, length_number_bytes) (omega (arith, loads, fits.count))
+lur_is_small v fits = omega (arith, lur_size v fits, fits.count)
+
+-- the whole file
+pub file_size : (v : LurView) (bytes : List ℕ) → LurSpells v bytes → length bytes ≤ 8 + length v.loads * 81
+file_size v bytes is =
+    rw (is.1.written, length-append, length-append, length_number_bytes 4 (6 + length (concat (lur_fields v))), length_number_bytes 2 16691) (omega (arith, lur_size v is.0))

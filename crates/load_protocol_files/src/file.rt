@@ -58,6 +58,7 @@ pub(crate) fn decode<F: ProtocolFile>(alloc: Global, bytes: &[u8]) -> Result<F, 
         (fault ≡ Memory) ⊎ Fault (file F.body) bytes.now fault) }
     ensures faulty { (fault : FileFault) → Fault (file F.body) bytes.now fault
         → Gives Memory F.view result (Err fault) }
+    ensures answers { Gives Memory F.view result (answer (file F.body) bytes.now) }
 {
     read_file::<F>(alloc, bytes)
 }

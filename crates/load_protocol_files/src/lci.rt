@@ -1,7 +1,7 @@
 //! Configuration initialization files.
 ghost use Rattle.std.specs.Prelude.{◌≡◌, ◌⊎◌, List, ℕ, IfOk, IfErr};
 ghost use Rattle.field_grammar.specs.Grammar.{Fault};
-ghost use Rattle.field_grammar.specs.Answers.{Gives};
+ghost use Rattle.field_grammar.specs.Answers.{Gives, answer};
 ghost use Rattle.load_protocol_files.specs.declared.fault.FileFault.{FileFault};
 ghost use Rattle.load_protocol_files.specs.declared.fault.FileFault.TheVariants.{Memory};
 ghost use Rattle.load_protocol_files.specs.Lci.{lci, LciSpells};
@@ -33,6 +33,7 @@ impl Lci {
         ensures refused { IfErr result (λ e. (e ≡ Memory) ⊎ Fault lci bytes.now e) }
         ensures faulty { (f : FileFault) → Fault lci bytes.now f
             → Gives Memory (λ v. v) result (Err f) }
+        ensures answers { Gives Memory (λ v. v) result (answer lci bytes.now) }
     {
         file::decode(alloc, bytes)
     }

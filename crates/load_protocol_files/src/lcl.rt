@@ -58,6 +58,7 @@ impl Lcl {
         ensures refused { IfErr result (λ e. (e ≡ Memory) ⊎ Fault lcl bytes.now e) }
         ensures faulty { (f : FileFault) → Fault lcl bytes.now f
             → Gives Memory lcl_view result (Err f) }
+        ensures answers { Gives Memory lcl_view result (answer lcl bytes.now) }
     {
         file::decode(alloc, bytes)
     }

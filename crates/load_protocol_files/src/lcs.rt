@@ -41,6 +41,7 @@ impl Lcs {
         ensures refused { IfErr result (λ e. (e ≡ Memory) ⊎ Fault lcs bytes.now e) }
         ensures faulty { (f : FileFault) → Fault lcs bytes.now f
             → Gives Memory (λ v. v) result (Err f) }
+        ensures answers { Gives Memory (λ v. v) result (answer lcs bytes.now) }
     {
         file::decode(alloc, bytes)
     }

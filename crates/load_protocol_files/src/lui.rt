@@ -1,7 +1,7 @@
 //! Upload initialization files.
 ghost use Rattle.std.specs.Prelude.{◌≡◌, ◌⊎◌, List, ℕ, IfOk, IfErr};
 ghost use Rattle.field_grammar.specs.Grammar.{Fault};
-ghost use Rattle.field_grammar.specs.Answers.{Gives};
+ghost use Rattle.field_grammar.specs.Answers.{Gives, answer};
 ghost use Rattle.load_protocol_files.specs.declared.fault.FileFault.{FileFault};
 ghost use Rattle.load_protocol_files.specs.declared.fault.FileFault.TheVariants.{Memory};
 ghost use Rattle.load_protocol_files.specs.Lui.{lui, LuiSpells};
@@ -33,6 +33,7 @@ impl Lui {
         ensures refused { IfErr result (λ e. (e ≡ Memory) ⊎ Fault lui bytes.now e) }
         ensures faulty { (f : FileFault) → Fault lui bytes.now f
             → Gives Memory (λ v. v) result (Err f) }
+        ensures answers { Gives Memory (λ v. v) result (answer lui bytes.now) }
     {
         file::decode(alloc, bytes)
     }

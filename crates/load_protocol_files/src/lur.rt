@@ -1,5 +1,6 @@
 //! Upload request files.
-ghost use Rattle.std.specs.Prelude.{◌≡◌, ◌↔◌, IsTrue, ◌++◌, ◌⊎◌, ◌≤◌, ◌<◌, ◌^◌, List, ℕ, length};
+ghost use Rattle.std.specs.Prelude.{◌≡◌, ◌+◌, ◌*◌, ◌↔◌, IsTrue, ◌++◌, ◌⊎◌, ◌≤◌, ◌<◌, ◌^◌};
+ghost use Rattle.std.specs.Prelude.{List, ℕ, length};
 ghost use Rattle.std.specs.Prelude.{IfOk, IfErr, OnOk};
 ghost use Rattle.std.specs.List.{concat, flat_map, All};
 ghost use Rattle.field_grammar.specs.Grammar.{Fault, times};
@@ -43,6 +44,7 @@ impl Lur {
         ensures refused { IfErr result (λ e. (e ≡ Memory) ⊎ Fault lur bytes.now e) }
         ensures faulty { (f : FileFault) → Fault lur bytes.now f
             → Gives Memory lur_view result (Err f) }
+        ensures answers { Gives Memory lur_view result (answer lur bytes.now) }
     {
         file::decode(alloc, bytes)
     }
@@ -57,7 +59,9 @@ impl Lur {
     /// The bytes that spell the file, which has at most 65,535 loads.
     pub fn encode(&self, alloc: Global) -> Result<Bytes, NoMemory>
         requires { IsWritableLur self.now }
-        ensures { IfOk result (λ bytes. LurSpells (lur_view self.now) bytes.items) }
+        ensures spells { IfOk result (λ bytes. LurSpells (lur_view self.now) bytes.items) }
+        ensures size { IfOk result
+            (λ bytes. length bytes.items ≤ 8 + length self.now.loads.items * 81) }
     {
         file::encode(alloc, self)
     }

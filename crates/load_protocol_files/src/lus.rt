@@ -64,6 +64,7 @@ impl Lus {
         ensures refused { IfErr result (λ e. (e ≡ Memory) ⊎ Fault lus bytes.now e) }
         ensures faulty { (f : FileFault) → Fault lus bytes.now f
             → Gives Memory lus_view result (Err f) }
+        ensures answers { Gives Memory lus_view result (answer lus bytes.now) }
     {
         file::decode(alloc, bytes)
     }
