@@ -1,6 +1,6 @@
 -- Proofs that what is installed are the media set's files.
-use Rattle.std.proofs.Common.{◌≡◌, inl, inr, ⊎_elim, ℕ, ◌≤◌, Bool, true, false, cond, List, [], ◌∷◌, ◌++◌, length, map, Option, Some, None, refl, sym, ap, subst, ◌∙◌, append_assoc}
-use Rattle.std.specs.Prelude.{bytes_eq, filter, ◌==◌}
+use Rattle.std.proofs.Common.{◌≡◌, inl, inr, ⊎_elim, ℕ, Bool, true, false, cond, List, [], ◌∷◌, ◌++◌, map, Option, Some, None, refl, sym, ap, subst, ◌∙◌, append_assoc}
+use Rattle.std.specs.Prelude.{filter, ◌==◌}
 use Rattle.std.specs.List.{AllByRecursion, AllZip}
 use Rattle.std.proofs.lemmas.Bool.{eq-eqb}
 use Rattle.std.proofs.lemmas.List.{append_cancel_left}
@@ -30,7 +30,7 @@ use Rattle.transfer_end.specs.SentPacketLaws.{read_is_spelled}
 use Rattle.transfer_end.specs.Transfers.{Reads, Role, ServesRead, ServesWrite, Transfer, Writes, arrived_of, end_in, first_packet, is_reading, is_received, name_of}
 use Rattle.session_rules.specs.BufferLaws.{SumsJoin}
 use Rattle.session_rules.specs.Fairness.{IsLoaderRole}
-use Rattle.session_rules.specs.MediaFiles.{Media, file_named}
+use Rattle.session_rules.specs.MediaFiles.{Media}
 use Rattle.session_rules.specs.NewConfigs.{AreOfMedia, IsAsSaid, IsGoodLoad, IsWanted, file_read, files_in, reads_in}
 use Rattle.session_rules.specs.ReadFileLaws.{RequestsAreSpelled, target_step_reads}
 use Rattle.session_rules.specs.ReadFiles.{AreNamed, InstallsWhatWasRead, SessionReads}
@@ -87,7 +87,7 @@ loads_named Accepts id (w ∷ request) (load ∷ loads) (one, named) (is, each) 
 -- ---- a file that was read is the media set's
 
 abbrev IsOfMedia : Media → FileView → Type 0
-IsOfMedia media file = file_named file.name media.files ≡ Some file.bytes
+IsOfMedia media file = media.file file.name ≡ Some file.bytes
 
 all_reads : (media : Media) (done : List Transfer) → ((t : Transfer) → Among t done → is_reading t.role ≡ true → IsName (name_of t.role) → IsOfMedia media (file_read t)) → AllByRecursion HasName (reads_in done) → AllByRecursion (IsOfMedia media) (reads_in done)
 all_reads media [] each named = tt
@@ -104,22 +104,14 @@ read_name_is_read name uname asked o named spells =
     let rest = append_cancel_left (number_bytes 2 1) _ _ same in
     sym (before_zero_same uname name _ _ named.good spells.is_name.good (sym (append_assoc uname (0 ∷ []) _) ∙ rest ∙ append_assoc name (0 ∷ []) _))
 
-file_fits : (name : List ℕ) (files : List FileView) (bytes : List ℕ) → AllByRecursion (λ (file : FileView). length file.bytes ≤ 4294967295) files → file_named name files ≡ Some bytes → length bytes ≤ 4294967295
-file_fits name [] bytes all e = absurd cc
-file_fits name (f ∷ files) bytes (one, all) e = by (bytes_eq f.name name) (λ h. file_fits name files bytes all h) e
-  where
-    by : (b : Bool) → (file_named name files ≡ Some bytes → length bytes ≤ 4294967295) → cond b (Some f.bytes) (file_named name files) ≡ Some bytes → length bytes ≤ 4294967295
-    by true rest h = let same : f.bytes ≡ bytes = cc in subst (λ (x : List ℕ). length x ≤ 4294967295) same one
-    by false rest h = rest h
-
 -- the file that the loader gave
 given_file : (media : Media) (role urole : Role) (file arrived : List ℕ) → LengthsAreTold media → IsName (name_of role) → is_reading role ≡ true → is_asking urole ≡ false → file_sent urole ≡ Some file → IsLoaderRole media urole
-    → packet_in (packet_bytes (first_packet role)) ≡ request_taken urole → IsBytes (packet_bytes (first_packet role)) → (TellsLength urole → arrived ≡ file) → file_named (name_of role) media.files ≡ Some arrived
+    → packet_in (packet_bytes (first_packet role)) ≡ request_taken urole → IsBytes (packet_bytes (first_packet role)) → (TellsLength urole → arrived ≡ file) → media.file (name_of role) ≡ Some arrived
 given_file media (Reads name o) (ServesRead uname uo f) file arrived told named reads serves sent held request fit whole =
     let spells : PacketSpells (Rrq uname uo) (packet_bytes (Rrq name o)) = read_is_spelled (packet_bytes (Rrq name o)) (Rrq uname uo) fit request in
     let same : uname ≡ name = read_name_is_read uname name uo o named spells in
     let bytes : f ≡ file = cc in
-    ap (λ (n : List ℕ). file_named n media.files) (sym same) ∙ held ∙ ap (λ (x : List ℕ). Some x) (bytes ∙ sym (whole (file_fits uname media.files f told held)))
+    ap (λ (n : List ℕ). media.file n) (sym same) ∙ held ∙ ap (λ (x : List ℕ). Some x) (bytes ∙ sym (whole (told uname f held)))
 given_file media (Reads name o) (ServesWrite uname uo) file arrived told named reads serves sent held request fit whole = absurd cc
 given_file media (Reads name o) (Reads uname uo) file arrived told named reads serves sent held request fit whole = absurd cc
 given_file media (Reads name o) (Writes uname uo f) file arrived told named reads serves sent held request fit whole = absurd cc

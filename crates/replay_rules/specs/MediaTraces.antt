@@ -1,7 +1,5 @@
 -- What is installed in a run are the media set's files (docs/EXCHANGE.md, "Runs").
-use Rattle.std.specs.Prelude.{◌≡◌, ◌≤◌, List, length, true}
-use Rattle.std.specs.List.{AllByRecursion}
-use Rattle.load_base.specs.Config.{FileView}
+use Rattle.std.specs.Prelude.{◌≡◌, ℕ, ◌≤◌, List, length, true, Some}
 use Rattle.load_header.specs.Header.{HeaderView}
 use Rattle.exchange_trace.specs.Steps.{Step}
 use Rattle.accept_rules.specs.Permissions.{Permits}
@@ -12,7 +10,7 @@ use Rattle.replay_rules.specs.Promises.{AllOfMedia}
 
 -- each file of the media set has no more bytes than the option `tsize` can tell (RFC 2349)
 abbrev pub LengthsAreTold : Media → Type 0
-LengthsAreTold media = AllByRecursion (λ (file : FileView). length file.bytes ≤ 4294967295) media.files
+LengthsAreTold media = (name bytes : List ℕ) → media.file name ≡ Some bytes → length bytes ≤ 4294967295
 
 -- Where nothing is injected, each file of each configuration that an install step brings is the media set's file of its
 -- name, through losses, repeats, other orders, power losses and boots.

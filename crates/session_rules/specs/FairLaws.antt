@@ -27,7 +27,7 @@ use Rattle.session_rules.specs.Loader as loader
 use Rattle.session_rules.specs.LoaderLaws.{end_stays as loader_end_stays}
 use Rattle.session_rules.specs.LoaderLog.{loader_due, loader_reading, loader_view}
 use Rattle.session_rules.specs.LoaderRows.{Comes_to, Goes_on, LoaderRow, Reads_lci, Reads_lui, Serves_files, Takes_lcl, Takes_lcs, Takes_lus, Turn, Writes_lur, file_turn, first_row, kind_taken, row_after, serves_files}
-use Rattle.session_rules.specs.MediaFiles.{Media, file_named, wanted_of}
+use Rattle.session_rules.specs.MediaFiles.{Media, wanted_of}
 use Rattle.session_rules.specs.Target as target
 use Rattle.session_rules.specs.TargetLaws.{end_stays as target_end_stays}
 use Rattle.session_rules.specs.TargetLog.{TargetReading, target_due, target_extended, target_view}
@@ -108,7 +108,7 @@ module _ (media : Media) (v : EndView) where
     taken_fits role at serves is has =
         loader_if (Gets from to bytes) (is_fresh v from) _ _ (loader_if (Gets from to bytes) (has_port v) _ _ (((refl, at, serves, is), tt), (has, tt)) ((tt, tt), (tt, tt))) (tt, tt)
 
-    read_fits : (name : List ℕ) (o : Options) (found : Option (List ℕ)) → file_named name media.files ≡ found → to ≡ 59 → packet_in bytes ≡ Some (Rrq name o) → LoaderFit (Gets from to bytes) (loader.read_decision v from name o found)
+    read_fits : (name : List ℕ) (o : Options) (found : Option (List ℕ)) → media.file name ≡ found → to ≡ 59 → packet_in bytes ≡ Some (Rrq name o) → LoaderFit (Gets from to bytes) (loader.read_decision v from name o found)
     read_fits name o None held at is = ((tt, tt), (tt, tt))
     read_fits name o (Some file) held at is = taken_fits (ServesRead name o file) at refl is held
 
@@ -117,7 +117,7 @@ module _ (media : Media) (v : EndView) where
     write_fits s name o (Some kind) at is = loader_if (Gets from to bytes) (bytes_eq name (file_name s.hw s.pos kind)) _ _ (taken_fits (ServesWrite name o) at refl is tt) (tt, tt)
 
     request_fits : (s : loader.LoaderSession) (p : PacketView) → to ≡ 59 → packet_in bytes ≡ Some p → LoaderFit (Gets from to bytes) (loader.request_decision media v s from p)
-    request_fits s (Rrq name o) at is = loader_if (Gets from to bytes) (serves_files s.row) _ _ (read_fits name o (file_named name media.files) refl at is) (tt, tt)
+    request_fits s (Rrq name o) at is = loader_if (Gets from to bytes) (serves_files s.row) _ _ (read_fits name o (media.file name) refl at is) (tt, tt)
     request_fits s (Wrq name o) at is = write_fits s.start name o (kind_taken s.row) at is
     request_fits s (Data k b) at is = (tt, tt)
     request_fits s (Ack k) at is = (tt, tt)

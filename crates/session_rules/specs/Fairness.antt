@@ -13,14 +13,14 @@ use Rattle.transfer_end.specs.Views.{EndView}
 use Rattle.session_rules.specs.declared.outcome.FileKind.{FileKind}
 use Rattle.session_rules.specs.Loader.{LoaderView, loader_decision}
 use Rattle.session_rules.specs.LoaderLog.{LoaderReading, loader_due, loader_extended, loader_reading}
-use Rattle.session_rules.specs.MediaFiles.{Media, file_named}
+use Rattle.session_rules.specs.MediaFiles.{Media}
 use Rattle.session_rules.specs.Target.{TargetView, own_file, row_request, target_decision}
 use Rattle.session_rules.specs.TargetLog.{TargetReading, target_due, target_extended}
 use Rattle.session_rules.specs.TargetRows.{RowView}
 
 -- a file that the loader gives is the media set's file of its name
 abbrev pub IsLoaderRole : Media → Role → Type 0
-IsLoaderRole media (ServesRead name options file) = file_named name media.files ≡ Some file
+IsLoaderRole media (ServesRead name options file) = media.file name ≡ Some file
 IsLoaderRole media role = ⊤
 
 -- what the target asks for, some row asks for; a file that it gives is one of its own

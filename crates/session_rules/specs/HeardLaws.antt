@@ -28,7 +28,7 @@ use Rattle.session_rules.specs.Loader as loader
 use Rattle.session_rules.specs.LoaderLaws.{end_stays as loader_end_stays}
 use Rattle.session_rules.specs.LoaderLog.{loader_reading, loader_view}
 use Rattle.session_rules.specs.LoaderRows.{Comes_to, Goes_on, Turn, file_turn, first_row, kind_taken, row_after, serves_files}
-use Rattle.session_rules.specs.MediaFiles.{Media, file_named, wanted_of}
+use Rattle.session_rules.specs.MediaFiles.{Media, wanted_of}
 use Rattle.session_rules.specs.Target as target
 use Rattle.session_rules.specs.TargetLaws.{end_stays as target_end_stays}
 use Rattle.session_rules.specs.TargetLog.{TargetReading, target_extended, target_reading, target_view}
@@ -68,7 +68,7 @@ module _ (v : EndView) where
     write_heard s name o (Some kind) = loader_if (Gets from to bytes) (bytes_eq name (file_name s.hw s.pos kind)) _ _ (taken_heard (ServesWrite name o)) tt
 
     request_heard : (media : Media) (s : loader.LoaderSession) (p : PacketView) → LoaderHeard (Gets from to bytes) (loader.request_decision media v s from p)
-    request_heard media s (Rrq name o) = loader_if (Gets from to bytes) (serves_files s.row) _ _ (read_heard name o (file_named name media.files)) tt
+    request_heard media s (Rrq name o) = loader_if (Gets from to bytes) (serves_files s.row) _ _ (read_heard name o (media.file name)) tt
     request_heard media s (Wrq name o) = write_heard s.start name o (kind_taken s.row)
     request_heard media s (Data k b) = tt
     request_heard media s (Ack k) = tt

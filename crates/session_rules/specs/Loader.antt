@@ -23,7 +23,7 @@ use Rattle.session_rules.specs.declared.outcome.Outcome.TheVariants.{Completed, 
 use Rattle.session_rules.specs.Buffers.{Buffer, empty_buffer, buffered_more}
 use Rattle.session_rules.specs.FileNames.{file_name}
 use Rattle.session_rules.specs.LoaderRows.{LoaderRow, Reads_lci, Reads_lui, Writes_lur, Turn, Goes_on, Comes_to, first_row, row_after, kind_taken, serves_files, file_turn}
-use Rattle.session_rules.specs.MediaFiles.{Media, file_named, wanted_of}
+use Rattle.session_rules.specs.MediaFiles.{Media, wanted_of}
 use Rattle.session_rules.specs.Reports.{lur_file}
 
 -- how a session was started: the target's hardware and position, and the loads that an upload asks for
@@ -133,7 +133,7 @@ write_decision v s from name options (Some kind) =
 -- a packet to port 59, while no transfer is live
 abbrev pub request_decision : Media → EndView → LoaderSession → (from : ℕ) → PacketView → LoaderDecision
 request_decision media v s from (Rrq name options) =
-    if serves_files s.row then read_decision v from name options (file_named name media.files) else nothing
+    if serves_files s.row then read_decision v from name options (media.file name) else nothing
 request_decision media v s from (Wrq name options) = write_decision v s.start from name options (kind_taken s.row)
 request_decision media v s from packet = nothing
 

@@ -43,7 +43,7 @@ use Rattle.session_rules.specs.BufferLaws.{buffered_on}
 use Rattle.session_rules.specs.LoaderLaws.{FitsChange, decision_fits, end_stays, row_of_more, row_of_none}
 use Rattle.session_rules.specs.LoaderLog.{LoaderReading, SessionLog, loader_extended, loader_reading, loader_reading_changed, loader_view, newest, session_view}
 use Rattle.session_rules.specs.LoaderRoles.{CompletedListsArrived, EndsByFile, ListsArrived, TakesFile, FitsLoaderChange, IsOfLoaderRow, LoaderLiveFits, LoaderRoleFits, LoaderRolesFit, loader_row}
-use Rattle.session_rules.specs.MediaFiles.{Media, file_named, wanted_of}
+use Rattle.session_rules.specs.MediaFiles.{Media, wanted_of}
 use Rattle.session_rules.specs.Reports.{accepted, denied, in_progress, stopped}
 
 abbrev after : Reading → List Move → Reading
@@ -118,7 +118,7 @@ write_fits end s from name o (Some kind) is =
     (λ e. taken_fits end s from _ (takes_named s.start (loader_row s) kind name o is ((bytes_eq-Decides name (file_name s.start.hw s.start.pos kind)).0 e))) (λ e. stays_fits end (Some s) [] refl)
 
 request_fits : (media : Media) (end : Reading) (s : SessionLog) (from : ℕ) (p : PacketView) → Fits end (Some s) (request_decision media (end_view end) (kept s end) from p)
-request_fits media end s from (Rrq name o) = fits_if end (Some s) (serves_files (loader_row s)) _ _ (λ e. read_fits end s from name o (file_named name media.files) e) (λ e. stays_fits end (Some s) [] refl)
+request_fits media end s from (Rrq name o) = fits_if end (Some s) (serves_files (loader_row s)) _ _ (λ e. read_fits end s from name o (media.file name) e) (λ e. stays_fits end (Some s) [] refl)
 request_fits media end s from (Wrq name o) = write_fits end s from name o (kind_taken (loader_row s)) refl
 request_fits media end s from (Data k b) = stays_fits end (Some s) [] refl
 request_fits media end s from (Ack k) = stays_fits end (Some s) [] refl

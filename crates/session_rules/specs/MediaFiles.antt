@@ -3,15 +3,16 @@ use Rattle.std.specs.Prelude.{ℕ, List, [], ◌∷◌, bytes_eq, Option, Some, 
 use Rattle.load_base.specs.Config.{FileView}
 use Rattle.load_protocol_files.specs.declared.lur.Wanted.{Wanted}
 
--- the entries of its list of loads, each by the name of its header and its part number, and the files that are there
+-- the entries of its list of loads, each by the name of its header and its part number, and the bytes of the files that are
+-- there, by their names
 pub record Media : Type 0 where
   pub loads : List Wanted
-  pub files : List FileView
+  pub file : (name : List ℕ) → Option (List ℕ)
 
 -- the bytes of the first of these files with this name
-abbrev pub file_named : List ℕ → List FileView → Option (List ℕ)
-file_named name [] = None
-file_named name (file ∷ files) = if bytes_eq file.name name then Some file.bytes else file_named name files
+abbrev pub file_named : List FileView → (name : List ℕ) → Option (List ℕ)
+file_named [] name = None
+file_named (file ∷ files) name = if bytes_eq file.name name then Some file.bytes else file_named files name
 
 -- the first of these entries with this part number
 abbrev pub entry_with : List ℕ → List Wanted → Option Wanted

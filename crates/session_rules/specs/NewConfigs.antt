@@ -11,7 +11,7 @@ use Rattle.disk_layout.specs.declared.identity.Identity.{Identity}
 use Rattle.transfer_end.specs.Transfers.{Transfer, arrived_of, is_reading, name_of}
 use Rattle.accept_rules.specs.Permissions.{Permits}
 use Rattle.session_rules.specs.declared.reason.Reason.{Reason}
-use Rattle.session_rules.specs.MediaFiles.{Media, file_named}
+use Rattle.session_rules.specs.MediaFiles.{Media}
 use Rattle.session_rules.specs.Uploads.{files_of, covered, is_for}
 use Rattle.session_rules.specs.TargetRows.{Reads_file, Writes_progress, Writes_stop, Writes_completion, WholeRow}
 
@@ -90,4 +90,4 @@ pub record IsNewConfig (Accepts : HeaderView → Type 0) (id : Identity) (reques
 
 -- each file of these loads is the media set's file of its name
 abbrev pub AreOfMedia : Media → List LoadView → Type 0
-AreOfMedia media loads = AllByRecursion (λ (file : FileView). file_named file.name media.files ≡ Some file.bytes) (files_in loads)
+AreOfMedia media loads = AllByRecursion (λ (file : FileView). media.file file.name ≡ Some file.bytes) (files_in loads)

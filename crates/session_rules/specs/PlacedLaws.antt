@@ -29,7 +29,7 @@ use Rattle.session_rules.specs.Loader as loader
 use Rattle.session_rules.specs.LoaderLaws.{end_stays as loader_end_stays}
 use Rattle.session_rules.specs.LoaderLog.{loader_reading, loader_view}
 use Rattle.session_rules.specs.LoaderRows.{Comes_to, Goes_on, Turn, file_turn, first_row, kind_taken, row_after, serves_files}
-use Rattle.session_rules.specs.MediaFiles.{Media, file_named, wanted_of}
+use Rattle.session_rules.specs.MediaFiles.{Media, wanted_of}
 use Rattle.session_rules.specs.Target as target
 use Rattle.session_rules.specs.TargetLaws.{end_stays as target_end_stays}
 use Rattle.session_rules.specs.TargetLog.{TargetReading, target_extended, target_reading, target_view}
@@ -77,7 +77,7 @@ module _ (v : EndView) where
     write_placed s name o (Some kind) at = loader_if (Gets from to bytes) (bytes_eq name (file_name s.hw s.pos kind)) _ _ (taken_placed (ServesWrite name o) at) tt
 
     request_placed : (media : Media) (s : loader.LoaderSession) (p : PacketView) → to ≡ 59 → LoaderPlaced (Gets from to bytes) (loader.request_decision media v s from p)
-    request_placed media s (Rrq name o) at = loader_if (Gets from to bytes) (serves_files s.row) _ _ (read_placed name o (file_named name media.files) at) tt
+    request_placed media s (Rrq name o) at = loader_if (Gets from to bytes) (serves_files s.row) _ _ (read_placed name o (media.file name) at) tt
     request_placed media s (Wrq name o) at = write_placed s.start name o (kind_taken s.row) at
     request_placed media s (Data k b) at = tt
     request_placed media s (Ack k) at = tt

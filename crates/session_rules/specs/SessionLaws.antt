@@ -21,7 +21,7 @@ use Rattle.session_rules.specs.Loader as Loader
 use Rattle.session_rules.specs.Loader.{Advances, Begins, Begins_over, Continues, EndedSession, Ends, LoaderChange, LoaderDecision, LoaderSession, LoaderView, Start, ended_by, loader_after, loader_changed, loader_decision}
 use Rattle.session_rules.specs.LoaderLog.{loader_reading, loader_view}
 use Rattle.session_rules.specs.LoaderRows.{Comes_to, Goes_on, Turn, file_turn, kind_taken, row_after, serves_files}
-use Rattle.session_rules.specs.MediaFiles.{Media, file_named, wanted_of}
+use Rattle.session_rules.specs.MediaFiles.{Media, wanted_of}
 use Rattle.session_rules.specs.Sessions.{OneSessionAStart, kinds_of, sessions_in, started_by}
 use Rattle.session_rules.specs.ViewLaws.{loaders_follow}
 
@@ -86,7 +86,7 @@ module _ (v : EndView) where
   write_begins s from name o (Some kind) = begun_if [] (bytes_eq name (file_name s.hw s.pos kind)) _ _ (taken_begins from (ServesWrite name o)) refl
 
   request_begins : (media : Media) (s : LoaderSession) (from : ℕ) (p : PacketView) → begun_in (Loader.request_decision media v s from p) ≡ []
-  request_begins media s from (Rrq name o) = begun_if [] (serves_files s.row) _ _ (read_begins from name o (file_named name media.files)) refl
+  request_begins media s from (Rrq name o) = begun_if [] (serves_files s.row) _ _ (read_begins from name o (media.file name)) refl
   request_begins media s from (Wrq name o) = write_begins s.start from name o (kind_taken s.row)
   request_begins media s from (Data k b) = refl
   request_begins media s from (Ack k) = refl

@@ -43,7 +43,7 @@ pub enum Outcome {
     /// A file that arrived isn't in its format, is longer than 65,536 bytes, or has a status that
     /// its row doesn't allow. The offset of the first fault: 0 where its length is wrong, 4 where
     /// its version is, that of the status, or 65,536.
-    BadFile { kind: FileKind, offset: u32 },
+    BadFile { kind: FileKind, offset: u64 },
     /// The media set lists no load with this part number.
     NotOnMedia(PartText),
     /// More than 32 parts were to be uploaded.

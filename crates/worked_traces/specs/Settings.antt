@@ -2,6 +2,7 @@
 use Rattle.std.specs.Prelude.{ℕ, List, [], ◌∷◌, codes}
 use Rattle.accept_rules.specs.Permissions.{permits}
 use Rattle.replay_rules.specs.BothEnds.{Setting}
+use Rattle.session_rules.specs.MediaFiles.{file_named}
 use Rattle.worked_traces.specs.Writing.{hex}
 
 -- a set whose one load has the header that these digits write, and a unit HW1 with no loads
@@ -9,10 +10,11 @@ abbrev pub one_load_of : List ℕ → Setting
 one_load_of header = record {
   media = record {
     loads = record { header = codes "APP.LUH"; part = codes "ABC41-0000-0001" } ∷ [];
-    files =
-        record { name = codes "APP.LUH"; bytes = hex header }
+    file =
+        file_named
+        (record { name = codes "APP.LUH"; bytes = hex header }
         ∷ record { name = codes "APP.BIN"; bytes = hex (codes "313233343536373839") }
-        ∷ [];
+        ∷ []);
   };
   accepts = permits;
   start = record { identity = record { hw = codes "HW1"; pos = codes "L"; serial = codes "SN1"; bank = 4096 }; bank = 0; sequence = 1; loads = [] };
