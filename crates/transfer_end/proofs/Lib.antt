@@ -1,2 +1,3 @@
 pub mod FairMoves
 pub mod InOrder
+pub mod Answering

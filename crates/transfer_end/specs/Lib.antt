@@ -19,3 +19,5 @@ pub mod SentPacketLaws
 pub mod ReceivedLaws
 pub mod FirstPosts
 pub mod FirstPostLaws
+pub mod Calls
+pub mod CallLaws

@@ -1,6 +1,18 @@
 //! The rules on transfers that both ends of the exchange keep: ports, marks, the live and the kept
 //! transfer, retries and the datagram that was posted last (docs/EXCHANGE.md, "Transfers").
-//! Definitions and their laws.
+//!
+//! Start from [`TransferEnd`]: each of its calls makes one move of `specs/Moves.antt`, and gives
+//! the datagram that is posted then.
 #![tactic(auto)]
 
+mod file_end;
 pub mod laws;
+mod packets;
+mod posting;
+mod posts;
+mod transfer;
+mod transfer_end;
+
+pub use packets::packet_in;
+pub use posts::Posts;
+pub use transfer_end::{Heard, REQUEST_PORT, TransferEnd};
