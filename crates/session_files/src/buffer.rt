@@ -1,0 +1,63 @@
+//! What is kept of a header or a protocol file while it arrives.
+ghost use Rattle.std.specs.Prelude.{◌≡◌, OnOk};
+ghost use Rattle.session_rules.specs.Buffers.{Buffer, buffered_more, empty_buffer, is_too_long};
+
+use load_base::{Bytes, NoMemory};
+use std::alloc::Global;
+use std::marker::Model;
+
+/// The most bytes of a header or a protocol file.
+const MOST_BYTES: usize = 65_536;
+
+/// The first 65,536 bytes of a file that arrives, and the count of all its bytes: a longer one is
+/// refused when it is whole.
+#[derive(Drop)]
+pub struct FileBuffer {
+    prefix: Bytes,
+    count: u64,
+}
+
+impl Model for FileBuffer {
+    ghost use Rattle.session_rules.specs.Buffers.{Buffer};
+
+    ghost Value = { Buffer };
+
+    ghost view = { λ b. record { prefix = b.prefix.items; count = b.count } };
+}
+
+impl FileBuffer {
+    /// Nothing arrived yet.
+    pub fn new(alloc: Global) -> FileBuffer
+        ensures { result ≡ empty_buffer }
+    {
+        FileBuffer {
+            prefix: Bytes::new(alloc),
+            count: 0,
+        }
+    }
+
+    /// Takes the next bytes of the file.
+    pub fn take(&mut self, bytes: &[u8]) -> Result<(), NoMemory>
+        ensures { OnOk result (self.new ≡ buffered_more self.old bytes.now) }
+    {
+        let spare = MOST_BYTES.saturating_sub(self.prefix.len());
+        self.prefix.extend(&bytes[..spare.min(bytes.len())])?;
+        // No file has so many bytes that a u64 can't count them.
+        self.count = self.count.checked_add(bytes.len() as u64).ok_or(NoMemory)?;
+        Ok(())
+    }
+
+    /// Whether the file has more than 65,536 bytes.
+    pub fn is_too_long(&self) -> bool
+        ensures { result ≡ is_too_long self.now }
+    {
+        self.count > MOST_BYTES as u64
+    }
+
+    /// The first bytes of the file, which are all of one that isn't too long.
+    pub fn prefix(&self) -> &[u8]
+        ensures { result.now ≡ self.now.prefix }
+    {
+        self.prefix.as_slice()
+    }
+}
