@@ -1,0 +1,10 @@
+use Rattle.std.proofs.Common.{refl}
+use Rattle.field_grammar.specs.Answers.{answer}
+use Rattle.load_protocol_files.specs.Lci.{lci}
+use Rattle.session_rules.specs.declared.outcome.FileKind.TheVariants.{Lci}
+use Rattle.session_rules.specs.LoaderRows.{lci_turn}
+use Rattle.loader_machine.proofs.Turning.{unread_is}
+use Rattle.loader_machine.proofs.turn.Turn.of_lci.Goals as goal
+
+pub returns-in-Err-clause-is : goal.returns-in-Err-clause-is
+returns-in-Err-clause-is c = unread_is lci_turn (answer lci c.args.bytes.now) c.in-Err.fault Lci c.unread.result (λ f. refl) c.in-Err.ensures.answers c.unread.ensures.is c.unread.ensures.memory

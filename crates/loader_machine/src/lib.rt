@@ -1,0 +1,19 @@
+//! The data loader's side of the exchange: its sessions, row by row (docs/EXCHANGE.md, "The
+//! loader").
+//!
+//! Start from [`Loader`]: each of its calls takes one event and gives what is posted then. It does
+//! no input or output of its own.
+#![tactic(auto)]
+
+mod loader;
+mod requested;
+mod row;
+mod session;
+#[cfg(test)]
+mod tests;
+mod turn;
+
+pub use loader::Loader;
+pub use session::Session;
+pub use session_rules::{FileKind, Outcome, SessionKind};
+pub use transfer_end::Posts;
