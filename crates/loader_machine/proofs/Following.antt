@@ -20,7 +20,7 @@ use Rattle.session_rules.specs.declared.outcome.Outcome.TheVariants.{PeerError, 
 use Rattle.session_rules.specs.declared.outcome.SessionKind.{SessionKind}
 use Rattle.session_rules.specs.declared.outcome.SessionKind.TheVariants.{Info, Upload}
 use Rattle.session_rules.specs.Buffers.{Buffer, buffer_size, buffered_more}
-use Rattle.session_rules.specs.Loader.{Advances, EndedSession, Ends, LoaderDecision, LoaderSession, LoaderView, Start, advanced, answer_decision, continued, doing, ended_by, ending, listed_by, loader_changed, next_decision, row_request, session_decision, tick_decision, turn_decision}
+use Rattle.session_rules.specs.Loader.{Advances, EndedSession, Ends, LoaderDecision, LoaderSession, LoaderView, Start, advanced, answer_decision, continued, doing, ended_by, listed_by, loader_changed, next_decision, row_request, session_decision, tick_decision, turn_decision}
 use Rattle.session_rules.specs.LoaderRows.{LoaderRow, Comes_to, Goes_on, Reads_lci, Takes_lcs, Takes_lcl, Reads_lui, Takes_lus, Writes_lur, Serves_files, Turn, file_turn, row_after}
 use Rattle.loader_machine.specs.Machine.{Does, LoaderState, asking, closed, following, is_asking, is_row_of, media_of, with_end, with_session}
 use Rattle.loader_machine.proofs.Closing.{buffered_nothing, closes, state}
@@ -80,10 +80,6 @@ goes_next : (v : EndView) (role : Option Role) → (is_some role ≡ true → ha
 goes_next v None port = refl
 goes_next v (Some role) port = rw (port refl) refl
 
-stops_next : (v : EndView) (role : Option Role) → is_some role ≡ true → has_port v ≡ false → next_decision v [] [] role ≡ ending PortsSpent
-stops_next v None is none = absurd cc
-stops_next v (Some role) is none = rw none refl
-
 module _ (now after : LoaderState) (s : LoaderSession) where
   abbrev asked : Option Role
   asked = row_request now.view.end.asks_size s.start (row_after s.row)
@@ -98,10 +94,6 @@ module _ (now after : LoaderState) (s : LoaderSession) where
         keeps = ap (λ (x : LoaderState). x.view) rest ∙ ap (λ (x : EndView). record { end = x; live = advanced now.view.live; ended = now.view.ended }) makes.keeps;
         posts = makes.posts;
       })
-
-  -- or has no port left
-  pub is_spent : is_asking (row_after s.row) ≡ true → has_port now.view.end ≡ false → Does (ending PortsSpent) now after [] → Does (turn_decision now.view.end s [] [] Goes_on) now after []
-  is_spent asks none does = rw (stops_next now.view.end asked (asks_so now.view.end.asks_size s.start (row_after s.row) ∙ asks) none) does
 
   -- or comes to its end
   pub comes_to : (outcome : Outcome) (listed : Option LclView) (idle : LoaderState) → now.view.live ≡ Some s → listed ≡ listed_by s.start.kind outcome s.arriving.prefix
@@ -169,9 +161,6 @@ pub record Continues_with (heard : List Move) (whole rest : LoaderDecision) : Ty
   pub change : whole.change ≡ rest.change
 
 module _ (v end : EndView) (heard : List Move) (keeps : KeepsPorts v end) where
-  only_heard : (change : LoaderDecision) → change.moves ≡ [] → Continues_with heard (record { moves = heard; change = change.change }) change
-  only_heard d none = record { moves = sym (append-nil heard) ∙ ap (λ moves. heard ++ moves) (sym none); change = refl }
-
   asked_after : (role : Role) (more : List ℕ) (port : Bool)
       → Continues_with heard (if port then record { moves = heard ++ Asks role ∷ []; change = Advances } else record { moves = heard ++ Stops ∷ []; change = Ends PortsSpent more })
       (if port then record { moves = Asks role ∷ []; change = Advances } else record { moves = Stops ∷ []; change = Ends PortsSpent more })

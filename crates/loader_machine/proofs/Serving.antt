@@ -11,12 +11,7 @@ use Rattle.session_rules.specs.declared.outcome.FileKind.{FileKind}
 use Rattle.session_rules.specs.Loader.{LoaderSession, doing, nothing, read_decision, take_request, write_decision}
 use Rattle.session_rules.specs.LoaderRows.{kind_taken, serves_files}
 use Rattle.loader_machine.specs.Machine.{Does, LoaderState, Serving, awaits_file, media_of, reading, with_end}
-use Rattle.loader_machine.proofs.Following.{does_moves, does_so}
-
--- ---- nothing is done
-
-pub does_nothing : (st : LoaderState) (sent : List DatagramView) → sent ≡ [] → Does nothing st st sent
-does_nothing st sent p = rw p (does_moves st [] st.view.end [] (record { keeps = refl; posts = refl }))
+use Rattle.loader_machine.proofs.Following.{does_so}
 
 -- ---- a request is taken
 

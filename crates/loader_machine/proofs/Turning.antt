@@ -1,15 +1,14 @@
 -- What a file comes to that isn't in its format.
-use Rattle.std.proofs.Common.{◌≡◌, ◌≢◌, ◌⊎◌, ℕ, List, true, None, refl, inl, inr, Result, Ok, Err, IfOk, OnOk, sym, ap, ◌∙◌}
+use Rattle.std.proofs.Common.{◌≡◌, ◌≢◌, ◌⊎◌, ℕ, List, inl, inr, Result, Ok, Err, IfOk, OnOk, sym, ap, ◌∙◌}
 use Rattle.load_base.specs.declared.list.NoMemory.{NoMemory}
 use Rattle.load_protocol_files.specs.declared.fault.FileFault.{FileFault}
 use Rattle.load_protocol_files.specs.declared.fault.FileFault.TheVariants.{Memory}
 use Rattle.session_rules.specs.declared.outcome.FileKind.{FileKind}
 use Rattle.session_rules.specs.LoaderRows as rules
-use Rattle.session_rules.specs.declared.outcome.SessionKind.{SessionKind}
-use Rattle.session_rules.specs.declared.outcome.SessionKind.TheVariants.{Info, Upload}
+use Rattle.session_rules.specs.declared.outcome.SessionKind.TheVariants.{Info}
 use Rattle.session_rules.specs.LoaderRows.{Comes_to, Goes_on, Serves_files, Takes_lcl, bad_file, fault_offset}
 use Rattle.loader_machine.specs.declared.turn.Turn.{Turn}
-use Rattle.loader_machine.specs.Machine.{ListsNothing, is_row_of, listed_at, listed_in, turn_seen}
+use Rattle.loader_machine.specs.Machine.{ListsNothing, listed_at, listed_in, turn_seen}
 
 pub unread_is : {A : Type 0} (turn_of : Result A FileFault → rules.Turn) (read : Result A FileFault) (fault : FileFault) (kind : FileKind) (result : Result Turn NoMemory)
     → ((f : FileFault) → turn_of (Err f) ≡ bad_file kind (fault_offset f)) → (fault ≡ Memory) ⊎ (read ≡ Err fault)
@@ -23,25 +22,3 @@ unread_is turn_of read fault kind (Ok turn) refused (inr e) is kept = is ∙ sym
 pub lists_none : (bytes : List ℕ) (result : Result Turn NoMemory) → IfOk result (λ turn. ListsNothing turn) → IfOk result (λ turn. listed_in turn ≡ listed_at Info (turn_seen turn) bytes)
 lists_none bytes (Err e) h = tt
 lists_none bytes (Ok turn) h = h.listed ∙ sym (h.at bytes)
-
-upload_lists_nothing : (turn : rules.Turn) (bytes : List ℕ) → listed_at Upload turn bytes ≡ None
-upload_lists_nothing Goes_on bytes = refl
-upload_lists_nothing (Comes_to outcome) bytes = refl
-
--- in each operation
-pub lists_none_in : (bytes : List ℕ) (result : Result Turn NoMemory) → IfOk result (λ turn. ListsNothing turn) → (kind : SessionKind) → IfOk result (λ turn. listed_in turn ≡ listed_at kind (turn_seen turn) bytes)
-lists_none_in bytes result h Info = lists_none bytes result h
-lists_none_in bytes (Err e) h Upload = tt
-lists_none_in bytes (Ok turn) h Upload = h.listed ∙ sym (upload_lists_nothing (turn_seen turn) bytes)
-
--- in an upload
-pub upload_lists_none : (bytes : List ℕ) (result : Result Turn NoMemory) → IfOk result (λ turn. listed_in turn ≡ None) → (kind : SessionKind) → is_row_of kind Serves_files ≡ true
-    → IfOk result (λ turn. listed_in turn ≡ listed_at kind (turn_seen turn) bytes)
-upload_lists_none bytes result h Info is = absurd cc
-upload_lists_none bytes (Err e) h Upload is = tt
-upload_lists_none bytes (Ok turn) h Upload is = h ∙ sym (upload_lists_nothing (turn_seen turn) bytes)
-
-pub lists_all : (bytes : List ℕ) (result : Result Turn NoMemory) → IfOk result (λ turn. listed_in turn ≡ listed_at Info (turn_seen turn) bytes) → (kind : SessionKind) → is_row_of kind Takes_lcl ≡ true
-    → IfOk result (λ turn. listed_in turn ≡ listed_at kind (turn_seen turn) bytes)
-lists_all bytes result h Info is = h
-lists_all bytes result h Upload is = absurd cc

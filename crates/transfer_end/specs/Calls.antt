@@ -71,9 +71,6 @@ view_awaited v t from over posts = record {
 abbrev pub with_last : EndView → Option DatagramView → EndView
 with_last v last = record { next_port = v.next_port; mark = v.mark; live = v.live; kept = v.kept; retries = v.retries; last = last; asks_size = v.asks_size }
 
-abbrev pub with_kept : EndView → Option TransferView → EndView
-with_kept v kept = record { next_port = v.next_port; mark = v.mark; live = v.live; kept = kept; retries = v.retries; last = v.last; asks_size = v.asks_size }
-
 -- the move at a packet that isn't one of the live transfer
 abbrev pub recalling : EndView → (from to : ℕ) → PacketView → List Move
 recalling v from to p = if belongs v.kept from to then Recalls from p ∷ [] else []

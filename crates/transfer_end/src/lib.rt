@@ -2,7 +2,16 @@
 //! transfer, retries and the datagram that was posted last (docs/EXCHANGE.md, "Transfers").
 //!
 //! Start from [`TransferEnd`]: each of its calls makes one move of `specs/Moves.antt`, and gives
-//! the datagram that is posted then.
+//! the datagram that is posted then. Which requests are asked and taken its user decides:
+//!
+//! ```text
+//! let mut end = TransferEnd::new(alloc, 1024);
+//! let post = end.ask_to_read(Side::Loader, name, end.wanted_options(0))?;
+//! // for each packet to a port other than 59:
+//! let Heard { post, news } = end.on_packet(Side::Loader, from, to, &packet)?;
+//! // at a tick, where end.may_repeat():
+//! let post = end.repeat()?;
+//! ```
 #![tactic(auto)]
 
 mod file_end;
