@@ -36,3 +36,5 @@ pub mod Lists
 pub mod ListLaws
 pub mod ReadFiles
 pub mod ReadFileLaws
+pub mod Completions
+pub mod CompletionLaws

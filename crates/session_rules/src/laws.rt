@@ -1,4 +1,5 @@
 //! What holds of both sides and their logs. These functions do nothing; their clauses are the law.
+ghost use Rattle.session_rules.specs.Completions.{CompletedUploadArrived, TargetTellsInstalled};
 ghost use Rattle.session_rules.specs.Fairness.{LoaderGivesMediaFiles, LoaderMovesFit};
 ghost use Rattle.session_rules.specs.Fairness.{LoaderStaysFair, TargetMovesFit, TargetStaysFair};
 ghost use Rattle.session_rules.specs.FirstPosts.{LoaderBlocksInOrder, TargetBlocksInOrder};
@@ -114,6 +115,15 @@ pub fn a_completed_session_lists_what_arrived()
 pub fn a_target_asks_for_its_files()
     ensures in_turn { TargetAsksInTurn }
     ensures files { TargetAsksForItsFiles }
+{
+    check_sum_laws();
+}
+
+/// An upload is completed by an LUS that arrived whole and says so. Whatever reaches a target, it
+/// begins to send a file that says so only as it installs.
+pub fn an_upload_is_completed_by_its_last_status()
+    ensures arrived { CompletedUploadArrived }
+    ensures told { TargetTellsInstalled }
 {
     check_sum_laws();
 }
