@@ -2,3 +2,4 @@ pub mod SentTraces
 pub mod ListedTraces
 pub mod InstalledMedia
 pub mod FirstPosting
+pub mod ToldTraces

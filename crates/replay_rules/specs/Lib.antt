@@ -16,3 +16,4 @@ pub mod OtherEndTraces
 pub mod ListTraces
 pub mod MediaTraces
 pub mod FirstPostTraces
+pub mod CompletedTraces

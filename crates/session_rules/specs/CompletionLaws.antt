@@ -1,5 +1,5 @@
 -- Proofs of how an upload is completed.
-use Rattle.std.proofs.Common.{◌≡◌, ℕ, Bool, true, false, cond, eqb, List, [], ◌∷◌, ◌++◌, length, Option, Some, None, Result, Ok, Err, refl, sym, ap, subst, ◌∙◌}
+use Rattle.std.proofs.Common.{arith, ◌≡◌, ℕ, ◌≤◌, Bool, true, false, cond, eqb, List, [], ◌∷◌, ◌++◌, length, Option, Some, None, Result, Ok, Err, refl, sym, ap, subst, ◌∙◌}
 use Rattle.std.specs.Prelude.{bytes_eq, drop, fold, take, ◌==◌}
 use Rattle.std.specs.List.{AllByRecursion}
 use Rattle.std.proofs.lemmas.Bool.{eqb-true}
@@ -299,6 +299,30 @@ own_says_not A kinds.Lcs sequence says = other_status A lci_file 0 1 lci_status 
 own_says_not A kinds.Lur sequence says = other_status A lci_file 0 1 lci_status refl says
 own_says_not A kinds.Lus sequence says = other_status A lci_file 0 1 lci_status refl says
 
+lci_size : length lci_file ≤ 4294967295
+unfolding lci_file file_fields number_bytes
+lci_size = let e : length lci_file ≡ 9 = refl in omega (arith, e)
+
+accepting_size : length accepting_lui ≤ 4294967295
+unfolding accepting_lui file_fields number_bytes
+accepting_size = let e : length accepting_lui ≡ 9 = refl in omega (arith, e)
+
+denying_size : length denying_lui ≤ 4294967295
+unfolding denying_lui file_fields number_bytes
+denying_size = let e : length denying_lui ≡ 12 = refl in omega (arith, e)
+
+own_size : (kind : FileKind) (sequence : ℕ) → length (target.own_file kind sequence) ≤ 4294967295
+own_size kinds.Lui sequence = by (eqb sequence 4294967295)
+  where
+    by : (b : Bool) → length (cond b denying_lui accepting_lui) ≤ 4294967295
+    by true = denying_size
+    by false = accepting_size
+own_size kinds.Lci sequence = lci_size
+own_size kinds.Lcl sequence = lci_size
+own_size kinds.Lcs sequence = lci_size
+own_size kinds.Lur sequence = lci_size
+own_size kinds.Lus sequence = lci_size
+
 -- the row of a completed upload
 abbrev Completes_row : RowView → Type 0
 Completes_row row = (end : UploadEnd) × (entries : List LoadEntry) × (row ≡ Writes_completion end entries)
@@ -466,7 +490,7 @@ module _ (joins : SumsJoin) (accepts : HeaderView → Bool) (r : TargetReading) 
   served_role : (role : Role) → is_asking role ≡ false → IsTargetRole v_now role → TellsInstalled accepts r e role
   served_role (Writes name o file) asks h = absurd cc
   served_role (transfers.Reads name o) asks h = tt
-  served_role (ServesRead name o file) asks (kind, is) = λ says. own_says_not ⊥ kind v_now.active.sequence (subst SaysCompleted is says)
+  served_role (ServesRead name o file) asks (kind, is) = (subst (λ (x : List ℕ). length x ≤ 4294967295) (sym is) (own_size kind v_now.active.sequence), λ says. own_says_not ⊥ kind v_now.active.sequence (subst SaysCompleted is says))
   served_role (ServesWrite name o) asks h = tt
 
   move_tells : (live kept : Option TransferView) (move : Move) → AskedInTurn v_now d_now.change move → MoveFits e live kept move → MoveHasRole (IsTargetRole v_now) move → MoveHasRole (TellsInstalled accepts r e) move

@@ -1,5 +1,5 @@
 -- How an upload is completed, at both sides (docs/EXCHANGE.md, "Upload").
-use Rattle.std.specs.Prelude.{◌≡◌, ℕ, List, [], ◌∷◌, Bool, true, Ok, ⊤}
+use Rattle.std.specs.Prelude.{◌≤◌, length, ◌≡◌, ℕ, List, [], ◌∷◌, Bool, true, Ok, ⊤}
 use Rattle.std.specs.List.{AllByRecursion}
 use Rattle.field_grammar.specs.Answers.{answer}
 use Rattle.load_base.specs.Config.{LoadView}
@@ -44,10 +44,11 @@ pub record InstallsNow (accepts : HeaderView → Bool) (r : TargetReading) (e : 
   pub loads : List LoadView
   pub next : (target_extended accepts r e).active ≡ standing_after r.active loads
 
--- a file that is sent says that all is installed only if it is as the transfer begins; no file that is given says so
+-- a file that is sent says that all is installed only if it is as the transfer begins; a file that is given has no more bytes
+-- than the option `tsize` can tell (RFC 2349), and never says so
 abbrev pub TellsInstalled : (accepts : HeaderView → Bool) → TargetReading → Event → Role → Type 0
 TellsInstalled accepts r e (Writes name options file) = SaysCompleted file → InstallsNow accepts r e
-TellsInstalled accepts r e (ServesRead name options file) = SaysCompleted file → ⊥
+TellsInstalled accepts r e (ServesRead name options file) = (length file ≤ 4294967295) × (SaysCompleted file → ⊥)
 TellsInstalled accepts r e role = ⊤
 
 -- Whatever reaches a target, it begins to send a file which says that all is installed only as it installs.
