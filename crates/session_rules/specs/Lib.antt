@@ -38,3 +38,6 @@ pub mod ReadFiles
 pub mod ReadFileLaws
 pub mod Completions
 pub mod CompletionLaws
+pub mod Requests
+pub mod RequestLaws
+pub mod ArrivedRequestLaws

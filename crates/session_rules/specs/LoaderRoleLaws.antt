@@ -254,7 +254,7 @@ loader_roles_fit media (e ∷ log) =
 
 -- ---- which row completes an information session
 
-abbrev IsInfoRow : LoaderRow → Type 0
+abbrev pub IsInfoRow : LoaderRow → Type 0
 IsInfoRow Reads_lci = Unit {0}
 IsInfoRow Takes_lcs = Unit {0}
 IsInfoRow Takes_lcl = Unit {0}
@@ -273,7 +273,7 @@ info_rows : (row : LoaderRow) (done : List Transfer) → IsInfoRow row → IsInf
 info_rows row [] h = h
 info_rows row (t ∷ done) h = info_rows (row_after row) done (info_after row h)
 
-info_row : (kind : SessionKind) (done : List Transfer) → kind ≡ Info → IsInfoRow (row_of kind done)
+pub info_row : (kind : SessionKind) (done : List Transfer) → kind ≡ Info → IsInfoRow (row_of kind done)
 unfolding row_of
 info_row Info done e = info_rows Reads_lci done tt
 info_row Upload done e = absurd cc

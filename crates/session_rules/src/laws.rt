@@ -9,6 +9,7 @@ ghost use Rattle.session_rules.specs.Laws.{LoaderTakesWhatCame, LogsCountUp, Tar
 ghost use Rattle.session_rules.specs.Laws.{TargetFollows, TargetTakesWhatCame, TwoAtMost};
 ghost use Rattle.session_rules.specs.Lists.{TargetAsksForItsFiles, TargetAsksInTurn};
 ghost use Rattle.session_rules.specs.LoaderRoles.{CompletedListsArrived, LoaderRolesFit};
+ghost use Rattle.session_rules.specs.Requests.{LoaderWritesRequests};
 ghost use Rattle.session_rules.specs.Sessions.{OneSessionAStart};
 ghost use Rattle.session_rules.specs.Soundness.{VerdictIsSound};
 ghost use Rattle.session_rules.specs.SoundLogs.{ChangesByVerdict};
@@ -127,3 +128,9 @@ pub fn an_upload_is_completed_by_its_last_status()
 {
     check_sum_laws();
 }
+
+/// Each file that the loader writes in a log is the request for the media set's entries of the
+/// parts of an upload that was started, 32 at most.
+pub fn a_loader_writes_requests()
+    ensures { LoaderWritesRequests }
+{}
