@@ -3,3 +3,4 @@ pub mod ListedTraces
 pub mod InstalledMedia
 pub mod FirstPosting
 pub mod ToldTraces
+pub mod AskedFor

@@ -56,7 +56,7 @@ pub bytes_if : (b : Bool) (x y : Option Event) → BringsBytes x → BringsBytes
 bytes_if true x y p q = p
 bytes_if false x y p q = q
 
-event_bytes : (posted : List DatagramView) (h : HappeningView) → AllByRecursion CarriesBytes posted → InjectsBytes h → BringsBytes (event_for sides.Target posted h)
+pub event_bytes : (posted : List DatagramView) (h : HappeningView) → AllByRecursion CarriesBytes posted → InjectsBytes h → BringsBytes (event_for sides.Target posted h)
 event_bytes posted (Delivered to n) all given = bytes_if (is_same_side sides.Target to) (gets (numbered posted n)) None (got_bytes (numbered posted n) (numbered_bytes posted n all)) tt
 event_bytes posted (Injected d) all given = bytes_if (is_same_side sides.Target d.side) None (gets (Some d)) tt given
 event_bytes posted (Ticked whose) all given = bytes_if (is_same_side sides.Target whose) (Some Ticks) None tt tt

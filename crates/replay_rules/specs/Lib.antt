@@ -17,3 +17,4 @@ pub mod ListTraces
 pub mod MediaTraces
 pub mod FirstPostTraces
 pub mod CompletedTraces
+pub mod AskedTraces

@@ -1,4 +1,5 @@
 //! What ties both ends to the trace. These functions do nothing; their clauses are the law.
+ghost use Rattle.replay_rules.specs.AskedTraces.{InstallsAreAsked, UploadsAreInstalled};
 ghost use Rattle.replay_rules.specs.CameTraces.{BothTakeWhatCame, DueIsAcked};
 ghost use Rattle.replay_rules.specs.Changes.{ChangesAreNew, InstallsAreGood};
 ghost use Rattle.replay_rules.specs.CompletedTraces.{CompletedWasBrought, TargetTellsInTime};
@@ -94,6 +95,20 @@ pub fn an_upload_is_completed_after_a_step_that_installed()
     ensures brought { CompletedWasBrought }
 {
     check_sum_laws();
+    packet_laws();
+    protocol_file_laws();
+    what_comes_was_sent();
+}
+
+/// Where nothing is injected and the media set's entries can be told in a request, each
+/// configuration that an install step brings has the parts, in their order, of a start of an upload
+/// before it; so each upload is completed only after such a step, in which the target stayed up.
+pub fn a_completed_upload_is_installed()
+    ensures asked { InstallsAreAsked }
+    ensures installed { UploadsAreInstalled }
+{
+    check_sum_laws();
+    header_laws();
     packet_laws();
     protocol_file_laws();
     what_comes_was_sent();
