@@ -100,7 +100,7 @@ noted_none (Came_up first_port sequence ∷ notes) before after none =
     let up = come_up first_port sequence (gone_down before after) in noted_none notes up up (come_none first_port sequence (gone_down before after) (gone_none before after))
 noted_none (Boot_refused fault ∷ notes) before after none = noted_none notes (gone_down before after) (gone_down before after) (gone_none before after)
 
-one_noted : (note : Note) (notes : List Note) (before after : TargetState) → transfers_of (noted (note ∷ notes) before after) ≡ []
+pub one_noted : (note : Note) (notes : List Note) (before after : TargetState) → transfers_of (noted (note ∷ notes) before after) ≡ []
 one_noted Went_down notes before after = noted_none notes (gone_down before after) (gone_down before after) (gone_none before after)
 one_noted (Came_up first_port sequence) notes before after =
     let up = come_up first_port sequence (gone_down before after) in noted_none notes up up (come_none first_port sequence (gone_down before after) (gone_none before after))
@@ -288,7 +288,7 @@ written_list set steps one two (Writes name o f) urole file named takes asks sen
 -- ---- the step that completes a session
 
 -- what reaches the loader alone
-only_loader : (posted : List DatagramView) (h : HappeningView) (e : Event) → event_for sides.Loader posted h ≡ Some e → (event_for sides.Target posted h ≡ None) ⊎ ((size : Option ℕ) × (e ≡ Learns size))
+pub only_loader : (posted : List DatagramView) (h : HappeningView) (e : Event) → event_for sides.Loader posted h ≡ Some e → (event_for sides.Target posted h ≡ None) ⊎ ((size : Option ℕ) × (e ≡ Learns size))
 only_loader posted (Delivered to n) e is = by to is
   where
     by : (to : Side) → event_for sides.Loader posted (Delivered to n) ≡ Some e → (event_for sides.Target posted (Delivered to n) ≡ None) ⊎ ((size : Option ℕ) × (e ≡ Learns size))
@@ -312,14 +312,14 @@ only_loader posted (Power_cut calls pick) e is = inl refl
 only_loader posted Booted e is = inl refl
 only_loader posted Ended e is = inl refl
 
-reached_none : (set : Setting) (state : TargetState) → reached set None state ≡ state
+pub reached_none : (set : Setting) (state : TargetState) → reached set None state ≡ state
 reached_none set (Is_up r) = refl
 reached_none set (Is_down active interrupted) = refl
 
-longer : (xs : List EndedSession) (x : EndedSession) → xs ≡ x ∷ xs → ⊥
+pub longer : (xs : List EndedSession) (x : EndedSession) → xs ≡ x ∷ xs → ⊥
 longer xs x e = let same : length xs ≡ length (x ∷ xs) = ap length e in omega (arith, same)
 
-among_past : (live : Option Transfer) (past : List Transfer) (t : Transfer) → newest past ≡ t ∷ [] → Among t (past_with live past)
+pub among_past : (live : Option Transfer) (past : List Transfer) (t : Transfer) → newest past ≡ t ∷ [] → Among t (past_with live past)
 among_past None [] t e = absurd cc
 among_past (Some x) [] t e = absurd cc
 among_past None (y ∷ past) t e = let same : y ≡ t = cc in inl same

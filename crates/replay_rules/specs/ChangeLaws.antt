@@ -28,15 +28,15 @@ use Rattle.replay_rules.specs.TieLaws.{HasLive, target_is_live}
 
 -- ---- what reaches a side are bytes
 
-abbrev BringsBytes : Option Event → Type 0
+abbrev pub BringsBytes : Option Event → Type 0
 BringsBytes None = Unit {0}
 BringsBytes (Some e) = EventIsBytes e
 
-abbrev HasBytes : Option DatagramView → Type 0
+abbrev pub HasBytes : Option DatagramView → Type 0
 HasBytes None = Unit {0}
 HasBytes (Some d) = CarriesBytes d
 
-got_bytes : (d : Option DatagramView) → HasBytes d → BringsBytes (gets d)
+pub got_bytes : (d : Option DatagramView) → HasBytes d → BringsBytes (gets d)
 got_bytes None h = tt
 got_bytes (Some d) h = h
 
@@ -45,18 +45,18 @@ member_bytes [] n all = tt
 member_bytes (d ∷ posted) zero (one, all) = one
 member_bytes (d ∷ posted) (suc n) (one, all) = member_bytes posted n all
 
-numbered_bytes : (posted : List DatagramView) (n : ℕ) → AllByRecursion CarriesBytes posted → HasBytes (numbered posted n)
+pub numbered_bytes : (posted : List DatagramView) (n : ℕ) → AllByRecursion CarriesBytes posted → HasBytes (numbered posted n)
 numbered_bytes posted n all = by (n == 0)
   where
     by : (b : Bool) → HasBytes (cond b None (slice_get posted (n - 1)))
     by true = tt
     by false = member_bytes posted (n - 1) all
 
-bytes_if : (b : Bool) (x y : Option Event) → BringsBytes x → BringsBytes y → BringsBytes (cond b x y)
+pub bytes_if : (b : Bool) (x y : Option Event) → BringsBytes x → BringsBytes y → BringsBytes (cond b x y)
 bytes_if true x y p q = p
 bytes_if false x y p q = q
 
-event_bytes : (posted : List DatagramView) (h : HappeningView) → AllByRecursion CarriesBytes posted → InjectsBytes h → BringsBytes (event_for sides.Target posted h)
+pub event_bytes : (posted : List DatagramView) (h : HappeningView) → AllByRecursion CarriesBytes posted → InjectsBytes h → BringsBytes (event_for sides.Target posted h)
 event_bytes posted (Delivered to n) all given = bytes_if (is_same_side sides.Target to) (gets (numbered posted n)) None (got_bytes (numbered posted n) (numbered_bytes posted n all)) tt
 event_bytes posted (Injected d) all given = bytes_if (is_same_side sides.Target d.side) None (gets (Some d)) tt given
 event_bytes posted (Ticked whose) all given = bytes_if (is_same_side sides.Target whose) (Some Ticks) None tt tt
@@ -68,7 +68,7 @@ event_bytes posted (Power_cut calls pick) all given = tt
 event_bytes posted Booted all given = tt
 event_bytes posted Ended all given = tt
 
-posted_bytes : (steps : List Step) → AllCarryBytes steps → AllByRecursion CarriesBytes (posted_in steps)
+pub posted_bytes : (steps : List Step) → AllCarryBytes steps → AllByRecursion CarriesBytes (posted_in steps)
 posted_bytes [] all = tt
 posted_bytes (s ∷ earlier) ((posts, given), all) = all_append CarriesBytes (posted_in earlier) s.posts (posted_bytes earlier all) posts
 

@@ -16,3 +16,5 @@ pub mod OtherEndTraces
 pub mod ListTraces
 pub mod MediaTraces
 pub mod FirstPostTraces
+pub mod CompletedTraces
+pub mod AskedTraces

@@ -1,6 +1,8 @@
 //! What ties both ends to the trace. These functions do nothing; their clauses are the law.
+ghost use Rattle.replay_rules.specs.AskedTraces.{InstallsAreAsked, UploadsAreInstalled};
 ghost use Rattle.replay_rules.specs.CameTraces.{BothTakeWhatCame, DueIsAcked};
 ghost use Rattle.replay_rules.specs.Changes.{ChangesAreNew, InstallsAreGood};
+ghost use Rattle.replay_rules.specs.CompletedTraces.{CompletedWasBrought, TargetTellsInTime};
 ghost use Rattle.replay_rules.specs.FirstPostTraces.{LoaderPostsInOrder, TargetPostsInOrder};
 ghost use Rattle.replay_rules.specs.ListTraces.{CompletedListsActive, TargetWritesInTime};
 ghost use Rattle.replay_rules.specs.MediaTraces.{InstallsAreOfMedia};
@@ -81,6 +83,33 @@ pub fn a_completed_session_lists_what_was_active()
     ensures lists { CompletedListsActive }
 {
     check_sum_laws();
+    protocol_file_laws();
+    what_comes_was_sent();
+}
+
+/// Each upload is completed only after a step in which the target installed and stayed up, through
+/// losses, repeats, other orders, power losses and boots, where nothing is injected.
+pub fn an_upload_is_completed_after_a_step_that_installed()
+    // Whatever comes, a target sends a file that says so only after such a step.
+    ensures told { TargetTellsInTime }
+    ensures brought { CompletedWasBrought }
+{
+    check_sum_laws();
+    packet_laws();
+    protocol_file_laws();
+    what_comes_was_sent();
+}
+
+/// Where nothing is injected and the media set's entries can be told in a request, each
+/// configuration that an install step brings has the parts, in their order, of a start of an upload
+/// before it; so each upload is completed only after such a step, in which the target stayed up.
+pub fn a_completed_upload_is_installed()
+    ensures asked { InstallsAreAsked }
+    ensures installed { UploadsAreInstalled }
+{
+    check_sum_laws();
+    header_laws();
+    packet_laws();
     protocol_file_laws();
     what_comes_was_sent();
 }

@@ -36,3 +36,8 @@ pub mod Lists
 pub mod ListLaws
 pub mod ReadFiles
 pub mod ReadFileLaws
+pub mod Completions
+pub mod CompletionLaws
+pub mod Requests
+pub mod RequestLaws
+pub mod ArrivedRequestLaws

@@ -180,7 +180,7 @@ is_list_row Over e = absurd cc
 
 -- ---- one event
 
-turned_reading : (accepts : HeaderView → Bool) (end : Reading) (r : TargetReading) (s : TargetSessionLog) (move : RowMove) (more : List ℕ) (change : target.TargetChange) → r.live ≡ Some s → change ≡ target.Turns move more
+pub turned_reading : (accepts : HeaderView → Bool) (end : Reading) (r : TargetReading) (s : TargetSessionLog) (move : RowMove) (more : List ℕ) (change : target.TargetChange) → r.live ≡ Some s → change ≡ target.Turns move more
     → target_reading_changed accepts end r change ≡ reading_turned accepts end r (with_done s (newest end.past))
 turned_reading accepts end r s move more change live is =
     ap (λ (c : target.TargetChange). target_reading_changed accepts end r c) is ∙ ap (λ (l : Option TargetSessionLog). log_turned (reading_turned accepts) end r l) live

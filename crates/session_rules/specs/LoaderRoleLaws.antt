@@ -254,7 +254,7 @@ loader_roles_fit media (e ∷ log) =
 
 -- ---- which row completes an information session
 
-abbrev IsInfoRow : LoaderRow → Type 0
+abbrev pub IsInfoRow : LoaderRow → Type 0
 IsInfoRow Reads_lci = Unit {0}
 IsInfoRow Takes_lcs = Unit {0}
 IsInfoRow Takes_lcl = Unit {0}
@@ -273,7 +273,7 @@ info_rows : (row : LoaderRow) (done : List Transfer) → IsInfoRow row → IsInf
 info_rows row [] h = h
 info_rows row (t ∷ done) h = info_rows (row_after row) done (info_after row h)
 
-info_row : (kind : SessionKind) (done : List Transfer) → kind ≡ Info → IsInfoRow (row_of kind done)
+pub info_row : (kind : SessionKind) (done : List Transfer) → kind ≡ Info → IsInfoRow (row_of kind done)
 unfolding row_of
 info_row Info done e = info_rows Reads_lci done tt
 info_row Upload done e = absurd cc
@@ -294,7 +294,7 @@ lcs_not (Ok v) = turn_if (v.status == in_progress) Goes_on (cond (v.status == st
 lcs_not (Err fault) = λ e. cc
 
 -- a turn that completes a session is that of bytes that aren't too long
-not_too_long : (row : LoaderRow) (b : Buffer) → file_turn row b ≡ Comes_to Completed → (is_too_long b ≡ false) × (bytes_turn row b.prefix ≡ Comes_to Completed)
+pub not_too_long : (row : LoaderRow) (b : Buffer) → file_turn row b ≡ Comes_to Completed → (is_too_long b ≡ false) × (bytes_turn row b.prefix ≡ Comes_to Completed)
 unfolding file_turn
 not_too_long row b e = by (is_too_long b) refl e
   where
@@ -313,11 +313,11 @@ completing_row Serves_files bytes info e = absurd info
 
 -- ---- the file that completes it
 
-arrived_last : (live : Transfer) (from : ℕ) (p : PacketView) (more : List ℕ) → end_answer (end_in live) p ≡ TakesLast more → arrived_of (with_packet live from p) ≡ arrived_of live ++ more
+pub arrived_last : (live : Transfer) (from : ℕ) (p : PacketView) (more : List ℕ) → end_answer (end_in live) p ≡ TakesLast more → arrived_of (with_packet live from p) ≡ arrived_of live ++ more
 arrived_last live from p more e =
     arrived_more live.role live.got p ∙ ap (λ (answer : Answer). arrived_of live ++ concat (lent_by answer)) e ∙ ap (λ (bytes : List ℕ). arrived_of live ++ bytes) (append-nil more)
 
-whole_prefix : (first more : List ℕ) → is_too_long (buffered_more (buffered first) more) ≡ false → (buffered_more (buffered first) more).prefix ≡ first ++ more
+pub whole_prefix : (first more : List ℕ) → is_too_long (buffered_more (buffered first) more) ≡ false → (buffered_more (buffered first) more).prefix ≡ first ++ more
 whole_prefix first more short =
     let joined : buffered (first ++ more) ≡ buffered_more (buffered first) more = sym (buffered_on first more) in
     let less : is_too_long (buffered (first ++ more)) ≡ false = ap is_too_long joined ∙ short in
@@ -333,13 +333,13 @@ served_received (Writes name o f) got wanted p more takes e = absurd takes
 
 -- ---- sessions
 
-longer : (xs : List EndedSession) (x : EndedSession) → xs ≡ x ∷ xs → ⊥
+pub longer : (xs : List EndedSession) (x : EndedSession) → xs ≡ x ∷ xs → ⊥
 longer xs x e = let same : length xs ≡ length (x ∷ xs) = ap length e in omega (arith, same)
 
-longer_two : (xs : List EndedSession) (x y z : EndedSession) → x ∷ y ∷ xs ≡ z ∷ xs → ⊥
+pub longer_two : (xs : List EndedSession) (x y z : EndedSession) → x ∷ y ∷ xs ≡ z ∷ xs → ⊥
 longer_two xs x y z e = let same : length (x ∷ y ∷ xs) ≡ length (z ∷ xs) = ap length e in omega (arith, same)
 
-head_is : (xs : List EndedSession) (x y : EndedSession) → x ∷ xs ≡ y ∷ xs → x ≡ y
+pub head_is : (xs : List EndedSession) (x y : EndedSession) → x ∷ xs ≡ y ∷ xs → x ≡ y
 head_is xs x y e = cc
 
 module _ (media : Media) (r : LoaderReading) (e : Event) (session : EndedSession) (info : session.kind ≡ Info) (completed : session.outcome ≡ Completed) where

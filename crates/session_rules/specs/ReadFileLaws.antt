@@ -87,7 +87,7 @@ pub moves_past : (side : Side) (r : Reading) (moves : List Move) (x : Transfer) 
 moves_past side r [] x a = a
 moves_past side r (move ∷ moves) x a = moves_past side (reading_after side r move) moves x (move_past side r move x a)
 
-newest_among : (past : List Transfer) (t : Transfer) → newest past ≡ t ∷ [] → Among t past
+pub newest_among : (past : List Transfer) (t : Transfer) → newest past ≡ t ∷ [] → Among t past
 newest_among [] t e = absurd cc
 newest_among (x ∷ past) t e = let same : x ≡ t = cc in inl same
 
@@ -255,7 +255,7 @@ module _ (accepts : HeaderView → Bool) (id : Identity) where
 true_is_false : (A : Type 0) (b : Bool) → b ≡ true → b ≡ false → A
 true_is_false A b yes_it no_it = absurd (let wrong : true ≡ false = sym yes_it ∙ no_it in cc)
 
-finished_of : (phase : Phase) → is_live phase ≡ false → code_of phase ≡ None → is_finished phase ≡ true
+pub finished_of : (phase : Phase) → is_live phase ≡ false → code_of phase ≡ None → is_finished phase ≡ true
 finished_of Waiting over none = absurd cc
 finished_of Running over none = absurd cc
 finished_of Finished over none = refl
@@ -302,7 +302,7 @@ turned_reads reads accepts id end s moves move more h fit was = record {
 
 -- ---- one event more
 
-abbrev reading : Reading → Option TargetSessionLog → StandingView → Option Reason → TargetReading
+abbrev pub reading : Reading → Option TargetSessionLog → StandingView → Option Reason → TargetReading
 reading end live active reason = record { end = end; live = live; active = active; reason = reason }
 
 first_named : (kind : FileKind) (sequence : ℕ) → AreNamed (request_in (first_row kind sequence))
@@ -315,15 +315,15 @@ first_named Lui sequence = by (eqb sequence 4294967295)
 first_named kind sequence = tt
 
 -- the configuration that stays is not a new one
-no_new : (A : Type 0) (accepts : HeaderView → Bool) (before after : TargetReading) → after.active ≡ before.active → IsNewAt accepts before after → A
+pub no_new : (A : Type 0) (accepts : HeaderView → Bool) (before after : TargetReading) → after.active ≡ before.active → IsNewAt accepts before after → A
 no_new A accepts before after same new =
     let next : before.active.sequence + 1 ≡ before.active.sequence = sym (ap (λ (s : StandingView). s.sequence) new.next) ∙ ap (λ (s : StandingView). s.sequence) same in
     absurd (omega (arith, next))
 
-one_is : (ts : List Transfer) (t u : Transfer) → ts ≡ t ∷ [] → ts ≡ u ∷ [] → t ≡ u
+pub one_is : (ts : List Transfer) (t u : Transfer) → ts ≡ t ∷ [] → ts ≡ u ∷ [] → t ≡ u
 one_is ts t u a b = let both : t ∷ [] ≡ u ∷ [] = sym a ∙ b in cc
 
-session_is : (s t : TargetSessionLog) → Some s ≡ Some t → s ≡ t
+pub session_is : (s t : TargetSessionLog) → Some s ≡ Some t → s ≡ t
 session_is s t e = cc
 
 -- what is installed was read

@@ -1,4 +1,5 @@
 //! What holds of both sides and their logs. These functions do nothing; their clauses are the law.
+ghost use Rattle.session_rules.specs.Completions.{CompletedUploadArrived, TargetTellsInstalled};
 ghost use Rattle.session_rules.specs.Fairness.{LoaderGivesMediaFiles, LoaderMovesFit};
 ghost use Rattle.session_rules.specs.Fairness.{LoaderStaysFair, TargetMovesFit, TargetStaysFair};
 ghost use Rattle.session_rules.specs.FirstPosts.{LoaderBlocksInOrder, TargetBlocksInOrder};
@@ -8,6 +9,7 @@ ghost use Rattle.session_rules.specs.Laws.{LoaderTakesWhatCame, LogsCountUp, Tar
 ghost use Rattle.session_rules.specs.Laws.{TargetFollows, TargetTakesWhatCame, TwoAtMost};
 ghost use Rattle.session_rules.specs.Lists.{TargetAsksForItsFiles, TargetAsksInTurn};
 ghost use Rattle.session_rules.specs.LoaderRoles.{CompletedListsArrived, LoaderRolesFit};
+ghost use Rattle.session_rules.specs.Requests.{LoaderWritesRequests};
 ghost use Rattle.session_rules.specs.Sessions.{OneSessionAStart};
 ghost use Rattle.session_rules.specs.Soundness.{VerdictIsSound};
 ghost use Rattle.session_rules.specs.SoundLogs.{ChangesByVerdict};
@@ -117,3 +119,18 @@ pub fn a_target_asks_for_its_files()
 {
     check_sum_laws();
 }
+
+/// An upload is completed by an LUS that arrived whole and says so. Whatever reaches a target, it
+/// begins to send a file that says so only as it installs.
+pub fn an_upload_is_completed_by_its_last_status()
+    ensures arrived { CompletedUploadArrived }
+    ensures told { TargetTellsInstalled }
+{
+    check_sum_laws();
+}
+
+/// Each file that the loader writes in a log is the request for the media set's entries of the
+/// parts of an upload that was started, 32 at most.
+pub fn a_loader_writes_requests()
+    ensures { LoaderWritesRequests }
+{}

@@ -1,0 +1,219 @@
+-- Proofs that uploads are completed only after a step that installed.
+use Rattle.std.proofs.Common.{◌≡◌, inl, inr, ℕ, Bool, true, false, cond, List, [], ◌∷◌, ◌++◌, ◌⊎◌, ◌↔◌, Option, Some, None, Ok, refl, sym, ap, subst, ◌∙◌, arith}
+use Rattle.std.specs.Prelude.{◌==◌, ◌+◌}
+use Rattle.std.specs.List.{AllByRecursion}
+use Rattle.std.proofs.lemmas.Bool.{eqb-true}
+use Rattle.field_grammar.specs.Answers.{answer}
+use Rattle.field_grammar.specs.Grammar.{IsBytes, IsDecided, Spelled}
+use Rattle.load_protocol_files.specs.Lus.{LusSpells, LusView, lus}
+use Rattle.disk_layout.specs.Holds.{StandingView}
+use Rattle.exchange_trace.specs.declared.trace.Side.TheVariants as sides
+use Rattle.exchange_trace.specs.Happenings.{Booted, DatagramView, Delivered, Ended, HappeningView, Info_started, Injected, Lost, Power_cut, Size_told, Ticked, Upload_started, is_same_side}
+use Rattle.exchange_trace.specs.Logs.{Event, Learns, event_for, gets, logged, loader_log}
+use Rattle.exchange_trace.specs.Posts.{numbered, posted_in}
+use Rattle.exchange_trace.specs.Steps.{Note, Step}
+use Rattle.transfer_end.specs.CameLaws.{all_mapped}
+use Rattle.transfer_end.specs.Moves.{Asks, Asks_size, Hears, Move, Recalls, Refuses, Repeats, Serves, Stops, past_with, readings_after}
+use Rattle.transfer_end.specs.OtherEndLaws.{all_at, among_left, moves_roles}
+use Rattle.transfer_end.specs.OtherEnds.{Among, ComesFromEnd, HaveRoles, MoveHasRole, MovesStayFair, TellsLength, all_of, file_sent, of_end, of_none}
+use Rattle.transfer_end.specs.Readings.{Reading}
+use Rattle.transfer_end.specs.Transfers.{Reads, Role, ServesRead, ServesWrite, Transfer, Writes, arrived_of}
+use Rattle.session_rules.specs.declared.outcome.Outcome.TheVariants.{Completed}
+use Rattle.session_rules.specs.declared.outcome.SessionKind.TheVariants.{Upload}
+use Rattle.session_rules.specs.BufferLaws.{SumsJoin}
+use Rattle.session_rules.specs.CompletionLaws.{completed_upload_arrived, target_tells_installed}
+use Rattle.session_rules.specs.Completions.{CompletionArrived, InstallsNow, SaysCompleted, TellsInstalled}
+use Rattle.session_rules.specs.HeardLaws.{loader_takes_what_came}
+use Rattle.session_rules.specs.Loader.{EndedSession}
+use Rattle.session_rules.specs.LoaderLog.{loader_extended, loader_reading}
+use Rattle.session_rules.specs.SoundLogLaws.{PayloadsAreBytes, newest_bytes}
+use Rattle.session_rules.specs.SoundLogs.{LogIsBytes}
+use Rattle.session_rules.specs.SoundnessLaws.{read_is_spelled}
+use Rattle.session_rules.specs.Target.{target_decision}
+use Rattle.session_rules.specs.TargetLaws.{end_stays}
+use Rattle.session_rules.specs.TargetLog.{TargetReading, standing_after, target_extended, target_view}
+use Rattle.replay_rules.specs.BothEnds.{Is_down, Is_up, Setting, TargetState, changed, loader_at, reached, target_at}
+use Rattle.replay_rules.specs.ChangeLaws.{BringsBytes, bytes_if, got_bytes, numbered_bytes, posted_bytes}
+use Rattle.replay_rules.specs.Changes.{AllCarryBytes, CarriesBytes, InjectsBytes}
+use Rattle.replay_rules.specs.CompletedTraces.{AllBroughtWhereCompleted, CompletedWasBrought, IsToldInTime, TargetTellsInTime, WasBrought}
+use Rattle.replay_rules.specs.Histories.{active_in, brings}
+use Rattle.replay_rules.specs.OtherEndTraces.{AllArriveAsSent, ArrivesAsSent, former_at, loader_transfers, target_transfers, transfers_of}
+use Rattle.replay_rules.specs.PlacedTraceLaws.{all_append}
+use Rattle.replay_rules.specs.TieLaws.{HasLive, target_is_live}
+use Rattle.replay_rules.proofs.ListedTraces.{among_past, false_is_true, longer, one_noted, only_loader, reached_none}
+use Rattle.replay_rules.proofs.SentTraces.{what_arrives_was_sent}
+
+-- ---- what the target tells
+
+still_brought : (set : Setting) (s : Step) (steps : List Step) → WasBrought set steps → WasBrought set (s ∷ steps)
+still_brought set s steps h =
+    record { since = s ∷ h.since; install = h.install; before = h.before; new = h.new; split = ap (λ (x : List Step). s ∷ x) h.split; brought = h.brought; stays_up = h.stays_up }
+
+still_told : (set : Setting) (s : Step) (steps : List Step) (role : Role) → IsToldInTime set steps role → IsToldInTime set (s ∷ steps) role
+still_told set s steps (Writes name o file) told = λ says. still_brought set s steps (told says)
+still_told set s steps (ServesRead name o file) told = told
+still_told set s steps (Reads name o) told = tt
+still_told set s steps (ServesWrite name o) told = tt
+
+abbrev InTime : Setting → List Step → Transfer → Type 0
+InTime set steps t = IsToldInTime set steps t.role
+
+one_more : (n : ℕ) (b : Bool) → (n == n + 1) ≡ b → b ≡ false
+one_more n true e = let same : n ≡ n + 1 = eqb-true n (n + 1) e in absurd (omega (arith, same))
+one_more n false e = refl
+
+changes : (before after : StandingView) (loads : List _) → after ≡ standing_after before loads → changed before after ≡ Some after
+changes before after loads is =
+    ap (λ (b : Bool). cond b None (Some after)) (ap (λ (x : StandingView). before.sequence == x.sequence) is ∙ one_more before.sequence (before.sequence == before.sequence + 1) refl)
+
+module _ (joins : SumsJoin) (set : Setting) (given : HappeningView) (posts : List DatagramView) (earlier : List Step) where
+  abbrev quiet_step : Step
+  quiet_step = record { given = given; posts = posts; notes = [] }
+
+  -- what is installed now is brought
+  installs_now : (r : TargetReading) (e : Event) → target_at set earlier ≡ Is_up r → event_for sides.Target (posted_in earlier) given ≡ Some e → InstallsNow set.accepts r e → WasBrought set (quiet_step ∷ earlier)
+  installs_now r e up comes now = record {
+    since = [];
+    install = quiet_step;
+    before = earlier;
+    new = (target_extended set.accepts r e).active;
+    split = refl;
+    brought = ap (λ (state : TargetState). changed (active_in state) (active_in (reached set (event_for sides.Target (posted_in earlier) given) state))) up
+        ∙ ap (λ (x : Option Event). changed r.active (active_in (reached set x (Is_up r)))) comes ∙ changes r.active (target_extended set.accepts r e).active now.loads now.next;
+    stays_up = refl;
+  }
+
+  told_role : (r : TargetReading) (e : Event) (role : Role) → target_at set earlier ≡ Is_up r → event_for sides.Target (posted_in earlier) given ≡ Some e → TellsInstalled set.accepts r e role → IsToldInTime set (quiet_step ∷ earlier) role
+  told_role r e (Writes name o file) up comes tells = λ says. installs_now r e up comes (tells says)
+  told_role r e (ServesRead name o file) up comes tells = tells
+  told_role r e (Reads name o) up comes tells = tt
+  told_role r e (ServesWrite name o) up comes tells = tt
+
+  told_moves : (r : TargetReading) (e : Event) → target_at set earlier ≡ Is_up r → event_for sides.Target (posted_in earlier) given ≡ Some e → (move : Move) → MoveHasRole (TellsInstalled set.accepts r e) move → MoveHasRole (IsToldInTime set (quiet_step ∷ earlier)) move
+  told_moves r e up comes (Asks role) h = told_role r e role up comes h
+  told_moves r e up comes (Serves from role) h = told_role r e role up comes h
+  told_moves r e up comes (Hears from p) h = tt
+  told_moves r e up comes (Recalls from p) h = tt
+  told_moves r e up comes (Refuses from) h = tt
+  told_moves r e up comes Repeats h = tt
+  told_moves r e up comes Stops h = tt
+  told_moves r e up comes (Asks_size n) h = tt
+
+  reached_in_time : (state : TargetState) (e : Option Event) → target_at set earlier ≡ state → event_for sides.Target (posted_in earlier) given ≡ e → AllByRecursion (InTime set earlier) (transfers_of state)
+      → AllByRecursion (InTime set (quiet_step ∷ earlier)) (transfers_of (reached set e state))
+  reached_in_time (Is_down active interrupted) None up comes h = tt
+  reached_in_time (Is_down active interrupted) (Some e) up comes h = tt
+  reached_in_time (Is_up r) None up comes h = all_mapped (InTime set earlier) (InTime set (quiet_step ∷ earlier)) (λ t. still_told set quiet_step earlier t.role) (past_with r.end.live r.end.past) h
+  reached_in_time (Is_up r) (Some e) up comes h =
+      let d = target_decision set.accepts (target_view set.accepts r) e in
+      subst (λ (x : Reading). HaveRoles (IsToldInTime set (quiet_step ∷ earlier)) x) (sym (end_stays set.accepts (readings_after sides.Target r.end d.moves) r d.change))
+      (moves_roles (IsToldInTime set (quiet_step ∷ earlier)) sides.Target r.end d.moves
+      (all_mapped (MoveHasRole (TellsInstalled set.accepts r e)) (MoveHasRole (IsToldInTime set (quiet_step ∷ earlier))) (told_moves r e up comes) d.moves
+      (target_tells_installed joins set.accepts r e (subst (λ (state : TargetState). HasLive state) up (target_is_live joins set earlier))))
+      (all_mapped (InTime set earlier) (InTime set (quiet_step ∷ earlier)) (λ t. still_told set quiet_step earlier t.role) (past_with r.end.live r.end.past) h))
+
+step_in_time : SumsJoin → (set : Setting) (given : HappeningView) (posts : List DatagramView) (notes : List Note) (earlier : List Step) → AllByRecursion (InTime set earlier) (transfers_of (target_at set earlier)) → AllByRecursion (InTime set earlier) (former_at set earlier)
+    → AllByRecursion (InTime set (record { given = given; posts = posts; notes = notes } ∷ earlier)) (transfers_of (target_at set (record { given = given; posts = posts; notes = notes } ∷ earlier)))
+    × AllByRecursion (InTime set (record { given = given; posts = posts; notes = notes } ∷ earlier)) (former_at set (record { given = given; posts = posts; notes = notes } ∷ earlier))
+step_in_time joins set given posts [] earlier now former = (
+  reached_in_time joins set given posts earlier (target_at set earlier) (event_for sides.Target (posted_in earlier) given) refl refl now,
+  all_mapped (InTime set earlier) (InTime set (record { given = given; posts = posts; notes = [] } ∷ earlier)) (λ t. still_told set (record { given = given; posts = posts; notes = [] }) earlier t.role) (former_at set earlier) former,
+)
+step_in_time joins set given posts (note ∷ notes) earlier now former =
+    let s : Step = record { given = given; posts = posts; notes = note ∷ notes } in (
+      subst (λ (ts : List Transfer). AllByRecursion (InTime set (s ∷ earlier)) ts) (sym (one_noted note notes (target_at set earlier) (reached set (event_for sides.Target (posted_in earlier) given) (target_at set earlier)))) tt,
+      all_mapped (InTime set earlier) (InTime set (s ∷ earlier)) (λ t. still_told set s earlier t.role) (transfers_of (target_at set earlier) ++ former_at set earlier) (all_append (InTime set earlier) (transfers_of (target_at set earlier)) (former_at set earlier) now former),
+    )
+
+all_in_time : SumsJoin → (set : Setting) (steps : List Step) → AllByRecursion (InTime set steps) (transfers_of (target_at set steps)) × AllByRecursion (InTime set steps) (former_at set steps)
+all_in_time joins set [] = (tt, tt)
+all_in_time joins set (s ∷ earlier) = let before = all_in_time joins set earlier in step_in_time joins set s.given s.posts s.notes earlier before.0 before.1
+
+pub target_tells_in_time : SumsJoin → TargetTellsInTime
+target_tells_in_time joins set steps t a =
+    let all = all_in_time joins set steps in
+    all_at (InTime set steps) (transfers_of (target_at set steps) ++ former_at set steps) t (all_append (InTime set steps) (transfers_of (target_at set steps)) (former_at set steps) all.0 all.1) a
+
+-- ---- what reaches the loader is bytes
+
+loader_event_bytes : (posted : List DatagramView) (h : HappeningView) → AllByRecursion CarriesBytes posted → InjectsBytes h → BringsBytes (event_for sides.Loader posted h)
+loader_event_bytes posted (Delivered to n) all given = bytes_if (is_same_side sides.Loader to) (gets (numbered posted n)) None (got_bytes (numbered posted n) (numbered_bytes posted n all)) tt
+loader_event_bytes posted (Injected d) all given = bytes_if (is_same_side sides.Loader d.side) None (gets (Some d)) tt given
+loader_event_bytes posted (Ticked whose) all given = bytes_if (is_same_side sides.Loader whose) (Some _) None tt tt
+loader_event_bytes posted (Size_told size) all given = tt
+loader_event_bytes posted (Info_started hw pos) all given = tt
+loader_event_bytes posted (Upload_started hw pos parts) all given = tt
+loader_event_bytes posted (Lost n) all given = tt
+loader_event_bytes posted (Power_cut calls pick) all given = tt
+loader_event_bytes posted Booted all given = tt
+loader_event_bytes posted Ended all given = tt
+
+logged_bytes : (e : Option Event) (log : List Event) → BringsBytes e → LogIsBytes log → LogIsBytes (logged e log)
+logged_bytes None log now fit = fit
+logged_bytes (Some e) log now fit = (now, fit)
+
+pub loader_log_bytes : (steps : List Step) → AllCarryBytes steps → LogIsBytes (loader_log steps)
+loader_log_bytes [] all = tt
+loader_log_bytes (s ∷ earlier) ((posts, given), all) =
+    logged_bytes (event_for sides.Loader (posted_in earlier) s.given) (loader_log earlier) (loader_event_bytes (posted_in earlier) s.given (posted_bytes earlier all) given) (loader_log_bytes earlier all)
+
+-- ---- the step that completes a session
+
+-- an LUS that is read is spelled (`protocol_file_laws` of load_protocol_files)
+abbrev pub StatusesAreSpelled : Type 0
+StatusesAreSpelled = (v : LusView) (bytes : List ℕ) → IsBytes bytes → answer lus bytes ≡ Ok v → LusSpells v bytes
+
+pub statuses_are_spelled : ((bytes : List ℕ) → IsBytes bytes → IsDecided lus bytes) → ((bytes : List ℕ) (v : LusView) → Spelled lus bytes v ↔ LusSpells v bytes) → StatusesAreSpelled
+statuses_are_spelled decided spells v bytes fit e = (spells bytes v).0 (read_is_spelled lus bytes v (decided bytes fit).one_or_other e)
+
+-- the file that the target sent says so too
+told_file : (set : Setting) (steps : List Step) (role : Role) (file : List ℕ) → file_sent role ≡ Some file → (TellsLength role → SaysCompleted file) → IsToldInTime set steps role → WasBrought set steps
+told_file set steps (Writes name o f) file sent says told = let same : file ≡ f = cc in told (subst SaysCompleted same (says tt))
+told_file set steps (ServesRead name o f) file sent says (size, told) = let same : file ≡ f = cc in absurd (told (subst SaysCompleted same (says size)))
+told_file set steps (Reads name o) file sent says told = absurd cc
+told_file set steps (ServesWrite name o) file sent says told = absurd cc
+
+module _ (joins : SumsJoin) (payloads : PayloadsAreBytes) (spells : StatusesAreSpelled) (set : Setting) (s : Step) (earlier : List Step) (carries : AllCarryBytes (s ∷ earlier)) (sent : ArrivesAsSent set s earlier) (session : EndedSession) where
+  -- the transfer that completed it
+  by_transfer : (e : Event) → event_for sides.Target (posted_in earlier) s.given ≡ None → (h : CompletionArrived set.media (loader_at set earlier) e) → IsBytes (arrived_of h.transfer) → Among h.transfer (loader_transfers set (s ∷ earlier)) → WasBrought set (s ∷ earlier)
+  by_transfer e alone h fit a = by (sent.at_loader h.transfer a h.receives)
+    where
+      by : ComesFromEnd (target_transfers set s earlier) h.transfer → WasBrought set (s ∷ earlier)
+      by (of_none none not) = absurd (false_is_true (sym not ∙ h.received))
+      by (of_end u b brings) =
+          let same : reached set (event_for sides.Target (posted_in earlier) s.given) (target_at set earlier) ≡ target_at set earlier = ap (λ (x : Option Event). reached set x (target_at set earlier)) alone ∙ reached_none set (target_at set earlier) in
+          let there : Among u (transfers_of (target_at set earlier) ++ former_at set earlier) = subst (λ (state : TargetState). Among u (transfers_of state ++ former_at set earlier)) same b in
+          let (v, read, is) = h.says in
+          let said : SaysCompleted (arrived_of h.transfer) = (v, spells v (arrived_of h.transfer) fit read, is) in
+          still_brought set s earlier (told_file set earlier u.role brings.file brings.sent (λ tells. subst SaysCompleted (brings.whole tells h.received) said) (target_tells_in_time joins set earlier u there))
+
+  by_event : (e : Option Event) → event_for sides.Loader (posted_in earlier) s.given ≡ e → (loader_reading set.media (logged e (loader_log earlier))).ended ≡ session ∷ (loader_at set earlier).ended → session.kind ≡ Upload → session.outcome ≡ Completed → WasBrought set (s ∷ earlier)
+  by_event None comes grows upload over = absurd (longer (loader_at set earlier).ended session grows)
+  by_event (Some e) comes grows upload over = by (only_loader (posted_in earlier) s.given e comes)
+    where
+      there : (h : CompletionArrived set.media (loader_at set earlier) e) → Among h.transfer (loader_transfers set (s ∷ earlier))
+      there h =
+          subst (λ (x : Option Event). Among h.transfer (all_of (loader_reading set.media (logged x (loader_log earlier))).end [])) (sym comes)
+          (among_left h.transfer _ [] (among_past (loader_extended set.media (loader_at set earlier) e).end.live (loader_extended set.media (loader_at set earlier) e).end.past h.transfer h.is_newest))
+
+      fit : LogIsBytes (e ∷ loader_log earlier)
+      fit = subst (λ (x : Option Event). LogIsBytes (logged x (loader_log earlier))) comes (loader_log_bytes (s ∷ earlier) carries)
+
+      by : (event_for sides.Target (posted_in earlier) s.given ≡ None) ⊎ ((size : Option ℕ) × (e ≡ Learns size)) → WasBrought set (s ∷ earlier)
+      by (inl alone) =
+          let h = completed_upload_arrived set.media (loader_log earlier) e session grows upload over in
+          by_transfer e alone h (newest_bytes payloads (e ∷ loader_log earlier) (loader_extended set.media (loader_at set earlier) e).end h.transfer fit (loader_takes_what_came set.media (e ∷ loader_log earlier)).0 h.is_newest) (there h)
+      by (inr (size, learns)) = absurd (longer (loader_at set earlier).ended session (subst (λ (x : Event). (loader_extended set.media (loader_at set earlier) x).ended ≡ session ∷ (loader_at set earlier).ended) learns grows))
+
+  pub brought_where_completed : (loader_at set (s ∷ earlier)).ended ≡ session ∷ (loader_at set earlier).ended → session.kind ≡ Upload → session.outcome ≡ Completed → WasBrought set (s ∷ earlier)
+  brought_where_completed grows upload over = by_event (event_for sides.Loader (posted_in earlier) s.given) refl grows upload over
+
+all_brought : SumsJoin → PayloadsAreBytes → StatusesAreSpelled → (set : Setting) (steps : List Step) → AllCarryBytes steps → AllArriveAsSent set steps → AllBroughtWhereCompleted set steps
+all_brought joins payloads spells set [] carries sent = tt
+all_brought joins payloads spells set (s ∷ earlier) carries (now, sent) = (
+  λ session. brought_where_completed joins payloads spells set s earlier carries now session,
+  all_brought joins payloads spells set earlier carries.1 sent,
+)
+
+pub completed_was_brought : SumsJoin → MovesStayFair → PayloadsAreBytes → StatusesAreSpelled → CompletedWasBrought
+completed_was_brought joins moves payloads spells set steps is = all_brought joins payloads spells set steps is.carries (what_arrives_was_sent joins moves set steps is)

@@ -1,0 +1,49 @@
+-- Which loads are installed in a run: those of a start of an upload before (docs/EXCHANGE.md, "Runs").
+use Rattle.std.specs.Prelude.{◌≡◌, ℕ, List, [], ◌∷◌, ◌++◌, true, Option, Some, None, ⊤}
+use Rattle.std.specs.List.{AllByRecursion}
+use Rattle.load_header.specs.Header.{HeaderView}
+use Rattle.load_protocol_files.specs.declared.lur.Wanted.{Wanted}
+use Rattle.load_protocol_files.specs.Lur.{WantedFits}
+use Rattle.disk_layout.specs.Holds.{StandingView}
+use Rattle.exchange_trace.specs.Happenings.{Upload_started}
+use Rattle.exchange_trace.specs.Steps.{Step}
+use Rattle.accept_rules.specs.Permissions.{Permits}
+use Rattle.session_rules.specs.MediaFiles.{Media}
+use Rattle.replay_rules.specs.BothEnds.{Setting}
+use Rattle.replay_rules.specs.Histories.{brings}
+use Rattle.replay_rules.specs.OtherEndTraces.{IsUninjected}
+use Rattle.replay_rules.specs.Promises.{CompletedIsInstalled, HasParts}
+
+-- each entry of the media set has a name and a part number, so that a request can tell it
+abbrev pub EntriesFit : Media → Type 0
+EntriesFit media = AllByRecursion (λ (entry : Wanted). WantedFits entry) media.loads
+
+-- one of these steps started an upload of the parts that the configuration has, in their order
+pub record IsAskedFor (steps : List Step) (new : StandingView) : Type 0 where
+  pub between : List Step
+  pub start : Step
+  pub before : List Step
+  pub hw : List ℕ
+  pub pos : List ℕ
+  pub parts : List (List ℕ)
+  pub split : steps ≡ between ++ start ∷ before
+  pub starts : start.given ≡ Upload_started hw pos parts
+  pub asked : HasParts parts new.loads
+
+abbrev pub BroughtIsAsked : Option StandingView → List Step → Type 0
+BroughtIsAsked None earlier = ⊤
+BroughtIsAsked (Some new) earlier = IsAskedFor earlier new
+
+-- so it is of what each step brings
+abbrev pub AllBroughtAreAsked : Setting → List Step → Type 0
+AllBroughtAreAsked set [] = ⊤
+AllBroughtAreAsked set (s ∷ earlier) = BroughtIsAsked (brings set s earlier) earlier × AllBroughtAreAsked set earlier
+
+-- Where nothing is injected, each configuration that an install step brings has the parts of a start of an upload before it,
+-- through losses, repeats, other orders, power losses and boots.
+abbrev pub InstallsAreAsked : Type 0
+InstallsAreAsked = (set : Setting) (steps : List Step) → ((h : HeaderView) → set.accepts h ≡ true → Permits h) → EntriesFit set.media → IsUninjected set steps → AllBroughtAreAsked set steps
+
+-- And so each completed upload was installed.
+abbrev pub UploadsAreInstalled : Type 0
+UploadsAreInstalled = (set : Setting) (steps : List Step) → ((h : HeaderView) → set.accepts h ≡ true → Permits h) → EntriesFit set.media → IsUninjected set steps → CompletedIsInstalled set steps
