@@ -9,6 +9,8 @@
 mod bodies;
 mod building;
 mod building_fault;
+#[cfg(test)]
+mod building_tests;
 mod fault;
 mod gathering;
 mod generated;

@@ -7,7 +7,7 @@ use std::alloc::Global;
 use std::test::Fail;
 
 /// Two members with three loads.
-static REALISTIC: &str = "set XYZ5A-0000-0001
+pub(crate) static REALISTIC: &str = "set XYZ5A-0000-0001
 members 2
 load ABC41-0000-0001 NAV.LUH 1 7 NAVDATA
 hardware FMC-1
