@@ -1,5 +1,6 @@
 -- How a run ends that checks a set without findings.
 use Rattle.std.proofs.Common.{◌≡◌, ℕ, inl, inr, List, [], ◌∷◌, sym, ap, subst, ◌∙◌}
+use Rattle.std.specs.Fmt.{decimal}
 use Rattle.std.specs.Prelude.{codes}
 use Rattle.load_base.specs.Host.{Files}
 use Rattle.load_base.specs.Sink.{IsExtended}
@@ -9,9 +10,9 @@ use Rattle.media_check.specs.Sets.{SetView}
 use Rattle.disk_layout.specs.declared.identity.Identity.{Identity}
 use Rattle.shown_files.specs.declared.kind.ShownKind.{ShownKind}
 use Rattle.loader_cli.specs.Commands.{IsCommand}
-use Rattle.loader_cli.specs.Commands.CommandView.{list, format, show, check}
+use Rattle.loader_cli.specs.Commands.CommandView.{list, format, show, check, build, make}
 use Rattle.loader_cli.specs.Runs.{Run, Says, Ends, Checks, Finds, ChecksCleanSet, FindsNothing, EndsAsPromised}
-use Rattle.loader_cli.specs.Runs.Says.{refused, lists, formats, shows, checks}
+use Rattle.loader_cli.specs.Runs.Says.{refused, lists, formats, shows, checks, builds, makes}
 use Rattle.loader_cli.specs.Runs.Ends.{told, sink_failed, no_memory}
 use Rattle.loader_cli.specs.Runs.Checks.{opened, long_file, large_set, set_unread}
 use Rattle.loader_cli.specs.Runs.Finds.{clean, faulty_set}
@@ -31,6 +32,12 @@ no_format words folder id one two = absurd cc
 no_show : (words : List (List ℕ)) (folder file : List ℕ) (kind : ShownKind) → IsCommand words (check folder) → IsCommand words (show kind file) → ⊥
 no_show words folder file kind one two = let same : codes "check" ∷ folder ∷ [] ≡ codes "show" ∷ file ∷ [] = sym one.0 ∙ two.0 in absurd cc
 
+no_build : (words : List (List ℕ)) (folder recipe other : List ℕ) → IsCommand words (check folder) → IsCommand words (build recipe other) → ⊥
+no_build words folder recipe other one two = let same : codes "check" ∷ folder ∷ [] ≡ codes "build" ∷ recipe ∷ other ∷ [] = sym one.0 ∙ two.0 in absurd cc
+
+no_make : (words : List (List ℕ)) (folder : List ℕ) (number : ℕ) (other : List ℕ) → IsCommand words (check folder) → IsCommand words (make number other) → ⊥
+no_make words folder number other one two = let same : codes "check" ∷ folder ∷ [] ≡ codes "make" ∷ decimal number ∷ other ∷ [] = sym one.0 ∙ two.0 in absurd cc
+
 -- what is said of a set without findings
 says_clean : (set : SetView) (status : ℕ) (text : List ℕ) → findings_of set ≡ [] → Finds set status text → (status ≡ 0) × (text ≡ findings_text [])
 says_clean set status text none (clean _ is said) = (is, said)
@@ -48,6 +55,8 @@ run_says run folder files status text premise (refused none _ _) = absurd (none 
 run_says run folder files status text premise (lists asked _) = absurd (no_list run.work.words folder premise.asked asked)
 run_says run folder files status text premise (formats id asked _) = absurd (no_format run.work.words folder id premise.asked asked)
 run_says run folder files status text premise (shows kind file asked _) = absurd (no_show run.work.words folder file kind premise.asked asked)
+run_says run folder files status text premise (builds recipe other asked _) = absurd (no_build run.work.words folder recipe other premise.asked asked)
+run_says run folder files status text premise (makes number other asked _) = absurd (no_make run.work.words folder number other premise.asked asked)
 run_says run folder files status text premise (checks other asked found) =
     checks_clean run folder files status text premise
     (subst (λ (f : List ℕ). Checks f run.work.files run.work.host_faults run.work.host_faults_after status text) (one_folder run.work.words folder other premise.asked asked) found)

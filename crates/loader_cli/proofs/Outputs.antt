@@ -3,7 +3,7 @@ use Rattle.std.proofs.Common.{◌≢◌, ℕ, List, Option, Some, None, Ok, Err,
 use Rattle.load_base.specs.Listed.{Listed}
 use Rattle.load_base.specs.Host.{Files, ReadsFile}
 use Rattle.load_base.specs.declared.host.ReadFault.TheVariants as reading
-use Rattle.loader_cli.specs.Runs.{Has, HasTooMany}
+use Rattle.loader_cli.specs.HostFiles.{Has, HasTooMany}
 use Rattle.disk_model.specs.Image.{Image}
 use Rattle.disk_model.specs.State.{DiskState}
 use Rattle.disk_layout.specs.DiskReads.{IsOfDisk, RunsOn, RunsOnAfter}

@@ -2,7 +2,7 @@
 use Rattle.std.specs.Prelude.{ℕ, List, codes}
 use Rattle.loader_cli.specs.Texts.{refused_words, refused_input, disk_fault, host_fault, no_configuration}
 use Rattle.loader_cli.specs.declared.answer.Answer.{Answer}
-use Rattle.loader_cli.specs.declared.answer.Answer.TheVariants.{Done, Findings, RefusedWords, Absent, TooLong, TooLongFile, TooLarge, RefusedInput, HostFault, DiskFault, NoConfiguration}
+use Rattle.loader_cli.specs.declared.answer.Answer.TheVariants.{Done, Findings, RefusedWords, Absent, TooLong, AbsentFile, TooLongFile, TooLarge, RefusedInput, HostFault, DiskFault, NoConfiguration}
 
 abbrev pub status_of : Answer → ℕ
 status_of (Done text) = 0
@@ -10,6 +10,7 @@ status_of (Findings text) = 1
 status_of RefusedWords = 2
 status_of (Absent name) = 3
 status_of (TooLong name) = 3
+status_of (AbsentFile name) = 3
 status_of (TooLongFile name) = 3
 status_of (TooLarge folder) = 3
 status_of (RefusedInput name fault) = 3
@@ -23,6 +24,7 @@ text_of (Findings text) = text.items
 text_of RefusedWords = refused_words
 text_of (Absent name) = refused_input name.now (codes "absent")
 text_of (TooLong name) = refused_input name.now (codes "toolong")
+text_of (AbsentFile name) = refused_input name.items (codes "absent")
 text_of (TooLongFile name) = refused_input name.items (codes "toolong")
 text_of (TooLarge folder) = refused_input folder.now (codes "toolarge")
 text_of (RefusedInput name fault) = refused_input name.now fault

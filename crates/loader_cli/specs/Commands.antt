@@ -1,5 +1,5 @@
 -- The commands (README.md).
-use Rattle.std.specs.Prelude.{◌≡◌, ℕ, ◌≤◌, List, [], ◌∷◌, length, codes, map, All, String, string_bytes}
+use Rattle.std.specs.Prelude.{◌≡◌, ℕ, ◌<◌, ◌≤◌, ◌^◌, List, [], ◌∷◌, length, codes, map, All, String, string_bytes}
 use Rattle.std.specs.declared.alloc.Global.{Global}
 use Rattle.std.specs.Fmt.{decimal}
 use Rattle.disk_layout.specs.Identity.{IsIdentity}
@@ -23,6 +23,10 @@ pub data CommandView : Type 0 where
   show : (kind : ShownKind) (file : List ℕ) → CommandView
   -- `check FOLDER`
   check : (folder : List ℕ) → CommandView
+  -- `build RECIPE FOLDER`
+  build : (recipe folder : List ℕ) → CommandView
+  -- `make NUMBER FOLDER`
+  make : (number : ℕ) (folder : List ℕ) → CommandView
 
 -- 1 to 150 bytes 0x21 to 0x7E
 abbrev pub IsWord : List ℕ → Type 0
@@ -42,6 +46,8 @@ IsCommand words list = words ≡ codes "list" ∷ []
 IsCommand words (format id) = (words ≡ codes "format" ∷ id.hw ∷ id.pos ∷ id.serial ∷ decimal id.bank ∷ []) × IsIdentity id
 IsCommand words (show kind file) = (words ≡ codes "show" ∷ file ∷ []) × IsWord file × IsNameOf kind file
 IsCommand words (check folder) = (words ≡ codes "check" ∷ folder ∷ []) × IsWord folder
+IsCommand words (build recipe folder) = (words ≡ codes "build" ∷ recipe ∷ folder ∷ []) × IsWord recipe × IsWord folder
+IsCommand words (make number folder) = (words ≡ codes "make" ∷ decimal number ∷ folder ∷ []) × (number < 2 ^ 32) × IsWord folder
 
 -- the arguments are no command of this sort
 abbrev pub IsNo : (CommandView → Type 0) → List (List ℕ) → Type 0
@@ -56,6 +62,8 @@ UsesDisk list = Unit {0}
 UsesDisk (format id) = Unit {0}
 UsesDisk (show kind file) = ⊥
 UsesDisk (check folder) = ⊥
+UsesDisk (build recipe folder) = ⊥
+UsesDisk (make number folder) = ⊥
 
 -- it writes to the disk
 abbrev pub WritesDisk : CommandView → Type 0
@@ -63,16 +71,31 @@ WritesDisk list = ⊥
 WritesDisk (format id) = Unit {0}
 WritesDisk (show kind file) = ⊥
 WritesDisk (check folder) = ⊥
+WritesDisk (build recipe folder) = ⊥
+WritesDisk (make number folder) = ⊥
 
--- it reads files of the host
+-- it reads or writes files of the host
 abbrev pub UsesHost : CommandView → Type 0
 UsesHost list = ⊥
 UsesHost (format id) = ⊥
 UsesHost (show kind file) = Unit {0}
 UsesHost (check folder) = Unit {0}
+UsesHost (build recipe folder) = Unit {0}
+UsesHost (make number folder) = Unit {0}
+
+-- it writes files of the host
+abbrev pub WritesHost : CommandView → Type 0
+WritesHost list = ⊥
+WritesHost (format id) = ⊥
+WritesHost (show kind file) = ⊥
+WritesHost (check folder) = ⊥
+WritesHost (build recipe folder) = Unit {0}
+WritesHost (make number folder) = Unit {0}
 
 abbrev pub command_view : Command → CommandView
 command_view commands.List = list
 command_view (commands.Format identity) = format identity
 command_view (commands.Show kind file) = show kind file.now
 command_view (commands.Check folder) = check folder.now
+command_view (commands.Build recipe folder) = build recipe.now folder.now
+command_view (commands.Make number folder) = make number folder.now

@@ -1,4 +1,6 @@
 pub mod Answers
+pub mod Builds
 pub mod Commands
+pub mod HostFiles
 pub mod Runs
 pub mod Texts

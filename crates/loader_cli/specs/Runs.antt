@@ -20,7 +20,9 @@ use Rattle.disk_layout.specs.Holds.{StandingView, HoldsConfig, HasDiskFault}
 use Rattle.disk_layout.specs.declared.fault.RecoverFault.{RecoverFault}
 use Rattle.listing.specs.Listing.{listing}
 use Rattle.loader_cli.specs.Commands.{IsCommand, IsNo, IsAny}
-use Rattle.loader_cli.specs.Commands.CommandView.{list, format, show, check}
+use Rattle.loader_cli.specs.Commands.CommandView.{list, format, show, check, build, make}
+use Rattle.loader_cli.specs.Builds.{Builds, Makes}
+use Rattle.loader_cli.specs.HostFiles.{Has, HasTooMany, HostWork}
 use Rattle.loader_cli.specs.Texts.{formatted_line, findings_text, refused_words, refused_input, disk_fault, host_fault, no_configuration}
 use Rattle.loader_cli.specs.declared.top_call.Ended.{Ended}
 
@@ -57,16 +59,6 @@ pub data ShowsBytes (kind : ShownKind) (name bytes : List ℕ) (status : ℕ) (t
   shown : HasFields kind bytes text → status ≡ 0 → ShowsBytes kind name bytes status text
   -- 3: they fail at this fault
   faulty : (fault : List ℕ) → HasFault kind bytes fault → status ≡ 3 → text ≡ refused_input name fault → ShowsBytes kind name bytes status text
-
--- the host has this under the name, where it tells its files
-abbrev pub Has : Option Files → List ℕ → Option (List ℕ) → Type 0
-Has None name file = Unit {0}
-Has (Some files) name file = files name ≡ file
-
--- the host has more bytes under the name than it reads, where it tells its files
-abbrev pub HasTooMany : Option Files → List ℕ → Type 0
-HasTooMany None name = Unit {0}
-HasTooMany (Some files) name = (bytes : List ℕ) × (files name ≡ Some bytes) × (longest_file < length bytes)
 
 -- the status, the text, and what it says of the host's files and of its faults before and after
 pub data Shows (kind : ShownKind) (files : Option Files) (before after : ℕ) (name : List ℕ) (status : ℕ) (text : List ℕ) : Type 0 where
@@ -109,14 +101,19 @@ pub data Checks (folder : List ℕ) (files : Option Files) (before after : ℕ) 
 
 -- ---- a run
 
--- What a command works on: its arguments, the disk before and after, and the host's files and faults.
+-- What a command works on: its arguments, the disk, and the host's files and faults, before and after.
 pub record Work : Type 1 where
   pub words : List (List ℕ)
   pub disk : DiskState
   pub disk_after : DiskState
   pub files : Option Files
+  pub files_after : Option Files
   pub host_faults : ℕ
   pub host_faults_after : ℕ
+
+-- what it does to the host
+abbrev pub host_work : Work → HostWork
+host_work work = record { files = work.files; files_after = work.files_after; faults = work.host_faults; faults_after = work.host_faults_after }
 
 -- What a run is given and what it leaves: the command's work, and the sink's output and faults before and after.
 pub record Run : Type 1 where
@@ -136,6 +133,8 @@ pub data Says (work : Work) (status : ℕ) (text : List ℕ) : Type 0 where
       → Shows kind work.files work.host_faults work.host_faults_after file status text → Says work status text
   checks : (folder : List ℕ) → IsCommand work.words (check folder)
       → Checks folder work.files work.host_faults work.host_faults_after status text → Says work status text
+  builds : (recipe folder : List ℕ) → IsCommand work.words (build recipe folder) → Builds recipe folder (host_work work) status text → Says work status text
+  makes : (number : ℕ) (folder : List ℕ) → IsCommand work.words (make number folder) → Makes number folder (host_work work) status text → Says work status text
 
 -- how a run ends
 pub data Ends (run : Run) (ended : Ended) : Type 0 where

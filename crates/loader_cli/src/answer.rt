@@ -20,9 +20,11 @@ pub(crate) enum Answer<'w> {
     Absent(&'w [u8]),
     /// The file of this name has too many bytes.
     TooLong(&'w [u8]),
-    /// The same of a file of a media set.
+    /// There is no source of this name.
+    AbsentFile(Bytes),
+    /// The file of a media set, or the source, of this name has too many bytes.
     TooLongFile(Bytes),
-    /// The files of the media set in this folder have too many bytes together.
+    /// The files of the media set in this folder, or of this recipe, have too many bytes together.
     TooLarge(&'w [u8]),
     /// The file of this name fails at the fault of this text.
     RefusedInput { name: &'w [u8], fault: Text },
@@ -41,7 +43,7 @@ impl Answer<'_> {
             Answer::Findings(_) => 1,
             Answer::RefusedWords => 2,
             Answer::Absent(_) | Answer::TooLong(_) | Answer::RefusedInput { .. } => 3,
-            Answer::TooLongFile(_) | Answer::TooLarge(_) => 3,
+            Answer::AbsentFile(_) | Answer::TooLongFile(_) | Answer::TooLarge(_) => 3,
             Answer::HostFault => 4,
             Answer::DiskFault => 5,
             Answer::NoConfiguration(_) => 8,
@@ -57,6 +59,7 @@ impl Answer<'_> {
             Answer::RefusedWords => copy_of(alloc, b"refused words\n"),
             Answer::Absent(name) => refused_text(alloc, name, b"absent"),
             Answer::TooLong(name) => refused_text(alloc, name, b"toolong"),
+            Answer::AbsentFile(name) => refused_text(alloc, name.as_slice(), b"absent"),
             Answer::TooLongFile(name) => refused_text(alloc, name.as_slice(), b"toolong"),
             Answer::TooLarge(folder) => refused_text(alloc, folder, b"toolarge"),
             Answer::RefusedInput { name, fault } => refused_text(alloc, name, fault.as_slice()),

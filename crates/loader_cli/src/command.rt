@@ -4,7 +4,7 @@ ghost use Rattle.std.specs.Fmt.{decimal};
 ghost use Rattle.disk_layout.specs.Offsets.{IsBankSize};
 ghost use Rattle.disk_layout.specs.declared.identity.Identity.{Identity};
 ghost use Rattle.shown_files.specs.Kinds.{IsNameOf};
-ghost use Rattle.loader_cli.specs.Commands.CommandView.{show, check};
+ghost use Rattle.loader_cli.specs.Commands.CommandView.{show, check, build, make};
 ghost use Rattle.loader_cli.specs.Commands.{IsAny, IsCommand, IsNo, IsWord, NamesTarget};
 ghost use Rattle.loader_cli.specs.Commands.{command_view, texts_of};
 
@@ -25,6 +25,10 @@ pub(crate) enum Command<'w> {
     Show { kind: ShownKind, file: &'w str },
     /// `check FOLDER`: find all that is wrong with the media set in this folder.
     Check { folder: &'w str },
+    /// `build RECIPE FOLDER`: build the media set that a recipe names into this folder.
+    Build { recipe: &'w str, folder: &'w str },
+    /// `make NUMBER FOLDER`: make the generated set of a number in this folder.
+    Make { number: u32, folder: &'w str },
 }
 
 impl<'w> Command<'w> {
@@ -44,6 +48,12 @@ impl<'w> Command<'w> {
             }
             [word, file] if is_text(word.as_str(), "show") => show_of(file.as_str()),
             [word, folder] if is_text(word.as_str(), "check") => check_of(folder.as_str()),
+            [word, recipe, folder] if is_text(word.as_str(), "build") => {
+                build_of(recipe.as_str(), folder.as_str())
+            }
+            [word, number, folder] if is_text(word.as_str(), "make") => {
+                make_of(number.as_str(), folder.as_str())
+            }
             _ => None,
         }
     }
@@ -74,6 +84,34 @@ fn check_of(folder: &str) -> Option<Command<'_>>
     } else {
         None
     }
+}
+
+// The command `build` for this recipe and folder.
+fn build_of<'w>(recipe: &'w str, folder: &'w str) -> Option<Command<'w>>
+    ensures some { IfSome result (λ command.
+        (command_view command ≡ build recipe.now folder.now)
+        × IsWord recipe.now × IsWord folder.now) }
+    ensures none { IfNone result (¬ (IsWord recipe.now × IsWord folder.now)) }
+{
+    if is_word(recipe.as_bytes()) && is_word(folder.as_bytes()) {
+        Some(Command::Build { recipe, folder })
+    } else {
+        None
+    }
+}
+
+// The command `make` for this number and folder.
+fn make_of<'w>(digits: &'w str, folder: &'w str) -> Option<Command<'w>>
+    ensures some { IfSome result (λ command. (n : ℕ) × (command_view command ≡ make n folder.now)
+        × (digits.now ≡ decimal n) × (n < 2 ^ 32) × IsWord folder.now) }
+    ensures none { IfNone result
+        ((n : ℕ) → ¬ ((digits.now ≡ decimal n) × (n < 2 ^ 32) × IsWord folder.now)) }
+{
+    if !is_word(folder.as_bytes()) {
+        return None;
+    }
+    let number = number(digits)?;
+    Some(Command::Make { number, folder })
 }
 
 // The target that these arguments name.

@@ -6,6 +6,7 @@
 #![tactic(auto)]
 
 mod answer;
+mod build;
 mod check;
 mod command;
 mod show;

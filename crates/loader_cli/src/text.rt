@@ -1,6 +1,7 @@
 //! The lines that are printed.
 ghost use Rattle.std.specs.Prelude.{◌≡◌, IfOk};
-ghost use Rattle.loader_cli.specs.Texts.{formatted_line, no_configuration, refused_input};
+ghost use Rattle.loader_cli.specs.Texts.{built_line, formatted_line};
+ghost use Rattle.loader_cli.specs.Texts.{no_configuration, refused_input};
 
 use disk_layout::{Identity, RecoverFault};
 use load_base::{Bytes, NoMemory};
@@ -21,6 +22,19 @@ pub(crate) fn formatted_text(alloc: Global, identity: &Identity) -> Result<Bytes
     out.extend(b" ")?;
     put_number(alloc, &mut out, u64::from(identity.bank))?;
     out.extend(b"\n")?;
+    Ok(out)
+}
+
+/// How many loads and files a set has that was built.
+pub(crate) fn built_text(alloc: Global, loads: u64, files: u64) -> Result<Bytes, NoMemory>
+    ensures { IfOk result (λ text. text.items ≡ built_line loads files) }
+{
+    let mut out = Bytes::new(alloc);
+    out.extend(b"built ")?;
+    put_number(alloc, &mut out, loads)?;
+    out.extend(b" loads ")?;
+    put_number(alloc, &mut out, files)?;
+    out.extend(b" files\n")?;
     Ok(out)
 }
 

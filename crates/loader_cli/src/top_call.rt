@@ -6,11 +6,12 @@ ghost use Rattle.disk_layout.specs.declared.identity.Identity.{Identity};
 ghost use Rattle.bank_store.specs.Formatting.{LeavesOldOrFormatted};
 ghost use Rattle.loader_cli.specs.Answers.{status_of, text_of};
 ghost use Rattle.loader_cli.specs.Commands.{texts_of, IsCommand, IsNo, UsesDisk, WritesDisk};
-ghost use Rattle.loader_cli.specs.Commands.{UsesHost};
+ghost use Rattle.loader_cli.specs.Commands.{UsesHost, WritesHost};
 ghost use Rattle.loader_cli.specs.Commands.CommandView.{format as format_command};
 ghost use Rattle.loader_cli.specs.Runs.{Run, Lists, Formats, Says, EndsAsPromised};
 
 use crate::answer::Answer;
+use crate::build::{build, make};
 use crate::check::check;
 use crate::command::Command;
 use crate::show::show;
@@ -46,8 +47,11 @@ pub struct Ended {
 }
 
 /// Runs the program on its arguments: `list`, `format HW POS SERIAL BANK`, `show FILE` with the
-/// name of a file of one of the kinds of [`shown_files::ShownKind`], or `check FOLDER`. The output
-/// goes out in one piece at the end.
+/// name of a file of one of the kinds of [`shown_files::ShownKind`], `check FOLDER`,
+/// `build RECIPE FOLDER` or `make NUMBER FOLDER`. The output goes out in one piece at the end.
+///
+/// Only `build` and `make` write files of the host: those of the set, under their names. Where the
+/// host fails, those before it were written.
 ///
 /// Only `list` and `format` use the disk, and only `format` writes. While it does, a power loss
 /// leaves the old configuration whole, or a disk that holds nothing, or the formatted one.
@@ -67,6 +71,7 @@ pub fn run<H: Host, O: Sink, K: Disk>(
         disk = K.state disk.old;
         disk_after = K.state disk.new;
         files = H.files host.old;
+        files_after = H.files host.new;
         host_faults = H.faults host.old;
         host_faults_after = H.faults host.new;
       };
@@ -80,7 +85,8 @@ pub fn run<H: Host, O: Sink, K: Disk>(
     ensures only_reads { IsNo WritesDisk (texts_of words.now)
         → OnlyReads (K.state disk.old) (K.state disk.new) }
     ensures host_untouched { IsNo UsesHost (texts_of words.now) → host.new ≡ host.old }
-    ensures files_kept { H.files host.new ≡ H.files host.old }
+    ensures files_kept { IsNo WritesHost (texts_of words.now)
+        → H.files host.new ≡ H.files host.old }
     // What a power loss leaves.
     ensures while_formatting { (id : Identity) → IsCommand (texts_of words.now) (format_command id)
         → LeavesOldOrFormatted id (K.state disk.old) (K.state disk.new) }
@@ -120,6 +126,7 @@ fn answer<'w, H: Host, K: Disk>(
       disk = K.state disk.old;
       disk_after = K.state disk.new;
       files = H.files host.old;
+      files_after = H.files host.new;
       host_faults = H.faults host.old;
       host_faults_after = H.faults host.new;
     }) (status_of answer) (text_of answer)) }
@@ -127,7 +134,8 @@ fn answer<'w, H: Host, K: Disk>(
     ensures only_reads { IsNo WritesDisk (texts_of words.now)
         → OnlyReads (K.state disk.old) (K.state disk.new) }
     ensures host_untouched { IsNo UsesHost (texts_of words.now) → host.new ≡ host.old }
-    ensures files_kept { H.files host.new ≡ H.files host.old }
+    ensures files_kept { IsNo WritesHost (texts_of words.now)
+        → H.files host.new ≡ H.files host.old }
     ensures while_formatting { (id : Identity) → IsCommand (texts_of words.now) (format_command id)
         → LeavesOldOrFormatted id (K.state disk.old) (K.state disk.new) }
 {
@@ -137,6 +145,8 @@ fn answer<'w, H: Host, K: Disk>(
         Some(Command::Format(identity)) => format_disk(alloc, disk, &identity),
         Some(Command::Show { kind, file }) => show(alloc, host, kind, file),
         Some(Command::Check { folder }) => check(alloc, host, folder),
+        Some(Command::Build { recipe, folder }) => build(alloc, host, recipe, folder),
+        Some(Command::Make { number, folder }) => make(alloc, host, number, folder),
     }
 }
 

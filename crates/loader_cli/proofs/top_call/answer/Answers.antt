@@ -2,7 +2,7 @@ use Rattle.std.proofs.Common.{subst}
 use Rattle.std.proofs.lemmas.Result.{IfOk-weaker}
 use Rattle.disk_layout.specs.declared.identity.Identity.{Identity}
 use Rattle.bank_store.specs.Formatting.{LeavesOldOrFormatted}
-use Rattle.loader_cli.specs.Runs.Says.{lists, formats, shows, checks}
+use Rattle.loader_cli.specs.Runs.Says.{lists, formats, shows, checks, builds, makes}
 use Rattle.loader_cli.proofs.Targets.{one_target}
 use Rattle.loader_cli.proofs.top_call.answer.Goals as goal
 
@@ -31,3 +31,13 @@ pub returns-in-Some-Check-clause-says : goal.returns-in-Some-Check-clause-says
 returns-in-Some-Check-clause-says g c =
     let command = rw c.in-Some-Check.field-0-is at c.in-Some-Check.ensures.some in
     IfOk-weaker c.check.result _ _ (λ answer says. checks c.in-Some-Check.folder.now command says) c.check.ensures.checks
+
+pub returns-in-Some-Build-clause-says : goal.returns-in-Some-Build-clause-says
+returns-in-Some-Build-clause-says g c =
+    let command = rw c.in-Some-Build.field-0-is at c.in-Some-Build.ensures.some in
+    IfOk-weaker c.build.result _ _ (λ answer says. builds c.in-Some-Build.recipe.now c.in-Some-Build.folder.now command says) c.build.ensures
+
+pub returns-in-Some-Make-clause-says : goal.returns-in-Some-Make-clause-says
+returns-in-Some-Make-clause-says g c =
+    let command = rw c.in-Some-Make.field-0-is at c.in-Some-Make.ensures.some in
+    IfOk-weaker c.make.result _ _ (λ answer says. makes c.in-Some-Make.number c.in-Some-Make.folder.now command says) c.make.ensures

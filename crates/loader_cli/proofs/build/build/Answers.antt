@@ -1,0 +1,21 @@
+use Rattle.std.proofs.lemmas.Result.{IfOk-weaker}
+use Rattle.loader_cli.specs.Builds.Builds.{recipe_read}
+use Rattle.loader_cli.specs.HostFiles.{HostWork}
+use Rattle.loader_cli.proofs.Built.{bytes_since}
+use Rattle.loader_cli.proofs.Outputs.{has_bytes}
+use Rattle.loader_cli.proofs.build.build.Goals as goal
+
+pub returns-in-Ok : goal.returns-in-Ok
+returns-in-Ok g c =
+    let name = c.as_bytes-name.ensures.value in
+    let has = rw name at (has_bytes _ _ c.in-Ok.bytes c.in-Ok.ensures.file) in
+    let host : HostWork = record {
+      files = g.H.Host.files c.read.new.self;
+      files_after = g.H.Host.files c.build_text.new.host;
+      faults = g.H.Host.faults c.read.new.self;
+      faults_after = g.H.Host.faults c.build_text.new.host;
+    } in
+    IfOk-weaker c.build_text.result _ _
+    (λ answer builds. recipe_read c.in-Ok.bytes.items has c.in-Ok.ensures.short
+    (bytes_since (g.H.Host.files c.args.host.now) (g.H.Host.faults c.args.host.now) c.args.recipe.now c.args.folder.now c.in-Ok.bytes.items host _ _ c.read.ensures.kept c.read.ensures.cause.later
+    (rw (c.as_slice.ensures, name, c.as_bytes.ensures.value) at builds))) c.build_text.ensures
