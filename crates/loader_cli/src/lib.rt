@@ -19,6 +19,8 @@ pub use recovery;
 pub use top_call::{Ended, run};
 
 #[cfg(test)]
+mod build_tests;
+#[cfg(test)]
 mod check_tests;
 #[cfg(test)]
 mod set_vectors;

@@ -285,6 +285,15 @@ fn refuses_what_is_no_command(rt: HostRuntime) -> Result<(), Fail> {
         &["check", "P", "P"],
         &["check", ""],
         &["check", "P Q"],
+        &["build", "R"],
+        &["build", "R", "P", "P"],
+        &["build", "", "P"],
+        &["build", "R", "P Q"],
+        &["make", "7"],
+        &["make", "007", "M"],
+        &["make", "+7", "M"],
+        &["make", "4294967296", "M"],
+        &["make", "7", ""],
         &["Check", "P"],
     ] {
         let said = run_on(rt.alloc(), words, &formatted(0, &[]))?;
