@@ -44,6 +44,6 @@ AllBroughtAreAsked set (s ∷ earlier) = BroughtIsAsked (brings set s earlier) e
 abbrev pub InstallsAreAsked : Type 0
 InstallsAreAsked = (set : Setting) (steps : List Step) → ((h : HeaderView) → set.accepts h ≡ true → Permits h) → EntriesFit set.media → IsUninjected set steps → AllBroughtAreAsked set steps
 
--- And so each completed upload was installed.
+-- And so, where an upload is completed, such a configuration was installed.
 abbrev pub UploadsAreInstalled : Type 0
 UploadsAreInstalled = (set : Setting) (steps : List Step) → ((h : HeaderView) → set.accepts h ≡ true → Permits h) → EntriesFit set.media → IsUninjected set steps → CompletedIsInstalled set steps

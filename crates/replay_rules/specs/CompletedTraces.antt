@@ -25,8 +25,8 @@ pub record WasBrought (set : Setting) (steps : List Step) : Type 0 where
   pub brought : brings set install before ≡ Some new
   pub stays_up : goes_down install.notes ≡ false
 
--- a file that the target sends says that all is installed only after a step that installed; a file that it gives has no more
--- bytes than the option `tsize` can tell (RFC 2349), and never says so
+-- a file that the target sends says that all is installed only in or after a step that installed; a file that it gives has
+-- no more bytes than the option `tsize` can tell (RFC 2349), and never says so
 abbrev pub IsToldInTime : Setting → List Step → Role → Type 0
 IsToldInTime set steps (Writes name options file) = SaysCompleted file → WasBrought set steps
 IsToldInTime set steps (ServesRead name options file) = (length file ≤ 4294967295) × (SaysCompleted file → ⊥)
@@ -47,7 +47,7 @@ abbrev pub AllBroughtWhereCompleted : Setting → List Step → Type 0
 AllBroughtWhereCompleted set [] = ⊤
 AllBroughtWhereCompleted set (s ∷ earlier) = BroughtWhereCompleted set s earlier × AllBroughtWhereCompleted set earlier
 
--- Without injection each upload is completed only after a step that installed, through losses, repeats, other orders, power
--- losses and boots.
+-- Without injection each upload is completed only in or after a step that installed, through losses, repeats, other orders,
+-- power losses and boots.
 abbrev pub CompletedWasBrought : Type 0
 CompletedWasBrought = (set : Setting) (steps : List Step) → IsUninjected set steps → AllBroughtWhereCompleted set steps

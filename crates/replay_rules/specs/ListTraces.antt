@@ -20,7 +20,7 @@ use Rattle.replay_rules.specs.Promises.{ListIsDue, ListsActive}
 
 -- ---- what the target writes
 
--- the file is the list of what was active at an earlier step whose datagram made the list due
+-- the file is the list of what was active before one of these steps, after which a session had its list to write
 pub record ListWasDue (set : Setting) (steps : List Step) (file : List ℕ) : Type 0 where
   pub since : List Step
   pub made : Step
@@ -62,7 +62,7 @@ abbrev pub AllListActive : Setting → List Step → Type 0
 AllListActive set [] = ⊤
 AllListActive set (s ∷ earlier) = ListsWhereCompleted set s earlier × AllListActive set earlier
 
--- Without injection each completed information session lists exactly what was active at the step whose datagram made the
--- list due, through losses, repeats, power losses and boots.
+-- Without injection each completed information session lists exactly what was active before a step after which a session of
+-- the target had its list to write, through losses, repeats, power losses and boots.
 abbrev pub CompletedListsActive : Type 0
 CompletedListsActive = (set : Setting) (steps : List Step) → IsUninjected set steps → OwnFilesAreNamed set → AllCanBeListed set steps → AllListActive set steps

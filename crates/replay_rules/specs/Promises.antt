@@ -65,7 +65,8 @@ abbrev pub ListIsDue : Setting → TargetState → Type 0
 ListIsDue set (Is_up r) = SessionWritesList set r r.live
 ListIsDue set (Is_down active interrupted) = ⊥
 
--- what is listed was active at an earlier step whose datagram made the list due
+-- what is listed was active before one of these steps, after which a session of the target had its list to write. It isn't
+-- said that the session is of the start that this list completes.
 abbrev pub ListsActive : Setting → List Step → Option LclView → Type 0
 ListsActive set steps None = ⊥
 ListsActive set steps (Some listed) = (since : List Step) × (made : Step) × (before : List Step) × (steps ≡ since ++ made ∷ before)
@@ -77,7 +78,8 @@ ListsActive set steps (Some listed) = (since : List Step) × (made : Step) × (b
 abbrev pub HasParts : List (List ℕ) → List LoadView → Type 0
 HasParts parts loads = map (λ (load : LoadView). load.part) loads ≡ parts
 
--- since a start of an upload, a step brought a configuration with the parts of that start
+-- Since a start of an upload, one of these steps brought a configuration with the parts of that start. It isn't said that the
+-- start is of the session that is completed, nor that it names this target's hardware and position.
 pub record WasInstalled (set : Setting) (steps : List Step) : Type 0 where
   pub since : List Step
   pub install : Step
@@ -103,7 +105,7 @@ HasCompleted kind (s ∷ earlier) = (s.kind ≡ kind) × (s.outcome ≡ Complete
 abbrev pub HasEnded : Setting → Step → List Step → Type 0
 HasEnded set s earlier = (e : EndedSession) × ((loader_at set (s ∷ earlier)).ended ≡ e ∷ (loader_at set earlier).ended)
 
--- without injection each upload is completed only after its parts were installed
+-- without injection each upload is completed only in or after a step that installed the parts of a start
 abbrev pub CompletedIsInstalled : Setting → List Step → Type 0
 CompletedIsInstalled set [] = ⊤
 CompletedIsInstalled set (s ∷ earlier) =

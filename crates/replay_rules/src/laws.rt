@@ -74,9 +74,10 @@ pub fn what_is_installed_is_of_the_media_set()
     what_comes_was_sent();
 }
 
-/// A completed information session lists exactly what was active at the step whose datagram made
-/// the list due, through losses, repeats, power losses and boots, where nothing is injected, the
-/// target's file names are names, and what is active can be listed.
+/// A completed information session lists exactly what was active before some step after which a
+/// session of the target had its list to write, through losses, repeats, power losses and boots,
+/// where nothing is injected, the target's file names are names, and what is active can be listed.
+/// It isn't said that this session is of the same start.
 pub fn a_completed_session_lists_what_was_active()
     // Whatever comes, a target writes only lists of what was active when they became due.
     ensures written { TargetWritesInTime }
@@ -87,8 +88,8 @@ pub fn a_completed_session_lists_what_was_active()
     what_comes_was_sent();
 }
 
-/// Each upload is completed only after a step in which the target installed and stayed up, through
-/// losses, repeats, other orders, power losses and boots, where nothing is injected.
+/// Each upload is completed only in or after a step in which the target installed and stayed up,
+/// through losses, repeats, other orders, power losses and boots, where nothing is injected.
 pub fn an_upload_is_completed_after_a_step_that_installed()
     // Whatever comes, a target sends a file that says so only after such a step.
     ensures told { TargetTellsInTime }
@@ -101,8 +102,9 @@ pub fn an_upload_is_completed_after_a_step_that_installed()
 }
 
 /// Where nothing is injected and the media set's entries can be told in a request, each
-/// configuration that an install step brings has the parts, in their order, of a start of an upload
-/// before it; so each upload is completed only after such a step, in which the target stayed up.
+/// configuration that an install step brings has the parts, in their order, of some start of an
+/// upload before it; so each upload is completed only in or after such a step, in which the target
+/// stayed up. It isn't said that the start is the completed session's own.
 pub fn a_completed_upload_is_installed()
     ensures asked { InstallsAreAsked }
     ensures installed { UploadsAreInstalled }
