@@ -29,3 +29,4 @@ pub mod BuildAnswers
 pub mod WrittenSets
 pub mod Exclusive
 pub mod BuildFindings
+pub mod OtherNames

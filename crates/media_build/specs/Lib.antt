@@ -11,3 +11,4 @@ pub mod NoFindings
 pub mod Parts
 pub mod Building
 pub mod GeneratedSet
+pub mod WrittenFolders

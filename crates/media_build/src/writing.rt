@@ -1,8 +1,11 @@
 //! Writing a built set into a folder of the host.
 ghost use Rattle.std.specs.Prelude.{◌≡◌, ◌+◌, ◌∷◌, ◌++◌, ◌≤◌, [], length, codes, option_map};
+ghost use Rattle.std.specs.Option.{ForSome};
 ghost use Rattle.load_base.specs.Sink.{HasWriteCause};
 ghost use Rattle.media_build.specs.HostWrites.{Writes, written_files, written_member, written_list};
 ghost use Rattle.media_build.specs.HostWrites.{written_body, written_bodies};
+ghost use Rattle.media_build.specs.NoFindings.{built_view};
+ghost use Rattle.media_build.specs.WrittenFolders.{IsNameIn, KeepsAllBut};
 ghost use Rattle.media_check.specs.BuiltSets.{member_list};
 ghost use Rattle.media_check.specs.HostNames.{host_name, loads_name, files_name};
 
@@ -24,6 +27,9 @@ pub fn write<H: Host>(host: &mut H, folder: &[u8], built: &Built) -> Result<(), 
     requires { length folder.now ≤ 150 }
     ensures files { Writes (written_files folder.now built.now)
         (H.files host.old) (H.files host.new) result }
+    // Whatever it answers, no other name is set.
+    ensures others { ForSome (H.files host.old) (λ old.
+        KeepsAllBut (IsNameIn folder.now (built_view built.now)) old (H.files host.new)) }
     ensures cause { HasWriteCause (H.faults host.old) (H.faults host.new) result }
 {
     let count = built.loads.len();

@@ -1,0 +1,32 @@
+-- The names under which a set lies in a folder of the host, and a folder in which nothing is wrong with it
+-- (docs/FORMATS.md, "Media sets").
+use Rattle.std.specs.Prelude.{◌≡◌, ℕ, List, [], ◌∷◌, ◌++◌, length, codes, Option, Some}
+use Rattle.load_base.specs.Host.{Files}
+use Rattle.media_check.specs.Findings.{findings_of}
+use Rattle.media_check.specs.HostNames.{host_media, host_name, loads_name, files_name, whole_reading}
+use Rattle.media_check.specs.Openings.{CanRead}
+use Rattle.media_check.specs.Sets.{lists_in, set_in}
+use Rattle.media_build.specs.Accepted.{IsMemberOf}
+use Rattle.media_build.specs.RecipeSets.{BodyView, BuiltView}
+
+-- ---- names
+
+-- A name under which a set in a folder has a list of one of its members, or a file.
+pub data IsNameIn (folder : List ℕ) (set : BuiltView) (name : List ℕ) : Type 0 where
+  of_loads : (member : ℕ) → IsMemberOf (length set.loads) member → name ≡ loads_name folder member → IsNameIn folder set name
+  of_files : (member : ℕ) → IsMemberOf (length set.loads) member → name ≡ files_name folder member → IsNameIn folder set name
+  of_body : (before : List BodyView) (body : BodyView) (after : List BodyView) → set.bodies ≡ before ++ body ∷ after
+      → name ≡ host_name folder body.member (codes "\\") body.name → IsNameIn folder set name
+
+-- The host goes on telling its files, and has under each name but these what it had.
+pub record KeepsAllBut (IsSet : List ℕ → Type 0) (old : Files) (new : Option Files) : Type 0 where
+  pub files : Files
+  pub told : new ≡ Some files
+  pub others : (name : List ℕ) → ¬ IsSet name → files name ≡ old name
+
+-- ---- a folder
+
+-- The set in a folder can be read, and it has no finding.
+pub record IsCleanFolder (folder : List ℕ) (files : Files) : Type 0 where
+  pub readable : CanRead files (whole_reading folder (lists_in (host_media files folder) 1))
+  pub clean : findings_of (set_in (host_media files folder)) ≡ []
