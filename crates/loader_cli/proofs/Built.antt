@@ -27,6 +27,7 @@ pub answered : (files : Option Files) (lines : List RecipeLine) (given fault : B
 answered files lines given fault is sizes builds = record {
   sizes = subst (λ (f : BuildFault). AnswersSizes lines (Err f)) is sizes;
   builds = subst (λ (f : BuildFault). ForSome files (BuildsOf lines (Err f))) is builds;
+  small = tt;
 }
 
 -- a text that is refused, and not for want of memory

@@ -1,17 +1,18 @@
 -- What `build` and `make` print, their status, and the cause of each (docs/PROMISES.md).
-use Rattle.std.specs.Prelude.{◌≡◌, ℕ, ◌≤◌, List, length, codes, Option, Some, None, Result, Ok, Err}
+use Rattle.std.specs.Prelude.{◌≡◌, ℕ, ◌≤◌, List, length, codes, Option, Some, None, Result, Ok, Err, IfOk}
 use Rattle.std.specs.Option.{ForSome}
 use Rattle.load_base.specs.Counts.{Rose}
 use Rattle.load_base.specs.Host.{Files, longest_file}
 use Rattle.load_base.specs.declared.sink.WriteFault.TheVariants as writing
 use Rattle.media_check.specs.declared.built.Built.{Built}
-use Rattle.media_build.specs.Building.{AnswersSizes, Builds as BuildsOf}
+use Rattle.media_build.specs.Building.{AnswersSizes, Builds as BuildsOf, IsSmall, sources_in}
 use Rattle.media_build.specs.FaultTexts.{recipe_fault_text}
 use Rattle.media_build.specs.GeneratedSet.{generated_lines, generated_sources}
 use Rattle.media_build.specs.HostWrites.{Writes, written_files}
 use Rattle.media_build.specs.NoFindings.{built_view}
 use Rattle.media_build.specs.RecipeSets.{loads_of, recipe_set}
 use Rattle.media_build.specs.Recipes.{recipe_said}
+use Rattle.media_build.specs.WrittenFolders.{IsNameIn}
 use Rattle.media_build.specs.declared.building_fault.BuildFault.{BuildFault}
 use Rattle.media_build.specs.declared.building_fault.BuildFault.TheVariants.{Failed, Memory}
 use Rattle.media_build.specs.declared.fault.RecipeFault.{RecipeFault}
@@ -34,9 +35,11 @@ pub data WritesSet (folder : List ℕ) (set : Built) (loads : ℕ) (host : HostW
 -- ---- `build RECIPE FOLDER`
 
 -- What building the set of these lines answers: by the sizes that the recipe decides, and by the sources that the host has.
+-- A set isn't too large.
 pub record AnswersBuild (files : Option Files) (lines : List RecipeLine) (result : Result Built BuildFault) : Type 0 where
   pub sizes : AnswersSizes lines result
   pub builds : ForSome files (BuildsOf lines result)
+  pub small : IfOk result IsSmall
 
 -- a size or a source is at fault, and not the host or memory
 abbrev pub IsOfInput : BuildFault → Type 0
@@ -83,5 +86,23 @@ pub data Builds (recipe folder : List ℕ) (host : HostWork) (status : ℕ) (tex
 
 -- the status, the text and the host's files: the generated set of this number is written
 pub data Makes (number : ℕ) (folder : List ℕ) (host : HostWork) (status : ℕ) (text : List ℕ) : Type 0 where
-  set_made : (set : Built) → built_view set ≡ recipe_set (generated_sources number) generated_lines → WritesSet folder set 1 host status text
+  set_made : (set : Built) → built_view set ≡ recipe_set (generated_sources number) generated_lines → IsSmall set → WritesSet folder set 1 host status text
       → Makes number folder host status text
+
+-- ---- under which names they write
+
+-- a name of the set in a folder that this text says as a recipe, of the sources that the host has
+pub record IsNameSaid (folder text : List ℕ) (told : Files) (name : List ℕ) : Type 0 where
+  pub lines : List RecipeLine
+  pub said : recipe_said text ≡ Ok lines
+  pub in_set : IsNameIn folder (recipe_set (sources_in told) lines) name
+
+-- the same of the recipe that the host has under this name
+pub record IsNameBuilt (recipe folder : List ℕ) (told : Files) (name : List ℕ) : Type 0 where
+  pub text : List ℕ
+  pub there : told recipe ≡ Some text
+  pub of_text : IsNameSaid folder text told name
+
+-- a name of the generated set of this number in a folder
+abbrev pub IsNameMade : (number : ℕ) (folder name : List ℕ) → Type 0
+IsNameMade number folder name = IsNameIn folder (recipe_set (generated_sources number) generated_lines) name

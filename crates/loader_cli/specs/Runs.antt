@@ -1,5 +1,5 @@
 -- What a run of the program prints, its status, and the cause of each (docs/PROMISES.md).
-use Rattle.std.specs.Prelude.{◌≡◌, ◌≢◌, ℕ, ◌<◌, ◌≤◌, List, [], length, true, false, Option, Some, None, take, codes, ◌⊎◌}
+use Rattle.std.specs.Prelude.{◌≡◌, ◌≢◌, ℕ, ◌<◌, ◌≤◌, List, [], length, true, false, Option, Some, None, Ok, take, codes, ◌⊎◌}
 use Rattle.std.specs.Option.{ForSome}
 use Rattle.load_base.specs.Counts.{Rose}
 use Rattle.load_base.specs.Host.{Files, longest_file}
@@ -8,6 +8,11 @@ use Rattle.media_check.specs.Findings.{findings_of}
 use Rattle.media_check.specs.HostNames.{host_media, Reading, whole_reading}
 use Rattle.media_check.specs.Openings.{CanRead, IsTooLong, IsTooLarge}
 use Rattle.media_check.specs.Sets.{SetView, lists_in, set_in}
+use Rattle.media_build.specs.Building.{CanTake, HaveSizes, headers_length, source_names, sources_in}
+use Rattle.media_build.specs.RecipeSets.{loads_of, recipe_bodies}
+use Rattle.media_build.specs.Recipes.{recipe_said}
+use Rattle.media_build.specs.WrittenFolders.{IsCleanFolder}
+use Rattle.media_build.specs.declared.statements.RecipeLine.{RecipeLine}
 use Rattle.shown_files.specs.Shown.{HasFields, HasFault}
 use Rattle.shown_files.specs.declared.kind.ShownKind.{ShownKind}
 use Rattle.disk_model.specs.Image.{Image}
@@ -21,9 +26,9 @@ use Rattle.disk_layout.specs.declared.fault.RecoverFault.{RecoverFault}
 use Rattle.listing.specs.Listing.{listing}
 use Rattle.loader_cli.specs.Commands.{IsCommand, IsNo, IsAny}
 use Rattle.loader_cli.specs.Commands.CommandView.{list, format, show, check, build, make}
-use Rattle.loader_cli.specs.Builds.{Builds, Makes}
+use Rattle.loader_cli.specs.Builds.{Builds, Makes, IsNameBuilt, IsNameMade}
 use Rattle.loader_cli.specs.HostFiles.{Has, HasTooMany, HostWork}
-use Rattle.loader_cli.specs.Texts.{formatted_line, findings_text, refused_words, refused_input, disk_fault, host_fault, no_configuration}
+use Rattle.loader_cli.specs.Texts.{formatted_line, built_line, findings_text, refused_words, refused_input, disk_fault, host_fault, no_configuration}
 use Rattle.loader_cli.specs.declared.top_call.Ended.{Ended}
 
 -- ---- `list`
@@ -148,21 +153,65 @@ pub data Ends (run : Run) (ended : Ended) : Type 0 where
 
 -- ---- where a run can't but succeed
 
--- The arguments check the set in this folder, which the host has with these files, which can be read and has no finding,
--- and neither host nor sink fails in the run.
-pub record ChecksCleanSet (run : Run) (folder : List ℕ) (told : Files) : Type 0 where
-  pub asked : IsCommand run.work.words (check folder)
-  pub files : run.work.files ≡ Some told
-  pub readable : CanRead told (reading_of folder told)
-  pub clean : findings_of (set_in (host_media told folder)) ≡ []
+-- exactly this text went out, with status 0, or it is out of memory
+abbrev pub Succeeds : Run → Ended → (text : List ℕ) → Type 0
+Succeeds run ended text = (ended.status ≡ 6) ⊎ ((ended.status ≡ 0) × IsExtended run.output run.output_after text)
+
+-- Neither the host nor the sink fails in the run.
+pub record NothingFails (run : Run) : Type 0 where
   pub host_answers : ¬ Rose run.work.host_faults run.work.host_faults_after
   pub sink_answers : ¬ Rose run.sink_faults run.sink_faults_after
 
--- exactly `findings 0` went out, with status 0, or it is out of memory
-abbrev pub FindsNothing : Run → Ended → Type 0
-FindsNothing run ended = (ended.status ≡ 6) ⊎ ((ended.status ≡ 0) × IsExtended run.output run.output_after (findings_text []))
+-- The arguments check the set in this folder, which the host has with these files, which can be read and has no finding.
+pub record ChecksCleanSet (run : Run) (folder : List ℕ) (told : Files) : Type 0 where
+  pub asked : IsCommand run.work.words (check folder)
+  pub files : run.work.files ≡ Some told
+  pub sound : IsCleanFolder folder told
+  pub answers : NothingFails run
 
--- how a run ends, and where it can't but succeed
+-- The arguments build the set of this recipe, which the host has among these files, and which says these lines. Their
+-- sizes are right, and each of their sources is there, short enough and not too large beside the others.
+pub record BuildsRightSet (run : Run) (recipe folder : List ℕ) (told : Files) (lines : List RecipeLine) : Type 0 where
+  pub asked : IsCommand run.work.words (build recipe folder)
+  pub files : run.work.files ≡ Some told
+  pub text : List ℕ
+  pub there : told recipe ≡ Some text
+  pub said : recipe_said text ≡ Ok lines
+  pub sizes : HaveSizes lines
+  pub sources : CanTake told (headers_length (loads_of lines)) (source_names lines)
+  pub answers : NothingFails run
+
+-- The arguments make the generated set of this number.
+pub record MakesSet (run : Run) (number : ℕ) (folder : List ℕ) : Type 0 where
+  pub asked : IsCommand run.work.words (make number folder)
+  pub answers : NothingFails run
+
+-- ---- what becomes of the host's files
+
+-- the arguments write a set into this folder
+pub data WritesInto (words : List (List ℕ)) (folder : List ℕ) : Type 0 where
+  of_recipe : (recipe : List ℕ) → IsCommand words (build recipe folder) → WritesInto words folder
+  of_number : (number : ℕ) → IsCommand words (make number folder) → WritesInto words folder
+
+-- The host tells its files after the run, and in this folder nothing is wrong.
+pub record LeavesClean (folder : List ℕ) (after : Option Files) : Type 0 where
+  pub files : Files
+  pub told : after ≡ Some files
+  pub clean : IsCleanFolder folder files
+
+-- A name under which the arguments write: the set that they build or make has a list or a file there.
+pub data IsWritten (words : List (List ℕ)) (told : Files) (name : List ℕ) : Type 0 where
+  built : (recipe folder : List ℕ) → IsCommand words (build recipe folder) → IsNameBuilt recipe folder told name → IsWritten words told name
+  made : (number : ℕ) (folder : List ℕ) → IsCommand words (make number folder) → IsNameMade number folder name → IsWritten words told name
+
+-- ---- the whole
+
+-- How a run ends; where it can't but succeed; and that a set has no finding which it says that it built or made.
 pub record EndsAsPromised (run : Run) (ended : Ended) : Type 0 where
   pub ends : Ends run ended
-  pub finds_nothing : (folder : List ℕ) (told : Files) → ChecksCleanSet run folder told → FindsNothing run ended
+  pub finds_nothing : (folder : List ℕ) (told : Files) → ChecksCleanSet run folder told → Succeeds run ended (findings_text [])
+  pub builds_it : (recipe folder : List ℕ) (told : Files) (lines : List RecipeLine) → BuildsRightSet run recipe folder told lines
+      → Succeeds run ended (built_line (length (loads_of lines)) (length (recipe_bodies (sources_in told) lines)))
+  pub makes_it : (number : ℕ) (folder : List ℕ) → MakesSet run number folder → Succeeds run ended (built_line 1 2)
+  pub leaves_clean : (folder : List ℕ) (told : Files) → WritesInto run.work.words folder → run.work.files ≡ Some told → ended.status ≡ 0
+      → LeavesClean folder run.work.files_after

@@ -1,9 +1,14 @@
 //! The commands `build` and `make`.
+ghost use Rattle.std.specs.Option.{ForSome};
 ghost use Rattle.std.specs.Prelude.{◌≡◌, ◌≤◌, length, IfOk};
+ghost use Rattle.media_build.specs.Building.{sources_in};
 ghost use Rattle.media_build.specs.Lines.{is_load as begins_load};
-ghost use Rattle.media_build.specs.RecipeSets.{loads_of};
+ghost use Rattle.media_build.specs.NoFindings.{built_view};
+ghost use Rattle.media_build.specs.RecipeSets.{loads_of, recipe_set};
+ghost use Rattle.media_build.specs.WrittenFolders.{IsNameIn, KeepsAllBut};
 ghost use Rattle.loader_cli.specs.Answers.{status_of, text_of};
 ghost use Rattle.loader_cli.specs.Builds.{Builds, BuildsBytes, BuildsLines, Makes, WritesSet};
+ghost use Rattle.loader_cli.specs.Builds.{IsNameSaid, IsNameBuilt, IsNameMade};
 
 use crate::answer::Answer;
 use crate::text::built_text;
@@ -21,12 +26,15 @@ pub(crate) fn build<'w, H: Host>(
     folder: &str,
 ) -> Result<Answer<'w>, NoMemory>
     requires { length folder.now ≤ 150 }
-    ensures { IfOk result (λ answer. Builds recipe.now folder.now (record {
+    ensures says { IfOk result (λ answer. Builds recipe.now folder.now (record {
       files = H.files host.old;
       files_after = H.files host.new;
       faults = H.faults host.old;
       faults_after = H.faults host.new;
     }) (status_of answer) (text_of answer)) }
+    // In every ending no other name is set.
+    ensures others { ForSome (H.files host.old) (λ told.
+        KeepsAllBut (IsNameBuilt recipe.now folder.now told) told (H.files host.new)) }
 {
     let name = recipe.as_bytes();
     match host.read(alloc, name) {
@@ -47,12 +55,15 @@ fn build_text<'w, H: Host>(
     folder: &[u8],
 ) -> Result<Answer<'w>, NoMemory>
     requires { length folder.now ≤ 150 }
-    ensures { IfOk result (λ answer. BuildsBytes name.now folder.now text.now (record {
+    ensures says { IfOk result (λ answer. BuildsBytes name.now folder.now text.now (record {
       files = H.files host.old;
       files_after = H.files host.new;
       faults = H.faults host.old;
       faults_after = H.faults host.new;
     }) (status_of answer) (text_of answer)) }
+    // In every ending no other name is set.
+    ensures others { ForSome (H.files host.old) (λ told.
+        KeepsAllBut (IsNameSaid folder.now text.now told) told (H.files host.new)) }
 {
     match Recipe::read(alloc, text) {
         Ok(recipe) => build_recipe(alloc, host, name, &recipe, folder),
@@ -75,12 +86,16 @@ fn build_recipe<'w, H: Host>(
     folder: &[u8],
 ) -> Result<Answer<'w>, NoMemory>
     requires { length folder.now ≤ 150 }
-    ensures { IfOk result (λ answer. BuildsLines name.now folder.now recipe.now (record {
+    ensures says { IfOk result (λ answer. BuildsLines name.now folder.now recipe.now (record {
       files = H.files host.old;
       files_after = H.files host.new;
       faults = H.faults host.old;
       faults_after = H.faults host.new;
     }) (status_of answer) (text_of answer)) }
+    // In every ending no other name is set.
+    ensures others { ForSome (H.files host.old) (λ told.
+        KeepsAllBut (IsNameIn folder.now (recipe_set (sources_in told) recipe.now)) told
+        (H.files host.new)) }
 {
     match media_build::build(alloc, recipe, host) {
         Ok(set) => write_set(alloc, host, folder, load_count(recipe.lines()), &set),
@@ -127,12 +142,15 @@ pub(crate) fn make<'w, H: Host>(
     folder: &str,
 ) -> Result<Answer<'w>, NoMemory>
     requires { length folder.now ≤ 150 }
-    ensures { IfOk result (λ answer. Makes number folder.now (record {
+    ensures says { IfOk result (λ answer. Makes number folder.now (record {
       files = H.files host.old;
       files_after = H.files host.new;
       faults = H.faults host.old;
       faults_after = H.faults host.new;
     }) (status_of answer) (text_of answer)) }
+    // In every ending no other name is set.
+    ensures others { ForSome (H.files host.old) (λ told.
+        KeepsAllBut (IsNameMade number folder.now) told (H.files host.new)) }
 {
     let set = media_build::make(alloc, number)?;
     write_set(alloc, host, folder.as_bytes(), 1, &set)
@@ -147,12 +165,15 @@ fn write_set<'w, H: Host>(
     set: &Built,
 ) -> Result<Answer<'w>, NoMemory>
     requires { length folder.now ≤ 150 }
-    ensures { IfOk result (λ answer. WritesSet folder.now set.now loads (record {
+    ensures says { IfOk result (λ answer. WritesSet folder.now set.now loads (record {
       files = H.files host.old;
       files_after = H.files host.new;
       faults = H.faults host.old;
       faults_after = H.faults host.new;
     }) (status_of answer) (text_of answer)) }
+    // In every ending no other name is set.
+    ensures others { ForSome (H.files host.old) (λ told.
+        KeepsAllBut (IsNameIn folder.now (built_view set.now)) told (H.files host.new)) }
 {
     // Made first: once files are written, memory may not be what is lacking for saying so.
     let line = built_text(alloc, loads, set.bodies.len() as u64)?;

@@ -5,8 +5,9 @@ use crate::set_vectors::{
 };
 use crate::tests::{NAV, run_over};
 use disk_model::MemDisk;
-use load_base::{Bytes, Host, MemHost, ReadFault, WriteFault};
+use load_base::{Bytes, Host, MemHost, ReadFault, StdHost, WriteFault};
 use std::alloc::Global;
+use std::fs;
 use std::test::Fail;
 
 const BUILD: &[&str] = &["build", "R", "P"];
@@ -84,29 +85,20 @@ fn three_loads(alloc: Global) -> Result<MemHost, Fail> {
     Ok(host)
 }
 
-#[test]
-fn a_set_of_one_load_is_built(rt: HostRuntime) -> Result<(), Fail> {
-    let mut host = host_with(rt.alloc(), APP)?;
-    let text = said(rt.alloc(), BUILD, &mut host)?;
-    assert_eq!(rt; text.as_slice(), b"0 built 1 loads 2 files\n".as_slice());
-    for (name, bytes) in [
-        (&b"P/1/LOADS.LUM"[..], &APP_LOADS[..]),
+// The files of the set of one load, in the order in which they are written.
+fn app_files() -> [(&'static [u8], &'static [u8]); 4] {
+    [
+        (b"P/1/LOADS.LUM", &APP_LOADS),
         (b"P/1/FILES.LUM", &APP_FILES),
         (b"P/1/APP.LUH", &APP_HEADER),
         (b"P/1/APP.BIN", b"123456789"),
-    ] {
-        assert_eq!(rt; has(rt.alloc(), &mut host, name, bytes)?, true);
-    }
-    Ok(())
+    ]
 }
 
-#[test]
-fn a_set_on_two_members_is_built(rt: HostRuntime) -> Result<(), Fail> {
-    let mut host = three_loads(rt.alloc())?;
-    let text = said(rt.alloc(), BUILD, &mut host)?;
-    assert_eq!(rt; text.as_slice(), b"0 built 3 loads 8 files\n".as_slice());
-    for (name, bytes) in [
-        (&b"P/1/LOADS.LUM"[..], &LOADS_1[..]),
+// Those of the set of three loads.
+fn three_loads_files() -> [(&'static [u8], &'static [u8]); 12] {
+    [
+        (b"P/1/LOADS.LUM", &LOADS_1),
         (b"P/1/FILES.LUM", &FILES_1),
         (b"P/1/NAV.LUH", &NAV),
         (b"P/1/NAV1.BIN", &NAV1),
@@ -118,9 +110,36 @@ fn a_set_on_two_members_is_built(rt: HostRuntime) -> Result<(), Fail> {
         (b"P/2/OPS.BIN", &OPS),
         (b"P/2/CFG.LUH", &CFG_HEADER),
         (b"P/2/CFG.BIN", &CFG),
-    ] {
-        assert_eq!(rt; has(rt.alloc(), &mut host, name, bytes)?, true);
+    ]
+}
+
+// How many of these files stand before the first that doesn't.
+fn standing(alloc: Global, host: &mut MemHost, files: &[(&[u8], &[u8])]) -> Result<usize, Fail> {
+    let mut count = 0usize;
+    for (name, bytes) in files {
+        if !has(alloc, host, name, bytes)? {
+            return Ok(count);
+        }
+        count = count.saturating_add(1);
     }
+    Ok(count)
+}
+
+#[test]
+fn a_set_of_one_load_is_built(rt: HostRuntime) -> Result<(), Fail> {
+    let mut host = host_with(rt.alloc(), APP)?;
+    let text = said(rt.alloc(), BUILD, &mut host)?;
+    assert_eq!(rt; text.as_slice(), b"0 built 1 loads 2 files\n".as_slice());
+    assert_eq!(rt; standing(rt.alloc(), &mut host, &app_files())?, 4);
+    Ok(())
+}
+
+#[test]
+fn a_set_on_two_members_is_built(rt: HostRuntime) -> Result<(), Fail> {
+    let mut host = three_loads(rt.alloc())?;
+    let text = said(rt.alloc(), BUILD, &mut host)?;
+    assert_eq!(rt; text.as_slice(), b"0 built 3 loads 8 files\n".as_slice());
+    assert_eq!(rt; standing(rt.alloc(), &mut host, &three_loads_files())?, 12);
     Ok(())
 }
 
@@ -188,42 +207,49 @@ fn sizes_are_refused(rt: HostRuntime) -> Result<(), Fail> {
     Ok(())
 }
 
-// What `build R P` says where the host call of this number fails, counted from its first, and how
-// many of the set's four files stand before the first that doesn't.
-fn failing_at(alloc: Global, call: u32) -> Result<(Bytes, usize), Fail> {
-    let mut host = host_with(alloc, APP)?;
-    host.fail_at(call.saturating_add(2))?;
+// What `build R P` says where the host call of this number fails, and how many of these files stand
+// before the first that doesn't.
+fn failing_at(
+    alloc: Global,
+    mut host: MemHost,
+    call: u32,
+    files: &[(&[u8], &[u8])],
+) -> Result<(Bytes, usize), Fail> {
+    host.fail_at(call)?;
     let text = said(alloc, BUILD, &mut host)?;
-    Ok((text, standing(alloc, &mut host)?))
+    Ok((text, standing(alloc, &mut host, files)?))
 }
 
-// How many files of the set stand before the first that doesn't.
-fn standing(alloc: Global, host: &mut MemHost) -> Result<usize, Fail> {
-    let mut count = 0usize;
-    for (name, bytes) in [
-        (&b"P/1/LOADS.LUM"[..], &APP_LOADS[..]),
-        (b"P/1/FILES.LUM", &APP_FILES),
-        (b"P/1/APP.LUH", &APP_HEADER),
-        (b"P/1/APP.BIN", b"123456789"),
-    ] {
-        if !has(alloc, host, name, bytes)? {
-            return Ok(count);
-        }
-        count = count.saturating_add(1);
-    }
-    Ok(count)
-}
-
+// The recipe and its source were written by calls 1 and 2. Calls 3 and 4 read them, and the others
+// write the set.
 #[test]
 fn each_host_call_fails_in_turn(rt: HostRuntime) -> Result<(), Fail> {
-    for (call, wanted) in [(1, 0), (2, 0), (3, 0), (4, 1), (5, 2), (6, 3)] {
-        let (text, count) = failing_at(rt.alloc(), call)?;
+    for call in 3..=8u32 {
+        let host = host_with(rt.alloc(), APP)?;
+        let (text, count) = failing_at(rt.alloc(), host, call, &app_files())?;
         assert_eq!(rt;
             text.as_slice(),
             b"4 host fault\n".as_slice(),
             "call {call}"
         );
-        assert_eq!(rt; count, wanted, "call {call}");
+        assert_eq!(rt; count, call.saturating_sub(5) as usize, "call {call}");
+    }
+    Ok(())
+}
+
+// The recipe and its five sources were written by calls 1 to 6. Calls 7 to 12 read them, and the
+// others write the set.
+#[test]
+fn each_host_call_for_three_loads_fails_in_turn(rt: HostRuntime) -> Result<(), Fail> {
+    for call in 7..=24u32 {
+        let host = three_loads(rt.alloc())?;
+        let (text, count) = failing_at(rt.alloc(), host, call, &three_loads_files())?;
+        assert_eq!(rt;
+            text.as_slice(),
+            b"4 host fault\n".as_slice(),
+            "call {call}"
+        );
+        assert_eq!(rt; count, call.saturating_sub(13) as usize, "call {call}");
     }
     Ok(())
 }
@@ -235,5 +261,35 @@ fn the_set_of_7_is_made(rt: HostRuntime) -> Result<(), Fail> {
     assert_eq!(rt; text.as_slice(), b"0 built 1 loads 2 files\n".as_slice());
     let text = said(rt.alloc(), &["check", "M"], &mut host)?;
     assert_eq!(rt; text.as_slice(), b"0 findings 0\n".as_slice());
+    Ok(())
+}
+
+static APP_TEXT: &[u8] = b"0 header 61 8004 0000
+part ABC41-0000-0001
+type 7 APP
+hardware HW1
+data APP.BIN 9 29B1 APP1
+user -
+headercrc 7042
+loadcrc ADC08C7F
+";
+
+// The names that a run asks for are those of the system's files.
+#[test]
+fn sets_over_the_real_host(rt: HostRuntime) -> Result<(), Fail> {
+    fs::write(&rt, "R", APP)?;
+    fs::write(&rt, "app.bin", b"123456789")?;
+    let rows: [(&[&str], &[u8]); 5] = [
+        (BUILD, b"0 built 1 loads 2 files\n"),
+        (&["check", "P"], b"0 findings 0\n"),
+        (&["show", "P/1/APP.LUH"], APP_TEXT),
+        (&["make", "7", "M"], b"0 built 1 loads 2 files\n"),
+        (&["check", "M"], b"0 findings 0\n"),
+    ];
+    for (words, wanted) in rows {
+        let mut disk = MemDisk::new(rt.alloc(), b"")?;
+        let text = run_over(rt.alloc(), words, &mut StdHost::new(&rt), &mut disk)?;
+        assert_eq!(rt; text.as_slice(), wanted);
+    }
     Ok(())
 }

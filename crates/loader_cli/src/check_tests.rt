@@ -108,21 +108,32 @@ fn a_set_on_two_members(rt: HostRuntime) -> Result<(), Fail> {
     Ok(())
 }
 
-// What is said where the host call of this number fails. The set's files were written by calls 1 to
-// 4.
-fn failing_at(alloc: Global, call: u32) -> Result<Bytes, Fail> {
-    let mut host = app_set(alloc)?;
-    write(&mut host, b"P/1/APP.BIN", b"123456789")?;
+// What is said where the host call of this number fails.
+fn failing_at(alloc: Global, mut host: MemHost, call: u32) -> Result<Bytes, Fail> {
     host.fail_at(call)?;
     checked(alloc, &mut host)
 }
 
+// The set's files were written by calls 1 to 4.
 #[test]
 fn each_host_call_fails_in_turn(rt: HostRuntime) -> Result<(), Fail> {
     for call in 5..=9u32 {
-        let said = failing_at(rt.alloc(), call)?;
+        let mut host = app_set(rt.alloc())?;
+        write(&mut host, b"P/1/APP.BIN", b"123456789")?;
+        let said = failing_at(rt.alloc(), host, call)?;
         let failed = said.as_slice() == b"4 host fault\n".as_slice();
         assert_eq!(rt; failed, call <= 8, "call {call}");
+    }
+    Ok(())
+}
+
+// The set's lists and files were written by calls 1 to 12.
+#[test]
+fn each_host_call_for_three_loads_fails_in_turn(rt: HostRuntime) -> Result<(), Fail> {
+    for call in 13..=25u32 {
+        let said = failing_at(rt.alloc(), three_loads(rt.alloc())?, call)?;
+        let failed = said.as_slice() == b"4 host fault\n".as_slice();
+        assert_eq!(rt; failed, call <= 24, "call {call}");
     }
     Ok(())
 }

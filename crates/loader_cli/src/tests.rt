@@ -71,10 +71,10 @@ fn words_of(alloc: Global, words: &[&str]) -> Result<Vec<String>, Fail> {
 }
 
 // The status of a run on these arguments as a digit, a space, and what the run prints.
-pub(crate) fn run_over(
+pub(crate) fn run_over<H: Host>(
     alloc: Global,
     words: &[&str],
-    host: &mut MemHost,
+    host: &mut H,
     disk: &mut MemDisk,
 ) -> Result<Bytes, Fail>
     requires { (state_of disk.old).stopped ≡ false }

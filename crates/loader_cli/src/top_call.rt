@@ -1,14 +1,16 @@
 //! The top call.
+ghost use Rattle.std.specs.Option.{ForSome};
 ghost use Rattle.std.specs.Prelude.{◌≡◌, false, IfOk};
 ghost use Rattle.disk_model.specs.State.{OnlyReads};
 ghost use Rattle.disk_layout.specs.Offsets.{IsBankSize};
 ghost use Rattle.disk_layout.specs.declared.identity.Identity.{Identity};
 ghost use Rattle.bank_store.specs.Formatting.{LeavesOldOrFormatted};
+ghost use Rattle.media_build.specs.WrittenFolders.{KeepsAllBut};
 ghost use Rattle.loader_cli.specs.Answers.{status_of, text_of};
 ghost use Rattle.loader_cli.specs.Commands.{texts_of, IsCommand, IsNo, UsesDisk, WritesDisk};
 ghost use Rattle.loader_cli.specs.Commands.{UsesHost, WritesHost};
 ghost use Rattle.loader_cli.specs.Commands.CommandView.{format as format_command};
-ghost use Rattle.loader_cli.specs.Runs.{Run, Lists, Formats, Says, EndsAsPromised};
+ghost use Rattle.loader_cli.specs.Runs.{Run, Lists, Formats, Says, EndsAsPromised, IsWritten};
 
 use crate::answer::Answer;
 use crate::build::{build, make};
@@ -21,6 +23,7 @@ use disk_layout::Identity;
 use disk_model::Disk;
 use listing::listing_text;
 use load_base::{Host, NoMemory, Sink, WriteFault};
+use media_build::laws::{a_written_folder_is_clean, building_laws};
 use recovery::{RecoverFault, recover};
 use std::alloc::Global;
 
@@ -63,8 +66,10 @@ pub fn run<H: Host, O: Sink, K: Disk>(
     disk: &mut K,
 ) -> Ended
     requires { (K.state disk.old).stopped ≡ false }
-    // The status with its cause, and exactly the text that goes out; `check` of a set that can be
-    // read and has no finding succeeds where nothing fails, but for out of memory.
+    // The status with its cause, and exactly the text that goes out. Where neither host nor sink
+    // fails, `check` of a set that can be read and has no finding, `build` of a recipe of which
+    // nothing is refused, and `make` succeed, but for out of memory. After `build` and `make` with
+    // status 0 the folder can be read and has no finding.
     ensures ends { EndsAsPromised (record {
       work = record {
         words = texts_of words.now;
@@ -80,17 +85,22 @@ pub fn run<H: Host, O: Sink, K: Disk>(
       sink_faults = O.faults out.old;
       sink_faults_after = O.faults out.new;
     }) result }
-    // What is touched by no command but those that use it.
+    // What is touched by no command but those that use it; and, in every ending, no file of the
+    // host but those of the set that `build` or `make` writes.
     ensures disk_untouched { IsNo UsesDisk (texts_of words.now) → disk.new ≡ disk.old }
     ensures only_reads { IsNo WritesDisk (texts_of words.now)
         → OnlyReads (K.state disk.old) (K.state disk.new) }
     ensures host_untouched { IsNo UsesHost (texts_of words.now) → host.new ≡ host.old }
     ensures files_kept { IsNo WritesHost (texts_of words.now)
         → H.files host.new ≡ H.files host.old }
+    ensures other_files { ForSome (H.files host.old) (λ told.
+        KeepsAllBut (IsWritten (texts_of words.now) told) told (H.files host.new)) }
     // What a power loss leaves.
     ensures while_formatting { (id : Identity) → IsCommand (texts_of words.now) (format_command id)
         → LeavesOldOrFormatted id (K.state disk.old) (K.state disk.new) }
 {
+    building_laws();
+    a_written_folder_is_clean();
     let Ok(answer) = answer(alloc, words, host, disk) else {
         return Ended {
             status: OUT_OF_MEMORY,
@@ -136,6 +146,8 @@ fn answer<'w, H: Host, K: Disk>(
     ensures host_untouched { IsNo UsesHost (texts_of words.now) → host.new ≡ host.old }
     ensures files_kept { IsNo WritesHost (texts_of words.now)
         → H.files host.new ≡ H.files host.old }
+    ensures other_files { ForSome (H.files host.old) (λ told.
+        KeepsAllBut (IsWritten (texts_of words.now) told) told (H.files host.new)) }
     ensures while_formatting { (id : Identity) → IsCommand (texts_of words.now) (format_command id)
         → LeavesOldOrFormatted id (K.state disk.old) (K.state disk.new) }
 {

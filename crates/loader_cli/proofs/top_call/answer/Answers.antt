@@ -1,8 +1,13 @@
-use Rattle.std.proofs.Common.{subst}
+use Rattle.std.proofs.Common.{refl, subst}
 use Rattle.std.proofs.lemmas.Result.{IfOk-weaker}
 use Rattle.disk_layout.specs.declared.identity.Identity.{Identity}
 use Rattle.bank_store.specs.Formatting.{LeavesOldOrFormatted}
+use Rattle.loader_cli.specs.Builds.{IsNameBuilt, IsNameMade}
+use Rattle.loader_cli.specs.Commands.{texts_of}
+use Rattle.loader_cli.specs.Runs.{IsWritten}
+use Rattle.loader_cli.specs.Runs.IsWritten.{built, made}
 use Rattle.loader_cli.specs.Runs.Says.{lists, formats, shows, checks, builds, makes}
+use Rattle.loader_cli.proofs.OtherFiles.{sets_more}
 use Rattle.loader_cli.proofs.Targets.{one_target}
 use Rattle.loader_cli.proofs.top_call.answer.Goals as goal
 
@@ -35,9 +40,25 @@ returns-in-Some-Check-clause-says g c =
 pub returns-in-Some-Build-clause-says : goal.returns-in-Some-Build-clause-says
 returns-in-Some-Build-clause-says g c =
     let command = rw c.in-Some-Build.field-0-is at c.in-Some-Build.ensures.some in
-    IfOk-weaker c.build.result _ _ (λ answer says. builds c.in-Some-Build.recipe.now c.in-Some-Build.folder.now command says) c.build.ensures
+    IfOk-weaker c.build.result _ _ (λ answer says. builds c.in-Some-Build.recipe.now c.in-Some-Build.folder.now command says) c.build.ensures.says
 
 pub returns-in-Some-Make-clause-says : goal.returns-in-Some-Make-clause-says
 returns-in-Some-Make-clause-says g c =
     let command = rw c.in-Some-Make.field-0-is at c.in-Some-Make.ensures.some in
-    IfOk-weaker c.make.result _ _ (λ answer says. makes c.in-Some-Make.number c.in-Some-Make.folder.now command says) c.make.ensures
+    IfOk-weaker c.make.result _ _ (λ answer says. makes c.in-Some-Make.number c.in-Some-Make.folder.now command says) c.make.ensures.says
+
+pub returns-in-Some-Build-clause-other_files : goal.returns-in-Some-Build-clause-other_files
+returns-in-Some-Build-clause-other_files g c =
+    let command = rw c.in-Some-Build.field-0-is at c.in-Some-Build.ensures.some in
+    let recipe = c.in-Some-Build.recipe.now in
+    let folder = c.in-Some-Build.folder.now in
+    sets_more (λ told. IsNameBuilt recipe folder told) (λ told. IsWritten (texts_of c.args.words.now) told) (g.H.Host.files c.args.host.now) (g.H.Host.files c.args.host.now)
+    (g.H.Host.files c.build.new.host) refl (λ told is name one. built recipe folder command one) c.build.ensures.others
+
+pub returns-in-Some-Make-clause-other_files : goal.returns-in-Some-Make-clause-other_files
+returns-in-Some-Make-clause-other_files g c =
+    let command = rw c.in-Some-Make.field-0-is at c.in-Some-Make.ensures.some in
+    let number = c.in-Some-Make.number in
+    let folder = c.in-Some-Make.folder.now in
+    sets_more (λ told. IsNameMade number folder) (λ told. IsWritten (texts_of c.args.words.now) told) (g.H.Host.files c.args.host.now) (g.H.Host.files c.args.host.now)
+    (g.H.Host.files c.make.new.host) refl (λ told is name one. made number folder command one) c.make.ensures.others

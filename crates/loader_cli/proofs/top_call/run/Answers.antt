@@ -3,7 +3,8 @@ use Rattle.load_base.specs.Sink.{IsExtended}
 use Rattle.load_base.specs.declared.sink.WriteFault.TheVariants.{Failed}
 use Rattle.loader_cli.specs.Answers.{text_of}
 use Rattle.loader_cli.specs.Runs.Ends.{told, sink_failed}
-use Rattle.loader_cli.proofs.Clean.{as_promised}
+use Rattle.loader_cli.proofs.Promised.{as_promised}
+use Rattle.loader_cli.proofs.SetRuns.{BuildingLaws}
 use Rattle.loader_cli.proofs.top_call.run.Goals as goal
 
 pub returns-in-Ok-put-clause-ends : goal.returns-in-Ok-put-clause-ends
@@ -11,7 +12,13 @@ returns-in-Ok-put-clause-ends g c =
     let was = g.O.Sink.content c.args.out.now in
     let now = g.O.Sink.content c.put.new.self in
     let text : c.as_slice.result.now ≡ text_of c.in-Ok.answer = c.as_slice.ensures ∙ c.in-Ok-into_text.ensures in
-    as_promised _ _ (told (text_of c.in-Ok.answer) (rw (← c.status-status.ensures) at c.in-Ok.ensures.says) (subst (λ (bytes : List ℕ). IsExtended was now bytes) text c.in-Ok-put.ensures.content))
+    let laws : BuildingLaws = record {
+      sizes = c.building_laws.ensures.sizes;
+      sources = c.building_laws.ensures.sources;
+      built = c.a_written_folder_is_clean.ensures.built;
+      made = c.a_written_folder_is_clean.ensures.made;
+    } in
+    as_promised laws _ _ (told (text_of c.in-Ok.answer) (rw (← c.status-status.ensures) at c.in-Ok.ensures.says) (subst (λ (bytes : List ℕ). IsExtended was now bytes) text c.in-Ok-put.ensures.content))
 
 pub returns-in-Err-Failed-clause-ends : goal.returns-in-Err-Failed-clause-ends
 returns-in-Err-Failed-clause-ends g c =
@@ -20,5 +27,11 @@ returns-in-Err-Failed-clause-ends g c =
     let text : c.as_slice.result.now ≡ text_of c.in-Ok.answer = c.as_slice.ensures ∙ c.in-Ok-into_text.ensures in
     let failed : c.in-Err-Failed.field-0 ≡ Failed = c.in-Err-Failed.field-0-is in
     let part = rw failed at c.in-Err-Failed.ensures.content in
-    as_promised _ _ (sink_failed c.status-status.result (text_of c.in-Ok.answer) part.0 (rw (← c.status-status.ensures) at c.in-Ok.ensures.says)
+    let laws : BuildingLaws = record {
+      sizes = c.building_laws.ensures.sizes;
+      sources = c.building_laws.ensures.sources;
+      built = c.a_written_folder_is_clean.ensures.built;
+      made = c.a_written_folder_is_clean.ensures.made;
+    } in
+    as_promised laws _ _ (sink_failed c.status-status.result (text_of c.in-Ok.answer) part.0 (rw (← c.status-status.ensures) at c.in-Ok.ensures.says)
     (subst (λ (bytes : List ℕ). IsExtended was now (take part.0 bytes)) text part.1) (c.in-Err-Failed.ensures.cause.failed (cc)) refl)
