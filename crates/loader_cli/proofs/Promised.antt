@@ -2,7 +2,7 @@
 use Rattle.std.proofs.Common.{◌≡◌, ℕ, inl, inr, List, Some, subst}
 use Rattle.load_base.specs.Host.{Files}
 use Rattle.load_base.specs.Sink.{IsExtended}
-use Rattle.loader_cli.specs.Runs.{Run, Says, Ends, EndsAsPromised, LeavesClean, NothingFails, Succeeds, WritesInto}
+use Rattle.loader_cli.specs.Runs.{Run, Says, Ends, EndsAsPromised, LeavesSet, NothingFails, Succeeds, WritesInto}
 use Rattle.loader_cli.specs.Runs.Ends.{told, sink_failed, no_memory}
 use Rattle.loader_cli.specs.declared.top_call.Ended.{Ended}
 use Rattle.loader_cli.proofs.Clean.{clean_said}
@@ -17,11 +17,11 @@ succeeds run ended line answers only (told text says put) =
 succeeds run ended line answers only (sink_failed _ _ _ _ _ rose _) = absurd (answers.sink_answers rose)
 succeeds run ended line answers only (no_memory is) = inl is
 
-leaves_clean : (laws : BuildingLaws) (run : Run) (ended : Ended) (folder : List ℕ) (files : Files) → WritesInto run.work.words folder → run.work.files ≡ Some files → ended.status ≡ 0
-    → Ends run ended → LeavesClean folder run.work.files_after
-leaves_clean laws run ended folder files into tells zero (told text says put) = run_leaves laws run folder files ended.status text into tells zero says
-leaves_clean laws run ended folder files into tells zero (sink_failed _ _ _ _ _ _ is) = absurd (apart ended.status 6 zero is)
-leaves_clean laws run ended folder files into tells zero (no_memory is) = absurd (apart ended.status 5 zero is)
+leaves_set : (laws : BuildingLaws) (run : Run) (ended : Ended) (folder : List ℕ) (files : Files) → WritesInto run.work.words folder → run.work.files ≡ Some files → ended.status ≡ 0
+    → Ends run ended → LeavesSet run.work.words files folder run.work.files_after
+leaves_set laws run ended folder files into tells zero (told text says put) = run_leaves laws run folder files ended.status text into tells zero says
+leaves_set laws run ended folder files into tells zero (sink_failed _ _ _ _ _ _ is) = absurd (apart ended.status 6 zero is)
+leaves_set laws run ended folder files into tells zero (no_memory is) = absurd (apart ended.status 5 zero is)
 
 pub as_promised : (laws : BuildingLaws) (run : Run) (ended : Ended) → Ends run ended → EndsAsPromised run ended
 as_promised laws run ended ends = record {
@@ -29,5 +29,5 @@ as_promised laws run ended ends = record {
   finds_nothing = λ folder files premise. succeeds run ended _ premise.answers (λ status text says. clean_said run folder files status text premise says) ends;
   builds_it = λ recipe folder files lines premise. succeeds run ended _ premise.answers (λ status text says. build_said laws run recipe folder files lines status text premise says) ends;
   makes_it = λ number folder premise. succeeds run ended _ premise.answers (λ status text says. make_said run number folder status text premise says) ends;
-  leaves_clean = λ folder files into tells zero. leaves_clean laws run ended folder files into tells zero ends;
+  leaves_set = λ folder files into tells zero. leaves_set laws run ended folder files into tells zero ends;
 }

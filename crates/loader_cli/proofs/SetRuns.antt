@@ -12,7 +12,7 @@ use Rattle.media_build.specs.HostWrites.{WritesFiles, WritesTold, written_files}
 use Rattle.media_build.specs.NoFindings.{body_view, built_view}
 use Rattle.media_build.specs.RecipeSets.{BuiltView, Sources, loads_of, load_bodies, recipe_bodies, recipe_set}
 use Rattle.media_build.specs.Recipes.{recipe_said}
-use Rattle.media_build.specs.WrittenFolders.{IsCleanFolder}
+use Rattle.media_build.specs.WrittenFolders.{HoldsSet}
 use Rattle.media_build.specs.declared.building_fault.BuildFault.{BuildFault}
 use Rattle.media_build.specs.declared.building_fault.BuildFault.TheVariants.{Absent, TooLong, TooLarge, HeaderTooLong, ListTooLong, Failed, Memory}
 use Rattle.media_build.specs.declared.fault.RecipeFault.{RecipeFault}
@@ -24,9 +24,12 @@ use Rattle.loader_cli.specs.Builds.BuildsLines.{set_built, set_refused, sources_
 use Rattle.loader_cli.specs.Builds.BuildsBytes.{said, no_recipe}
 use Rattle.loader_cli.specs.Builds.Builds.{recipe_read, recipe_absent, recipe_too_long, recipe_unread}
 use Rattle.loader_cli.specs.Builds.Makes.{set_made}
+use Rattle.loader_cli.specs.Commands.{IsCommand}
+use Rattle.loader_cli.specs.Commands.CommandView.{build, make}
 use Rattle.loader_cli.specs.HostFiles.{Has, HasTooMany, HostWork}
-use Rattle.loader_cli.specs.Runs.{Run, Says, host_work, BuildsRightSet, MakesSet, WritesInto, LeavesClean}
+use Rattle.loader_cli.specs.Runs.{Run, Says, host_work, BuildsRightSet, MakesSet, WritesInto, LeavesFolder, LeavesSet}
 use Rattle.loader_cli.specs.Runs.WritesInto.{of_recipe, of_number}
+use Rattle.loader_cli.specs.Runs.LeavesSet.{has_built, has_made}
 use Rattle.loader_cli.specs.Texts.{built_line}
 use Rattle.loader_cli.proofs.Asked.{says_of_build, says_of_make}
 
@@ -35,9 +38,9 @@ pub record BuildingLaws : Type 0 where
   pub sizes : (lines : List RecipeLine) (fault : BuildFault) → HaveSizes lines → IsSizeFault lines fault → fault ≡ Memory
   pub sources : (files : Files) (others : ℕ) (names : List (List ℕ)) (fault : BuildFault) → CanTake files others names → ¬ IsFirstRefused files others names fault
   pub built : (folder text : List ℕ) (lines : List RecipeLine) (built : Built) (files old new : Files) → recipe_said text ≡ Ok lines → AnswersSizes lines (Ok built)
-      → BuildsOf lines (Ok built) files → IsSmall built → WritesFiles (written_files folder built) old new (Ok tt) → IsCleanFolder folder new
+      → BuildsOf lines (Ok built) files → IsSmall built → WritesFiles (written_files folder built) old new (Ok tt) → HoldsSet folder new (sources_in files) lines
   pub made : (folder : List ℕ) (number : ℕ) (built : Built) (old new : Files) → built_view built ≡ recipe_set (generated_sources number) generated_lines → IsSmall built
-      → WritesFiles (written_files folder built) old new (Ok tt) → IsCleanFolder folder new
+      → WritesFiles (written_files folder built) old new (Ok tt) → HoldsSet folder new (generated_sources number) generated_lines
 
 -- ---- what the host has
 
@@ -157,46 +160,52 @@ make_said run number folder status text premise says =
 -- ---- what status 0 leaves
 
 -- a host that tells its files has the files of the set, and goes on telling them
-leaves : (folder : List ℕ) (set : Built) (old new : Option Files) (told : Files) → old ≡ Some told → ((after : Files) → WritesFiles (written_files folder set) told after (Ok tt) → IsCleanFolder folder after)
-    → WritesTold (written_files folder set) old new (Ok tt) → LeavesClean folder new
-leaves folder set None new told is clean wrote = absurd cc
-leaves folder set (Some was) new told is clean wrote =
+leaves : (folder : List ℕ) (set : Built) (old new : Option Files) (told : Files) (sources : Sources) (lines : List RecipeLine) → old ≡ Some told
+    → ((after : Files) → WritesFiles (written_files folder set) told after (Ok tt) → HoldsSet folder after sources lines) → WritesTold (written_files folder set) old new (Ok tt)
+    → LeavesFolder folder new sources lines
+leaves folder set None new told sources lines is holds wrote = absurd cc
+leaves folder set (Some was) new told sources lines is holds wrote =
     let same : was ≡ told = some_of is in
     let here = subst (λ (f : Files). WritesFiles (written_files folder set) f wrote.0 (Ok tt)) same wrote.2 in
-    record { files = wrote.0; told = wrote.1; clean = clean wrote.0 here }
+    record { files = wrote.0; told = wrote.1; holds = holds wrote.0 here }
 
-set_leaves : (folder : List ℕ) (set : Built) (loads : ℕ) (host : HostWork) (status : ℕ) (text : List ℕ) (told : Files) → host.files ≡ Some told → status ≡ 0
-    → ((after : Files) → WritesFiles (written_files folder set) told after (Ok tt) → IsCleanFolder folder after) → WritesSet folder set loads host status text → LeavesClean folder host.files_after
-set_leaves folder set loads host status text told files zero clean (written wrote _ _) = leaves folder set host.files host.files_after told files clean wrote.told
-set_leaves folder set loads host status text told files zero clean (unwritten _ _ is _) = absurd (apart status 3 zero is)
+set_leaves : (folder : List ℕ) (set : Built) (loads : ℕ) (host : HostWork) (status : ℕ) (text : List ℕ) (told : Files) (sources : Sources) (lines : List RecipeLine) → host.files ≡ Some told → status ≡ 0
+    → ((after : Files) → WritesFiles (written_files folder set) told after (Ok tt) → HoldsSet folder after sources lines) → WritesSet folder set loads host status text
+    → LeavesFolder folder host.files_after sources lines
+set_leaves folder set loads host status text told sources lines files zero holds (written wrote _ _) = leaves folder set host.files host.files_after told sources lines files holds wrote.told
+set_leaves folder set loads host status text told sources lines files zero holds (unwritten _ _ is _) = absurd (apart status 3 zero is)
 
 lines_leave : (laws : BuildingLaws) (recipe folder bytes : List ℕ) (lines : List RecipeLine) (host : HostWork) (status : ℕ) (text : List ℕ) (told : Files) → host.files ≡ Some told → status ≡ 0
-    → recipe_said bytes ≡ Ok lines → BuildsLines recipe folder lines host status text → LeavesClean folder host.files_after
+    → recipe_said bytes ≡ Ok lines → BuildsLines recipe folder lines host status text → LeavesFolder folder host.files_after (sources_in told) lines
 lines_leave laws recipe folder bytes lines host status text told files zero says (set_built set is writes) =
-    set_leaves folder set (length (loads_of lines)) host status text told files zero (λ after wrote. laws.built folder bytes lines set told told after says is.sizes (is.builds told files) is.small wrote) writes
+    set_leaves folder set (length (loads_of lines)) host status text told (sources_in told) lines files zero
+    (λ after wrote. laws.built folder bytes lines set told told after says is.sizes (is.builds told files) is.small wrote) writes
 lines_leave laws recipe folder bytes lines host status text told files zero says (set_refused _ _ _ _ is _) = absurd (apart status 2 zero is)
 lines_leave laws recipe folder bytes lines host status text told files zero says (sources_unread _ _ is _) = absurd (apart status 3 zero is)
 
-bytes_leave : (laws : BuildingLaws) (recipe folder bytes : List ℕ) (host : HostWork) (status : ℕ) (text : List ℕ) (told : Files) → host.files ≡ Some told → status ≡ 0
-    → BuildsBytes recipe folder bytes host status text → LeavesClean folder host.files_after
-bytes_leave laws recipe folder bytes host status text told files zero (said lines is builds) = lines_leave laws recipe folder bytes lines host status text told files zero is builds
-bytes_leave laws recipe folder bytes host status text told files zero (no_recipe _ _ _ is _) = absurd (apart status 2 zero is)
+bytes_leave : (laws : BuildingLaws) (words : List (List ℕ)) (recipe folder bytes : List ℕ) (host : HostWork) (status : ℕ) (text : List ℕ) (told : Files) → host.files ≡ Some told → status ≡ 0
+    → IsCommand words (build recipe folder) → told recipe ≡ Some bytes → BuildsBytes recipe folder bytes host status text → LeavesSet words told folder host.files_after
+bytes_leave laws words recipe folder bytes host status text told files zero asked there (said lines is builds) =
+    has_built recipe bytes lines asked there is (lines_leave laws recipe folder bytes lines host status text told files zero is builds)
+bytes_leave laws words recipe folder bytes host status text told files zero asked there (no_recipe _ _ _ is _) = absurd (apart status 2 zero is)
 
-pub build_leaves : (laws : BuildingLaws) (recipe folder : List ℕ) (host : HostWork) (status : ℕ) (text : List ℕ) (told : Files) → host.files ≡ Some told → status ≡ 0
-    → Builds recipe folder host status text → LeavesClean folder host.files_after
-build_leaves laws recipe folder host status text told files zero (recipe_read bytes _ _ builds) = bytes_leave laws recipe folder bytes host status text told files zero builds
-build_leaves laws recipe folder host status text told files zero (recipe_absent _ _ is _) = absurd (apart status 2 zero is)
-build_leaves laws recipe folder host status text told files zero (recipe_too_long _ _ is _) = absurd (apart status 2 zero is)
-build_leaves laws recipe folder host status text told files zero (recipe_unread _ _ is _) = absurd (apart status 3 zero is)
+build_leaves : (laws : BuildingLaws) (words : List (List ℕ)) (recipe folder : List ℕ) (host : HostWork) (status : ℕ) (text : List ℕ) (told : Files) → host.files ≡ Some told → status ≡ 0
+    → IsCommand words (build recipe folder) → Builds recipe folder host status text → LeavesSet words told folder host.files_after
+build_leaves laws words recipe folder host status text told files zero asked (recipe_read bytes has _ builds) =
+    bytes_leave laws words recipe folder bytes host status text told files zero asked (has_told host.files told recipe (Some bytes) files has) builds
+build_leaves laws words recipe folder host status text told files zero asked (recipe_absent _ _ is _) = absurd (apart status 2 zero is)
+build_leaves laws words recipe folder host status text told files zero asked (recipe_too_long _ _ is _) = absurd (apart status 2 zero is)
+build_leaves laws words recipe folder host status text told files zero asked (recipe_unread _ _ is _) = absurd (apart status 3 zero is)
 
-pub make_leaves : (laws : BuildingLaws) (number : ℕ) (folder : List ℕ) (host : HostWork) (status : ℕ) (text : List ℕ) (told : Files) → host.files ≡ Some told → status ≡ 0
-    → Makes number folder host status text → LeavesClean folder host.files_after
-make_leaves laws number folder host status text told files zero (set_made set is small writes) =
-    set_leaves folder set 1 host status text told files zero (λ after wrote. laws.made folder number set told after is small wrote) writes
+make_leaves : (laws : BuildingLaws) (words : List (List ℕ)) (number : ℕ) (folder : List ℕ) (host : HostWork) (status : ℕ) (text : List ℕ) (told : Files) → host.files ≡ Some told → status ≡ 0
+    → IsCommand words (make number folder) → Makes number folder host status text → LeavesSet words told folder host.files_after
+make_leaves laws words number folder host status text told files zero asked (set_made set is small writes) =
+    has_made number asked
+    (set_leaves folder set 1 host status text told (generated_sources number) generated_lines files zero (λ after wrote. laws.made folder number set told after is small wrote) writes)
 
 pub run_leaves : (laws : BuildingLaws) (run : Run) (folder : List ℕ) (told : Files) (status : ℕ) (text : List ℕ) → WritesInto run.work.words folder → run.work.files ≡ Some told → status ≡ 0
-    → Says run.work status text → LeavesClean folder run.work.files_after
+    → Says run.work status text → LeavesSet run.work.words told folder run.work.files_after
 run_leaves laws run folder told status text (of_recipe recipe asked) files zero says =
-    build_leaves laws recipe folder (host_work run.work) status text told files zero (says_of_build run.work recipe folder status text asked says)
+    build_leaves laws run.work.words recipe folder (host_work run.work) status text told files zero asked (says_of_build run.work recipe folder status text asked says)
 run_leaves laws run folder told status text (of_number number asked) files zero says =
-    make_leaves laws number folder (host_work run.work) status text told files zero (says_of_make run.work number folder status text asked says)
+    make_leaves laws run.work.words number folder (host_work run.work) status text told files zero asked (says_of_make run.work number folder status text asked says)

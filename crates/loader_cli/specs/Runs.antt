@@ -9,9 +9,10 @@ use Rattle.media_check.specs.HostNames.{host_media, Reading, whole_reading}
 use Rattle.media_check.specs.Openings.{CanRead, IsTooLong, IsTooLarge}
 use Rattle.media_check.specs.Sets.{SetView, lists_in, set_in}
 use Rattle.media_build.specs.Building.{CanTake, HaveSizes, headers_length, source_names, sources_in}
-use Rattle.media_build.specs.RecipeSets.{loads_of, recipe_bodies}
+use Rattle.media_build.specs.GeneratedSet.{generated_lines, generated_sources}
+use Rattle.media_build.specs.RecipeSets.{Sources, loads_of, recipe_bodies}
 use Rattle.media_build.specs.Recipes.{recipe_said}
-use Rattle.media_build.specs.WrittenFolders.{IsCleanFolder}
+use Rattle.media_build.specs.WrittenFolders.{HoldsSet, IsCleanFolder}
 use Rattle.media_build.specs.declared.statements.RecipeLine.{RecipeLine}
 use Rattle.shown_files.specs.Shown.{HasFields, HasFault}
 use Rattle.shown_files.specs.declared.kind.ShownKind.{ShownKind}
@@ -193,11 +194,18 @@ pub data WritesInto (words : List (List ℕ)) (folder : List ℕ) : Type 0 where
   of_recipe : (recipe : List ℕ) → IsCommand words (build recipe folder) → WritesInto words folder
   of_number : (number : ℕ) → IsCommand words (make number folder) → WritesInto words folder
 
--- The host tells its files after the run, and in this folder nothing is wrong.
-pub record LeavesClean (folder : List ℕ) (after : Option Files) : Type 0 where
+-- The host tells its files after the run, and has the set of a recipe in this folder, in which nothing is wrong.
+pub record LeavesFolder (folder : List ℕ) (after : Option Files) (sources : Sources) (lines : List RecipeLine) : Type 0 where
   pub files : Files
   pub told : after ≡ Some files
-  pub clean : IsCleanFolder folder files
+  pub holds : HoldsSet folder files sources lines
+
+-- After the run the host has in this folder the set that the arguments name, of the recipe and the sources that it had.
+pub data LeavesSet (words : List (List ℕ)) (told : Files) (folder : List ℕ) (after : Option Files) : Type 0 where
+  has_built : (recipe text : List ℕ) (lines : List RecipeLine) → IsCommand words (build recipe folder) → told recipe ≡ Some text → recipe_said text ≡ Ok lines
+      → LeavesFolder folder after (sources_in told) lines → LeavesSet words told folder after
+  has_made : (number : ℕ) → IsCommand words (make number folder) → LeavesFolder folder after (generated_sources number) generated_lines
+      → LeavesSet words told folder after
 
 -- A name under which the arguments write: the set that they build or make has a list or a file there.
 pub data IsWritten (words : List (List ℕ)) (told : Files) (name : List ℕ) : Type 0 where
@@ -206,12 +214,12 @@ pub data IsWritten (words : List (List ℕ)) (told : Files) (name : List ℕ) : 
 
 -- ---- the whole
 
--- How a run ends; where it can't but succeed; and that a set has no finding which it says that it built or made.
+-- How a run ends; where it can't but succeed; and what it leaves where it says that it built or made a set.
 pub record EndsAsPromised (run : Run) (ended : Ended) : Type 0 where
   pub ends : Ends run ended
   pub finds_nothing : (folder : List ℕ) (told : Files) → ChecksCleanSet run folder told → Succeeds run ended (findings_text [])
   pub builds_it : (recipe folder : List ℕ) (told : Files) (lines : List RecipeLine) → BuildsRightSet run recipe folder told lines
       → Succeeds run ended (built_line (length (loads_of lines)) (length (recipe_bodies (sources_in told) lines)))
   pub makes_it : (number : ℕ) (folder : List ℕ) → MakesSet run number folder → Succeeds run ended (built_line 1 2)
-  pub leaves_clean : (folder : List ℕ) (told : Files) → WritesInto run.work.words folder → run.work.files ≡ Some told → ended.status ≡ 0
-      → LeavesClean folder run.work.files_after
+  pub leaves_set : (folder : List ℕ) (told : Files) → WritesInto run.work.words folder → run.work.files ≡ Some told → ended.status ≡ 0
+      → LeavesSet run.work.words told folder run.work.files_after

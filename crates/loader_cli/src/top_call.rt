@@ -23,7 +23,7 @@ use disk_layout::Identity;
 use disk_model::Disk;
 use listing::listing_text;
 use load_base::{Host, NoMemory, Sink, WriteFault};
-use media_build::laws::{a_written_folder_is_clean, building_laws};
+use media_build::laws::{a_written_folder_holds_the_set, building_laws};
 use recovery::{RecoverFault, recover};
 use std::alloc::Global;
 
@@ -69,7 +69,7 @@ pub fn run<H: Host, O: Sink, K: Disk>(
     // The status with its cause, and exactly the text that goes out. Where neither host nor sink
     // fails, `check` of a set that can be read and has no finding, `build` of a recipe of which
     // nothing is refused, and `make` succeed, but for out of memory. After `build` and `make` with
-    // status 0 the folder can be read and has no finding.
+    // status 0 the folder has exactly their set, can be read and has no finding.
     ensures ends { EndsAsPromised (record {
       work = record {
         words = texts_of words.now;
@@ -100,7 +100,7 @@ pub fn run<H: Host, O: Sink, K: Disk>(
         → LeavesOldOrFormatted id (K.state disk.old) (K.state disk.new) }
 {
     building_laws();
-    a_written_folder_is_clean();
+    a_written_folder_holds_the_set();
     let Ok(answer) = answer(alloc, words, host, disk) else {
         return Ended {
             status: OUT_OF_MEMORY,

@@ -7,7 +7,9 @@ use Rattle.media_check.specs.HostNames.{host_media, host_name, loads_name, files
 use Rattle.media_check.specs.Openings.{CanRead}
 use Rattle.media_check.specs.Sets.{lists_in, set_in}
 use Rattle.media_build.specs.Accepted.{IsMemberOf}
-use Rattle.media_build.specs.RecipeSets.{BodyView, BuiltView}
+use Rattle.media_build.specs.NoFindings.{HaveSet}
+use Rattle.media_build.specs.RecipeSets.{Sources, BodyView, BuiltView}
+use Rattle.media_build.specs.declared.statements.RecipeLine.{RecipeLine}
 
 -- ---- names
 
@@ -30,3 +32,8 @@ pub record KeepsAllBut (IsSet : List ℕ → Type 0) (old : Files) (new : Option
 pub record IsCleanFolder (folder : List ℕ) (files : Files) : Type 0 where
   pub readable : CanRead files (whole_reading folder (lists_in (host_media files folder) 1))
   pub clean : findings_of (set_in (host_media files folder)) ≡ []
+
+-- A folder has the set of a recipe, each list and file with its bytes; and nothing is wrong there.
+pub record HoldsSet (folder : List ℕ) (files : Files) (sources : Sources) (lines : List RecipeLine) : Type 0 where
+  pub has : HaveSet (host_media files folder) sources lines
+  pub sound : IsCleanFolder folder files

@@ -11,7 +11,7 @@ ghost use Rattle.media_build.specs.Building.{CanTake, HaveSizes, IsFirstRefused,
 ghost use Rattle.media_build.specs.declared.building_fault.BuildFault.{BuildFault};
 ghost use Rattle.media_build.specs.declared.building_fault.BuildFault.TheVariants as build_faults;
 ghost use Rattle.media_build.specs.Generator.{generated, state_at};
-ghost use Rattle.media_build.specs.Building.{AnswersSizes, Builds, IsSmall};
+ghost use Rattle.media_build.specs.Building.{AnswersSizes, Builds, IsSmall, sources_in};
 ghost use Rattle.media_build.specs.GeneratedSet.{generated_recipe, generated_lines};
 ghost use Rattle.media_build.specs.GeneratedSet.{generated_load_view, generated_sources};
 ghost use Rattle.media_build.specs.Recipes.{IsFirstWrong, lines_said, recipe_said, statement_said};
@@ -19,7 +19,7 @@ ghost use Rattle.media_build.specs.HostWrites.{WritesFiles, written_files};
 ghost use Rattle.media_build.specs.NoFindings.{HasShortSources, HaveSet, SizesFit, built_view};
 ghost use Rattle.media_build.specs.RecipeSets.{Sources, header_start, loads_of, recipe_loads};
 ghost use Rattle.media_build.specs.RecipeSets.{recipe_set};
-ghost use Rattle.media_build.specs.WrittenFolders.{IsCleanFolder};
+ghost use Rattle.media_build.specs.WrittenFolders.{HoldsSet};
 ghost use Rattle.media_build.specs.declared.fault.RecipeFault.{RecipeFault};
 ghost use Rattle.media_build.specs.declared.fault.RecipeFault.TheVariants as faults;
 ghost use Rattle.media_build.specs.declared.keywords.Keyword.TheVariants as keywords;
@@ -104,19 +104,21 @@ pub fn what_is_built_has_no_finding()
     header_laws();
 }
 
-/// A folder of a host that tells its files can be read, and nothing is wrong there, once a set was
-/// written into it that was built or made.
+/// A folder of a host that tells its files has the set that was built or made, once it was written
+/// there: each list and file has its bytes, the folder can be read, and nothing is wrong there.
 // For the proof: does nothing.
-pub fn a_written_folder_is_clean()
+pub fn a_written_folder_holds_the_set()
     // The set of a recipe, as `build` gives it.
     ensures built { (folder text : List ℕ) (lines : List RecipeLine) (built : Built)
         (files old new : Files) → recipe_said text ≡ Ok lines → AnswersSizes lines (Ok built)
         → Builds lines (Ok built) files → IsSmall built
-        → WritesFiles (written_files folder built) old new (Ok tt) → IsCleanFolder folder new }
+        → WritesFiles (written_files folder built) old new (Ok tt)
+        → HoldsSet folder new (sources_in files) lines }
     // The generated set of a number, as `make` gives it.
     ensures made { (folder : List ℕ) (number : ℕ) (built : Built) (old new : Files)
         → built_view built ≡ recipe_set (generated_sources number) generated_lines → IsSmall built
-        → WritesFiles (written_files folder built) old new (Ok tt) → IsCleanFolder folder new }
+        → WritesFiles (written_files folder built) old new (Ok tt)
+        → HoldsSet folder new (generated_sources number) generated_lines }
 {
     a_built_set_has_no_finding();
     a_written_set_can_be_read();

@@ -15,8 +15,8 @@ returns-in-Ok-put-clause-ends g c =
     let laws : BuildingLaws = record {
       sizes = c.building_laws.ensures.sizes;
       sources = c.building_laws.ensures.sources;
-      built = c.a_written_folder_is_clean.ensures.built;
-      made = c.a_written_folder_is_clean.ensures.made;
+      built = c.a_written_folder_holds_the_set.ensures.built;
+      made = c.a_written_folder_holds_the_set.ensures.made;
     } in
     as_promised laws _ _ (told (text_of c.in-Ok.answer) (rw (← c.status-status.ensures) at c.in-Ok.ensures.says) (subst (λ (bytes : List ℕ). IsExtended was now bytes) text c.in-Ok-put.ensures.content))
 
@@ -30,8 +30,8 @@ returns-in-Err-Failed-clause-ends g c =
     let laws : BuildingLaws = record {
       sizes = c.building_laws.ensures.sizes;
       sources = c.building_laws.ensures.sources;
-      built = c.a_written_folder_is_clean.ensures.built;
-      made = c.a_written_folder_is_clean.ensures.made;
+      built = c.a_written_folder_holds_the_set.ensures.built;
+      made = c.a_written_folder_holds_the_set.ensures.made;
     } in
     as_promised laws _ _ (sink_failed c.status-status.result (text_of c.in-Ok.answer) part.0 (rw (← c.status-status.ensures) at c.in-Ok.ensures.says)
     (subst (λ (bytes : List ℕ). IsExtended was now (take part.0 bytes)) text part.1) (c.in-Err-Failed.ensures.cause.failed (cc)) refl)

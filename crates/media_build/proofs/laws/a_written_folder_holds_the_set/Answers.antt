@@ -5,7 +5,8 @@ use Rattle.media_build.specs.GeneratedSet.{generated_lines, generated_sources}
 use Rattle.media_build.proofs.AcceptedRecipes.{what_a_text_says_is_a_recipe}
 use Rattle.media_build.proofs.BuildFindings.{built_sizes_fit}
 use Rattle.media_build.proofs.GeneratedSets.{generated_size, is_recipe, sizes_fit}
-use Rattle.media_build.proofs.laws.a_written_folder_is_clean.Goals as goal
+use Rattle.media_build.proofs.WrittenSets.{written_folder_has}
+use Rattle.media_build.proofs.laws.a_written_folder_holds_the_set.Goals as goal
 
 pub returns : goal.returns
 returns c =
@@ -16,14 +17,20 @@ returns c =
           let is = what_a_text_says_is_a_recipe text lines said in
           let fits = built_sizes_fit lines built files c.header_laws.ensures.same_size sizes builds in
           record {
-            readable = readable folder (sources_in files) lines built old new is fits builds.1 small.together written;
-            clean = clean folder (sources_in files) lines built old new is fits builds.1 written;
+            has = written_folder_has folder (sources_in files) lines built old new is builds.1 written;
+            sound = record {
+              readable = readable folder (sources_in files) lines built old new is fits builds.1 small.together written;
+              clean = clean folder (sources_in files) lines built old new is fits builds.1 written;
+            };
           };
       made = λ folder number built old new same small written.
           let size = generated_size number 4194304 in
           let fits = sizes_fit (generated number 4194304) (rw size (omega arith)) in
           record {
-            readable = readable folder (generated_sources number) generated_lines built old new is_recipe fits same small.together written;
-            clean = clean folder (generated_sources number) generated_lines built old new is_recipe fits same written;
+            has = written_folder_has folder (generated_sources number) generated_lines built old new is_recipe same written;
+            sound = record {
+              readable = readable folder (generated_sources number) generated_lines built old new is_recipe fits same small.together written;
+              clean = clean folder (generated_sources number) generated_lines built old new is_recipe fits same written;
+            };
           };
     }
