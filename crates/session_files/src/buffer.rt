@@ -1,6 +1,7 @@
 //! What is kept of a header or a protocol file while it arrives.
 ghost use Rattle.std.specs.Prelude.{◌≡◌, OnOk};
 ghost use Rattle.session_rules.specs.Buffers.{Buffer, buffered_more, empty_buffer, is_too_long};
+ghost use Rattle.session_files.specs.Prefixes.{IsFilled};
 
 use load_base::{Bytes, NoMemory};
 use std::alloc::Global;
@@ -19,10 +20,13 @@ pub struct FileBuffer {
 
 impl Model for FileBuffer {
     ghost use Rattle.session_rules.specs.Buffers.{Buffer};
+    ghost use Rattle.session_files.specs.Prefixes.{IsFilled};
 
     ghost Value = { Buffer };
 
     ghost view = { λ b. record { prefix = b.prefix.items; count = b.count } };
+
+    ghost invariant = { λ b. IsFilled (record { prefix = b.prefix.items; count = b.count }) };
 }
 
 impl FileBuffer {
@@ -52,6 +56,14 @@ impl FileBuffer {
         ensures { result ≡ is_too_long self.now }
     {
         self.count > MOST_BYTES as u64
+    }
+
+    /// How many bytes of the file came.
+    pub fn count(&self) -> u64
+        ensures is { result ≡ self.now.count }
+        ensures filled { IsFilled self.now }
+    {
+        self.count
     }
 
     /// The first bytes of the file, which are all of one that isn't too long.
