@@ -1,1 +1,4 @@
 pub mod Names
+pub mod Ratios
+pub mod Statuses
+pub mod WrittenFiles
