@@ -1,0 +1,13 @@
+//! A run of the exchange between a loader and a target: what it came to, as a report, and what
+//! happened in it, line by line (docs/FORMATS.md, "Printed text").
+#![tactic(auto)]
+
+mod outcome;
+mod report;
+#[cfg(test)]
+mod tests;
+mod wire;
+
+pub use outcome::{Drive, DriveFault};
+pub use report::report_text;
+pub use wire::wire_text;
