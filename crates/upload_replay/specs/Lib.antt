@@ -1,1 +1,4 @@
+pub mod Faults
+pub mod Recordings
 pub mod Texts
+pub mod Turns

@@ -3,6 +3,9 @@
 #![tactic(auto)]
 
 mod outcome;
+mod posting;
+mod reaching;
+mod recording;
 mod report;
 #[cfg(test)]
 mod tests;

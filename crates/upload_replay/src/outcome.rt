@@ -1,7 +1,12 @@
 //! What a run comes to.
+ghost use Rattle.std.specs.Prelude.{◌≡◌};
+ghost use Rattle.upload_replay.specs.Faults.{drive_fault_of};
+ghost use Rattle.upload_replay.specs.declared.outcome.DriveFault.TheVariants.{Memory};
+
 use disk_layout::{RecoverFault, Standing};
 use exchange_trace::TraceStep;
-use load_base::List;
+use link_net::LinkFault;
+use load_base::{List, NoMemory};
 use loader_machine::Session;
 use thiserror::Error;
 
@@ -31,4 +36,23 @@ pub enum DriveFault {
     /// Out of memory.
     #[error("out of memory")]
     Memory,
+}
+
+impl From<LinkFault> for DriveFault {
+    ghost from_gives = { λ fault result. result ≡ drive_fault_of fault };
+
+    fn from(fault: LinkFault) -> DriveFault {
+        match fault {
+            LinkFault::Failed => DriveFault::Link,
+            LinkFault::Memory => DriveFault::Memory,
+        }
+    }
+}
+
+impl From<NoMemory> for DriveFault {
+    ghost from_gives = { λ _ result. result ≡ Memory };
+
+    fn from(_: NoMemory) -> DriveFault {
+        DriveFault::Memory
+    }
 }
