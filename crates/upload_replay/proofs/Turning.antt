@@ -1,0 +1,116 @@
+-- A turn keeps what holds of a run.
+use Rattle.std.proofs.Common.{◌≡◌, Bool, cond, List, [], ◌∷◌, ◌++◌, Option, Some, None, refl, sym, ap, subst, ◌∙◌}
+use Rattle.std.specs.Prelude.{is_some}
+use Rattle.std.proofs.lemmas.List.{append-nil}
+use Rattle.exchange_trace.specs.declared.trace.Side.TheVariants as sides
+use Rattle.exchange_trace.specs.Happenings.{DatagramView, HappeningView}
+use Rattle.exchange_trace.specs.Lines.{Line}
+use Rattle.exchange_trace.specs.Logs.{Event, event_for}
+use Rattle.exchange_trace.specs.Posts.{IsHonest, posted_in, first_port_after}
+use Rattle.exchange_trace.specs.Steps.{Boot_refused, Came_up, Note, Step, Went_down, with_given}
+use Rattle.link_net.specs.Followed.{HasFollowed}
+use Rattle.link_net.specs.FollowedLaws.{followed_next}
+use Rattle.link_net.specs.Links.{Gives, LinkState, scene_of}
+use Rattle.session_rules.specs.Loader.{LoaderView}
+use Rattle.session_rules.specs.LoaderLog.{LoaderReading, SessionLog, loader_view, session_view as loader_session}
+use Rattle.session_rules.specs.Target.{TargetView}
+use Rattle.session_rules.specs.TargetLog.{TargetSessionLog, session_view as target_session}
+use Rattle.replay_rules.specs.BothEnds.{Is_down, Is_up, Setting, TargetState, gone_down, loader_at, reached, target_at, waiting, waits_in}
+use Rattle.replay_rules.specs.Due.{MayBeNoted, goes_down, is_up}
+use Rattle.replay_rules.specs.Ties.{Reacts, StepKeepsTie, kept_after, kept_by, loader_says, target_next, target_says}
+use Rattle.upload_replay.specs.Drives.{GoesOn, TargetTurns, Turns, has_session}
+use Rattle.upload_replay.specs.Turns.{link_with}
+
+-- ---- what a side keeps tells whether it waits, and is up
+
+loader_waits_is : (r : LoaderReading) → is_some (loader_view r).live ≡ is_some r.live
+loader_waits_is r = by r.live
+  where
+    by : (o : Option SessionLog) → is_some (loader_session r.end o) ≡ is_some o
+    by None = refl
+    by (Some s) = refl
+
+target_waits_is : (set : Setting) (state : TargetState) → has_session (kept_by set state) ≡ waits_in state
+target_waits_is set (Is_up r) = by r.live
+  where
+    by : (o : Option TargetSessionLog) → is_some (target_session set.accepts r o) ≡ is_some o
+    by None = refl
+    by (Some s) = refl
+target_waits_is set (Is_down active interrupted) = refl
+
+up_is : (set : Setting) (state : TargetState) → is_some (kept_by set state) ≡ is_up state
+up_is set (Is_up r) = refl
+up_is set (Is_down active interrupted) = refl
+
+-- ---- the target
+
+gone_keeps_none : (set : Setting) (before after : TargetState) → kept_by set (gone_down before after) ≡ None
+gone_keeps_none set (Is_up r) (Is_up s) = refl
+gone_keeps_none set (Is_up r) (Is_down active interrupted) = refl
+gone_keeps_none set (Is_down active interrupted) after = refl
+
+pub target_reacts : (set : Setting) (e : Option Event) (state : TargetState) (before after : Option TargetView) (posts : List DatagramView) (notes : List Note)
+    → TargetTurns set e state before after posts notes → after ≡ kept_after set notes state (reached set e state) (target_next set before e)
+target_reacts set e state before after posts [] turns = turns.0
+target_reacts set e state before after posts (Went_down ∷ []) turns = turns.0 ∙ sym (gone_keeps_none set state (reached set e state))
+target_reacts set e state before after posts (Boot_refused fault ∷ []) turns = turns.0 ∙ sym (gone_keeps_none set state (reached set e state))
+target_reacts set e state before after posts (Came_up first_port sequence ∷ []) turns = turns.0
+target_reacts set e state before after posts (Went_down ∷ note ∷ notes) turns = absurd turns
+target_reacts set e state before after posts (Boot_refused fault ∷ note ∷ notes) turns = absurd turns
+target_reacts set e state before after posts (Came_up first_port sequence ∷ note ∷ notes) turns = absurd turns
+
+target_silent : (set : Setting) (before : Option TargetView) (e : Option Event) → e ≡ None → target_says set before e ≡ []
+target_silent set None e none = refl
+target_silent set (Some v) e none = rw none refl
+
+pub target_posts : (set : Setting) (e : Option Event) (state : TargetState) (before after : Option TargetView) (posts : List DatagramView) (notes : List Note)
+    → TargetTurns set e state before after posts notes → posts ≡ cond (goes_down notes) [] (target_says set before e)
+target_posts set e state before after posts [] turns = turns.1
+target_posts set e state before after posts (Went_down ∷ []) turns = turns.1
+target_posts set e state before after posts (Boot_refused fault ∷ []) turns = turns.1 ∙ sym (target_silent set before e turns.2)
+target_posts set e state before after posts (Came_up first_port sequence ∷ []) turns = turns.1 ∙ sym (target_silent set before e turns.2)
+target_posts set e state before after posts (Went_down ∷ note ∷ notes) turns = absurd turns
+target_posts set e state before after posts (Boot_refused fault ∷ note ∷ notes) turns = absurd turns
+target_posts set e state before after posts (Came_up first_port sequence ∷ note ∷ notes) turns = absurd turns
+
+-- ---- the whole turn
+
+module _ (set : Setting) (began : LinkState) (steps : List Step) (s : Step) (loader loader_then : LoaderView) (target target_then : Option TargetView) (link link_then : LinkState) where
+  reacts : Turns set steps s loader loader_then target target_then link link_then → Reacts set steps loader loader_then target target_then s
+  reacts t = record {
+    loader_does = t.loader_does;
+    target_does = target_reacts set (event_for sides.Target (posted_in steps) s.given) (target_at set steps) target target_then t.target_posts s.notes t.target_does;
+    both_post = t.both_post
+        ∙ (ap (λ (posts : List DatagramView). posts ++ t.target_posts) t.loader_says_so
+        ∙ ap (λ (posts : List DatagramView). loader_says set loader (event_for sides.Loader (posted_in steps) s.given) ++ posts)
+        (target_posts set (event_for sides.Target (posted_in steps) s.given) (target_at set steps) target target_then t.target_posts s.notes t.target_does));
+  }
+
+  -- the link as it was asked, with the posts of the step
+  followed_step : (script : List Line) (given : LinkState) → HasFollowed (waiting set) script (with_given steps s.given) given → HasFollowed (waiting set) script (s ∷ steps) (link_with given s.posts)
+  followed_step script given is = record {
+    posted = ap (λ (posted : List DatagramView). posted ++ s.posts) (is.posted ∙ append-nil (posted_in steps));
+    given = is.given;
+    plan = is.plan;
+    follows = is.follows;
+  }
+
+  pub turn_goes_on : StepKeepsTie → GoesOn set began steps loader target link → Turns set steps s loader loader_then target target_then link link_then
+      → GoesOn set began (s ∷ steps) loader_then target_then link_then
+  turn_goes_on keeps on t =
+      let tied = keeps set steps loader loader_then target target_then link.posted s on.tied (reacts t) in
+      let up : is_some target ≡ is_up (target_at set steps) = ap is_some on.tied.target_is ∙ up_is set (target_at set steps) in
+      let loader_side : is_some loader.live ≡ waiting set sides.Loader steps = ap (λ (v : LoaderView). is_some v.live) on.tied.loader_is ∙ loader_waits_is (loader_at set steps) in
+      let target_side : has_session target ≡ waiting set sides.Target steps = ap has_session on.tied.target_is ∙ target_waits_is set (target_at set steps) in
+      let asked : Gives link t.given (scene_of link (waiting set sides.Loader steps) (waiting set sides.Target steps)) s.given =
+      subst (λ (b : Bool). Gives link t.given (scene_of link b (waiting set sides.Target steps)) s.given) loader_side
+      (subst (λ (b : Bool). Gives link t.given (scene_of link (is_some loader.live) b) s.given) target_side t.gives) in
+      record {
+        tied = rw (t.linked, t.gives.posted) tied;
+        noted = (subst (λ (b : Bool). MayBeNoted b (first_port_after steps) s.given s.notes) up t.noted, on.noted);
+        given = ap (λ (l : LinkState). l.given) t.linked ∙ (t.gives.given ∙ ap (λ (given : List HappeningView). s.given ∷ given) on.given);
+        honest = (subst (λ (posted : List DatagramView). IsHonest posted s.given) on.tied.posted_is t.gives.honest, on.honest);
+        follows = λ script start.
+            subst (λ (l : LinkState). HasFollowed (waiting set) script (s ∷ steps) l) (sym t.linked)
+            (followed_step script t.given (followed_next (waiting set) script steps link t.given s.given (on.follows script start) asked));
+      }

@@ -1,0 +1,72 @@
+-- What holds of a run as it goes on, and once it came to its end (docs/EXCHANGE.md, "Runs").
+use Rattle.std.specs.Prelude.{◌≡◌, List, [], ◌∷◌, ◌++◌, Bool, false, is_some, Option, Some, None}
+use Rattle.exchange_trace.specs.declared.trace.Side.TheVariants as sides
+use Rattle.exchange_trace.specs.Happenings.{DatagramView}
+use Rattle.exchange_trace.specs.Lines.{Line}
+use Rattle.exchange_trace.specs.Logs.{Event, event_for}
+use Rattle.exchange_trace.specs.Posts.{AllHonest, first_port_after, happenings_of, posted_in}
+use Rattle.exchange_trace.specs.Steps.{Note, Step, Boot_refused, Came_up, Went_down}
+use Rattle.link_net.specs.Followed.{HasFollowed}
+use Rattle.link_net.specs.Links.{Gives, LinkState, scene_of}
+use Rattle.session_rules.specs.Loader.{EndedSession, LoaderView}
+use Rattle.session_rules.specs.LoaderLog.{loader_view}
+use Rattle.session_rules.specs.Target.{TargetView}
+use Rattle.loader_machine.specs.Machine.{all_sessions}
+use Rattle.replay_rules.specs.BothEnds.{Setting, TargetState, come_up, gone_down, loader_at, reached, target_at, waiting}
+use Rattle.replay_rules.specs.Due.{AllNoted, MayBeNoted}
+use Rattle.replay_rules.specs.Promises.{IsTrace}
+use Rattle.replay_rules.specs.Ties.{IsTied, kept_by, loader_next, loader_says, target_next, target_says}
+use Rattle.upload_replay.specs.Turns.{link_with}
+
+-- A run goes on, on a link that began so: what both ends keep is what the trace says of them, exactly what was due was posted,
+-- and only that was noted of the target which may be; the link was posted and gave exactly what the trace has, and what it
+-- delivered to a side was posted to it. Where the link follows a script, so does the trace.
+pub record GoesOn (set : Setting) (began : LinkState) (steps : List Step) (loader : LoaderView) (target : Option TargetView) (link : LinkState) : Type 0 where
+  pub tied : IsTied set steps loader target link.posted
+  pub noted : AllNoted set steps
+  pub given : link.given ≡ happenings_of steps ++ began.given
+  pub honest : AllHonest steps
+  pub follows : (script : List Line) → HasFollowed (waiting set) script [] began → HasFollowed (waiting set) script steps link
+
+-- ---- one turn
+
+-- a target that is up has a live session
+abbrev pub has_session : Option TargetView → Bool
+has_session None = false
+has_session (Some v) = is_some v.live
+
+-- What a turn does to the target, where this would reach it and its state was so before: it takes what reaches it; or it goes
+-- down, comes up or stays down, and posts nothing.
+abbrev pub TargetTurns : Setting → Option Event → TargetState → (before after : Option TargetView) → List DatagramView → List Note → Type 0
+TargetTurns set e state before after posts [] = (after ≡ target_next set before e) × (posts ≡ target_says set before e)
+TargetTurns set e state before after posts (Went_down ∷ []) = (after ≡ None) × (posts ≡ [])
+TargetTurns set e state before after posts (Boot_refused fault ∷ []) = (after ≡ None) × (posts ≡ []) × (e ≡ None)
+TargetTurns set e state before after posts (Came_up first_port sequence ∷ []) =
+    (after ≡ kept_by set (come_up first_port sequence (gone_down state (reached set e state)))) × (posts ≡ []) × (e ≡ None)
+TargetTurns set e state before after posts notes = ⊥
+
+-- A turn of a run: the link gives a happening, the loader and the target take it, the link is posted what they post, the
+-- loader's posts first, and only that is noted of the target which may be.
+pub record Turns (set : Setting) (steps : List Step) (s : Step) (loader loader_then : LoaderView) (target target_then : Option TargetView) (link link_then : LinkState) : Type 0 where
+  pub given : LinkState
+  pub loader_posts : List DatagramView
+  pub target_posts : List DatagramView
+  pub gives : Gives link given (scene_of link (is_some loader.live) (has_session target)) s.given
+  pub loader_does : loader_then ≡ loader_next set loader (event_for sides.Loader (posted_in steps) s.given)
+  pub loader_says_so : loader_posts ≡ loader_says set loader (event_for sides.Loader (posted_in steps) s.given)
+  pub target_does : TargetTurns set (event_for sides.Target (posted_in steps) s.given) (target_at set steps) target target_then target_posts s.notes
+  pub both_post : s.posts ≡ loader_posts ++ target_posts
+  pub noted : MayBeNoted (is_some target) (first_port_after steps) s.given s.notes
+  pub linked : link_then ≡ link_with given s.posts
+
+-- ---- a whole run
+
+-- A run came to its end: its trace has the end last and once, exactly what was due was posted, and only that was noted of the
+-- target which may be; the link was posted and gave exactly what the trace has; the loader has one session for each start.
+pub record IsRun (set : Setting) (began ended : LinkState) (steps : List Step) (sessions : List EndedSession) : Type 0 where
+  pub trace : IsTrace set steps
+  pub posted : ended.posted ≡ posted_in steps
+  pub given : ended.given ≡ happenings_of steps ++ began.given
+  pub honest : AllHonest steps
+  pub follows : (script : List Line) → HasFollowed (waiting set) script [] began → HasFollowed (waiting set) script steps ended
+  pub sessions_are : sessions ≡ all_sessions (loader_view (loader_at set steps))
