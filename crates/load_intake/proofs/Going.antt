@@ -1,0 +1,85 @@
+-- How a store goes on over several calls.
+use Rattle.std.proofs.Common.{◌≡◌, ◌+◌, Result, IfOk, refl, ap, ◌∙◌}
+use Rattle.std.proofs.lemmas.Result.{IfOk-weaker}
+use Rattle.disk_model.specs.State.{DiskState}
+use Rattle.bank_store.specs.declared.store.Store.{Store}
+use Rattle.bank_store.specs.DiskWrites.{IsRunning}
+use Rattle.bank_store.specs.Fits.{Fits}
+use Rattle.bank_store.specs.Keeps.{Continues}
+use Rattle.bank_store.specs.Store.{IsPrepared}
+use Rattle.session_rules.specs.TargetRows.{Writes_progress}
+use Rattle.session_rules.specs.Uploads.{UploadView}
+use Rattle.disk_layout.specs.declared.active.Active.{Active}
+use Rattle.disk_layout.specs.Slots.{bank_number, other_bank, other_slot, slot_offset}
+use Rattle.load_intake.specs.declared.down.Down.{Down}
+use Rattle.load_intake.specs.declared.ended.UploadEnd.{UploadEnd}
+use Rattle.load_intake.specs.declared.finished.Finished.{Finished}
+use Rattle.load_intake.specs.declared.finished.Finished.TheVariants as finished
+use Rattle.load_intake.specs.Intakes.{BeginsNext, row_seen}
+use Rattle.load_intake.specs.Stores.{Ends, GivesUp, GoesOn, GoesOnInStep, Installs, Leaves}
+
+-- a call that makes none of the disk
+pub continued : (before after : Store) (disk : DiskState) → Continues before after → IsRunning disk → GoesOn before after disk disk
+continued before after disk c running =
+    let fits : Fits before disk → Fits after disk = λ f. record {
+      running = f.running;
+      holds = λ image told. let h = f.holds image told in (h.0, c.holds image h.0 h.1);
+      work = λ image told. c.work image (f.work image told);
+    } in
+    record {
+      active = c.active;
+      running = running;
+      fits = fits;
+      works = λ w. record {
+        fits = fits w.fits;
+        near = λ image told left now. c.near image left (w.near image told left now);
+        settled = λ sealed. w.settled (c.sealed sealed);
+      };
+    }
+
+pub then_on : (a b c : Store) (d e f : DiskState) → GoesOn a b d e → GoesOn b c e f → GoesOn a c d f
+then_on a b c d e f first next = record {
+  active = record { size = next.active.size ∙ first.active.size; active = next.active.active ∙ first.active.active };
+  running = next.running;
+  fits = λ x. next.fits (first.fits x);
+  works = λ x. next.works (first.works x);
+}
+
+pub gives_up : (before after : Store) (disk : DiskState) → Continues before after → IsPrepared after → IsRunning disk → GivesUp before after disk disk
+gives_up before after disk c prepared running = record { prepared = prepared; goes_on = continued before after disk c running }
+
+same_on : (store : Store) (disk : DiskState) → IsRunning disk → GoesOn store store disk disk
+same_on store disk running = record { active = record { size = refl; active = refl }; running = running; fits = λ f. f; works = λ w. w }
+
+-- a load is whole, and nothing was written
+pub goes_on_here : (f : Finished) (u : UploadView) (store : Store) (disk : DiskState) → row_seen f ≡ Writes_progress u → BeginsNext f → GoesOnInStep f store → IsRunning disk → Ends f store store disk disk
+goes_on_here (finished.MoreFiles intake) u store disk row begins step running = record { begins = begins; leaves = record { in_step = step; goes_on = same_on store disk running } }
+goes_on_here (finished.NextLoad intake) u store disk row begins step running = record { begins = begins; leaves = record { in_step = step; goes_on = same_on store disk running } }
+goes_on_here (finished.Stopped end) u store disk row begins step running = absurd cc
+goes_on_here (finished.Installed end loads) u store disk row begins step running = absurd cc
+
+-- ---- the end of a file after other calls
+
+later : (a b c : Store) (d e f : DiskState) → GoesOn a b d e → Installs b c e f → Installs a c d f
+later a b c d e f first next = record {
+  size = next.size ∙ first.active.size;
+  slot = next.slot ∙ ap (λ (x : Active). other_slot (slot_offset x.slot)) first.active.active;
+  bank = next.bank ∙ ap (λ (x : Active). other_bank (bank_number x.bank)) first.active.active;
+  sequence = next.sequence ∙ ap (λ (x : Active). x.sequence + 1) first.active.active;
+  prepared = next.prepared;
+  running = next.running;
+  fits = λ x. next.fits (first.fits x);
+  works = λ x. next.works (first.works x);
+}
+
+leaves_after : (x : Finished) (a b c : Store) (d e f : DiskState) → GoesOn a b d e → Leaves x b c e f → Leaves x a c d f
+leaves_after (finished.MoreFiles intake) a b c d e f first next = record { in_step = next.in_step; goes_on = then_on a b c d e f first next.goes_on }
+leaves_after (finished.NextLoad intake) a b c d e f first next = record { in_step = next.in_step; goes_on = then_on a b c d e f first next.goes_on }
+leaves_after (finished.Stopped end) a b c d e f first next = record { prepared = next.prepared; goes_on = then_on a b c d e f first next.goes_on }
+leaves_after (finished.Installed end loads) a b c d e f first next = later a b c d e f first next
+
+pub ends_after : (r : Result Finished Down) (a b c : Store) (d e f : DiskState) → GoesOn a b d e → IfOk r (λ x. Ends x b c e f) → IfOk r (λ x. Ends x a c d f)
+ends_after r a b c d e f first ends = IfOk-weaker r (λ x. Ends x b c e f) (λ x. Ends x a c d f) (λ x h. record { begins = h.begins; leaves = leaves_after x a b c d e f first h.leaves }) ends
+
+pub stops_there : (end : UploadEnd) (before after : Store) (disk : DiskState) → Continues before after → IsPrepared after → IsRunning disk → Ends (finished.Stopped end) before after disk disk
+stops_there end before after disk c prepared running = record { begins = tt; leaves = gives_up before after disk c prepared running }

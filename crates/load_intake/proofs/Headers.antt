@@ -1,0 +1,153 @@
+-- A header is whole.
+use Rattle.std.proofs.Common.{◌≡◌, ◌≢◌, ℕ, ◌+◌, ◌-◌, ◌<◌, ◌≤◌, min, List, [], ◌∷◌, ◌++◌, length, get_or, Option, Some, None, Ok, Err, Bool, true, false, ◌⊎◌, inl, inr, refl, sym, ap, subst, ◌∙◌, arith, append-nil}
+use Rattle.std.specs.Prelude.{slice_get}
+use Rattle.std.proofs.lemmas.Bool.{lt-ltb, le-ltb}
+use Rattle.std.proofs.lemmas.Option.{slice_get-get_or}
+use Rattle.field_grammar.specs.Answers.{answer}
+use Rattle.field_grammar.specs.ExactLaws.{answer-spelled, answer-fault, spelled_at_start}
+use Rattle.field_grammar.specs.Grammar.{Spelled, Fault}
+use Rattle.load_header.specs.declared.fault.HeaderFault.{HeaderFault}
+use Rattle.load_header.specs.declared.fault.HeaderFault.TheVariants.{TooLong}
+use Rattle.session_rules.specs.declared.reason.Reason.TheVariants.{HeaderRefused}
+use Rattle.crc_fields.specs.CheckSums.{crc32_of}
+use Rattle.bank_store.specs.declared.store.Store.{Store}
+use Rattle.bank_store.specs.Store.{bank_size_of}
+use Rattle.load_header.specs.Header.{HeaderView, header}
+use Rattle.load_header.specs.HeaderFields.{IsHeader}
+use Rattle.load_protocol_files.specs.declared.lur.Wanted.{Wanted}
+use Rattle.part_number.specs.VerdictLaws.{part_size}
+use Rattle.disk_layout.specs.declared.identity.Identity.{Identity}
+use Rattle.disk_layout.specs.Manifest.{total_length}
+use Rattle.session_rules.specs.declared.reason.Reason.{Reason}
+use Rattle.session_rules.specs.Buffers.{Buffer, is_too_long}
+use Rattle.session_rules.specs.TargetRows.{Kept_bytes, Reads_file, RowView, Writes_stop, done_move, placed_view, stopped_upload, view_judged, view_moved}
+use Rattle.session_rules.specs.Uploads.{Next, OpenLoadView, UploadView, covered_header, files_of, judge_header, judge_spelled_header, load_reason, need_of, next_with, or_else, planned_load}
+use Rattle.load_intake.specs.Judging.{Passes, header_row, refused_for, whole_buffer}
+use Rattle.load_intake.specs.Kept.{IsAccepted, IsIntake, intake_at}
+use Rattle.load_intake.specs.Needs.{load_need}
+use Rattle.load_intake.specs.Places.{arrived_at}
+use Rattle.load_intake.specs.States.{WholeView, header_there, needing, upload_of}
+use Rattle.load_intake.specs.Stores.{Has, HasAccepted, header_alone}
+use Rattle.load_intake.proofs.Rows.{arrived_is}
+use Rattle.load_intake.proofs.Sizes.{need_planned, total_within}
+
+-- ---- how many bytes are needed with it
+
+pub need_is : (w : WholeView) (b : Buffer) (wanted : Wanted) (h : HeaderView) (size : ℕ) → IsIntake (intake_at w None (Kept_bytes b)) w.need → IsHeader h → w.need + load_need wanted h size ≡ need_of (w.loads ++ planned_load wanted h size ∷ [])
+need_is w b wanted h size i is =
+    omega (arith, i.need, ap need_of (append-nil w.loads), need_planned w.loads wanted h size (part_size h.part is.part))
+
+pub room_for_header : (w : WholeView) (b : Buffer) (wanted : Wanted) (h : HeaderView) (size need bank : ℕ) → IsIntake (intake_at w None (Kept_bytes b)) w.need → need ≡ w.need + load_need wanted h size → need ≤ bank → total_length w.loads + size ≤ bank
+room_for_header w b wanted h size need bank i is fits = omega (arith, i.need, ap need_of (append-nil w.loads), total_within w.loads, is, fits)
+
+-- ---- the load with it
+
+pub header_accepted : (w new : WholeView) (b : Buffer) (wanted : Wanted) (h : HeaderView) (size crc need : ℕ) (l : OpenLoadView) (id : Identity) → IsIntake (intake_at w None (Kept_bytes b)) w.need → IsHeader h → Passes id wanted h need
+    → need ≡ w.need + load_need wanted h size → new ≡ needing w need → l ≡ header_there wanted h size crc → IsAccepted new l
+header_accepted w new b wanted h size crc need l id i is passes needs made there =
+    rw (made, there) (record {
+      few = i.few;
+      left = i.left;
+      need = needs ∙ need_is w b wanted h size i is;
+      header = is;
+      part = passes.part;
+      within = omega arith;
+      planned = refl;
+    })
+
+pub has_header : (w new : WholeView) (b : Buffer) (wanted : Wanted) (h : HeaderView) (size crc need : ℕ) (l : OpenLoadView) (id : Identity) (old store : Store) → IsIntake (intake_at w None (Kept_bytes b)) w.need → IsHeader h
+    → Passes id wanted h need → need ≡ w.need + load_need wanted h size → new ≡ needing w need → l ≡ header_there wanted h size crc → id.bank ≡ bank_size_of old → bank_size_of store ≡ bank_size_of old
+    → Has store (w.loads ++ header_alone wanted size ∷ []) (length (files_of h)) 0 → HasAccepted new l store
+has_header w new b wanted h size crc need l id old store i is passes needs made there bank same has =
+    let all : length (files_of h) ≡ length (files_of h) - 0 = omega arith in
+    rw (made, there) (record {
+      has = subst (λ (n : ℕ). Has store (w.loads ++ header_alone wanted size ∷ []) n 0) all has;
+      fits = omega (arith, need_is w b wanted h size i is, needs, passes.fits, bank, same);
+    })
+
+pub header_next : (w new : WholeView) (h : HeaderView) (need crc size : ℕ) (wanted : Wanted) (l : OpenLoadView) (next : Next) → new ≡ needing w need → l ≡ header_there wanted h size crc → next ≡ next_with (upload_of w None) h 0
+    → next ≡ next_with (upload_of new None) l.header (length l.files)
+header_next w new h need crc size wanted l next made there e = rw (made, there) e
+
+-- ---- the row after it
+
+module _ (accepts : HeaderView → Bool) (id : Identity) (w : WholeView) (wanted : Wanted) (h : HeaderView) (bytes : List ℕ) where
+  abbrev u : UploadView
+  u = upload_of w None
+
+  abbrev planned_need : ℕ
+  planned_need = need_of (w.loads ++ planned_load wanted h (length bytes) ∷ [])
+
+  abbrev verdict : (need : ℕ) → Next → (crc : ℕ) → Option Reason
+  verdict need next crc = or_else (refused_for accepts id wanted h need) (load_reason h next crc)
+
+  same_verdict : (need : ℕ) (next : Next) (crc : ℕ) → need ≡ planned_need → next ≡ next_with u h 0 → crc ≡ crc32_of (covered_header bytes) → verdict need next crc ≡ verdict planned_need (next_with u h 0) (crc32_of (covered_header bytes))
+  same_verdict need next crc n x c = rw (n, x, c) refl
+
+  pub header_stopped : (need : ℕ) (next : Next) (crc : ℕ) (reason : Reason) (arrived : ℕ) → slice_get w.request (length w.loads) ≡ Some wanted → need ≡ planned_need → next ≡ next_with u h 0 → crc ≡ crc32_of (covered_header bytes)
+      → Some reason ≡ verdict need next crc → arrived ≡ arrived_at (length w.loads) next → Writes_stop (stopped_upload w.request arrived (length w.loads + 1) reason) ≡ header_row accepts id w h bytes
+  header_stopped need next crc reason arrived asked n x c found many =
+      let here : verdict planned_need (next_with u h 0) (crc32_of (covered_header bytes)) ≡ Some reason = sym (same_verdict need next crc n x c) ∙ sym found in
+      rw (asked, here, many, arrived_is w None h 0 next x) refl
+
+  pub header_placed : (need : ℕ) (next : Next) (crc : ℕ) (new : WholeView) (l : OpenLoadView) → slice_get w.request (length w.loads) ≡ Some wanted → need ≡ planned_need → next ≡ next_with u h 0 → crc ≡ crc32_of (covered_header bytes)
+      → None ≡ verdict need next crc → new ≡ needing w need → l ≡ header_there wanted h (length bytes) crc → placed_view (upload_of new None) l next ≡ header_row accepts id w h bytes
+  header_placed need next crc new l asked n x c found made there =
+      let here : verdict planned_need (next_with u h 0) (crc32_of (covered_header bytes)) ≡ None = sym (same_verdict need next crc n x c) ∙ sym found in
+      rw (asked, here, made, there, x, c, asked) refl
+
+-- ---- all that may come of a header's bytes
+
+no_wanted : Wanted
+no_wanted = record { header = []; part = [] }
+
+asked_of : WholeView → Wanted
+asked_of w = get_or w.request (length w.loads) no_wanted
+
+asked_is : (w : WholeView) (b : Buffer) → IsIntake (intake_at w None (Kept_bytes b)) w.need → slice_get w.request (length w.loads) ≡ Some (asked_of w)
+unfolding asked_of
+asked_is w b i = slice_get-get_or w.request (length w.loads) no_wanted i.left
+
+abbrev pub header_moved : (accepts : HeaderView → Bool) → Identity → WholeView → Buffer → RowView
+header_moved accepts id w b = view_moved (Reads_file (upload_of w None)) (Kept_bytes b) (done_move accepts id (Reads_file (upload_of w None)) (Kept_bytes b))
+
+abbrev stopped_for : WholeView → HeaderFault → RowView
+stopped_for w fault = Writes_stop (stopped_upload w.request (length w.loads) (length w.loads + 1) (HeaderRefused fault))
+
+pub past_buffer : (b : Buffer) → length b.prefix ≡ min b.count 65536 → length b.prefix < b.count → is_too_long b ≡ true
+past_buffer b filled more = lt-ltb 65536 b.count (omega (arith, filled, more))
+
+pub within_buffer : (b : Buffer) → length b.prefix ≡ min b.count 65536 → b.count ≤ length b.prefix → is_too_long b ≡ false
+within_buffer b filled all = le-ltb 65536 b.count (omega (arith, filled, all))
+
+pub buffer_whole : (b : Buffer) → length b.prefix ≡ min b.count 65536 → b.count ≤ length b.prefix → b ≡ whole_buffer b.prefix
+buffer_whole b filled all =
+    let same : b.count ≡ length b.prefix = omega (arith, filled, all) in
+    ap (λ (n : ℕ). buffer_of b.prefix n) same
+  where
+    buffer_of : List ℕ → ℕ → Buffer
+    buffer_of bytes n = record { prefix = bytes; count = n }
+
+pub too_long_row : (accepts : HeaderView → Bool) (id : Identity) (w : WholeView) (b : Buffer) → IsIntake (intake_at w None (Kept_bytes b)) w.need → is_too_long b ≡ true → stopped_for w TooLong ≡ header_moved accepts id w b
+unfolding judge_header
+too_long_row accepts id w b i long = rw (asked_is w b i, long) refl
+
+pub refused_row : (accepts : HeaderView → Bool) (id : Identity) (w : WholeView) (b : Buffer) (fault : HeaderFault) → IsIntake (intake_at w None (Kept_bytes b)) w.need → is_too_long b ≡ false → answer header b.prefix ≡ Err fault
+    → stopped_for w fault ≡ header_moved accepts id w b
+unfolding judge_header
+refused_row accepts id w b fault i long is = rw (asked_is w b i, long, is) refl
+
+pub read_row : (accepts : HeaderView → Bool) (id : Identity) (w : WholeView) (b : Buffer) (h : HeaderView) → IsIntake (intake_at w None (Kept_bytes b)) w.need → is_too_long b ≡ false → answer header b.prefix ≡ Ok h → b ≡ whole_buffer b.prefix
+    → header_row accepts id w h b.prefix ≡ header_moved accepts id w b
+unfolding judge_header
+read_row accepts id w b h i long is whole =
+    let P : Buffer → Type 0 = λ x. view_judged (upload_of w None) (Kept_bytes x) (judge_spelled_header accepts id (upload_of w None) (asked_of w) x h) ≡ view_judged (upload_of w None) (Kept_bytes b) (judge_spelled_header accepts id (upload_of w None) (asked_of w) b h) in
+    rw (asked_is w b i, long, is) (subst P whole refl)
+
+-- ---- reading a header
+
+pub header_is_read : (bytes : List ℕ) (h : HeaderView) → Spelled header bytes h → answer header bytes ≡ Ok h
+header_is_read bytes h spelled = answer-spelled header bytes h (spelled_at_start header bytes h spelled)
+
+pub header_is_refused : (bytes : List ℕ) (none fault : HeaderFault) → fault ≢ none → (fault ≡ none) ⊎ Fault header bytes fault → answer header bytes ≡ Err fault
+header_is_refused bytes none fault other refused = elim refused [ inl is ↦ absurd (other is) | inr wrong ↦ answer-fault header bytes fault wrong ]

@@ -1,0 +1,11 @@
+pub mod NoMore
+pub mod Sizes
+pub mod Steps
+pub mod Going
+pub mod Texts
+pub mod Taking
+pub mod Beginning
+pub mod Placing
+pub mod Rows
+pub mod Files
+pub mod Headers

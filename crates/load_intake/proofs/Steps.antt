@@ -1,0 +1,114 @@
+-- What the store has after each of its calls.
+use Rattle.std.proofs.Common.{◌≡◌, ℕ, ◌+◌, ◌<◌, ◌≤◌, List, [], ◌∷◌, ◌++◌, length, refl, sym, ap, subst, ◌∙◌, arith, length-append}
+use Rattle.bank_store.specs.declared.fault.StoreFault.{StoreFault}
+use Rattle.bank_store.specs.declared.fault.StoreFault.TheVariants.{BankFull, SequenceSpent, DiskFailed, Memory}
+use Rattle.bank_store.specs.declared.stage.Filling.{Filling}
+use Rattle.bank_store.specs.declared.store.Store.{Store}
+use Rattle.bank_store.specs.DiskWrites.{IsFailure}
+use Rattle.bank_store.specs.Store.{AwaitsEnd, AwaitsFile, AwaitsLoad, IsBetweenLoads, IsFilling, PassesBank, bank_size_of, bytes_appended, file_ended, load_announced, manifest_length, nothing_filled}
+use Rattle.disk_layout.specs.Manifest.{LoadEntry, total_length}
+use Rattle.load_base.specs.Host.{longest_file}
+use Rattle.field_grammar.specs.SectionLaws.{size_number}
+use Rattle.load_protocol_files.specs.declared.lur.Wanted.{Wanted}
+use Rattle.load_intake.specs.Stores.{Has, HasRoomFor, header_alone, with_entry}
+use Rattle.load_intake.proofs.Sizes.{entry_size, files_more, manifest_more, size_more_files, total_more}
+
+-- ---- refusals
+
+-- a call that couldn't be refused for what it was asked failed
+pub fails : (fault : StoreFault) → ((need have : ℕ) → fault ≡ BankFull need have → ⊥) → (fault ≡ SequenceSpent → ⊥) → IsFailure fault
+fails (BankFull need have) full spent = absurd (full need have refl)
+fails SequenceSpent full spent = absurd (spent refl)
+fails DiskFailed full spent = tt
+fails Memory full spent = tt
+
+pub within : (store : Store) (n : ℕ) → HasRoomFor n store → (need have : ℕ) → PassesBank store n need have → ⊥
+within store n room need have p =
+    let fits : p.0.end + n ≤ bank_size_of store = room p.0 p.1 in
+    absurd (omega (arith, p.2, p.3, p.4, fits))
+
+-- ---- what the store has
+
+pub begun_has : (store : Store) → IsFilling store nothing_filled → manifest_length store ≡ 2 → Has store [] 0 0
+begun_has store filling manifest = record { progress = nothing_filled; filling = filling; loads = refl; missing = refl; start = refl; end = refl; manifest = manifest ∙ sym (size_number 2 0) }
+
+pub load_begun : (old new : Store) (part : List ℕ) (files : ℕ) (loads : List LoadEntry) → ((p : Filling) → IsFilling old p → IsFilling new (load_announced files p)) → manifest_length new ≡ manifest_length old + 17 → length part ≡ 15
+    → Has old loads 0 0 → Has new (loads ++ record { part = part; files = [] } ∷ []) files 0
+load_begun old new part files loads filling manifest size h =
+    let l : LoadEntry = record { part = part; files = [] } in
+    record {
+      progress = load_announced files h.progress;
+      filling = filling h.progress h.filling;
+      loads = omega (arith, h.loads, length-append loads (l ∷ []));
+      missing = refl;
+      start = omega (arith, h.start, total_more loads l);
+      end = h.end;
+      manifest = omega (arith, manifest, h.manifest, size, manifest_more loads l, entry_size l);
+    }
+
+pub appended : (old new : Store) (n : ℕ) (loads : List LoadEntry) (missing taken : ℕ) → ((p : Filling) → IsFilling old p → IsFilling new (bytes_appended n p)) → manifest_length new ≡ manifest_length old
+    → Has old loads missing taken → Has new loads missing (taken + n)
+appended old new n loads missing taken filling manifest h = record {
+  progress = bytes_appended n h.progress;
+  filling = filling h.progress h.filling;
+  loads = h.loads;
+  missing = h.missing;
+  start = h.start;
+  end = omega (arith, h.end);
+  manifest = manifest ∙ h.manifest;
+}
+
+pub ended : (old new : Store) (name : List ℕ) (loads : List LoadEntry) (l : LoadEntry) (missing taken : ℕ) → ((p : Filling) → IsFilling old p → IsFilling new (file_ended p)) → manifest_length new ≡ manifest_length old + (5 + length name)
+    → Has old (loads ++ l ∷ []) (missing + 1) taken → Has new (loads ++ with_entry l name taken ∷ []) missing 0
+ended old new name loads l missing taken filling manifest h =
+    let more = with_entry l name taken in
+    record {
+      progress = file_ended h.progress;
+      filling = filling h.progress h.filling;
+      loads = omega (arith, h.loads, length-append loads (l ∷ []), length-append loads (more ∷ []));
+      missing = omega (arith, h.missing);
+      start = omega (arith, h.start, h.end, total_more loads l, total_more loads more, size_more_files l.files (record { name = name; length = taken }));
+      end = omega arith;
+      manifest =
+          omega (
+            arith,
+            manifest,
+            h.manifest,
+            manifest_more loads l,
+            manifest_more loads more,
+            entry_size l,
+            entry_size more,
+            files_more l.files (record { name = name; length = taken }),
+          );
+    }
+
+-- ---- what it awaits
+
+pub awaits_load : (store : Store) (loads : List LoadEntry) → Has store loads 0 0 → length loads < 32 → AwaitsLoad store
+awaits_load store loads h few = (h.progress, h.filling, omega (arith, h.loads, few), h.missing)
+
+pub awaits_file : (store : Store) (loads : List LoadEntry) (missing taken : ℕ) → Has store loads missing taken → 1 ≤ missing → AwaitsFile store
+awaits_file store loads missing taken h some = (h.progress, h.filling, omega (arith, h.missing, some))
+
+pub awaits_end : (store : Store) (loads : List LoadEntry) (missing taken : ℕ) → Has store loads missing taken → 1 ≤ missing → taken ≤ longest_file → AwaitsEnd store
+awaits_end store loads missing taken h some short = (h.progress, h.filling, omega (arith, h.missing, some), omega (arith, h.end, short))
+
+pub between : (store : Store) (loads : List LoadEntry) → Has store loads 0 0 → IsBetweenLoads store
+between store loads h = (h.progress, h.filling, h.missing)
+
+same_end : (p q : Filling) → p ≡ q → p.end ≡ q.end
+same_end p q e = ap (λ (x : Filling). x.end) e
+
+pub room : (store : Store) (loads : List LoadEntry) (missing taken n : ℕ) → Has store loads missing taken → total_length loads + taken + n ≤ bank_size_of store → HasRoomFor n store
+room store loads missing taken n h fits p filling =
+    let is = h.filling in
+    let same : h.progress ≡ p = cc in
+    omega (arith, same_end h.progress p same, h.end, h.start, fits)
+
+-- a header was written and ended
+pub header_there : (store : Store) (loads : List LoadEntry) (w : Wanted) (part : List ℕ) (n left files : ℕ) → part ≡ w.part → left ≡ files → Has store (loads ++ with_entry (record { part = part; files = [] }) w.header (0 + n) ∷ []) left 0
+    → Has store (loads ++ header_alone w n ∷ []) files 0
+header_there store loads w part n left files same few h =
+    let P : List ℕ → ℕ → ℕ → Type 0 = λ p size left. Has store (loads ++ record { part = p; files = record { name = w.header; length = size } ∷ [] } ∷ []) left 0 in
+    let zero : 0 + n ≡ n = omega arith in
+    subst (λ (x : ℕ). P w.part n x) few (subst (λ (x : ℕ). P w.part x left) zero (subst (λ (x : List ℕ). P x (0 + n) left) same h))

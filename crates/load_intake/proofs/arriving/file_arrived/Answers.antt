@@ -1,0 +1,70 @@
+use Rattle.std.proofs.Common.{◌≡◌, ◌+◌, ◌-◌, length, ℕ, Some, None, sym, ap, ◌∙◌, arith}
+use Rattle.std.proofs.lemmas.Result.{IfOk-weaker}
+use Rattle.disk_layout.specs.declared.manifest.ManifestFile.{ManifestFile}
+use Rattle.session_rules.specs.Uploads.{files_of, next_number}
+use Rattle.session_rules.specs.TargetRows.{UploadEnd, Writes_stop, load_entry_of, placed_view}
+use Rattle.load_intake.specs.Intakes.{row_seen}
+use Rattle.load_intake.specs.Places.{next_seen}
+use Rattle.load_intake.specs.States.{upload_of, with_one}
+use Rattle.load_intake.proofs.Files.{accepts_one, before_end, count_right, ends_next, entry_after, has_one, file_of, next_after_one, next_is}
+use Rattle.load_intake.proofs.Going.{continued, ends_after, stops_there}
+use Rattle.load_intake.proofs.Rows.{file_placed, file_stopped, moved}
+use Rattle.load_intake.proofs.arriving.file_arrived.Goals as goal
+
+pub returns-in-Some-clause-row : goal.returns-in-Some-clause-row
+returns-in-Some-clause-row g c accepts id =
+    let l = c.args.load in
+    let entry = next_is l c.requires.arrived.keeps.next.left in
+    ap (λ (e : UploadEnd). Writes_stop e) c.stop.ensures.end
+    ∙ file_stopped accepts id c.args.whole l c.args.sums (entry_after l) (next_seen c.next_in-next.result) c.in-Some.reason c.arrived_before-arrived.result entry (c.next_in-next.ensures (Some l)) (sym c.in-Some.is ∙ c.verdict.ensures (entry_after l) entry)
+    c.arrived_before-arrived.ensures
+
+pub returns-in-Some-clause-ends : goal.returns-in-Some-clause-ends
+returns-in-Some-clause-ends g c = stops_there c.stop.result c.args.store.now c.stop.new.store _ c.stop.ensures.continues c.stop.ensures.prepared c.requires.arrived.running
+
+pub end_file-requires : goal.end_file-requires
+end_file-requires g c = record { awaits = ends_next c.args.whole c.args.load c.args.sums c.args.store.now c.requires.arrived.keeps.next c.requires.arrived.in_step }
+
+pub go_on-requires-clause-accepted : goal.go_on-requires-clause-accepted
+go_on-requires-clause-accepted g c =
+    let l = c.args.load in
+    let i = c.requires.arrived.keeps in
+    let entry = next_is l i.next.left in
+    let e = entry_after l in
+    let right = count_right (next_number l) e c.args.sums _ (sym c.in_default.is ∙ c.verdict.ensures e entry) in
+    accepts_one c.args.whole l c.in_ok-load.load c.args.sums c.next_file-file.result c.load_crc.result i c.in_ok-load.ensures
+    (c.next_file-file.ensures e entry ∙ ap (λ (n : ℕ). file_of e n) (c.count.ensures ∙ right))
+
+pub go_on-requires-clause-has : goal.go_on-requires-clause-has
+go_on-requires-clause-has g c =
+    let l = c.args.load in
+    let step = c.requires.arrived.in_step in
+    let o = c.requires.arrived.keeps.next in
+    let entry = next_is l o.left in
+    let e = entry_after l in
+    let right = count_right (next_number l) e c.args.sums _ (sym c.in_default.is ∙ c.verdict.ensures e entry) in
+    let same = ap (λ (f : ManifestFile). f.length) (c.next_file-file.ensures e entry) ∙ c.count.ensures in
+    has_one c.args.whole l c.in_ok-load.load c.next_file-file.result c.load_crc.result c.args.sums.count c.end_file.new.store c.in_ok-load.ensures same
+    (c.end_file.ensures.has c.args.whole.loads (load_entry_of l) (length (files_of l.header) - (length l.files + 1)) c.args.sums.count (before_end c.args.whole l c.args.sums c.args.store.now o right step))
+    (omega (arith, step.fits, c.end_file.ensures.continues.active.size))
+
+pub go_on-requires-clause-next : goal.go_on-requires-clause-next
+go_on-requires-clause-next g c = next_after_one c.args.whole c.args.load c.in_ok-load.load c.next_file-file.result c.load_crc.result (next_seen c.next_in-next.result) c.in_ok-load.ensures (c.next_in-next.ensures None)
+
+pub returns-clause-row : goal.returns-clause-row
+returns-clause-row g c accepts id =
+    let l = c.args.load in
+    let w = c.args.whole in
+    let one = c.in_ok-load.load in
+    let next = next_seen c.next_in-next.result in
+    let entry = next_is l c.requires.arrived.keeps.next.left in
+    let e = entry_after l in
+    let none = sym c.in_default.is ∙ c.verdict.ensures e entry in
+    let made = c.in_ok-load.ensures
+    ∙ (ap (λ (f : ManifestFile). with_one l f c.load_crc.result) (c.next_file-file.ensures e entry ∙ ap (λ (n : ℕ). file_of e n) c.count.ensures)
+    ∙ ap (λ (crc : ℕ). with_one l (file_of e c.args.sums.count) crc) c.load_crc.ensures) in
+    IfOk-weaker c.go_on.result (λ f. row_seen f ≡ placed_view (upload_of w None) one next) (λ f. row_seen f ≡ moved accepts id w l c.args.sums e)
+    (λ f h. h ∙ file_placed accepts id w l c.args.sums e next one entry (c.next_in-next.ensures (Some l)) none made) c.go_on.ensures.row
+
+pub returns-clause-ends : goal.returns-clause-ends
+returns-clause-ends g c = ends_after c.go_on.result _ _ _ _ _ _ (continued _ _ _ c.end_file.ensures.continues c.requires.arrived.running) c.go_on.ensures.ends

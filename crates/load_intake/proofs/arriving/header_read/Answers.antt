@@ -1,0 +1,65 @@
+use Rattle.std.proofs.Common.{◌≡◌, length, None, sym, ap, ◌∙◌, arith}
+use Rattle.std.proofs.lemmas.Result.{IfOk-weaker}
+use Rattle.session_rules.specs.TargetRows.{UploadEnd, Writes_stop, placed_view}
+use Rattle.load_header.specs.Header.{header_view}
+use Rattle.load_intake.specs.Intakes.{row_seen}
+use Rattle.load_intake.specs.Judging.{header_row, whole_buffer}
+use Rattle.load_intake.specs.Places.{next_seen}
+use Rattle.load_intake.specs.States.{upload_of}
+use Rattle.load_intake.proofs.Going.{ends_after, stops_there}
+use Rattle.load_intake.proofs.Headers.{has_header, header_accepted, header_next, header_placed, header_stopped, need_is, room_for_header}
+use Rattle.load_intake.proofs.arriving.header_read.Goals as goal
+
+pub returns-in-Some-clause-row : goal.returns-in-Some-clause-row
+returns-in-Some-clause-row g c accepts follows =
+    let w = c.args.whole in
+    let h = header_view c.args.header in
+    let bytes = c.args.bytes.now in
+    let wanted = c.next_wanted.result.now in
+    let need = c.need_with-need.ensures ∙ need_is w (whole_buffer bytes) wanted h (length bytes) c.requires.arrived.keeps c.requires.spelled.0 in
+    ap (λ (e : UploadEnd). Writes_stop e) c.stop.ensures.end
+    ∙ header_stopped accepts c.args.identity.now w wanted h bytes c.need_with-need.result (next_seen c.next_after-next.result) c.value-crc.result c.in-Some.reason c.arrived_before-arrived.result c.next_wanted.ensures need
+    (c.next_after-next.ensures None) (c.value-crc.ensures ∙ c.header_sum-sum.ensures) (sym c.in-Some.is ∙ c.header_verdict-refused.ensures.is accepts follows) c.arrived_before-arrived.ensures
+
+pub returns-in-Some-clause-ends : goal.returns-in-Some-clause-ends
+returns-in-Some-clause-ends g c = stops_there c.stop.result c.args.store.now c.stop.new.store _ c.stop.ensures.continues c.stop.ensures.prepared c.requires.arrived.running
+
+pub write_header-requires-clause-room : goal.write_header-requires-clause-room
+write_header-requires-clause-room g c =
+    let passes = c.header_verdict-refused.ensures.passed c.in_default.is in
+    let room = room_for_header c.args.whole (whole_buffer c.args.bytes.now) c.next_wanted.result.now (header_view c.args.header) (length c.args.bytes.now) c.need_with-need.result c.args.identity.now.bank c.requires.arrived.keeps
+    c.need_with-need.ensures passes.fits in
+    omega (arith, room, c.requires.bank)
+
+pub go_on-requires-clause-accepted : goal.go_on-requires-clause-accepted
+go_on-requires-clause-accepted g c =
+    header_accepted c.args.whole c.with_need-whole.result (whole_buffer c.args.bytes.now) c.next_wanted.result.now (header_view c.args.header) (length c.args.bytes.now) c.value-crc.result c.need_with-need.result c.new-load.result
+    c.args.identity.now c.requires.arrived.keeps c.requires.spelled.0 (c.header_verdict-refused.ensures.passed c.in_default.is) c.need_with-need.ensures c.with_need-whole.ensures c.new-load.ensures
+
+pub go_on-requires-clause-has : goal.go_on-requires-clause-has
+go_on-requires-clause-has g c =
+    has_header c.args.whole c.with_need-whole.result (whole_buffer c.args.bytes.now) c.next_wanted.result.now (header_view c.args.header) (length c.args.bytes.now) c.value-crc.result c.need_with-need.result c.new-load.result
+    c.args.identity.now c.args.store.now c.write_header.new.store c.requires.arrived.keeps c.requires.spelled.0 (c.header_verdict-refused.ensures.passed c.in_default.is) c.need_with-need.ensures c.with_need-whole.ensures
+    c.new-load.ensures c.requires.bank c.in_ok-write_header.ensures.goes_on.active.size c.in_ok-write_header.ensures.has
+
+pub go_on-requires-clause-next : goal.go_on-requires-clause-next
+go_on-requires-clause-next g c =
+    header_next c.args.whole c.with_need-whole.result (header_view c.args.header) c.need_with-need.result c.value-crc.result (length c.args.bytes.now) c.next_wanted.result.now c.new-load.result (next_seen c.next_after-next.result)
+    c.with_need-whole.ensures c.new-load.ensures (c.next_after-next.ensures None)
+
+pub returns-clause-row : goal.returns-clause-row
+returns-clause-row g c accepts follows =
+    let w = c.args.whole in
+    let new = c.with_need-whole.result in
+    let l = c.new-load.result in
+    let h = header_view c.args.header in
+    let bytes = c.args.bytes.now in
+    let wanted = c.next_wanted.result.now in
+    let next = next_seen c.next_after-next.result in
+    let need = c.need_with-need.ensures ∙ need_is w (whole_buffer bytes) wanted h (length bytes) c.requires.arrived.keeps c.requires.spelled.0 in
+    let placed = header_placed accepts c.args.identity.now w wanted h bytes c.need_with-need.result next c.value-crc.result new l c.next_wanted.ensures need (c.next_after-next.ensures None)
+    (c.value-crc.ensures ∙ c.header_sum-sum.ensures) (sym c.in_default.is ∙ c.header_verdict-refused.ensures.is accepts follows) c.with_need-whole.ensures c.new-load.ensures in
+    IfOk-weaker c.go_on.result (λ f. row_seen f ≡ placed_view (upload_of new None) l next) (λ f. row_seen f ≡ header_row accepts c.args.identity.now w h bytes) (λ f is. is ∙ placed) c.go_on.ensures.row
+
+pub returns-clause-ends : goal.returns-clause-ends
+returns-clause-ends g c = ends_after c.go_on.result _ _ _ _ _ _ c.in_ok-write_header.ensures.goes_on c.go_on.ensures.ends

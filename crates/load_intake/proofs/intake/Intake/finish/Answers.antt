@@ -1,0 +1,22 @@
+use Rattle.std.proofs.Common.{◌≡◌, IfOk, sym, ap, subst, ◌∙◌}
+use Rattle.session_rules.specs.TargetRows.{Reads_file, done_move, view_moved}
+use Rattle.load_intake.specs.declared.place.Place.{Place}
+use Rattle.load_intake.specs.Intakes.{row_seen}
+use Rattle.load_intake.specs.Kept.{intake_at}
+use Rattle.load_intake.specs.Places.{arriving_at, open_load}
+use Rattle.load_intake.specs.States.{IntakeState}
+use Rattle.load_intake.proofs.intake.Intake.finish.Goals as goal
+
+pub returns-in-Header-clause-row : goal.returns-in-Header-clause-row
+returns-in-Header-clause-row g c accepts follows =
+    let id = c.args.identity.now in
+    let is = ap (λ (p : Place). intake_at c.self.inside.whole (open_load p) (arriving_at p)) (sym c.in-Header.is) ∙ c.self.view_is in
+    subst (λ (st : IntakeState). IfOk c.header_arrived.result (λ f. row_seen f ≡ view_moved (Reads_file st.upload) st.arriving (done_move accepts id (Reads_file st.upload) st.arriving))) is
+    (c.header_arrived.ensures.row accepts follows)
+
+pub returns-in-File-clause-row : goal.returns-in-File-clause-row
+returns-in-File-clause-row g c accepts follows =
+    let id = c.args.identity.now in
+    let is = ap (λ (p : Place). intake_at c.self.inside.whole (open_load p) (arriving_at p)) (sym c.in-File.is) ∙ c.self.view_is in
+    subst (λ (st : IntakeState). IfOk c.file_arrived.result (λ f. row_seen f ≡ view_moved (Reads_file st.upload) st.arriving (done_move accepts id (Reads_file st.upload) st.arriving))) is
+    (c.file_arrived.ensures.row accepts id)

@@ -1,0 +1,5 @@
+use Rattle.load_intake.proofs.Steps.{ended}
+use Rattle.load_intake.proofs.storing.end_file.Goals as goal
+
+pub returns-clause-has : goal.returns-clause-has
+returns-clause-has c loads load missing taken has = ended c.args.store.now c.end_file.new.self c.args.name loads load missing taken c.end_file.ensures.filling c.end_file.ensures.manifest has

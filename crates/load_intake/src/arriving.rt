@@ -1,0 +1,278 @@
+//! What a file comes to that arrived whole.
+ghost use Rattle.std.specs.Prelude.{◌≡◌, ◌+◌, ◌<◌, ◌≤◌, Bool, None, Some, IfOk, length};
+ghost use Rattle.crc_fields.specs.CheckSums.{crc32_of};
+ghost use Rattle.accept_rules.specs.Interlocks.{Follows};
+ghost use Rattle.bank_store.specs.DiskWrites.{IsRunning};
+ghost use Rattle.bank_store.specs.Keeps.{Continues};
+ghost use Rattle.bank_store.specs.Store.{IsIdle, IsPrepared, bank_size_of};
+ghost use Rattle.bank_store.specs.declared.store.Store.{Store as StoreState};
+ghost use Rattle.disk_layout.specs.declared.identity.Identity.{Identity as IdentityState};
+ghost use Rattle.load_header.specs.Header.{HeaderView, header_view};
+ghost use Rattle.load_header.specs.HeaderFields.{HeaderSpells};
+ghost use Rattle.session_rules.specs.TargetRows.{Kept_bytes, Kept_sums, Reads_file, done_move};
+ghost use Rattle.session_rules.specs.TargetRows.{placed_view, stopped_upload, view_moved};
+ghost use Rattle.session_rules.specs.declared.reason.Reason.TheVariants.{HeaderRefused};
+ghost use Rattle.session_rules.specs.Uploads.{Complete, More_files, Next_load, covered_header};
+ghost use Rattle.session_rules.specs.Uploads.{files_of, next_with};
+ghost use Rattle.session_rules.specs.Uploads.{load_reason as load_fault, or_else};
+ghost use Rattle.load_intake.specs.Intakes.{BeginsNext, end_view, row_seen};
+ghost use Rattle.load_intake.specs.Kept.{IsAccepted, intake_at};
+ghost use Rattle.load_intake.specs.Judging.{Passes, header_row, refused_for, whole_buffer};
+ghost use Rattle.load_intake.specs.Places.{next_seen};
+ghost use Rattle.load_intake.specs.States.{upload_of};
+ghost use Rattle.load_intake.specs.Stores.{Arrived, Ends, GoesOnInStep, HasAccepted, Writes};
+
+use crate::down::Down;
+use crate::ended::UploadEnd;
+use crate::finished::Finished;
+use crate::intake::Intake;
+use crate::judging::{header_reason, load_reason};
+use crate::next::Next;
+use crate::open_load::OpenLoad;
+use crate::place::Place;
+use crate::storing;
+use crate::sums::FileSums;
+use crate::whole::Whole;
+use accept_rules::{Interlock, Rule};
+use bank_store::{Identity, Store};
+use crc_fields::Crc32;
+use disk_model::Disk;
+use load_base::NoMemory;
+use load_header::{HeaderFault, LoadHeader, header_laws};
+use load_protocol_files::Wanted;
+use session_files::FileBuffer;
+use session_rules::Reason;
+
+/// A header is whole.
+pub(crate) fn header_arrived<K: Disk, R: Rule>(
+    whole: Whole,
+    buffer: &FileBuffer,
+    interlock: &Interlock<R>,
+    identity: &Identity,
+    store: &mut Store,
+    disk: &mut K,
+) -> Result<Finished, Down>
+    requires arrived { Arrived (intake_at whole None (Kept_bytes buffer.now)) whole.need store.old
+        (K.state disk.old) }
+    requires bank { identity.now.bank ≡ bank_size_of store.old }
+    ensures row { (accepts : HeaderView → Bool) → Follows R.may_say interlock.now accepts
+        → IfOk result (λ finished. row_seen finished ≡ view_moved
+        (Reads_file (upload_of whole None)) (Kept_bytes buffer.now)
+        (done_move accepts identity.now (Reads_file (upload_of whole None))
+        (Kept_bytes buffer.now))) }
+    ensures ends { IfOk result (λ finished. Ends finished store.old store.new
+        (K.state disk.old) (K.state disk.new)) }
+    ensures size { bank_size_of store.new ≡ bank_size_of store.old }
+    ensures writes { Writes (K.state disk.old) (K.state disk.new) result }
+{
+    header_laws();
+    let bytes = buffer.prefix();
+    // The bytes past the first 65,536 weren't kept.
+    if buffer.count() > bytes.len() as u64 {
+        let end = refuse_header(whole, store, HeaderFault::TooLong);
+        return Ok(Finished::Stopped(end));
+    }
+    match LoadHeader::decode(whole.alloc(), bytes) {
+        Ok(header) => header_read(whole, header, bytes, interlock, identity, store, disk),
+        Err(HeaderFault::Memory) => Err(Down::Memory),
+        Err(fault) => Ok(Finished::Stopped(refuse_header(whole, store, fault))),
+    }
+}
+
+/// A header is refused that couldn't be read.
+fn refuse_header(whole: Whole, store: &mut Store, fault: HeaderFault) -> UploadEnd
+    requires left { length whole.loads < length whole.request }
+    requires few { length whole.request ≤ 32 }
+    requires begun { ¬ IsIdle store.old }
+    ensures end { end_view result ≡ stopped_upload whole.request (length whole.loads)
+        (length whole.loads + 1) (HeaderRefused fault) }
+    ensures prepared { IsPrepared store.new }
+    ensures continues { Continues store.old store.new }
+{
+    let arrived = whole.arrived();
+    whole.stop(store, arrived, Reason::HeaderRefused { fault })
+}
+
+/// A header was read from these bytes.
+fn header_read<K: Disk, R: Rule>(
+    whole: Whole,
+    header: LoadHeader,
+    bytes: &[u8],
+    interlock: &Interlock<R>,
+    identity: &Identity,
+    store: &mut Store,
+    disk: &mut K,
+) -> Result<Finished, Down>
+    requires arrived { Arrived (intake_at whole None (Kept_bytes (whole_buffer bytes.now)))
+        whole.need store.old (K.state disk.old) }
+    requires bank { identity.now.bank ≡ bank_size_of store.old }
+    requires spelled { HeaderSpells (header_view header) bytes.now }
+    requires short { (4 ≤ length bytes.now) × (length bytes.now ≤ 65536) }
+    ensures row { (accepts : HeaderView → Bool) → Follows R.may_say interlock.now accepts
+        → IfOk result (λ finished. row_seen finished ≡ header_row accepts identity.now whole
+        (header_view header) bytes.now) }
+    ensures ends { IfOk result (λ finished. Ends finished store.old store.new
+        (K.state disk.old) (K.state disk.new)) }
+    ensures size { bank_size_of store.new ≡ bank_size_of store.old }
+    ensures writes { Writes (K.state disk.old) (K.state disk.new) result }
+{
+    let wanted = *whole.next_wanted();
+    let size = bytes.len() as u32;
+    let need = whole.need_with(&wanted, &header, size);
+    let next = whole.next_after(&header, 0);
+    let sum = header_sum(bytes);
+    let crc = sum.value();
+    let refused = header_verdict(interlock, identity, &wanted, &header, need, next, crc);
+    if let Some(reason) = refused {
+        let arrived = whole.arrived_before(next);
+        return Ok(Finished::Stopped(whole.stop(store, arrived, reason)));
+    }
+    storing::write_header(&whole, &wanted, &header, bytes, store, disk)?;
+    let whole = whole.with_need(need as u32);
+    let load = OpenLoad::new(whole.alloc(), wanted, header, size, crc);
+    go_on(whole, load, sum, next, store, disk)
+}
+
+/// The check sum of a load of which this header was taken: all but its last 4 bytes, where the check
+/// sum itself stands.
+fn header_sum(bytes: &[u8]) -> Crc32
+    requires { 4 ≤ length bytes.now }
+    ensures { result ≡ crc32_of (covered_header bytes.now) }
+{
+    let mut sum = Crc32::new();
+    sum.update(&bytes[..bytes.len() - 4]);
+    sum
+}
+
+/// Why a header that was read, or its load, is refused, if it is.
+fn header_verdict<R: Rule>(
+    interlock: &Interlock<R>,
+    identity: &Identity,
+    wanted: &Wanted,
+    header: &LoadHeader,
+    need: u64,
+    next: Next,
+    crc: u32,
+) -> Option<Reason>
+    ensures is { (accepts : HeaderView → Bool) → Follows R.may_say interlock.now accepts → result
+        ≡ or_else (refused_for accepts identity.now wanted.now (header_view header.now) need)
+        (load_fault (header_view header.now) (next_seen next) crc) }
+    ensures passed { result ≡ None → Passes identity.now wanted.now (header_view header.now) need }
+{
+    match header_reason(interlock, identity, wanted, header, need) {
+        Some(reason) => Some(reason),
+        None => load_reason(header, next, crc),
+    }
+}
+
+/// A data or support file is whole.
+pub(crate) fn file_arrived<K: Disk>(
+    whole: Whole,
+    load: OpenLoad,
+    sums: FileSums,
+    store: &mut Store,
+    disk: &mut K,
+) -> Result<Finished, Down>
+    requires arrived { Arrived (intake_at whole (Some load) (Kept_sums sums)) whole.need store.old
+        (K.state disk.old) }
+    ensures row { (accepts : HeaderView → Bool) (id : IdentityState) → IfOk result (λ finished.
+        row_seen finished ≡ view_moved (Reads_file (upload_of whole (Some load))) (Kept_sums sums)
+        (done_move accepts id (Reads_file (upload_of whole (Some load))) (Kept_sums sums))) }
+    ensures ends { IfOk result (λ finished. Ends finished store.old store.new
+        (K.state disk.old) (K.state disk.new)) }
+    ensures size { bank_size_of store.new ≡ bank_size_of store.old }
+    ensures writes { Writes (K.state disk.old) (K.state disk.new) result }
+{
+    let next = load.next_in(&whole);
+    if let Some(reason) = load.verdict(next, &sums) {
+        let arrived = whole.arrived_before(next);
+        return Ok(Finished::Stopped(whole.stop(store, arrived, reason)));
+    }
+    let file = load.next_file(sums.count());
+    storing::end_file(store, file.name);
+    let load = load.with_file(file, sums.load_crc())?;
+    go_on(whole, load, sums.into_load_crc(), next, store, disk)
+}
+
+/// A file was accepted, and written.
+fn go_on<K: Disk>(
+    whole: Whole,
+    load: OpenLoad,
+    sum: Crc32,
+    next: Next,
+    store: &mut Store,
+    disk: &mut K,
+) -> Result<Finished, Down>
+    requires accepted { IsAccepted whole load }
+    requires has { HasAccepted whole load store.old }
+    requires next { next_seen next ≡ next_with (upload_of whole None) load.header
+        (length load.files) }
+    requires sum { sum ≡ load.crc }
+    requires running { IsRunning (K.state disk.old) }
+    ensures row { IfOk result (λ finished. row_seen finished
+        ≡ placed_view (upload_of whole None) load (next_seen next)) }
+    ensures ends { IfOk result (λ finished. Ends finished store.old store.new
+        (K.state disk.old) (K.state disk.new)) }
+    ensures size { bank_size_of store.new ≡ bank_size_of store.old }
+    ensures writes { Writes (K.state disk.old) (K.state disk.new) result }
+{
+    match next {
+        Next::MoreFiles => Ok(more_files(whole, load, sum)),
+        Next::NextLoad => Ok(next_load(whole, load)?),
+        Next::Complete => complete(whole, load, store, disk),
+    }
+}
+
+/// The load has more files.
+fn more_files(whole: Whole, load: OpenLoad, sum: Crc32) -> Finished
+    requires accepted { IsAccepted whole load }
+    requires more { length load.files < length (files_of load.header) }
+    requires sum { sum ≡ load.crc }
+    ensures row { row_seen result ≡ placed_view (upload_of whole None) load More_files }
+    ensures begins { BeginsNext result }
+    ensures in_step { (store : StoreState) → HasAccepted whole load store
+        → GoesOnInStep result store }
+{
+    let sums = FileSums::new(load.next_entry().length, sum);
+    Finished::MoreFiles(Intake::at(whole, Place::File(load, sums)))
+}
+
+/// The load is whole, and another is next.
+fn next_load(whole: Whole, load: OpenLoad) -> Result<Finished, NoMemory>
+    requires accepted { IsAccepted whole load }
+    requires all { length load.files ≡ length (files_of load.header) }
+    requires more { length whole.loads + 1 < length whole.request }
+    ensures row { IfOk result (λ finished. row_seen finished
+        ≡ placed_view (upload_of whole None) load Next_load) }
+    ensures begins { IfOk result (λ finished. BeginsNext finished) }
+    ensures in_step { IfOk result (λ finished. (store : StoreState) → HasAccepted whole load store
+        → GoesOnInStep finished store) }
+{
+    let buffer = FileBuffer::new(whole.alloc());
+    let whole = whole.with_load(&load)?;
+    Ok(Finished::NextLoad(Intake::at(whole, Place::Header(buffer))))
+}
+
+/// All loads are whole, and installed.
+fn complete<K: Disk>(
+    whole: Whole,
+    load: OpenLoad,
+    store: &mut Store,
+    disk: &mut K,
+) -> Result<Finished, Down>
+    requires accepted { IsAccepted whole load }
+    requires has { HasAccepted whole load store.old }
+    requires all { length load.files ≡ length (files_of load.header) }
+    requires last { length whole.loads + 1 ≡ length whole.request }
+    requires running { IsRunning (K.state disk.old) }
+    ensures row { IfOk result (λ finished. row_seen finished
+        ≡ placed_view (upload_of whole None) load Complete) }
+    ensures ends { IfOk result (λ finished. Ends finished store.old store.new
+        (K.state disk.old) (K.state disk.new)) }
+    ensures size { bank_size_of store.new ≡ bank_size_of store.old }
+    ensures writes { Writes (K.state disk.old) (K.state disk.new) result }
+{
+    let whole = whole.with_load(&load)?;
+    storing::install(store, disk)?;
+    Ok(whole.installed())
+}

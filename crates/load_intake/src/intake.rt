@@ -1,0 +1,203 @@
+//! An upload at its target.
+ghost use Rattle.std.specs.Prelude.{◌≡◌, ◌+◌, ◌<◌, ◌≤◌, [], ℕ, Bool, length, IfOk, OnOk};
+ghost use Rattle.load_header.specs.Header.{HeaderView};
+ghost use Rattle.bank_store.specs.DiskWrites.{IsRunning};
+ghost use Rattle.bank_store.specs.Store.{IsPrepared, IsSpent, bank_size_of};
+ghost use Rattle.accept_rules.specs.Interlocks.{Follows};
+ghost use Rattle.session_rules.specs.Uploads.{next_name};
+ghost use Rattle.bank_store.specs.Keeps.{Continues};
+ghost use Rattle.session_rules.specs.TargetRows.{Reads_file, Writes_stop, done_move, error_move};
+ghost use Rattle.session_rules.specs.TargetRows.{new_upload_view, view_moved};
+ghost use Rattle.load_intake.specs.Intakes.{IsFresh, end_view, row_seen, with_more};
+ghost use Rattle.load_intake.specs.Kept.{IsIntake, intake_at};
+ghost use Rattle.load_intake.specs.Places.{arriving_at, open_load};
+ghost use Rattle.load_intake.specs.Stores.{Ends, IsInStep, StaysInStep, Writes};
+
+use crate::down::Down;
+use crate::ended::UploadEnd;
+use crate::finished::Finished;
+use crate::place::Place;
+use crate::whole::Whole;
+use crate::{arriving, storing};
+use accept_rules::{Interlock, Rule};
+use bank_store::{Identity, Store};
+use disk_model::Disk;
+use load_base::{List, Name};
+use load_protocol_files::Wanted;
+use session_files::FileBuffer;
+use session_rules::Reason;
+use std::alloc::Global;
+use std::marker::Model;
+
+/// An upload at its target: what was asked for, the loads that are whole, the one that isn't, and
+/// what is kept of the file that arrives.
+///
+/// It holds neither store nor disk: each call that writes is lent both, and the store is the one
+/// with which the upload began. After a call that answered [`Down`] it isn't used again.
+#[derive(Drop)]
+pub struct Intake {
+    whole: Whole,
+    place: Place,
+}
+
+impl Model for Intake {
+    ghost use Rattle.load_intake.specs.Kept.{IsIntake};
+    ghost use Rattle.load_intake.specs.Places.{arriving_at, open_load};
+    ghost use Rattle.load_intake.specs.States.{IntakeState, upload_of};
+
+    ghost Value = { IntakeState };
+
+    ghost view = { λ i. record {
+      upload = upload_of i.whole (open_load i.place);
+      arriving = arriving_at i.place;
+    } };
+
+    ghost invariant = { λ i. IsIntake (record {
+      upload = upload_of i.whole (open_load i.place);
+      arriving = arriving_at i.place;
+    }) i.whole.need };
+}
+
+impl Intake {
+    /// An upload of these loads, 1 to 32, begins: the other slot is shut, and the header of the
+    /// first load is next.
+    pub fn begin<K: Disk>(
+        alloc: Global,
+        request: List<Wanted>,
+        store: &mut Store,
+        disk: &mut K,
+    ) -> Result<Intake, Down>
+        requires count { (1 ≤ length request.items) × (length request.items ≤ 32) }
+        requires prepared { IsPrepared store.old }
+        requires sequence { ¬ IsSpent store.old }
+        requires running { IsRunning (K.state disk.old) }
+        ensures begins { IfOk result (λ intake.
+            (intake.upload ≡ new_upload_view request.items) × IsFresh intake) }
+        ensures in_step { IfOk result (λ intake. StaysInStep intake store.old store.new
+            (K.state disk.old) (K.state disk.new)) }
+        ensures size { bank_size_of store.new ≡ bank_size_of store.old }
+        ensures writes { Writes (K.state disk.old) (K.state disk.new) result }
+    {
+        storing::begin(store, disk)?;
+        Ok(Intake {
+            whole: Whole {
+                alloc,
+                request,
+                loads: List::new(alloc),
+                need: 2,
+            },
+            place: Place::Header(FileBuffer::new(alloc)),
+        })
+    }
+
+    pub(crate) fn at(whole: Whole, place: Place) -> Intake
+        requires { IsIntake (intake_at whole (open_load place) (arriving_at place)) whole.need }
+        ensures { result ≡ intake_at whole (open_load place) (arriving_at place) }
+    {
+        Intake { whole, place }
+    }
+
+    /// The name of the file that comes next.
+    pub fn next_name(&self) -> Name
+        ensures { result ≡ next_name self.now.upload }
+    {
+        match &self.place {
+            Place::Header(_) => self.whole.next_wanted().header,
+            Place::File(load, _) => load.next_entry().name,
+        }
+    }
+
+    /// The loads that were asked for.
+    pub fn request(&self) -> &List<Wanted>
+        ensures is { result.now.items ≡ self.now.upload.request }
+        ensures few { length result.now.items ≤ 32 }
+    {
+        &self.whole.request
+    }
+
+    /// How many loads are whole.
+    pub fn arrived(&self) -> u16
+        ensures is { result ≡ length self.now.upload.loads }
+        ensures within { result < length self.now.upload.request }
+        ensures reports { self.now.upload.reports ≡ result + 1 }
+    {
+        self.whole.arrived()
+    }
+
+    /// Takes the next bytes of the file: those of a data or support file are written at once, but
+    /// none past the length that its header says.
+    pub fn take<K: Disk>(
+        &mut self,
+        store: &mut Store,
+        disk: &mut K,
+        bytes: &[u8],
+    ) -> Result<(), Down>
+        requires in_step { IsInStep self.old store.old }
+        requires running { IsRunning (K.state disk.old) }
+        // With Ok.
+        ensures takes { OnOk result (self.new ≡ with_more self.old bytes.now) }
+        ensures in_step { OnOk result (StaysInStep self.new store.old store.new
+            (K.state disk.old) (K.state disk.new)) }
+        // Whatever it answers.
+        ensures size { bank_size_of store.new ≡ bank_size_of store.old }
+        ensures writes { Writes (K.state disk.old) (K.state disk.new) result }
+    {
+        self.place.take(store, disk, bytes)
+    }
+
+    /// The file is whole: it is tested, and kept if no test fails. Of a header A2, A3, A4, A5 and
+    /// A9 are tested, of another file A6 and A7, and after the last file of a load A8, in this
+    /// order. With the last of all the loads are installed.
+    pub fn finish<K: Disk, R: Rule>(
+        self,
+        interlock: &Interlock<R>,
+        identity: &Identity,
+        store: &mut Store,
+        disk: &mut K,
+    ) -> Result<Finished, Down>
+        requires in_step { IsInStep self store.old }
+        requires bank { identity.now.bank ≡ bank_size_of store.old }
+        requires running { IsRunning (K.state disk.old) }
+        // With Ok.
+        ensures row { (accepts : HeaderView → Bool) → Follows R.may_say interlock.now accepts
+            → IfOk result (λ finished. row_seen finished ≡ view_moved (Reads_file self.upload)
+            self.arriving (done_move accepts identity.now (Reads_file self.upload) self.arriving)) }
+        ensures ends { IfOk result (λ finished. Ends finished store.old store.new
+            (K.state disk.old) (K.state disk.new)) }
+        // Whatever it answers.
+        ensures size { bank_size_of store.new ≡ bank_size_of store.old }
+        ensures writes { Writes (K.state disk.old) (K.state disk.new) result }
+    {
+        let Intake { whole, place } = self;
+        match place {
+            Place::Header(buffer) => arriving::header_arrived(
+                whole, &buffer, interlock, identity, store, disk,
+            ),
+            Place::File(load, sums) => arriving::file_arrived(whole, load, sums, store, disk),
+        }
+    }
+
+    /// An ERROR with this code ended the transfer of the file: the installation is given up (A1).
+    pub fn not_served(self, store: &mut Store, code: u16) -> UploadEnd
+        requires { IsInStep self store.old }
+        ensures end { Writes_stop (end_view result) ≡ view_moved (Reads_file self.upload)
+            self.arriving (error_move (Reads_file self.upload) code) }
+        ensures prepared { IsPrepared store.new }
+        ensures continues { Continues store.old store.new }
+    {
+        let arrived = self.whole.arrived();
+        self.whole
+            .stop(store, arrived, Reason::FileNotServed { code })
+    }
+
+    /// No bytes more change nothing.
+    // For the proof: does nothing.
+    pub fn no_more(&self)
+        ensures { with_more self.now [] ≡ self.now }
+    {
+        match &self.place {
+            Place::Header(_) => {}
+            Place::File(_, sums) => sums.no_more(),
+        }
+    }
+}

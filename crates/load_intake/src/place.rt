@@ -1,0 +1,86 @@
+//! The file of an upload that comes next.
+ghost use Rattle.std.specs.Prelude.{◌≡◌, ◌+◌, ◌-◌, ℕ, List as Items, OnOk, length, take};
+ghost use Rattle.disk_layout.specs.Manifest.{LoadEntry};
+ghost use Rattle.bank_store.specs.Store.{bank_size_of};
+ghost use Rattle.bank_store.specs.DiskWrites.{IsRunning};
+ghost use Rattle.bank_store.specs.Store.{AwaitsFile};
+ghost use Rattle.session_rules.specs.Buffers.{summed_more};
+ghost use Rattle.session_rules.specs.TargetRows.{with_bytes};
+ghost use Rattle.load_intake.specs.Kept.{IsOfNext, bytes_taken};
+ghost use Rattle.load_intake.specs.Places.{arriving_at, open_load};
+ghost use Rattle.load_intake.specs.Stores.{GoesOn, Has, HasRoomFor, MayTake, Writes};
+
+use crate::down::Down;
+use crate::open_load::OpenLoad;
+use crate::storing;
+use crate::sums::FileSums;
+use bank_store::Store;
+use disk_model::Disk;
+use session_files::FileBuffer;
+
+/// The file of an upload that comes next.
+#[derive(Drop)]
+pub(crate) enum Place {
+    /// The header of the next load. Its first bytes.
+    Header(FileBuffer),
+    /// A data or support file of this load. Its sums.
+    File(OpenLoad, FileSums),
+}
+
+impl Place {
+    /// More of the file arrives.
+    pub(crate) fn take<K: Disk>(
+        &mut self,
+        store: &mut Store,
+        disk: &mut K,
+        bytes: &[u8],
+    ) -> Result<(), Down>
+        requires may_take { MayTake (arriving_at self.old) store.old }
+        requires running { IsRunning (K.state disk.old) }
+        ensures load { open_load self.new ≡ open_load self.old }
+        ensures next { IsOfNext (open_load self.old) (arriving_at self.old)
+            → IsOfNext (open_load self.new) (arriving_at self.new) }
+        ensures takes { OnOk result
+            (arriving_at self.new ≡ with_bytes (arriving_at self.old) bytes.now) }
+        ensures has { (loads : Items LoadEntry) (missing : ℕ)
+            → Has store.old loads missing (bytes_taken (arriving_at self.old))
+            → OnOk result (Has store.new loads missing (bytes_taken (arriving_at self.new))) }
+        ensures goes_on { OnOk result (GoesOn store.old store.new (K.state disk.old)
+            (K.state disk.new)) }
+        ensures size { bank_size_of store.new ≡ bank_size_of store.old }
+        ensures writes { Writes (K.state disk.old) (K.state disk.new) result }
+    {
+        match self {
+            Place::Header(buffer) => {
+                buffer.take(bytes)?;
+                Ok(())
+            }
+            Place::File(_, sums) => write(sums, store, disk, bytes),
+        }
+    }
+}
+
+/// More of a data or support file arrives: what its said length has room for is written.
+fn write<K: Disk>(
+    sums: &mut FileSums,
+    store: &mut Store,
+    disk: &mut K,
+    bytes: &[u8],
+) -> Result<(), Down>
+    requires awaits { AwaitsFile store.old }
+    requires room { HasRoomFor (sums.old.said - sums.old.count) store.old }
+    requires running { IsRunning (K.state disk.old) }
+    ensures sums { OnOk result (sums.new ≡ summed_more sums.old bytes.now) }
+    ensures said { sums.new.said ≡ sums.old.said }
+    ensures has { (loads : Items LoadEntry) (missing taken : ℕ) → Has store.old loads missing taken
+        → OnOk result (Has store.new loads missing
+        (taken + length (take (sums.old.said - sums.old.count) bytes.now))) }
+    ensures goes_on { OnOk result (GoesOn store.old store.new (K.state disk.old)
+        (K.state disk.new)) }
+    ensures size { bank_size_of store.new ≡ bank_size_of store.old }
+    ensures writes { Writes (K.state disk.old) (K.state disk.new) result }
+{
+    storing::append(store, disk, sums.kept(bytes))?;
+    sums.take(bytes)?;
+    Ok(())
+}
