@@ -1,0 +1,18 @@
+use Rattle.std.proofs.Common.{ℕ, Option, subst, sym}
+use Rattle.target_machine.specs.Decisions.{row_then}
+use Rattle.target_machine.specs.Machine.{session_seen}
+use Rattle.target_machine.specs.Stages.{TurnsTo}
+use Rattle.target_machine.proofs.Turning.{stays_too}
+use Rattle.target_machine.proofs.installed.Installed.next_row.Goals as goal
+
+pub returns-in-Some-clause-goes_on : goal.returns-in-Some-clause-goes_on
+returns-in-Some-clause-goes_on g c =
+    stays_too c.args.self.now.store c.args.self.now.store c.broken.new.self.store (g.K.Disk.state c.args.disk.now) (g.K.Disk.state c.args.disk.now)
+    (record { running = c.requires.running; fits = λ x. x; works = λ x. x })
+    (c.a_store_goes_on_fitting.ensures.continued_fits c.args.self.now.store c.broken.new.self.store c.args.disk.now c.broken.ensures.continues)
+    (c.a_store_goes_on_fitting.ensures.continued_works c.args.self.now.store c.broken.new.self.store c.args.disk.now c.broken.ensures.continues)
+
+pub returns-in-Some-clause-row : goal.returns-in-Some-clause-row
+returns-in-Some-clause-row g c = λ accepts follows.
+    subst (λ (x : Option ℕ). TurnsTo c.broken.result (row_then accepts c.args.self.now.active.identity (session_seen c.args.self.now.active.loads c.args.session) x) c.args.self.now c.broken.new.self) (sym c.in-Some.is)
+    (c.broken.ensures.row c.args.session.arriving)

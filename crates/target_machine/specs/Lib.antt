@@ -1,0 +1,5 @@
+pub mod Decisions
+pub mod Machine
+pub mod Stages
+pub mod Booting
+pub mod Boots

@@ -1,0 +1,274 @@
+//! What is installed at a target, and how it changes.
+ghost use Rattle.std.specs.Option.{ForSome};
+ghost use Rattle.std.specs.Prelude.{◌≡◌, List, Bool, None, Some, IfOk, OnErr, OnOk};
+ghost use Rattle.accept_rules.specs.Interlocks.{Follows};
+ghost use Rattle.bank_store.specs.DiskWrites.{IsRunning};
+ghost use Rattle.bank_store.specs.Keeps.{Continues};
+ghost use Rattle.bank_store.specs.Store.{IsIdle, IsPrepared};
+ghost use Rattle.disk_layout.specs.Manifest.{LoadEntry};
+ghost use Rattle.load_header.specs.Header.{HeaderView};
+ghost use Rattle.session_rules.specs.Buffers.{Buffer};
+ghost use Rattle.session_rules.specs.TargetRows.{Awaits_lur, Kept_bytes, Reads_file, done_move};
+ghost use Rattle.session_rules.specs.TargetRows.{error_move, first_row as first_of, row_after};
+ghost use Rattle.session_rules.specs.TargetRows.{view_moved};
+ghost use Rattle.recovery.specs.Surveys.{IsSurveyInRange, outline_of_survey};
+ghost use Rattle.load_intake.specs.Stores.{IsInStep, Writes};
+ghost use Rattle.target_machine.specs.Decisions.{broken_to, kind_given, row_then};
+ghost use Rattle.target_machine.specs.Machine.{arriving_in, next_seen, row_seen, session_seen};
+ghost use Rattle.target_machine.specs.Stages.{CanBegin, IsNextStage, IsReading, IsRowStage};
+ghost use Rattle.target_machine.specs.Stages.{StartsFresh, StaysOn, TurnsTo};
+
+use crate::row::Row;
+use crate::session::LiveSession;
+use accept_rules::{Interlock, Rule};
+use bank_store::{Store, a_store_goes_on_fitting};
+use disk_layout::{Identity, Manifest};
+use disk_model::Disk;
+use load_base::NoMemory;
+use load_intake::{Down, Finished, Intake, Request, UploadEnd, read_request};
+use recovery::Surveyed;
+use session_files::FileBuffer;
+use session_rules::SessionKind;
+use std::alloc::Global;
+use std::marker::Model;
+
+/// The active configuration, without its contents, and the store that installs beside it.
+#[derive(Drop)]
+pub(crate) struct Installed {
+    pub(crate) identity: Identity,
+    pub(crate) manifest: Manifest,
+    pub(crate) store: Store,
+}
+
+impl Model for Installed {
+    ghost use Rattle.target_machine.specs.Stages.{InstalledState, IsInstalled, outline_kept};
+
+    ghost Value = { InstalledState };
+
+    ghost view = { λ i. record {
+      active = outline_kept i.identity i.manifest i.store;
+      store = i.store;
+    } };
+
+    ghost invariant = { λ i. IsInstalled i.identity i.manifest i.store };
+}
+
+impl Installed {
+    /// What a survey of the disk found.
+    pub(crate) fn of(surveyed: Surveyed) -> Installed
+        requires { IsSurveyInRange surveyed }
+        ensures { result ≡ record { active = outline_of_survey surveyed; store = surveyed.store } }
+    {
+        Installed {
+            identity: surveyed.identity,
+            manifest: surveyed.manifest,
+            store: surveyed.store,
+        }
+    }
+
+    /// The first row of an operation. Before an upload is accepted the memory that an installation
+    /// takes is reserved; it is denied where no sequence number is left.
+    pub(crate) fn first_row(&mut self, kind: SessionKind) -> Result<Row, NoMemory>
+        requires { IsIdle self.old.store }
+        ensures row { (loads : List LoadEntry) → IfOk result (λ row. row_seen loads row
+            ≡ first_of (kind_given kind) self.old.active.sequence) }
+        ensures stage { IfOk result (λ row. IsRowStage row self.new.store) }
+        ensures fresh { IfOk result (λ row. StartsFresh (Some row)) }
+        ensures idle { IsIdle self.new.store }
+        ensures active { self.new.active ≡ self.old.active }
+        ensures store { Continues self.old.store self.new.store }
+    {
+        match kind {
+            SessionKind::Info => Ok(Row::GivesLci),
+            SessionKind::Upload if self.store.sequence() == u32::MAX => Ok(Row::GivesDenial),
+            SessionKind::Upload => {
+                self.prepare()?;
+                Ok(Row::GivesLui)
+            }
+        }
+    }
+
+    /// Reserves the memory that an installation takes.
+    fn prepare(&mut self) -> Result<(), NoMemory>
+        requires { IsIdle self.old.store }
+        ensures prepared { OnOk result (IsPrepared self.new.store) }
+        ensures idle { IsIdle self.new.store }
+        ensures active { self.new.active ≡ self.old.active }
+        ensures store { Continues self.old.store self.new.store }
+    {
+        match self.store.prepare() {
+            Ok(()) => Ok(()),
+            Err(_) => Err(NoMemory),
+        }
+    }
+
+    /// An installation that is begun is given up.
+    pub(crate) fn abandon(&mut self)
+        ensures active { self.new.active ≡ self.old.active }
+        ensures idle { IsIdle self.new.store }
+        ensures store { Continues self.old.store self.new.store }
+    {
+        self.store.abandon();
+    }
+
+    /// The row after a transfer of this session's row, which is over, perhaps by an ERROR; none
+    /// where the session is over. Then, and after a failure, no installation is begun.
+    pub(crate) fn turn<K: Disk, R: Rule>(
+        &mut self,
+        alloc: Global,
+        interlock: &Interlock<R>,
+        disk: &mut K,
+        session: LiveSession,
+        error: Option<u16>,
+    ) -> Result<Option<Row>, Down>
+        requires stage { IsRowStage session.row self.old.store }
+        requires running { IsRunning (K.state disk.old) }
+        ensures row { (accepts : HeaderView → Bool) → Follows R.may_say interlock.now accepts
+            → IfOk result (λ next. TurnsTo next (row_then accepts self.old.active.identity
+            (session_seen self.old.active.loads session) error) self.old self.new) }
+        ensures stage { IfOk result (λ next. IsNextStage next self.new.store) }
+        ensures failed { OnErr result (IsIdle self.new.store) }
+        ensures goes_on { OnOk result (StaysOn self.old.store self.new.store (K.state disk.old)
+            (K.state disk.new)) }
+        ensures writes { Writes (K.state disk.old) (K.state disk.new) result }
+    {
+        a_store_goes_on_fitting::<K>();
+        let result = self.next_row(alloc, interlock, disk, session, error);
+        if !matches!(result, Ok(Some(_))) {
+            self.store.abandon();
+        }
+        result
+    }
+}
+
+impl Installed {
+    /// The same, but for an installation that isn't given up yet.
+    fn next_row<K: Disk, R: Rule>(
+        &mut self,
+        alloc: Global,
+        interlock: &Interlock<R>,
+        disk: &mut K,
+        session: LiveSession,
+        error: Option<u16>,
+    ) -> Result<Option<Row>, Down>
+        requires stage { IsRowStage session.row self.old.store }
+        requires running { IsRunning (K.state disk.old) }
+        ensures row { (accepts : HeaderView → Bool) → Follows R.may_say interlock.now accepts
+            → IfOk result (λ next. TurnsTo next (row_then accepts self.old.active.identity
+            (session_seen self.old.active.loads session) error) self.old self.new) }
+        ensures stage { IfOk result (λ next. ForSome next (λ row. IsRowStage row self.new.store)) }
+        ensures goes_on { OnOk result (StaysOn self.old.store self.new.store (K.state disk.old)
+            (K.state disk.new)) }
+        ensures writes { Writes (K.state disk.old) (K.state disk.new) result }
+    {
+        a_store_goes_on_fitting::<K>();
+        match error {
+            Some(code) => Ok(self.broken(session.row, code)),
+            None => self.done(alloc, interlock, disk, session),
+        }
+    }
+
+    /// An ERROR stops an upload that reads a file, and ends every other session.
+    fn broken(&mut self, row: Row, code: u16) -> Option<Row>
+        requires stage { IsRowStage row self.old.store }
+        ensures row { (buffer : Buffer) → TurnsTo result (broken_to (row_seen self.old.active.loads row) (arriving_in row buffer) code) self.old self.new }
+        ensures stage { ForSome result (λ row. IsRowStage row self.new.store) }
+        ensures continues { Continues self.old.store self.new.store }
+    {
+        match row {
+            Row::ReadsFile(intake) => {
+                let end = intake.not_served(&mut self.store, code);
+                Some(Row::WritesStop(end))
+            }
+            _ => None,
+        }
+    }
+
+    /// A transfer of the session's row is over.
+    fn done<K: Disk, R: Rule>(
+        &mut self,
+        alloc: Global,
+        interlock: &Interlock<R>,
+        disk: &mut K,
+        session: LiveSession,
+    ) -> Result<Option<Row>, Down>
+        requires stage { IsRowStage session.row self.old.store }
+        requires running { IsRunning (K.state disk.old) }
+        ensures row { (accepts : HeaderView → Bool) → Follows R.may_say interlock.now accepts
+            → IfOk result (λ next. TurnsTo next (row_then accepts self.old.active.identity
+            (session_seen self.old.active.loads session) None) self.old self.new) }
+        ensures stage { IfOk result (λ next. ForSome next (λ row. IsRowStage row self.new.store)) }
+        ensures goes_on { OnOk result (StaysOn self.old.store self.new.store (K.state disk.old)
+            (K.state disk.new)) }
+        ensures writes { Writes (K.state disk.old) (K.state disk.new) result }
+    {
+        let LiveSession { row, arriving } = session;
+        match row {
+            Row::ReadsFile(intake) => Ok(Some(self.finish(interlock, disk, intake)?)),
+            Row::AwaitsLur => Ok(Some(self.requested(alloc, disk, &arriving)?)),
+            row => Ok(row.passed()),
+        }
+    }
+
+    /// A file of a load is whole.
+    fn finish<K: Disk, R: Rule>(
+        &mut self,
+        interlock: &Interlock<R>,
+        disk: &mut K,
+        intake: Intake,
+    ) -> Result<Row, Down>
+        requires stage { IsReading intake self.old.store }
+        requires running { IsRunning (K.state disk.old) }
+        ensures row { (accepts : HeaderView → Bool) → Follows R.may_say interlock.now accepts
+            → IfOk result (λ row. TurnsTo (Some row) (view_moved (Reads_file intake.upload)
+            intake.arriving (done_move accepts self.old.active.identity (Reads_file intake.upload)
+            intake.arriving)) self.old self.new) }
+        ensures stage { IfOk result (λ row. IsRowStage row self.new.store) }
+        ensures goes_on { OnOk result (StaysOn self.old.store self.new.store (K.state disk.old)
+            (K.state disk.new)) }
+        ensures writes { Writes (K.state disk.old) (K.state disk.new) result }
+    {
+        match intake.finish(interlock, &self.identity, &mut self.store, disk)? {
+            Finished::MoreFiles(intake) => {
+                intake.no_more();
+                Ok(Row::ReadsFile(intake))
+            }
+            Finished::NextLoad(intake) => {
+                intake.no_more();
+                Ok(Row::WritesProgress(intake))
+            }
+            Finished::Stopped(end) => Ok(Row::WritesStop(end)),
+            Finished::Installed(end, new) => {
+                self.manifest = Manifest { loads: new.loads };
+                Ok(Row::WritesCompletion(end))
+            }
+        }
+    }
+
+    /// The request of an upload arrived: the installation begins, unless it is refused.
+    fn requested<K: Disk>(
+        &mut self,
+        alloc: Global,
+        disk: &mut K,
+        file: &FileBuffer,
+    ) -> Result<Row, Down>
+        requires stage { CanBegin self.old.store }
+        requires running { IsRunning (K.state disk.old) }
+        ensures row { (accepts : HeaderView → Bool) → IfOk result (λ row. TurnsTo (Some row)
+            (view_moved Awaits_lur (Kept_bytes file.now) (done_move accepts
+            self.old.active.identity Awaits_lur (Kept_bytes file.now))) self.old self.new) }
+        ensures stage { IfOk result (λ row. IsRowStage row self.new.store) }
+        ensures goes_on { OnOk result (StaysOn self.old.store self.new.store (K.state disk.old)
+            (K.state disk.new)) }
+        ensures writes { Writes (K.state disk.old) (K.state disk.new) result }
+    {
+        match read_request(alloc, file)? {
+            Request::Loads(loads) => {
+                let intake = Intake::begin(alloc, loads, &mut self.store, disk)?;
+                intake.no_more();
+                Ok(Row::ReadsFile(intake))
+            }
+            Request::Refused(fault) => Ok(Row::WritesStop(UploadEnd::refused(alloc, fault))),
+        }
+    }
+}

@@ -1,0 +1,65 @@
+//! The session of a target.
+ghost use Rattle.std.specs.Prelude.{◌≡◌, List, OnOk, OnErr};
+ghost use Rattle.bank_store.specs.DiskWrites.{IsRunning};
+ghost use Rattle.bank_store.specs.Store.{bank_size_of};
+ghost use Rattle.disk_layout.specs.Manifest.{LoadEntry};
+ghost use Rattle.session_rules.specs.Buffers.{empty_buffer};
+ghost use Rattle.load_intake.specs.Stores.{GoesOn, Writes};
+ghost use Rattle.target_machine.specs.Machine.{session_seen, session_with};
+ghost use Rattle.target_machine.specs.Stages.{IsRowStage};
+
+use crate::row::Row;
+use bank_store::Store;
+use disk_model::Disk;
+use load_intake::Down;
+use session_files::FileBuffer;
+use std::alloc::Global;
+
+/// The session that is live.
+#[derive(Drop)]
+pub(crate) struct LiveSession {
+    pub(crate) row: Row,
+    /// What arrived so far of a file that isn't one of a load.
+    pub(crate) arriving: FileBuffer,
+}
+
+impl LiveSession {
+    /// It comes to a row, and nothing has arrived in it.
+    pub(crate) fn in_row(alloc: Global, row: Row) -> LiveSession
+        ensures row { result.row ≡ row }
+        ensures nothing { result.arriving ≡ empty_buffer }
+    {
+        LiveSession {
+            row,
+            arriving: FileBuffer::new(alloc),
+        }
+    }
+
+    /// More of a file arrives. Of a data or support file of a load it goes straight to the other
+    /// bank.
+    pub(crate) fn take<K: Disk>(
+        &mut self,
+        store: &mut Store,
+        disk: &mut K,
+        payload: &[u8],
+    ) -> Result<(), Down>
+        requires stage { IsRowStage self.old.row store.old }
+        requires running { IsRunning (K.state disk.old) }
+        ensures takes { (active : List LoadEntry) → OnOk result (session_seen active self.new
+            ≡ session_with (session_seen active self.old) payload.now) }
+        ensures stage { OnOk result (IsRowStage self.new.row store.new) }
+        ensures goes_on { OnOk result (GoesOn store.old store.new (K.state disk.old)
+            (K.state disk.new)) }
+        ensures size { bank_size_of store.new ≡ bank_size_of store.old }
+        ensures writes { Writes (K.state disk.old) (K.state disk.new) result }
+    {
+        match &mut self.row {
+            Row::ReadsFile(intake) => {
+                intake.take(store, disk, payload)?;
+                intake.no_more();
+                Ok(())
+            }
+            _ => Ok(self.arriving.take(payload)?),
+        }
+    }
+}

@@ -1,0 +1,572 @@
+//! The target.
+ghost use Rattle.std.specs.Option.{ForSome};
+ghost use Rattle.std.specs.Prelude.{◌≡◌, ◌∷◌, [], Bool, List, ℕ, None, Some, true, IfErr, IfOk};
+ghost use Rattle.std.specs.Prelude.{OnOk, bytes_eq, is_some, option_map};
+ghost use Rattle.accept_rules.specs.Interlocks.{Follows};
+ghost use Rattle.bank_store.specs.DiskWrites.{IsRunning};
+ghost use Rattle.bank_store.specs.Fits.{Fits, Works};
+ghost use Rattle.bank_store.specs.Keeps.{Continues};
+ghost use Rattle.bank_store.specs.Store.{IsIdle};
+ghost use Rattle.disk_layout.specs.DiskReads.{HasDiskCause};
+ghost use Rattle.disk_model.specs.State.{IsSettled};
+ghost use Rattle.exchange_trace.specs.Logs.{Gets, Learns, Ticks};
+ghost use Rattle.load_header.specs.Header.{HeaderView};
+ghost use Rattle.tftp_packet.specs.Options.{AreInRange};
+ghost use Rattle.tftp_packet.specs.Packets.{IsInRange, packet_view};
+ghost use Rattle.tftp_link.specs.Answers.{news_view};
+ghost use Rattle.exchange_trace.specs.declared.trace.Side.TheVariants as sides;
+ghost use Rattle.transfer_end.specs.Calls.{Makes, posted, posts_view};
+ghost use Rattle.transfer_end.specs.Moves.{Stops, view_after};
+ghost use Rattle.transfer_end.specs.Packets.{has_port};
+ghost use Rattle.session_rules.specs.Target.{continued, ending, later_reason, nothing};
+ghost use Rattle.session_rules.specs.Target.{own_decision, own_name};
+ghost use Rattle.session_rules.specs.Target.{read_decision, request_decision, tick_decision};
+ghost use Rattle.session_rules.specs.Target.{row_request, transfer_decision, turn_decision};
+ghost use Rattle.load_intake.specs.declared.down.Down.TheVariants as downs;
+ghost use Rattle.load_intake.specs.Stores.{Writes};
+ghost use Rattle.target_machine.specs.Boots.{BootFails, BootReads, ComesUp};
+ghost use Rattle.target_machine.specs.Decisions.{Does, Enters, IsCalm, Keeps, Serving};
+ghost use Rattle.target_machine.specs.Decisions.{Takes, asked_by};
+ghost use Rattle.target_machine.specs.Decisions.{awaits_file, end_with};
+ghost use Rattle.target_machine.specs.Decisions.{following, given_kind, in_next_row, kind_given};
+ghost use Rattle.target_machine.specs.Decisions.{refusing, row_then, with_live};
+ghost use Rattle.target_machine.specs.Decisions.{writing_decision};
+ghost use Rattle.target_machine.specs.Stages.{StaysOn};
+
+use crate::boot::BootFault;
+use crate::installed::Installed;
+use crate::request::{given_file, request};
+use crate::row::Row;
+use crate::session::LiveSession;
+use accept_rules::{Interlock, Rule};
+use bank_store::a_store_goes_on_fitting;
+use disk_layout::Identity;
+use disk_model::Disk;
+use exchange_trace::{Datagram, Side};
+use load_base::{Name, NoMemory};
+use load_intake::Down;
+use recovery::survey;
+use session_files::file_name;
+use session_rules::{FileKind, Reason, SessionKind};
+use std::alloc::Global;
+use std::marker::Model;
+use tftp_link::{FileBytes, News};
+use tftp_packet::{Options, Packet};
+use transfer_end::{Heard, Posts, REQUEST_PORT, TransferEnd, packet_in};
+
+/// The target. After a call that answered [`Down`] it isn't used again.
+#[derive(Drop)]
+pub struct Target<'i, R: Rule> {
+    alloc: Global,
+    interlock: &'i Interlock<R>,
+    end: TransferEnd<'i>,
+    installed: Installed,
+    live: Option<LiveSession>,
+    /// The last one since it came up.
+    reason: Option<Reason>,
+}
+
+impl<'i, R: Rule> Model for Target<'i, R> {
+    ghost use Rattle.std.specs.Prelude.{option_map};
+    ghost use Rattle.target_machine.specs.Decisions.{TargetState};
+    ghost use Rattle.target_machine.specs.Machine.{session_seen};
+    ghost use Rattle.target_machine.specs.Stages.{IsInStage};
+
+    ghost Value = { TargetState R };
+
+    ghost view = { λ t. record {
+      rule = t.interlock.now;
+      store = t.installed.store;
+      view = record {
+        end = t.end;
+        live = option_map (session_seen t.installed.active.loads) t.live;
+        active = t.installed.active;
+        reason = t.reason;
+      };
+    } };
+
+    ghost invariant = { λ t. IsInStage t.live t.installed.store };
+}
+
+impl<'i, R: Rule> Target<'i, R> {
+    /// Brings a target up on a disk: what is active is read from there, and ports are drawn from
+    /// this one on, 1024 to 65,536. Nothing is written.
+    pub fn boot<K: Disk>(
+        alloc: Global,
+        disk: &mut K,
+        interlock: &'i Interlock<R>,
+        first_port: u32,
+    ) -> Result<Target<'i, R>, BootFault>
+        requires { IsRunning (K.state disk.old) }
+        ensures comes_up { IfOk result (λ target. ComesUp interlock.now first_port target
+            (K.state disk.old)) }
+        ensures fits { IfOk result (λ target. Fits target.store (K.state disk.new)) }
+        ensures works { IfOk result (λ target. IsSettled (K.state disk.old)
+            → Works target.store (K.state disk.new)) }
+        ensures refused { IfErr result (λ fault. ForSome (K.state disk.old).reads
+            (λ image. BootFails image fault)) }
+        ensures reads_disk { BootReads (K.state disk.old) (K.state disk.new) result }
+    {
+        let installed = Installed::of(survey(alloc, disk)?);
+        Ok(Target {
+            alloc,
+            interlock,
+            end: TransferEnd::new(alloc, first_port),
+            installed,
+            live: None,
+            reason: None,
+        })
+    }
+
+    /// A datagram comes, between these ports. One that spells no packet is dropped.
+    pub fn on_datagram<K: Disk>(
+        &mut self,
+        disk: &mut K,
+        from: u16,
+        to: u16,
+        bytes: &[u8],
+    ) -> Result<Posts, Down>
+        requires { IsRunning (K.state disk.old) }
+        ensures takes { (accepts : HeaderView → Bool) → Follows R.may_say self.old.rule accepts
+            → IfOk result (λ posts. Takes accepts (Gets from to bytes.now)
+            self.old self.new (posts_view posts)) }
+        ensures stays_on { OnOk result (StaysOn self.old.store self.new.store (K.state disk.old)
+            (K.state disk.new)) }
+        ensures writes { Writes (K.state disk.old) (K.state disk.new) result }
+    {
+        a_store_goes_on_fitting::<K>();
+        let packet = packet_in(bytes);
+        match &packet {
+            Some(packet) if to == REQUEST_PORT => Ok(self.on_request(from, packet)?),
+            Some(packet) => self.on_transfer(disk, from, to, packet),
+            None => Ok(self.pass_over()),
+        }
+    }
+
+    /// What came is dropped.
+    fn pass_over(&self) -> Posts
+        ensures { Does nothing self.now self.now (posts_view result) }
+    {
+        // For the proof: the invariant is that of the session.
+        let _waits = self.live.is_some();
+        Posts::none()
+    }
+
+    /// The target's timer expires. A live session posts once more what it posted last, and gives up
+    /// after five retries.
+    pub fn on_tick<K: Disk>(&mut self, _disk: &mut K) -> Result<Posts, Down>
+        requires { IsRunning (K.state _disk.old) }
+        ensures takes { (accepts : HeaderView → Bool) → IfOk result (λ posts.
+            Takes accepts Ticks self.old self.new (posts_view posts)) }
+        ensures untouched { _disk.new ≡ _disk.old }
+        ensures cause { HasDiskCause downs.DiskFailed (K.state _disk.old) (K.state _disk.new) result }
+        ensures store { OnOk result (Continues self.old.store self.new.store) }
+    {
+        Ok(self.tick()?)
+    }
+
+    fn tick(&mut self) -> Result<Posts, NoMemory>
+        ensures does { IfOk result (λ posts. Does (tick_decision self.old.view.end self.old.view.live)
+            self.old self.new (posts_view posts)) }
+        ensures store { OnOk result (Continues self.old.store self.new.store) }
+    {
+        if self.live.is_none() {
+            return Ok(Posts::none());
+        }
+        if !self.end.may_repeat() {
+            self.end_session(Some(Reason::GaveUp));
+            return Ok(Posts::none());
+        }
+        let post = self.end.repeat()?;
+        Ok(Posts::of(post, None))
+    }
+
+    /// From now on requests ask for this block size, or for none.
+    pub fn ask_blocks(&mut self, size: Option<u16>)
+        ensures takes { (accepts : HeaderView → Bool)
+            → Takes accepts (Learns size) self.old self.new [] }
+        ensures store { self.new.store ≡ self.old.store }
+    {
+        self.end.ask_size(size);
+    }
+
+    /// Whether a session is live.
+    pub fn waits(&self) -> bool
+        ensures { result ≡ is_some self.now.view.live }
+    {
+        self.live.is_some()
+    }
+
+    /// The port that is drawn next, or 65,536.
+    pub fn next_port(&self) -> u32
+        ensures { result ≡ self.now.view.end.next_port }
+    {
+        self.end.next_port()
+    }
+
+    /// The sequence number of the active configuration.
+    pub fn sequence(&self) -> u32
+        ensures { result ≡ self.now.view.active.sequence }
+    {
+        self.installed.store.sequence()
+    }
+
+    /// The target's identity, as its disk has it.
+    pub fn identity(&self) -> &Identity
+        ensures { result.now ≡ self.now.view.active.identity }
+    {
+        &self.installed.identity
+    }
+
+    /// The reason that came last since the target came up, if one came.
+    pub fn last_reason(&self) -> Option<&Reason>
+        ensures { option_map (λ reason. reason.now) result ≡ self.now.view.reason }
+    {
+        self.reason.as_ref()
+    }
+
+    // ---- sessions
+
+    /// The live session, if there is one, is over, perhaps for a reason. An installation that was
+    /// begun is given up.
+    fn end_session(&mut self, reason: Option<Reason>)
+        ensures does { Does (ending reason) self.old self.new [] }
+        ensures store { Continues self.old.store self.new.store }
+    {
+        self.close();
+        self.reason = later(self.reason, reason);
+    }
+
+    /// The live session, if there is one, is over, so that another can begin.
+    fn close(&mut self)
+        ensures closes { Keeps self.old self.new (with_live (end_with self.old.view
+            (view_after sides.Target self.old.view.end Stops)) None) }
+        ensures store { Continues self.old.store self.new.store }
+        ensures idle { IsIdle self.new.store }
+    {
+        self.end.stop();
+        drop(self.live.take());
+        self.installed.abandon();
+    }
+
+    // ---- requests
+
+    /// A packet comes to port 59.
+    fn on_request(&mut self, from: u16, packet: &Packet<'_>) -> Result<Posts, NoMemory>
+        requires { IsInRange (packet_view packet.now) }
+        ensures does { IfOk result (λ posts. Does (request_decision self.old.view from
+            (packet_view packet.now)) self.old self.new (posts_view posts)) }
+        ensures store { OnOk result (Continues self.old.store self.new.store) }
+    {
+        match packet {
+            Packet::Rrq { name, options } => self.give(from, name, *options),
+            Packet::Wrq { name, options } => self.accept(from, name, *options),
+            _ => Ok(self.pass_over()),
+        }
+    }
+
+    /// A request to read a file. One of the target's own begins a session, also where one is live;
+    /// any other is refused, unless the target is busy.
+    fn give(&mut self, from: u16, name: &Name, options: Options) -> Result<Posts, NoMemory>
+        requires { AreInRange options }
+        ensures does { IfOk result (λ posts. Does (read_decision self.old.view from name.now
+            options) self.old self.new (posts_view posts)) }
+        ensures store { OnOk result (Continues self.old.store self.new.store) }
+    {
+        match self.given(name)? {
+            Some(kind) => self.begin(from, kind, options),
+            None => self.refuse(from),
+        }
+    }
+
+    /// The operation that a request to read the file of this name begins, if it begins one.
+    fn given(&self, name: &Name) -> Result<Option<SessionKind>, NoMemory>
+        ensures { IfOk result (λ kind. kind ≡ given_kind self.now.view name.now) }
+    {
+        if self.is_own(name, FileKind::Lci)? {
+            return Ok(Some(SessionKind::Info));
+        }
+        if self.is_own(name, FileKind::Lui)? {
+            return Ok(Some(SessionKind::Upload));
+        }
+        Ok(None)
+    }
+
+    /// Whether this is the name of the target's own file of this kind.
+    fn is_own(&self, name: &Name, kind: FileKind) -> Result<bool, NoMemory>
+        ensures { IfOk result (λ is. is ≡ bytes_eq name.now (own_name self.now.view kind)) }
+    {
+        let identity = &self.installed.identity;
+        let own = file_name(self.alloc, &identity.hw, &identity.pos, kind)?;
+        Ok(name.as_slice() == own.as_slice())
+    }
+
+    /// Refuses a request for a file that isn't there, unless a transfer is live.
+    fn refuse(&self, from: u16) -> Result<Posts, NoMemory>
+        ensures { IfOk result (λ posts. Does (refusing self.now.view from)
+            self.now self.now (posts_view posts)) }
+    {
+        if self.end.is_busy() {
+            return Ok(Posts::none());
+        }
+        let refusal = self.end.refuse(Side::Target, from)?;
+        Ok(Posts::of(Some(refusal), None))
+    }
+
+    /// A session of this operation begins with a request to read, if that is taken. A live session
+    /// is replaced, and its installation is given up.
+    fn begin(&mut self, from: u16, kind: SessionKind, options: Options) -> Result<Posts, NoMemory>
+        requires { AreInRange options }
+        ensures does { (name : List ℕ) → IfOk result (λ posts. Does (own_decision self.old.view from
+            (kind_given kind) name options) self.old self.new (posts_view posts)) }
+        ensures store { OnOk result (Continues self.old.store self.new.store) }
+    {
+        if !self.may_serve(from) {
+            return Ok(Posts::none());
+        }
+        self.close();
+        let row = self.installed.first_row(kind)?;
+        let file = FileBytes::Owned(given_file(self.alloc, &row)?);
+        let post = self.end.serve_read(Side::Target, from, options, file)?;
+        self.reason = later(self.reason, row.reason());
+        drop(self.live.replace(LiveSession::in_row(self.alloc, row)));
+        Ok(Posts::of(Some(post), None))
+    }
+
+    /// Whether a request from this port is taken now. Only one from a fresh port is, and where no
+    /// port is left for its transfer a live session ends.
+    fn may_serve(&mut self, from: u16) -> bool
+        ensures serves { Serving result from self.old self.new }
+        ensures store { Continues self.old.store self.new.store }
+    {
+        if !self.end.is_fresh(from) {
+            return false;
+        }
+        if !self.end.has_port() {
+            if self.live.is_some() {
+                self.end_session(Some(Reason::PortsSpent));
+            }
+            return false;
+        }
+        true
+    }
+
+    /// A request to write a file: an LUR, where the row awaits it.
+    fn accept(&mut self, from: u16, name: &Name, options: Options) -> Result<Posts, NoMemory>
+        requires { AreInRange options }
+        ensures does { IfOk result (λ posts. Does (writing_decision self.old.view from name.now
+            options) self.old self.new (posts_view posts)) }
+        ensures store { OnOk result (Continues self.old.store self.new.store) }
+    {
+        if self.end.is_busy() || !self.awaits(name)? {
+            return Ok(Posts::none());
+        }
+        if !self.may_serve(from) {
+            return Ok(Posts::none());
+        }
+        let post = self.end.serve_write(Side::Target, from, options)?;
+        Ok(Posts::of(Some(post), None))
+    }
+
+    /// Whether the live session awaits a request to write the file of this name.
+    fn awaits(&self, name: &Name) -> Result<bool, NoMemory>
+        ensures { IfOk result (λ awaits.
+            awaits ≡ awaits_file self.now.view self.now.view.live name.now) }
+    {
+        match &self.live {
+            Some(
+                LiveSession {
+                    row: Row::AwaitsLur,
+                    ..
+                },
+            ) => self.is_own(name, FileKind::Lur),
+            _ => Ok(false),
+        }
+    }
+
+    // ---- transfers
+
+    /// A packet comes to a transfer, between these ports, of which the second isn't 59.
+    fn on_transfer<K: Disk>(
+        &mut self,
+        disk: &mut K,
+        from: u16,
+        to: u16,
+        packet: &Packet<'_>,
+    ) -> Result<Posts, Down>
+        requires in_range { IsInRange (packet_view packet.now) }
+        requires running { IsRunning (K.state disk.old) }
+        ensures does { (accepts : HeaderView → Bool) → Follows R.may_say self.old.rule accepts
+            → IfOk result (λ posts. Does (transfer_decision accepts self.old.view
+            self.old.view.live from to (packet_view packet.now))
+            self.old self.new (posts_view posts)) }
+        ensures stays_on { OnOk result (StaysOn self.old.store self.new.store (K.state disk.old)
+            (K.state disk.new)) }
+        ensures writes { Writes (K.state disk.old) (K.state disk.new) result }
+    {
+        let Heard { post, news } = self.end.on_packet(Side::Target, from, to, packet)?;
+        let next = self.follow(disk, &news)?;
+        Ok(Posts::of(post, next))
+    }
+
+    /// What follows from the news of the live transfer.
+    fn follow<K: Disk>(&mut self, disk: &mut K, news: &News<'_>) -> Result<Option<Datagram>, Down>
+        requires running { IsRunning (K.state disk.old) }
+        ensures session { (accepts : HeaderView → Bool) → Follows R.may_say self.old.rule accepts
+            → ForSome self.old.view.live (λ s. IfOk result (λ post. Does
+            (following accepts self.old.view s (news_view news.now))
+            self.old self.new (posted post))) }
+        ensures idle { self.old.view.live ≡ None → IfOk result (λ post.
+            (posted post ≡ []) × (self.new ≡ self.old)) }
+        ensures stays_on { OnOk result (StaysOn self.old.store self.new.store (K.state disk.old)
+            (K.state disk.new)) }
+        ensures writes { Writes (K.state disk.old) (K.state disk.new) result }
+    {
+        match news {
+            News::Nothing => Ok(self.go_on()),
+            News::Block(payload) => {
+                self.take(disk, payload)?;
+                Ok(None)
+            }
+            News::Last(payload) => {
+                self.take(disk, payload)?;
+                self.turn(disk, None)
+            }
+            News::Done => self.turn(disk, None),
+            News::PeerError(code) => self.turn(disk, Some(*code)),
+        }
+    }
+
+    /// Nothing follows.
+    fn go_on(&self) -> Option<Datagram>
+        ensures does { Does nothing self.now self.now (posted result) }
+        ensures none { posted result ≡ [] }
+    {
+        // For the proof: the invariant is that of the session.
+        let _waits = self.live.is_some();
+        None
+    }
+
+    /// More of a file arrives. Of a data or support file it goes straight to the other bank.
+    fn take<K: Disk>(&mut self, disk: &mut K, payload: &[u8]) -> Result<(), Down>
+        requires running { IsRunning (K.state disk.old) }
+        ensures takes { OnOk result (Keeps self.old self.new
+            (with_live self.old.view (continued self.old.view.live payload.now))) }
+        ensures idle { self.old.view.live ≡ None → OnOk result (self.new ≡ self.old) }
+        ensures calm { OnOk result (IsCalm self.new.view.live) }
+        ensures stays_on { OnOk result (StaysOn self.old.store self.new.store (K.state disk.old)
+            (K.state disk.new)) }
+        ensures writes { Writes (K.state disk.old) (K.state disk.new) result }
+    {
+        let Some(mut session) = self.live.take() else {
+            return Ok(());
+        };
+        match session.take(&mut self.installed.store, disk, payload) {
+            Ok(()) => {
+                drop(self.live.replace(session));
+                Ok(())
+            }
+            Err(down) => {
+                self.installed.abandon();
+                Err(down)
+            }
+        }
+    }
+
+    /// A transfer of the live session is over, perhaps by an ERROR.
+    fn turn<K: Disk>(&mut self, disk: &mut K, error: Option<u16>) -> Result<Option<Datagram>, Down>
+        requires running { IsRunning (K.state disk.old) }
+        ensures session { (accepts : HeaderView → Bool) → Follows R.may_say self.old.rule accepts
+            → ForSome self.old.view.live (λ s. IfOk result (λ post. Does
+            (turn_decision accepts self.old.view s [] [] error)
+            self.old self.new (posted post))) }
+        ensures idle { self.old.view.live ≡ None → IfOk result (λ post.
+            (posted post ≡ []) × (self.new ≡ self.old)) }
+        ensures stays_on { OnOk result (StaysOn self.old.store self.new.store (K.state disk.old)
+            (K.state disk.new)) }
+        ensures writes { Writes (K.state disk.old) (K.state disk.new) result }
+    {
+        if self.live.is_none() {
+            return Ok(None);
+        }
+        a_store_goes_on_fitting::<K>();
+        self.turn_row(disk, error)?;
+        Ok(self.ask()?)
+    }
+
+    /// The live session turns to its next row, for which nothing is asked yet, or is over.
+    fn turn_row<K: Disk>(&mut self, disk: &mut K, error: Option<u16>) -> Result<(), Down>
+        requires running { IsRunning (K.state disk.old) }
+        ensures session { (accepts : HeaderView → Bool) → Follows R.may_say self.old.rule accepts
+            → ForSome self.old.view.live (λ s. OnOk result (Keeps self.old self.new
+            (in_next_row self.old.view (row_then accepts self.old.view.active.identity s error)))) }
+        ensures stays_on { OnOk result (StaysOn self.old.store self.new.store (K.state disk.old)
+            (K.state disk.new)) }
+        ensures writes { Writes (K.state disk.old) (K.state disk.new) result }
+    {
+        let Some(session) = self.live.take() else {
+            return Ok(());
+        };
+        let next = self
+            .installed
+            .turn(self.alloc, self.interlock, disk, session, error)?;
+        if let Some(row) = next {
+            self.reason = later(self.reason, row.reason());
+            drop(self.live.replace(LiveSession::in_row(self.alloc, row)));
+        }
+        Ok(())
+    }
+
+    /// The row of the live session asks for its request, if it has one and a port is left; without
+    /// a port the session ends. Where a session is over its transfer ends.
+    fn ask(&mut self) -> Result<Option<Datagram>, NoMemory>
+        ensures enters { IfOk result (λ post. Enters self.old self.new (posted post)) }
+        ensures store { OnOk result (Continues self.old.store self.new.store) }
+    {
+        let Some(session) = &self.live else {
+            self.end.stop();
+            return Ok(None);
+        };
+        if !session.row.is_asking() {
+            return Ok(None);
+        }
+        if !self.end.has_port() {
+            self.end_session(Some(Reason::PortsSpent));
+            return Ok(None);
+        }
+        self.ask_now()
+    }
+
+    /// The row of the live session asks for its request, for which a port is left.
+    fn ask_now(&mut self) -> Result<Option<Datagram>, NoMemory>
+        requires { has_port self.old.view.end ≡ true }
+        ensures makes { ForSome self.old.view.live (λ s. IfOk result (λ post. Makes sides.Target
+            (asked_by (row_request self.old.view s.row)) self.old.view.end self.new.view.end
+            (posted post))) }
+        ensures rest { OnOk result (Keeps self.old self.new
+            (end_with self.old.view self.new.view.end)) }
+        ensures store { OnOk result (self.new.store ≡ self.old.store) }
+    {
+        let installed = &self.installed;
+        match &self.live {
+            Some(session) => request(
+                self.alloc,
+                &mut self.end,
+                &installed.identity,
+                installed.manifest.loads.as_slice(),
+                &session.row,
+            ),
+            None => Ok(None),
+        }
+    }
+}
+
+/// The last of two reasons.
+fn later(before: Option<Reason>, after: Option<Reason>) -> Option<Reason>
+    ensures { result ≡ later_reason before after }
+{
+    match after {
+        Some(reason) => Some(reason),
+        None => before,
+    }
+}
