@@ -1,2 +1,4 @@
+pub mod Begins
+pub mod Ended
 pub mod Recorded
 pub mod Turning

@@ -1,9 +1,9 @@
 -- A turn keeps what holds of a run.
-use Rattle.std.proofs.Common.{◌≡◌, Bool, cond, List, [], ◌∷◌, ◌++◌, Option, Some, None, refl, sym, ap, subst, ◌∙◌}
+use Rattle.std.proofs.Common.{◌≡◌, false, Bool, cond, List, [], ◌∷◌, ◌++◌, Option, Some, None, refl, sym, ap, subst, ◌∙◌, ℕ}
 use Rattle.std.specs.Prelude.{is_some}
 use Rattle.std.proofs.lemmas.List.{append-nil}
 use Rattle.exchange_trace.specs.declared.trace.Side.TheVariants as sides
-use Rattle.exchange_trace.specs.Happenings.{DatagramView, HappeningView}
+use Rattle.exchange_trace.specs.Happenings.{DatagramView, HappeningView, Booted, Delivered, Ended, Info_started, Injected, Lost, Power_cut, Size_told, Ticked, Upload_started}
 use Rattle.exchange_trace.specs.Lines.{Line}
 use Rattle.exchange_trace.specs.Logs.{Event, event_for}
 use Rattle.exchange_trace.specs.Posts.{IsHonest, posted_in, first_port_after}
@@ -16,10 +16,16 @@ use Rattle.session_rules.specs.LoaderLog.{LoaderReading, SessionLog, loader_view
 use Rattle.session_rules.specs.Target.{TargetView}
 use Rattle.session_rules.specs.TargetLog.{TargetSessionLog, session_view as target_session}
 use Rattle.replay_rules.specs.BothEnds.{Is_down, Is_up, Setting, TargetState, gone_down, loader_at, reached, target_at, waiting, waits_in}
-use Rattle.replay_rules.specs.Due.{MayBeNoted, goes_down, is_up}
-use Rattle.replay_rules.specs.Ties.{Reacts, StepKeepsTie, kept_after, kept_by, loader_says, target_next, target_says}
-use Rattle.upload_replay.specs.Drives.{GoesOn, TargetTurns, Turns, has_session}
-use Rattle.upload_replay.specs.Turns.{link_with}
+use Rattle.loader_machine.specs.Machine.{LoaderState, media_of}
+use Rattle.replay_rules.specs.Due.{MayBeNoted, MayGoDown, goes_down, is_up}
+use Rattle.replay_rules.specs.Ties.{Reacts, StepKeepsTie, kept_after, kept_by, loader_next, loader_says, target_next, target_says}
+use Rattle.upload_replay.specs.Drives.{AllKeepPower, GoesOn, HasTurned, KeepsGoing, KeepsPower, TargetTurns, Turns, has_session, is_end}
+use Rattle.target_machine.specs.Decisions as machine
+use Rattle.accept_rules.specs.Interlocks.{Follows}
+use Rattle.load_header.specs.declared.header.LoadHeader.{LoadHeader}
+use Rattle.load_header.specs.Header.{HeaderView}
+use Rattle.replay_rules.specs.Promises.{IsNoEnd}
+use Rattle.upload_replay.specs.Turns.{LoaderTakes, TargetTakes, link_with, target_kept}
 
 -- ---- what a side keeps tells whether it waits, and is up
 
@@ -114,3 +120,90 @@ module _ (set : Setting) (began : LinkState) (steps : List Step) (s : Step) (loa
             subst (λ (l : LinkState). HasFollowed (waiting set) script (s ∷ steps) l) (sym t.linked)
             (followed_step script t.given (followed_next (waiting set) script steps link t.given s.given (on.follows script start) asked));
       }
+
+-- ---- how a turn comes about
+
+loader_turns : (set : Setting) (e : Option Event) (before after : LoaderState) (sent : List DatagramView) → set.media ≡ media_of before.set → LoaderTakes e before after sent
+    → (after.view ≡ loader_next set before.view e) × (sent ≡ loader_says set before.view e) × (after.set ≡ before.set)
+loader_turns set None before after sent media takes = (ap (λ (l : LoaderState). l.view) takes.0, takes.1, ap (λ (l : LoaderState). l.set) takes.0)
+loader_turns set (Some e) before after sent media takes = (rw media takes.keeps, rw media takes.posts, takes.set)
+
+may_be_noted : (up : Bool) (first_port : ℕ) (h : HappeningView) (notes : List Note) → KeepsPower h → MayGoDown up notes → MayBeNoted up first_port h notes
+may_be_noted up first_port (Delivered side n) notes keeps may = may
+may_be_noted up first_port (Lost n) notes keeps may = may
+may_be_noted up first_port (Injected d) notes keeps may = may
+may_be_noted up first_port (Ticked side) notes keeps may = may
+may_be_noted up first_port (Size_told size) notes keeps may = may
+may_be_noted up first_port (Power_cut calls pick) notes keeps may = absurd keeps
+may_be_noted up first_port Booted notes keeps may = absurd keeps
+may_be_noted up first_port (Info_started hw pos) notes keeps may = may
+may_be_noted up first_port (Upload_started hw pos parts) notes keeps may = may
+may_be_noted up first_port Ended notes keeps may = may
+
+pub is_up_kept : {R : Type 0} (target : Option (machine.TargetState R)) → is_some (target_kept target) ≡ is_some target
+is_up_kept None = refl
+is_up_kept (Some t) = refl
+
+pub turned : (set : Setting) (steps : List Step) (h : HappeningView) (loader loader_then : LoaderState) (target target_then : Option TargetView) (link given link_then : LinkState)
+    (first second : List DatagramView) (notes : List Note) (loader_side target_side : Bool) → loader_side ≡ is_some loader.view.live → target_side ≡ has_session target
+    → Gives link given (scene_of link loader_side target_side) h → set.media ≡ media_of loader.set
+    → LoaderTakes (event_for sides.Loader (posted_in steps) h) loader loader_then first
+    → TargetTurns set (event_for sides.Target (posted_in steps) h) (target_at set steps) target target_then second notes → MayGoDown (is_some target) notes
+    → link_then ≡ link_with given (first ++ second) → KeepsPower h
+    → Turns set steps (record { given = h; posts = first ++ second; notes = notes }) loader.view loader_then.view target target_then link link_then
+turned set steps h loader loader_then target target_then link given link_then first second notes loader_side target_side l t gives media takes turns may linked keeps =
+    let does = loader_turns set (event_for sides.Loader (posted_in steps) h) loader loader_then first media takes in
+    record {
+      given = given;
+      loader_posts = first;
+      target_posts = second;
+      gives = subst (λ (b : Bool). Gives link given (scene_of link b (has_session target)) h) l (subst (λ (b : Bool). Gives link given (scene_of link loader_side b) h) t gives);
+      loader_does = does.0;
+      loader_says_so = does.1;
+      target_does = turns;
+      both_post = refl;
+      noted = may_be_noted (is_some target) (first_port_after steps) h notes keeps may;
+      linked = linked;
+    }
+
+pub same_media : (e : Option Event) (before after : LoaderState) (sent : List DatagramView) → LoaderTakes e before after sent → after.set ≡ before.set
+same_media None before after sent takes = ap (λ (l : LoaderState). l.set) takes.0
+same_media (Some e) before after sent takes = takes.set
+
+-- where a turn is recorded, a run goes on
+pub gone_on : {R : Type 0} → StepKeepsTie → (set : Setting) (began : LinkState) (ended : Bool) (steps steps_then : List Step) (loader loader_then : LoaderState)
+    (target target_then : Option (machine.TargetState R)) (link link_then : LinkState)
+    → HasTurned set ended steps steps_then loader loader_then target target_then link link_then
+    → KeepsGoing set began steps steps_then loader loader_then target target_then link link_then
+gone_on keeps set began ended steps steps_then loader loader_then target target_then link link_then t before all =
+    let here : AllKeepPower (t.step ∷ steps) = subst (λ (list : List Step). AllKeepPower list) t.recorded all in
+    subst (λ (list : List Step). GoesOn set began list loader_then.view (target_kept target_then) link_then) (sym t.recorded)
+    (turn_goes_on set began steps t.step loader.view loader_then.view (target_kept target) (target_kept target_then) link link_then keeps (before here.1) (t.turns here.0))
+
+-- ---- turn after turn
+
+-- a target that takes what reaches it
+pub took : {R : Type 0} (set : Setting) (e : Option Event) (state : TargetState) (slot : Option (machine.TargetState R)) (before after : machine.TargetState R) (posts : List DatagramView)
+    → slot ≡ Some before → TargetTakes set.accepts e before after posts → TargetTurns set e state (target_kept slot) (Some after.view) posts []
+took {R} set e state slot before after posts is takes = subst (λ (o : Option (machine.TargetState R)). TargetTurns set e state (target_kept o) (Some after.view) posts []) (sym is) (by e takes)
+  where
+    by : (e : Option Event) → TargetTakes set.accepts e before after posts → TargetTurns set e state (Some before.view) (Some after.view) posts []
+    by None takes = (ap (λ (t : machine.TargetState R). Some t.view) takes.0, takes.1)
+    by (Some event) takes = (ap (λ (v : TargetView). Some v) takes.keeps, takes.posts)
+
+pub took_rule : {R : Type 0} (may_say : R → LoadHeader → Bool → Type 0) (accepts : HeaderView → Bool) (e : Option Event) (before after : machine.TargetState R) (posts : List DatagramView)
+    → TargetTakes accepts e before after posts → Follows may_say before.rule accepts → Follows may_say after.rule accepts
+took_rule {R} may_say accepts None before after posts takes follows = subst (λ (t : machine.TargetState R). Follows may_say t.rule accepts) (sym takes.0) follows
+took_rule {R} may_say accepts (Some e) before after posts takes follows = subst (λ (rule : R). Follows may_say rule accepts) (sym takes.rule) follows
+
+pub no_end_of : (h : HappeningView) → is_end h ≡ false → IsNoEnd h
+no_end_of (Delivered side n) e = tt
+no_end_of (Lost n) e = tt
+no_end_of (Injected d) e = tt
+no_end_of (Ticked side) e = tt
+no_end_of (Size_told size) e = tt
+no_end_of (Power_cut calls pick) e = tt
+no_end_of Booted e = tt
+no_end_of (Info_started hw pos) e = tt
+no_end_of (Upload_started hw pos parts) e = tt
+no_end_of Ended e = absurd cc

@@ -1,7 +1,8 @@
 -- What holds of a run as it goes on, and once it came to its end (docs/EXCHANGE.md, "Runs").
-use Rattle.std.specs.Prelude.{◌≡◌, List, [], ◌∷◌, ◌++◌, Bool, false, is_some, Option, Some, None}
+use Rattle.std.specs.Prelude.{◌≡◌, List, [], ◌∷◌, ◌++◌, Bool, true, false, is_some, Option, Some, None, ⊤}
+use Rattle.std.specs.List.{AllByRecursion}
 use Rattle.exchange_trace.specs.declared.trace.Side.TheVariants as sides
-use Rattle.exchange_trace.specs.Happenings.{DatagramView}
+use Rattle.exchange_trace.specs.Happenings.{DatagramView, HappeningView, Booted, Ended, Power_cut}
 use Rattle.exchange_trace.specs.Lines.{Line}
 use Rattle.exchange_trace.specs.Logs.{Event, event_for}
 use Rattle.exchange_trace.specs.Posts.{AllHonest, first_port_after, happenings_of, posted_in}
@@ -11,12 +12,13 @@ use Rattle.link_net.specs.Links.{Gives, LinkState, scene_of}
 use Rattle.session_rules.specs.Loader.{EndedSession, LoaderView}
 use Rattle.session_rules.specs.LoaderLog.{loader_view}
 use Rattle.session_rules.specs.Target.{TargetView}
-use Rattle.loader_machine.specs.Machine.{all_sessions}
+use Rattle.loader_machine.specs.Machine.{LoaderState, all_sessions}
 use Rattle.replay_rules.specs.BothEnds.{Setting, TargetState, come_up, gone_down, loader_at, reached, target_at, waiting}
 use Rattle.replay_rules.specs.Due.{AllNoted, MayBeNoted}
 use Rattle.replay_rules.specs.Promises.{IsTrace}
 use Rattle.replay_rules.specs.Ties.{IsTied, kept_by, loader_next, loader_says, target_next, target_says}
-use Rattle.upload_replay.specs.Turns.{link_with}
+use Rattle.target_machine.specs.Decisions as machine
+use Rattle.upload_replay.specs.Turns.{link_with, target_kept}
 
 -- A run goes on, on a link that began so: what both ends keep is what the trace says of them, exactly what was due was posted,
 -- and only that was noted of the target which may be; the link was posted and gave exactly what the trace has, and what it
@@ -45,6 +47,16 @@ TargetTurns set e state before after posts (Came_up first_port sequence ∷ []) 
     (after ≡ kept_by set (come_up first_port sequence (gone_down state (reached set e state)))) × (posts ≡ []) × (e ≡ None)
 TargetTurns set e state before after posts notes = ⊥
 
+-- the happening is no boot, and no loss of power
+abbrev pub KeepsPower : HappeningView → Type 0
+KeepsPower Booted = ⊥
+KeepsPower (Power_cut calls pick) = ⊥
+KeepsPower h = ⊤
+
+abbrev pub is_end : HappeningView → Bool
+is_end Ended = true
+is_end h = false
+
 -- A turn of a run: the link gives a happening, the loader and the target take it, the link is posted what they post, the
 -- loader's posts first, and only that is noted of the target which may be.
 pub record Turns (set : Setting) (steps : List Step) (s : Step) (loader loader_then : LoaderView) (target target_then : Option TargetView) (link link_then : LinkState) : Type 0 where
@@ -58,6 +70,33 @@ pub record Turns (set : Setting) (steps : List Step) (s : Step) (loader loader_t
   pub both_post : s.posts ≡ loader_posts ++ target_posts
   pub noted : MayBeNoted (is_some target) (first_port_after steps) s.given s.notes
   pub linked : link_then ≡ link_with given s.posts
+
+-- A turn is recorded as the newest step, and `ended` says whether the end came in it. What is said of a boot or a loss of
+-- power isn't said yet.
+pub record HasTurned {R : Type 0} (set : Setting) (ended : Bool) (steps steps_then : List Step) (loader loader_then : LoaderState) (target target_then : Option (machine.TargetState R)) (link link_then : LinkState) : Type 0 where
+  pub step : Step
+  pub recorded : steps_then ≡ step ∷ steps
+  pub turns : KeepsPower step.given → Turns set steps step loader.view loader_then.view (target_kept target) (target_kept target_then) link link_then
+  pub end : ended ≡ is_end step.given
+  pub media : loader_then.set ≡ loader.set
+
+-- no boot and no loss of power so far
+abbrev pub AllKeepPower : List Step → Type 0
+AllKeepPower steps = AllByRecursion (λ (s : Step). KeepsPower s.given) steps
+
+-- the trace has one step more, and `ended` says whether the end came in it
+pub record IsNewStep (ended : Bool) (steps steps_then : List Step) : Type 0 where
+  pub step : Step
+  pub recorded : steps_then ≡ step ∷ steps
+  pub end : ended ≡ is_end step.given
+
+-- What a turn, or all turns to the end, keeps of a run that began on a link so, under these rules, where no power was lost and
+-- no boot came.
+abbrev pub KeepsGoing : {R : Type 0} → Setting → (began : LinkState) → (steps steps_then : List Step) → (loader loader_then : LoaderState)
+    → (target target_then : Option (machine.TargetState R)) → (link link_then : LinkState) → Type 0
+KeepsGoing set began steps steps_then loader loader_then target target_then link link_then =
+    (AllKeepPower steps → GoesOn set began steps loader.view (target_kept target) link)
+    → AllKeepPower steps_then → GoesOn set began steps_then loader_then.view (target_kept target_then) link_then
 
 -- ---- a whole run
 

@@ -1,4 +1,5 @@
 pub mod Drives
+pub mod Endings
 pub mod Faults
 pub mod Recordings
 pub mod Texts

@@ -2,15 +2,19 @@
 //! happened in it, line by line (docs/FORMATS.md, "Printed text").
 #![tactic(auto)]
 
+mod driving;
 mod outcome;
 mod posting;
 mod reaching;
 mod recording;
 mod report;
+mod running;
 #[cfg(test)]
 mod tests;
+mod turn;
 mod wire;
 
+pub use driving::drive;
 pub use outcome::{Drive, DriveFault};
 pub use report::report_text;
 pub use wire::wire_text;

@@ -1,9 +1,9 @@
 //! Hands what a side posts to the link, and records it.
-ghost use Rattle.std.specs.Prelude.{◌≡◌, IfOk, OnOk};
+ghost use Rattle.std.specs.Prelude.{◌≡◌, IfErr, IfOk, OnOk};
 ghost use Rattle.exchange_trace.specs.Happenings.{datagram_view};
 ghost use Rattle.transfer_end.specs.Calls.{posted, posts_view};
 ghost use Rattle.upload_replay.specs.Recordings.{HasBegun};
-ghost use Rattle.upload_replay.specs.Turns.{HasDriveCause, IsPosted};
+ghost use Rattle.upload_replay.specs.Turns.{HasDriveCause, IsOfRun, IsPosted};
 
 use crate::outcome::DriveFault;
 use crate::recording::Recording;
@@ -24,6 +24,7 @@ pub(crate) fn post_all<L: Link>(
     ensures posts { OnOk result (IsPosted (posts_view posts) (L.state link.old) (L.state link.new)
         recording.old recording.new) }
     ensures begun { OnOk result (HasBegun recording.new) }
+    ensures told { IfErr result (λ fault. IsOfRun fault) }
     ensures cause { HasDriveCause (L.faults link.old) (L.faults link.new) result }
 {
     post(alloc, link, recording, posts.first)?;
@@ -40,6 +41,7 @@ fn post<L: Link>(
     ensures posts { OnOk result (IsPosted (posted datagram) (L.state link.old) (L.state link.new)
         recording.old recording.new) }
     ensures begun { OnOk result (HasBegun recording.new) }
+    ensures told { IfErr result (λ fault. IsOfRun fault) }
     ensures cause { HasDriveCause (L.faults link.old) (L.faults link.new) result }
 {
     match datagram {

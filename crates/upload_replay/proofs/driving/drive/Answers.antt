@@ -1,0 +1,44 @@
+use Rattle.std.proofs.Common.{List, [], Some, sym, ap, subst, ◌∙◌}
+use Rattle.std.specs.Prelude.{map}
+use Rattle.exchange_trace.specs.Steps.{Step}
+use Rattle.session_rules.specs.Loader.{LoaderView, new_loader}
+use Rattle.loader_machine.specs.Machine.{LoaderState, media_of, session_view}
+use Rattle.accept_rules.specs.Interlocks.{Follows}
+use Rattle.upload_replay.specs.Drives.{AllKeepPower, GoesOn, IsRun}
+use Rattle.upload_replay.specs.Turns.{target_kept}
+use Rattle.upload_replay.proofs.Begins.{begins, comes_up_with, is_run}
+use Rattle.upload_replay.proofs.Ended.{first_refusal, of_last, of_run, refused_so}
+use Rattle.upload_replay.proofs.driving.drive.Goals as goal
+
+pub returns-in-Err-clause-no_config : goal.returns-in-Err-clause-no_config
+returns-in-Err-clause-no_config g c = rw c.first_fault.ensures (first_refusal c.in-Err.fault (g.K.Disk.state c.args.disk.now) (g.K.Disk.state c.boot.new.disk) c.in-Err.ensures.refused)
+
+pub returns-in_err-run_to_end-clause-no_config : goal.returns-in_err-run_to_end-clause-no_config
+returns-in_err-run_to_end-clause-no_config g c =
+    refused_so c.from_residual.result _ (g.K.Disk.state c.args.disk.now) _ c.in_err-run_to_end.field-0.0 c.from_residual.ensures.1 (λ e is. is)
+    (of_run c.in_err-run_to_end.field-0.0 (g.K.Disk.state c.args.disk.now) _ c.in_err-run_to_end.ensures.told)
+
+pub returns-in_err-standing-clause-no_config : goal.returns-in_err-standing-clause-no_config
+returns-in_err-standing-clause-no_config g c =
+    refused_so c.from_residual-in_err-standing.result _ (g.K.Disk.state c.args.disk.now) _ c.in_err-standing.field-0.0 c.from_residual-in_err-standing.ensures.1 (λ e is. is)
+    (of_last c.in_err-standing.field-0.0 (g.K.Disk.state c.args.disk.now) _ c.in_err-standing.ensures.refused)
+
+pub returns-clause-run : goal.returns-clause-run
+returns-clause-run g c =
+    λ set image media follows told holds.
+    λ all.
+    let began = g.L.Link.state c.args.link.now in
+    let target = c.in-Ok.target in
+    let start : GoesOn set began [] new_loader (Some target.view) began =
+    begins set began target.view c.requires.nothing_posted
+    (comes_up_with c.args.interlock.now target (g.K.Disk.state c.args.disk.now) image set.start c.in-Ok.ensures.comes_up told holds (c.an_image_holds_one_configuration.ensures.one_standing image)) in
+    let loader : GoesOn set began [] c.new-2.result.view (Some target.view) began =
+    subst (λ (v : LoaderView). GoesOn set began [] v (Some target.view) began) (sym (ap (λ (l : LoaderState). l.view) c.new-2.ensures)) start in
+    let ready : GoesOn set began c.new.result c.new-2.result.view (Some target.view) began =
+    subst (λ (steps : List Step). GoesOn set began steps c.new-2.result.view (Some target.view) began) (sym c.new.ensures) loader in
+    let all_of_run = subst (λ (steps : List Step). AllKeepPower steps) c.into_trace.ensures all in
+    let rule = subst (λ rule. Follows g.R.Rule.may_say rule set.accepts) (sym c.in-Ok.ensures.comes_up.rule_is) follows in
+    let on = c.in_ok-run_to_end.ensures.goes_on set began (media ∙ ap (λ (l : LoaderState). media_of l.set) (sym c.new-2.ensures)) rule (λ none. ready) all_of_run in
+    subst (λ (steps : List Step). IsRun set began (g.L.Link.state c.run_to_end.new.link) steps (map session_view c.into_sessions.result.items)) (sym c.into_trace.ensures)
+    (is_run set began (g.L.Link.state c.run_to_end.new.link) c.run_to_end.new.run.recording c.run_to_end.new.run.loader.view (target_kept c.run_to_end.new.run.target)
+    (map session_view c.into_sessions.result.items) on c.in_ok-run_to_end.ensures.ends c.into_sessions.ensures)

@@ -1,0 +1,10 @@
+use Rattle.upload_replay.proofs.Ended.{last_fault, no_standing}
+use Rattle.upload_replay.proofs.driving.standing_at_end.Goals as goal
+
+pub returns-in-Err-clause-standing : goal.returns-in-Err-clause-standing
+returns-in-Err-clause-standing g c = rw c.last_refusal.ensures (no_standing c.in-Err.fault (g.K.Disk.state c.recover.new.disk))
+
+pub returns-in-Err-clause-refused : goal.returns-in-Err-clause-refused
+returns-in-Err-clause-refused g c =
+    rw c.last_refusal.ensures
+    (last_fault c.in-Err.fault (g.K.Disk.state c.args.disk.now) (g.K.Disk.state c.recover.new.disk) c.in-Err.ensures.refused c.in-Err.ensures.reads_disk.err)

@@ -1,0 +1,12 @@
+use Rattle.std.proofs.lemmas.Result.{IfOk-weaker}
+use Rattle.upload_replay.proofs.Turning.{gone_on}
+use Rattle.upload_replay.proofs.running.go_on.Goals as goal
+
+pub returns-clause-goes_on : goal.returns-clause-goes_on
+returns-clause-goes_on g c =
+    λ set began media follows.
+    IfOk-weaker c.turn.result _ _
+    (λ ended turned.
+    gone_on c.a_step_keeps_the_tie.ensures set began ended c.args.run.now.recording c.turn.new.run.recording c.args.run.now.loader c.turn.new.run.loader c.args.run.now.target
+    c.turn.new.run.target (g.L.Link.state c.args.link.now) (g.L.Link.state c.turn.new.link) turned)
+    (c.turn.ensures.turns set media follows)

@@ -1,0 +1,28 @@
+use Rattle.std.proofs.Common.{List, sym, ap, subst, ◌∙◌, arith}
+use Rattle.std.specs.List.{AllByRecursion}
+use Rattle.exchange_trace.specs.Steps.{Step}
+use Rattle.loader_machine.specs.Machine.{media_of}
+use Rattle.replay_rules.specs.Promises.{IsNoEnd}
+use Rattle.upload_replay.proofs.Turning.{no_end_of}
+use Rattle.upload_replay.proofs.running.run_to_end.Goals as goal
+
+pub returns-then-branch-clause-goes_on : goal.returns-then-branch-clause-goes_on
+returns-then-branch-clause-goes_on g c =
+    λ set began media follows before.
+    c.in_ok-go_on.ensures.goes_on set began (media ∙ ap media_of (sym c.turns.invariant.media))
+    (c.turns.invariant.rule set.accepts follows)
+    (c.turns.invariant.goes_on set began media follows before)
+
+pub turns-preserved : goal.turns-preserved
+turns-preserved g c = record {
+  goes_on = λ set began media follows before.
+      c.in_ok-go_on.ensures.goes_on set began (media ∙ ap media_of (sym c.turns.invariant.media))
+      (c.turns.invariant.rule set.accepts follows)
+      (c.turns.invariant.goes_on set began media follows before);
+  no_end = subst (λ (steps : List Step). AllByRecursion (λ (s : Step). IsNoEnd s.given) steps) (sym c.in_ok-go_on.ensures.step.recorded)
+      (no_end_of c.in_ok-go_on.ensures.step.step.given (sym c.in_ok-go_on.ensures.step.end ∙ c.if-branch.false), c.turns.invariant.no_end);
+  media = c.in_ok-go_on.ensures.media ∙ c.turns.invariant.media;
+  rule = λ accepts follows. c.in_ok-go_on.ensures.rule accepts (c.turns.invariant.rule accepts follows);
+  running = c.in_ok-go_on.ensures.running;
+  faults = omega (arith, c.turns.invariant.faults, c.in_ok-go_on.ensures.cause.later);
+}

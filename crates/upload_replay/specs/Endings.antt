@@ -1,0 +1,45 @@
+-- How a run ends, and why there is none (docs/EXCHANGE.md, "Runs").
+use Rattle.std.specs.Prelude.{◌⊎◌, Option, Some, None, Result, Ok, Err, ⊤}
+use Rattle.std.specs.Option.{ForSome}
+use Rattle.disk_layout.specs.Holds.{HasDiskFault, HoldsConfig, standing_view}
+use Rattle.disk_layout.specs.declared.fault.RecoverFault.{RecoverFault}
+use Rattle.disk_layout.specs.declared.fault.RecoverFault.TheVariants as recovers
+use Rattle.disk_layout.specs.declared.standing.Standing.{Standing}
+use Rattle.disk_model.specs.State.{DiskState}
+use Rattle.target_machine.specs.declared.boot.BootFault.{BootFault}
+use Rattle.target_machine.specs.declared.boot.BootFault.TheVariants as boots
+use Rattle.upload_replay.specs.declared.outcome.DriveFault.{DriveFault}
+use Rattle.upload_replay.specs.declared.outcome.DriveFault.TheVariants as faults
+
+-- why there is no run where the target doesn't come up at first
+abbrev pub first_fault_of : BootFault → DriveFault
+first_fault_of (boots.Recover recovers.DiskFailed) = faults.Disk
+first_fault_of (boots.Recover recovers.Memory) = faults.Memory
+first_fault_of (boots.Recover fault) = faults.NoConfig fault
+first_fault_of boots.Memory = faults.Memory
+
+-- what a refusal of the last recovery comes to: where the disk failed nothing is known of what it holds
+abbrev pub last_refusal_of : RecoverFault → Result (Option Standing) DriveFault
+last_refusal_of recovers.DiskFailed = Ok None
+last_refusal_of recovers.Memory = Err faults.Memory
+last_refusal_of fault = Err (faults.NoConfig fault)
+
+-- what was recovered at the end is the configuration that the disk holds, where it tells its content
+abbrev pub HoldsStanding : Option Standing → DiskState → Type 0
+HoldsStanding None disk = ⊤
+HoldsStanding (Some standing) disk = ForSome disk.reads (λ image. HoldsConfig image (standing_view standing))
+
+-- the disk holds no configuration, and this is the first fault
+abbrev pub HoldsNone : RecoverFault → DiskState → Type 0
+HoldsNone fault disk = ForSome disk.reads (λ image. HasDiskFault image fault)
+
+-- a refusal of the last recovery
+abbrev pub IsLastFault : DriveFault → DiskState → Type 0
+IsLastFault (faults.NoConfig fault) disk = HoldsNone fault disk
+IsLastFault faults.Memory disk = ⊤
+IsLastFault fault disk = ⊥
+
+-- a refusal for no configuration is one of what the disk held at first, or holds at the end
+abbrev pub IsNoConfig : DriveFault → (first last : DiskState) → Type 0
+IsNoConfig (faults.NoConfig fault) first last = HoldsNone fault first ⊎ HoldsNone fault last
+IsNoConfig fault first last = ⊤

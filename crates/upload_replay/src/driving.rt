@@ -1,0 +1,113 @@
+//! A whole run.
+ghost use Rattle.std.specs.Prelude.{◌≡◌, [], Some, map, true, IfOk, IfErr};
+ghost use Rattle.accept_rules.specs.Interlocks.{Follows};
+ghost use Rattle.bank_store.specs.DiskWrites.{IsRunning};
+ghost use Rattle.disk_layout.specs.Holds.{HoldsConfig};
+ghost use Rattle.disk_model.specs.Image.{Image};
+ghost use Rattle.exchange_trace.specs.Steps.{steps_of};
+ghost use Rattle.loader_machine.specs.Machine.{media_of, session_view};
+ghost use Rattle.media_check.specs.Sets.{set_view};
+ghost use Rattle.replay_rules.specs.BothEnds.{Setting};
+ghost use Rattle.upload_replay.specs.Drives.{AllKeepPower, IsRun};
+ghost use Rattle.upload_replay.specs.Endings.{HoldsStanding, IsLastFault, IsNoConfig};
+ghost use Rattle.upload_replay.specs.Endings.{first_fault_of, last_refusal_of};
+ghost use Rattle.upload_replay.specs.Turns.{HasDriveCause};
+
+use crate::outcome::{Drive, DriveFault};
+use crate::recording::Recording;
+use crate::running::run_to_end;
+use crate::turn::Replay;
+use accept_rules::{Interlock, Rule};
+use disk_layout::{RecoverFault, Standing, an_image_holds_one_configuration};
+use disk_model::Disk;
+use link_net::Link;
+use loader_machine::Loader;
+use media_check::MediaSet;
+use recovery::recover;
+use std::alloc::Global;
+use target_machine::{BootFault, Target};
+
+/// Runs a loader that serves this media set, and the target of this disk, until the link gives the
+/// end. Nothing was posted to the link before.
+pub fn drive<L: Link, K: Disk, R: Rule>(
+    alloc: Global,
+    link: &mut L,
+    disk: &mut K,
+    media: &MediaSet,
+    interlock: &Interlock<R>,
+) -> Result<Drive, DriveFault>
+    requires nothing_posted { (L.state link.old).posted ≡ [] }
+    requires running { IsRunning (K.state disk.old) }
+    // With Ok, on a disk that tells its content, where no power was lost and no boot came.
+    ensures run { (set : Setting) (image : Image) → set.media ≡ media_of (set_view media.now)
+        → Follows R.may_say interlock.now set.accepts → (K.state disk.old).reads ≡ Some image
+        → HoldsConfig image set.start → IfOk result (λ drive.
+        AllKeepPower (steps_of drive.trace.items) → IsRun set (L.state link.old) (L.state link.new)
+        (steps_of drive.trace.items) (map session_view drive.sessions.items)) }
+    ensures standing { IfOk result (λ drive. HoldsStanding drive.standing (K.state disk.new)) }
+    // Refusals.
+    ensures link_failed { HasDriveCause (L.faults link.old) (L.faults link.new) result }
+    ensures no_config { IfErr result
+        (λ fault. IsNoConfig fault (K.state disk.old) (K.state disk.new)) }
+{
+    an_image_holds_one_configuration();
+    let target = match Target::boot(alloc, disk, interlock, 1024) {
+        Ok(target) => target,
+        Err(fault) => return Err(first_fault(fault)),
+    };
+    let mut run = Replay {
+        recording: Recording::new(alloc),
+        loader: Loader::new(alloc, media),
+        target: Some(target),
+    };
+    run_to_end(alloc, &mut run, link, disk)?;
+    let standing = standing_at_end(alloc, disk, run.target.is_some())?;
+    Ok(Drive {
+        trace: run.recording.into_trace(),
+        sessions: run.loader.into_sessions(),
+        standing,
+    })
+}
+
+/// Why there is no run where the target doesn't come up at first.
+fn first_fault(fault: BootFault) -> DriveFault
+    ensures { result ≡ first_fault_of fault }
+{
+    match fault {
+        BootFault::Recover(RecoverFault::DiskFailed) => DriveFault::Disk,
+        BootFault::Recover(RecoverFault::Memory) => DriveFault::Memory,
+        BootFault::Recover(fault) => DriveFault::NoConfig(fault),
+        BootFault::Memory => DriveFault::Memory,
+    }
+}
+
+/// What the disk holds at the end. A target that is down left its disk stopped.
+fn standing_at_end<K: Disk>(
+    alloc: Global,
+    disk: &mut K,
+    up: bool,
+) -> Result<Option<Standing>, DriveFault>
+    requires { up ≡ true → IsRunning (K.state disk.old) }
+    ensures standing { IfOk result (λ standing. HoldsStanding standing (K.state disk.new)) }
+    ensures refused { IfErr result (λ fault. IsLastFault fault (K.state disk.new)) }
+{
+    if !up {
+        return Ok(None);
+    }
+    match recover(alloc, disk) {
+        Ok(standing) => Ok(Some(standing)),
+        Err(fault) => last_refusal(fault),
+    }
+}
+
+/// What a refusal of the last recovery comes to: where the disk failed nothing is known of what it
+/// holds.
+fn last_refusal(fault: RecoverFault) -> Result<Option<Standing>, DriveFault>
+    ensures { result ≡ last_refusal_of fault }
+{
+    match fault {
+        RecoverFault::DiskFailed => Ok(None),
+        RecoverFault::Memory => Err(DriveFault::Memory),
+        fault => Err(DriveFault::NoConfig(fault)),
+    }
+}
