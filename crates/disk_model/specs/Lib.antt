@@ -1,4 +1,6 @@
+pub mod Arming
 pub mod FileDisk
+pub mod Fused
 pub mod Image
 pub mod MemDisk
 pub mod Moments
@@ -8,5 +10,6 @@ pub mod ReplayLaws
 pub mod State
 pub mod Tearing
 pub mod MomentLaws
+pub mod FusedLaws
 pub mod OverlayLaws
 pub mod RangeLaws

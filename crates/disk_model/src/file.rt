@@ -1,5 +1,5 @@
 //! A disk in a file. Nothing is told of what the file holds.
-ghost use Rattle.std.specs.Prelude.{◌≡◌, ◌<◌, ◌≤◌, false, is_err, IsErrOf, OnOk, OnErr};
+ghost use Rattle.std.specs.Prelude.{◌≡◌, ◌<◌, ◌≤◌, true, false, is_err, IsErrOf, OnOk, OnErr};
 ghost use Rattle.std.proofs.Common.{inl};
 ghost use Rattle.load_base.specs.Counts.{Rose};
 ghost use Rattle.disk_model.specs.State.{untold_reads};
@@ -33,6 +33,7 @@ impl<'r, R: Files> FileDisk<'r, R> {
     pub fn new(rt: &'r R, name: &'r str) -> FileDisk<'r, R>
         ensures name { name_of result ≡ name.now }
         ensures running { (state_of result).stopped ≡ false }
+        ensures steady { (state_of result).steady ≡ true }
         ensures no_faults { ((state_of result).faults ≡ 0) × ((state_of result).refusals ≡ 0) }
     {
         FileDisk {

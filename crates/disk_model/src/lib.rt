@@ -4,8 +4,10 @@
 
 mod disk;
 mod file;
+mod fused;
 mod mem;
 mod note;
+mod power;
 #[cfg(test)]
 mod tearing;
 #[cfg(test)]
@@ -13,5 +15,7 @@ mod tests;
 
 pub use disk::{Disk, DiskFault, SIZE};
 pub use file::FileDisk;
+pub use fused::Fused;
 pub use mem::MemDisk;
 pub use note::{Call, Note};
+pub use power::Power;

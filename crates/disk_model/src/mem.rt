@@ -41,10 +41,11 @@ impl MemDisk {
     /// A disk with these bytes from offset 0 on, that has not failed.
     pub fn new(alloc: Global, bytes: &[u8]) -> Result<MemDisk, NoMemory>
         requires { length bytes.now ≤ SIZE }
-        // It reads as these bytes, a power loss leaves nothing else, and no call failed.
+        // It is steady, reads as these bytes, a power loss leaves nothing else, and no call failed.
         ensures reads { IfOk result (λ disk. (state_of disk).reads ≡ Some (image_of bytes.now)) }
         ensures only_image { IfOk result (λ disk. IsSettled (state_of disk)) }
         ensures running { IfOk result (λ disk. (state_of disk).stopped ≡ false) }
+        ensures steady { IfOk result (λ disk. (state_of disk).steady ≡ true) }
         ensures no_faults { IfOk result (λ disk.
             ((state_of disk).faults ≡ 0) × ((state_of disk).refusals ≡ 0)) }
 

@@ -1,7 +1,12 @@
-ghost use Rattle.std.specs.Prelude.{◌≡◌, ◌+◌, ◌≤◌, false, is_err};
+ghost use Rattle.std.specs.Prelude.{◌≡◌, ◌+◌, ◌≤◌, false, Some, length, is_err, IfOk};
+ghost use Rattle.disk_model.specs.Image.{image_of};
+ghost use Rattle.disk_model.specs.State.{IsSettled};
+ghost use Rattle.disk_model.specs.Fused.{state_of};
+ghost use Rattle.disk_model.specs.MemDisk as Mem;
+ghost use Rattle.disk_model.specs.FileDisk as File;
 
 use crate::tearing::Tearing;
-use crate::{Call, Disk, DiskFault, FileDisk, MemDisk, Note};
+use crate::{Call, Disk, DiskFault, FileDisk, Fused, MemDisk, Note, Power, SIZE};
 use load_base::{Bytes, NoMemory};
 use std::alloc::Global;
 use std::fs;
@@ -104,6 +109,138 @@ fn a_torn_range_is_zeros(rt: HostRuntime) -> Result<(), Fail> {
     Ok(())
 }
 
+fn six_calls<K: Disk>(disk: &mut K) -> Result<(), DiskFault>
+    requires { (K.state disk.old).stopped ≡ false }
+{
+    disk.write(1, &[7, 8])?;
+    disk.sync()?;
+    disk.write(5, &[9])?;
+    disk.write(6, &[10])?;
+    disk.write(0, &[11])?;
+    prefix(disk)?;
+    Ok(())
+}
+
+// A disk whose power can be lost, over one in memory: it reads as these bytes, and a power loss
+// leaves nothing else.
+fn fused(alloc: Global, bytes: &[u8]) -> Result<Fused<MemDisk>, NoMemory>
+    requires { length bytes.now ≤ SIZE }
+    ensures running { IfOk result (λ disk. (state_of Mem.state_of disk).stopped ≡ false) }
+    ensures reads { IfOk result (λ disk.
+        (state_of Mem.state_of disk).reads ≡ Some (image_of bytes.now)) }
+    ensures only_image { IfOk result (λ disk. IsSettled (state_of Mem.state_of disk)) }
+    ensures counts { IfOk result (λ disk. ((state_of Mem.state_of disk).faults ≡ 0)
+        × ((state_of Mem.state_of disk).refusals ≡ 0) × ((state_of Mem.state_of disk).armings ≡ 0)) }
+{
+    Ok(Fused::new(MemDisk::new(alloc, bytes)?))
+}
+
+// The first bytes after a restart, where power is lost at this one of six calls.
+fn after_a_loss(alloc: Global, calls: u32, pick: u32) -> Result<[u8; 8], Fail> {
+    let mut disk = fused(alloc, &[1, 2, 3, 4, 5, 6, 7, 8])?;
+    disk.arm(calls.max(1), pick);
+    let _ = six_calls(&mut disk);
+    disk.restart()?;
+    Ok(prefix(&mut disk)?)
+}
+
+#[test]
+fn a_power_loss_spoils_what_wasnt_synced(rt: HostRuntime) -> Result<(), Fail> {
+    let rows: [(u32, u32, [u8; 8]); 19] = [
+        (1, 0, [1, 7, 8, 4, 5, 6, 7, 8]),
+        (1, 1, [1, 0, 0, 4, 5, 6, 7, 8]),
+        (1, 2, [1, 60, 117, 4, 5, 6, 7, 8]),
+        (2, 0, [1, 7, 8, 4, 5, 6, 7, 8]),
+        (2, 1, [1, 0, 0, 4, 5, 6, 7, 8]),
+        (2, 2, [1, 60, 117, 4, 5, 6, 7, 8]),
+        (3, 0, [1, 7, 8, 4, 5, 9, 7, 8]),
+        (3, 1, [1, 7, 8, 4, 5, 0, 7, 8]),
+        (3, 2, [1, 7, 8, 4, 5, 60, 7, 8]),
+        (4, 0, [1, 7, 8, 4, 5, 9, 10, 8]),
+        (4, 1, [1, 7, 8, 4, 5, 0, 0, 8]),
+        (4, 2, [1, 7, 8, 4, 5, 60, 117, 8]),
+        (5, 0, [0, 7, 8, 4, 5, 9, 10, 8]),
+        (5, 1, [60, 7, 8, 4, 5, 0, 0, 8]),
+        (5, 2, [11, 7, 8, 4, 5, 60, 117, 8]),
+        (6, 0, [0, 7, 8, 4, 5, 9, 10, 8]),
+        (6, 1, [60, 7, 8, 4, 5, 0, 0, 8]),
+        (6, 2, [11, 7, 8, 4, 5, 60, 117, 8]),
+        (5, u32::MAX, [11, 7, 8, 4, 5, 9, 10, 8]),
+    ];
+    for (calls, pick, bytes) in rows {
+        let found = after_a_loss(rt.alloc(), calls, pick)?;
+        assert_eq!(rt; found, bytes, "calls {calls} pick {pick}");
+    }
+    Ok(())
+}
+
+// Four bytes, each one apart from the last.
+fn four_ranges<K: Disk>(disk: &mut K, at: u32) -> Result<(), DiskFault>
+    requires running { (K.state disk.old).stopped ≡ false }
+    requires within { at ≤ 99 }
+    ensures { (K.state disk.new).stopped ≡ is_err result }
+{
+    disk.write(at, &[9])?;
+    disk.write(at + 2, &[9])?;
+    disk.write(at + 4, &[9])?;
+    disk.write(at + 6, &[9])
+}
+
+// The first of 16 such bytes after a loss, where perhaps one more is written.
+fn first_of_ranges(alloc: Global, more: bool) -> Result<u8, Fail> {
+    let mut disk = fused(alloc, &[])?;
+    four_ranges(&mut disk, 0)?;
+    four_ranges(&mut disk, 8)?;
+    four_ranges(&mut disk, 16)?;
+    four_ranges(&mut disk, 24)?;
+    if more {
+        disk.write(32, &[9])?;
+    }
+    disk.arm(0, 1);
+    disk.restart()?;
+    let bytes = prefix(&mut disk)?;
+    Ok(bytes[0])
+}
+
+#[test]
+fn a_seventeenth_range_is_synced_before(rt: HostRuntime) -> Result<(), Fail> {
+    assert_eq!(rt; first_of_ranges(rt.alloc(), false)?, 0);
+    assert_eq!(rt; first_of_ranges(rt.alloc(), true)?, 9);
+    Ok(())
+}
+
+#[test]
+fn power_that_is_lost_isnt_lost_again(rt: HostRuntime) -> Result<(), Fail> {
+    let mut disk = fused(rt.alloc(), &[1, 2, 3])?;
+    disk.write(1, &[7])?;
+    disk.arm(0, 0);
+    disk.arm(0, 1);
+    disk.restart()?;
+    assert_eq!(rt; prefix(&mut disk)?, [1, 7, 3, 0, 0, 0, 0, 0]);
+    Ok(())
+}
+
+// Whether power is lost at the second sync after a restart, for which it was armed before, and
+// perhaps lost once more.
+fn second_sync_fails(alloc: Global, again: bool) -> Result<bool, Fail> {
+    let mut disk = fused(alloc, &[])?;
+    disk.arm(0, 0);
+    disk.arm(2, 0);
+    if again {
+        disk.arm(0, 0);
+    }
+    disk.restart()?;
+    disk.sync()?;
+    Ok(disk.sync().is_err())
+}
+
+#[test]
+fn an_arming_outlasts_a_restart(rt: HostRuntime) -> Result<(), Fail> {
+    assert!(rt; second_sync_fails(rt.alloc(), false)?);
+    assert!(rt; !second_sync_fails(rt.alloc(), true)?);
+    Ok(())
+}
+
 // Writes over two openings of a file, the first of which makes it.
 fn write_file(rt: &HostRuntime, name: &str) -> Result<[u8; 8], DiskFault> {
     let mut disk = FileDisk::new(rt, name);
@@ -132,6 +269,29 @@ fn a_disk_in_a_file_reads_what_was_written(rt: HostRuntime) -> Result<(), Fail> 
     assert_eq!(rt; write_file(&rt, name)?, [1, 0, 0, 5, 6, 0, 0, 0]);
     assert_eq!(rt; ends(&rt, name)?, [6, 0, 0, 0, 0, 0]);
     assert_eq!(rt; fs::read(&rt, name)?.as_slice(), [1, 0, 0, 5, 6].as_slice());
+    fs::remove_file(&rt, name)?;
+    Ok(())
+}
+
+// A disk whose power can be lost, over one in a file.
+fn fused_file<'r>(rt: &'r HostRuntime, name: &'r str) -> Fused<FileDisk<'r, HostRuntime>>
+    ensures running { (state_of File.state_of result).stopped ≡ false }
+    ensures counts { ((state_of File.state_of result).faults ≡ 0)
+        × ((state_of File.state_of result).refusals ≡ 0)
+        × ((state_of File.state_of result).armings ≡ 0) }
+{
+    Fused::new(FileDisk::new(rt, name))
+}
+
+#[test]
+fn power_is_lost_over_a_file(rt: HostRuntime) -> Result<(), Fail> {
+    let name = "power_is_lost.disk";
+    let mut disk = fused_file(&rt, name);
+    disk.arm(1, 1);
+    assert_eq!(rt; disk.write(1, &[7, 8]), Err(DiskFault::Failed));
+    disk.restart()?;
+    disk.write(4, &[5])?;
+    assert_eq!(rt; prefix(&mut disk)?, [0, 0, 0, 0, 5, 0, 0, 0]);
     fs::remove_file(&rt, name)?;
     Ok(())
 }
