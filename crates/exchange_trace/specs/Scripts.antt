@@ -1,5 +1,5 @@
 -- What a text says as a script (docs/FORMATS.md, "Script").
-use Rattle.std.specs.Prelude.{ℕ, ◌+◌, suc, List, [], ◌∷◌, length, codes, slice_index, Bool, true, false, not, ◌==◌, nat_lt, nat_le, ◌&&◌, ◌||◌, Option, Some, None, is_none, Result, Ok, Err, if◌then◌else◌}
+use Rattle.std.specs.Prelude.{ℕ, ◌+◌, suc, List, [], ◌∷◌, length, codes, slice_index, Bool, true, not, ◌==◌, nat_lt, nat_le, ◌&&◌, ◌||◌, Option, Some, None, is_none, Result, Ok, Err, if◌then◌else◌}
 use Rattle.std.specs.Char.{is_ascii_digit}
 use Rattle.std.specs.List.{join_with_byte, list_all, slice_split}
 use Rattle.std.specs.Str.Parse.{digits_value}
@@ -131,23 +131,14 @@ abbrev pub found_in : List (List ℕ × Keyword) → List ℕ → Option Keyword
 found_in [] word = None
 found_in (entry ∷ entries) word = if same_bytes word entry.0 then Some entry.1 else found_in entries word
 
--- what happens at these lines isn't built yet: each is refused as an unknown word
-abbrev pub is_built : Keyword → Bool
-is_built upload = false
-is_built inject = false
-is_built power = false
-is_built boot = false
-is_built blksize = false
-is_built keyword = true
-
-abbrev upload_said : (line : ℕ) (hw pos : List ℕ) (parts : List (List ℕ)) → Result Line ScriptFault
+abbrev pub upload_said : (line : ℕ) (hw pos : List ℕ) (parts : List (List ℕ)) → Result Line ScriptFault
 upload_said line hw pos parts = do
   target ← ident_word line hw
   position ← ident_word line pos
   numbers ← part_words line parts
   Ok (Upload target position numbers)
 
-abbrev inject_said : (line : ℕ) (side from to hex : List ℕ) → Result Line ScriptFault
+abbrev pub inject_said : (line : ℕ) (side from to hex : List ℕ) → Result Line ScriptFault
 inject_said line side from to hex = do
   reached ← side_word line side
   source ← port_word line from
@@ -178,7 +169,7 @@ line_said line keyword words = Err (Word line)
 
 abbrev pub by_keyword : (line : ℕ) → Option Keyword → List (List ℕ) → Result Line ScriptFault
 by_keyword line None words = Err (Word line)
-by_keyword line (Some keyword) words = if is_built keyword then line_said line keyword words else Err (Word line)
+by_keyword line (Some keyword) words = line_said line keyword words
 
 -- the first word is tested first; a line has at least one, which may be empty
 abbrev pub words_said : (line : ℕ) → List (List ℕ) → Result Line ScriptFault

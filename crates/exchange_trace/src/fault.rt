@@ -1,4 +1,8 @@
 //! Why a text is no script.
+ghost use Rattle.std.specs.Prelude.{◌≡◌};
+ghost use Rattle.exchange_trace.specs.declared.fault.ScriptFault.TheVariants.{Memory};
+
+use load_base::NoMemory;
 
 /// Why a text is no script. A line is its number, counted from 1; lines that are passed over count
 /// too (docs/FORMATS.md, "Script").
@@ -16,4 +20,12 @@ pub enum ScriptFault {
     TooLong,
     /// Out of memory.
     Memory,
+}
+
+impl From<NoMemory> for ScriptFault {
+    ghost from_gives = { λ _ fault. fault ≡ Memory };
+
+    fn from(_: NoMemory) -> ScriptFault {
+        ScriptFault::Memory
+    }
 }

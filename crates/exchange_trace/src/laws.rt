@@ -9,13 +9,12 @@ ghost use Rattle.exchange_trace.specs.Happenings.{DatagramView, HappeningView, E
 ghost use Rattle.exchange_trace.specs.Following.{FollowsScript, Plan, Scene, next_turn, plan_of};
 ghost use Rattle.exchange_trace.specs.declared.fault.ScriptFault.TheVariants as faults;
 ghost use Rattle.exchange_trace.specs.declared.trace.Side.TheVariants as sides;
-ghost use Rattle.exchange_trace.specs.Lines.{Line, Info, Upload, Lose, Tick, Inject, Blksize};
-ghost use Rattle.exchange_trace.specs.Lines.{Finish};
+ghost use Rattle.exchange_trace.specs.Lines.{Line, Info, Upload, Lose, Tick, Inject, Power};
+ghost use Rattle.exchange_trace.specs.Lines.{Boot, Blksize, Finish};
 ghost use Rattle.exchange_trace.specs.Posts.{AllHonest, IsAboveOwnPorts, IsHonest, IsUndelivered};
 ghost use Rattle.exchange_trace.specs.Posts.{NamesOnlyPosted, first_port_after, is_undelivered};
 ghost use Rattle.exchange_trace.specs.Posts.{posted_in, undelivered};
-ghost use Rattle.exchange_trace.specs.Scripts.{blksize, inject, line_said, lines, script_said};
-ghost use Rattle.exchange_trace.specs.Scripts.{upload};
+ghost use Rattle.exchange_trace.specs.Scripts.{lines, script_said};
 ghost use Rattle.exchange_trace.specs.Steps.{Step};
 
 /// Which datagrams are undelivered, and how that changes. `specs/PostLaws.antt` says the same to
@@ -75,23 +74,25 @@ pub fn worked_scripts()
     ensures no_datagram { script_said (codes "give 0") ≡ Err (faults.Number 1) }
     ensures leading_zero { script_said (codes "next 01") ≡ Err (faults.Number 1) }
     ensures no_ident { script_said (codes "info hw1 L") ≡ Err (faults.Name 1) }
-    ensures not_built { script_said (codes "boot") ≡ Err (faults.Word 1) }
-    // What lines say that aren't built yet.
-    ensures injection { line_said 7 inject (codes "target" ∷ codes "40000" ∷ codes "59"
-        ∷ codes "0004fF00" ∷ [])
+    ensures no_part { script_said (codes "upload HW1 L ABC41-0000-000") ≡ Err (faults.Name 1) }
+    ensures no_parts { script_said (codes "upload HW1 L") ≡ Err (faults.Word 1) }
+    ensures no_bytes { script_said (codes "inject loader 1 2 000") ≡ Err (faults.Hex 1) }
+    ensures no_size { script_said (codes "blksize 7") ≡ Err (faults.Number 1) }
+    ensures many_words { script_said (codes "boot 1") ≡ Err (faults.Word 1) }
+    ensures no_call { script_said (codes "power 4294967296 0") ≡ Err (faults.Number 1) }
+    // An injected datagram seems to come from the side that doesn't get it; hexadecimal digits are
+    // of either case.
+    ensures injection { script_said (codes "inject target 40000 59 0004fF00")
         ≡ Ok (Inject (record {
           side = sides.Loader;
           from = 40000;
           to = 59;
           bytes = 0 ∷ 4 ∷ 255 ∷ 0 ∷ [];
-        })) }
-    ensures no_bytes { line_said 7 inject
-        (codes "loader" ∷ codes "1" ∷ codes "2" ∷ codes "000" ∷ [])
-        ≡ Err (faults.Hex 7) }
-    ensures upload_of_two { line_said 1 upload (codes "HW1" ∷ codes "L" ∷ codes "ABC41-0000-0001"
-        ∷ codes "ABC42-0000-0002" ∷ [])
+        }) ∷ []) }
+    ensures upload_of_two { script_said (codes "upload HW1 L ABC41-0000-0001 ABC42-0000-0002")
         ≡ Ok (Upload (codes "HW1") (codes "L")
-        (codes "ABC41-0000-0001" ∷ codes "ABC42-0000-0002" ∷ [])) }
-    ensures no_size { line_said 1 blksize (codes "7" ∷ []) ≡ Err (faults.Number 1) }
-    ensures no_option { line_said 1 blksize (codes "0" ∷ []) ≡ Ok (Blksize None) }
+        (codes "ABC41-0000-0001" ∷ codes "ABC42-0000-0002" ∷ []) ∷ []) }
+    ensures no_option { script_said (codes "blksize 0") ≡ Ok (Blksize None ∷ []) }
+    ensures power_loss { script_said (lines (codes "power 0 4294967295" ∷ codes "boot" ∷ []))
+        ≡ Ok (Power 0 4294967295 ∷ Boot ∷ []) }
 {}

@@ -1,6 +1,10 @@
 //! The types of a trace.
+ghost use Rattle.std.specs.Prelude.{◌≡◌, IfOk};
+ghost use Rattle.exchange_trace.specs.Happenings.{datagram_view};
+
 use disk_layout::RecoverFault;
-use load_base::{Bytes, Ident, List, PartText};
+use load_base::{Bytes, Ident, List, NoMemory, PartText};
+use std::alloc::Global;
 
 /// One of the two ends of the exchange.
 #[derive(Clone, Copy, Debug, PartialEq, Eq)]
@@ -23,6 +27,22 @@ pub struct Datagram {
     pub to: u16,
     /// Its payload: a TFTP packet, if the other side is to take it up.
     pub bytes: Bytes,
+}
+
+impl Datagram {
+    /// The same datagram again.
+    pub fn copy(&self, alloc: Global) -> Result<Datagram, NoMemory>
+        ensures { IfOk result (λ copy. datagram_view copy ≡ datagram_view self.now) }
+    {
+        let mut bytes = Bytes::new(alloc);
+        bytes.extend(self.bytes.as_slice())?;
+        Ok(Datagram {
+            from_side: self.from_side,
+            from: self.from,
+            to: self.to,
+            bytes,
+        })
+    }
 }
 
 /// What happens to the two sides. Posted datagrams are numbered from 1 in the order of their posts,

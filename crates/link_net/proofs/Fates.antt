@@ -1,14 +1,18 @@
 -- What became of the datagrams that a link was posted.
-use Rattle.std.proofs.Common.{◌≡◌, ◌≢◌, ℕ, zero, suc, ◌+◌, ◌-◌, ◌<◌, ◌≤◌, ◌==◌, Bool, true, false, not, cond, nat_lt, ◌&&◌, ◌||◌, List, [], ◌∷◌, ◌++◌, filter, length, get_or, None, refl, sym, ap, subst, ◌∙◌, arith, if◌then◌else◌}
+use Rattle.std.proofs.Common.{◌≡◌, ◌≢◌, ℕ, zero, suc, ◌+◌, ◌-◌, ◌<◌, ◌≤◌, ◌==◌, Bool, true, false, not, cond, nat_lt, ◌&&◌, ◌||◌, List, [], ◌∷◌, ◌++◌, filter, length, get_or, slice_get, Option, Some, None, refl, sym, ap, subst, ◌∙◌, arith, if◌then◌else◌}
 use Rattle.std.specs.List.{range_with_len, slice_set}
 use Rattle.std.proofs.lemmas.Bool.{eqb-true, eqb-false, ltb-true, ltb-false}
-use Rattle.std.proofs.lemmas.List.{get_or-set_same, get_or-set_other, length-append, length-set}
-use Rattle.exchange_trace.specs.Happenings as happenings
+use Rattle.std.proofs.lemmas.List.{get_or-set_same, get_or-set_other, get_or_past, length-append, length-set}
 use Rattle.exchange_trace.specs.Happenings.{HappeningView}
-use Rattle.exchange_trace.specs.Posts.{is_undelivered, undelivered, was_delivered, was_lost}
+use Rattle.exchange_trace.specs.Posts.{delivers, is_undelivered, loses, undelivered, was_delivered, was_lost}
 use Rattle.exchange_trace.specs.Following.{Scene, delivery, delivery_of_first, least_delivery}
+use Rattle.link_net.specs.declared.given.Given.{Given}
+use Rattle.link_net.specs.declared.given.Given.TheVariants as givens
+use Rattle.link_net.specs.declared.line.Line.{Line}
+use Rattle.link_net.specs.declared.line.Line.TheVariants as lines
 use Rattle.link_net.specs.declared.mail.Fate.{Fate}
 use Rattle.link_net.specs.declared.mail.Fate.TheVariants.{Undelivered, Lost, Delivered}
+use Rattle.link_net.specs.Givens.{given_view, said_at}
 use Rattle.link_net.specs.Mail.{IsKept, NamesPosted, after_loss, fate_of, fates_after}
 
 -- ---- a datagram is posted
@@ -29,16 +33,16 @@ keeps_posted count fates least given h =
       kept = λ k. one_undelivered fates k ∙ h.kept k;
       within = omega arith;
       before = h.before;
+      found = one_undelivered fates least ∙ h.found;
     }
 
 -- ---- something is given
 
-module _ (given : List HappeningView) where
-  is_passed : (a b x y : Bool) → (not x && not y) ≡ false → (not (a || x) && not (b || y)) ≡ false
-  is_passed false false x y e = e
-  is_passed false true false y e = refl
-  is_passed false true true y e = refl
-  is_passed true b x y e = refl
+is_passed : (a b x y : Bool) → (not x && not y) ≡ false → (not (a || x) && not (b || y)) ≡ false
+is_passed false false x y e = e
+is_passed false true false y e = refl
+is_passed false true true y e = refl
+is_passed true b x y e = refl
 
 delivered_now : (b : Bool) (given : List HappeningView) (n : ℕ) → (if b || was_delivered n given then Delivered else if was_lost n given then Lost else Undelivered) ≡ (if b then Delivered else fate_of given n)
 delivered_now true given n = refl
@@ -72,19 +76,39 @@ lost_one fates given n k kept low true e =
     rw at (ap after_loss kept)
 lost_one fates given n k kept low false e = kept
 
-pub keeps_given : (count : ℕ) (fates : List Fate) (least : ℕ) (given : List HappeningView) (h : HappeningView) → IsKept count fates least given → NamesPosted count h
-    → IsKept count (fates_after fates h) least (h ∷ given)
-keeps_given count fates least given (happenings.Delivered side n) is named =
+-- what a line says by itself delivers and loses nothing
+said_names : (o : Option Line) (n : ℕ) → (delivers n (said_at o) ≡ false) × (loses n (said_at o) ≡ false)
+said_names None n = (refl, refl)
+said_names (Some (lines.Info hw pos)) n = (refl, refl)
+said_names (Some (lines.Upload hw pos parts)) n = (refl, refl)
+said_names (Some (lines.Give number)) n = (refl, refl)
+said_names (Some (lines.Lose number)) n = (refl, refl)
+said_names (Some (lines.Next count)) n = (refl, refl)
+said_names (Some (lines.Tick side)) n = (refl, refl)
+said_names (Some (lines.Inject datagram)) n = (refl, refl)
+said_names (Some (lines.Power calls pick)) n = (refl, refl)
+said_names (Some lines.Boot) n = (refl, refl)
+said_names (Some (lines.Blksize size)) n = (refl, refl)
+said_names (Some lines.Finish) n = (refl, refl)
+
+-- what is kept once a happening was marked, and before the first undelivered datagram is looked for again
+record IsMarked (count : ℕ) (fates : List Fate) (least : ℕ) (given : List HappeningView) : Type 0 where
+  counted : length fates ≡ count
+  kept : (k : ℕ) → get_or fates k Undelivered ≡ fate_of given (k + 1)
+  before : (k : ℕ) → k < least → is_undelivered given (k + 1) ≡ false
+
+marked : (script : List Line) (count : ℕ) (fates : List Fate) (least : ℕ) (given : List HappeningView) (g : Given) → IsKept count fates least given → NamesPosted count g
+    → IsMarked count (fates_after fates g) least (given_view script g ∷ given)
+marked script count fates least given (givens.Delivered side n) is named =
     let counted = is.counted in
     let low = named.0 in
     let high = named.1 in
     record {
       counted = length-set fates (n - 1) Delivered ∙ counted;
       kept = λ k. set_one fates n k Delivered low (omega arith) ∙ (ap (λ fate. if n == (k + 1) then Delivered else fate) (is.kept k) ∙ sym (delivered_now (n == (k + 1)) given (k + 1)));
-      within = is.within;
-      before = λ k lt. is_passed given (n == (k + 1)) false (was_delivered (k + 1) given) (was_lost (k + 1) given) (is.before k lt);
+      before = λ k lt. is_passed (n == (k + 1)) false (was_delivered (k + 1) given) (was_lost (k + 1) given) (is.before k lt);
     }
-keeps_given count fates least given (happenings.Lost n) is named =
+marked script count fates least given (givens.Lost n) is named =
     let counted = is.counted in
     let low = named.0 in
     let high = named.1 in
@@ -92,17 +116,16 @@ keeps_given count fates least given (happenings.Lost n) is named =
       counted = length-set fates (n - 1) (after_loss (get_or fates (n - 1) Undelivered)) ∙ counted;
       kept = λ k. set_one fates n k (after_loss (get_or fates (n - 1) Undelivered)) low (omega arith)
           ∙ (lost_one fates given n k (is.kept k) low (n == (k + 1)) refl ∙ sym (lost_now (n == (k + 1)) (was_delivered (k + 1) given) (was_lost (k + 1) given)));
-      within = is.within;
-      before = λ k lt. is_passed given false (n == (k + 1)) (was_delivered (k + 1) given) (was_lost (k + 1) given) (is.before k lt);
+      before = λ k lt. is_passed false (n == (k + 1)) (was_delivered (k + 1) given) (was_lost (k + 1) given) (is.before k lt);
     }
-keeps_given count fates least given (happenings.Injected d) is named = record { counted = is.counted; kept = is.kept; within = is.within; before = is.before }
-keeps_given count fates least given (happenings.Ticked side) is named = record { counted = is.counted; kept = is.kept; within = is.within; before = is.before }
-keeps_given count fates least given (happenings.Size_told size) is named = record { counted = is.counted; kept = is.kept; within = is.within; before = is.before }
-keeps_given count fates least given (happenings.Power_cut calls pick) is named = record { counted = is.counted; kept = is.kept; within = is.within; before = is.before }
-keeps_given count fates least given happenings.Booted is named = record { counted = is.counted; kept = is.kept; within = is.within; before = is.before }
-keeps_given count fates least given (happenings.Info_started hw pos) is named = record { counted = is.counted; kept = is.kept; within = is.within; before = is.before }
-keeps_given count fates least given (happenings.Upload_started hw pos parts) is named = record { counted = is.counted; kept = is.kept; within = is.within; before = is.before }
-keeps_given count fates least given happenings.Ended is named = record { counted = is.counted; kept = is.kept; within = is.within; before = is.before }
+marked script count fates least given (givens.Ticked side) is named = record { counted = is.counted; kept = is.kept; before = is.before }
+marked script count fates least given (givens.Said at) is named =
+    record {
+      counted = is.counted;
+      kept = λ k. let none = said_names (slice_get script at) (k + 1) in rw (none.0, none.1) (is.kept k);
+      before = λ k lt. let none = said_names (slice_get script at) (k + 1) in rw (none.0, none.1) (is.before k lt);
+    }
+marked script count fates least given givens.Ended is named = record { counted = is.counted; kept = is.kept; before = is.before }
 
 -- ---- the least undelivered datagram
 
@@ -126,35 +149,59 @@ other_fate false false e = absurd (e refl)
 other_fate false true e = refl
 other_fate true y e = refl
 
--- those that are passed over aren't undelivered
-pub keeps_least : (count : ℕ) (fates : List Fate) (least at : ℕ) (given : List HappeningView) → IsKept count fates least given → at ≤ count
-    → ((k : ℕ) → least ≤ k → k < at → get_or fates k Undelivered ≢ Undelivered) → IsKept count fates at given
-keeps_least count fates least at given is le passed = record { counted = is.counted; kept = is.kept; within = le; before = λ k lt. by k lt (nat_lt k least) refl }
+-- where the first undelivered datagram is looked for from the one that was it before, those that are passed over aren't
+-- undelivered
+pub keeps_given : (script : List Line) (count : ℕ) (fates : List Fate) (least at : ℕ) (given : List HappeningView) (g : Given) → IsKept count fates least given → NamesPosted count g
+    → at ≤ count → ((k : ℕ) → least ≤ k → k < at → get_or (fates_after fates g) k Undelivered ≢ Undelivered) → get_or (fates_after fates g) at Undelivered ≡ Undelivered
+    → IsKept count (fates_after fates g) at (given_view script g ∷ given)
+keeps_given script count fates least at given g is named le passed found =
+    record { counted = now.counted; kept = now.kept; within = le; before = λ k lt. by k lt (nat_lt k least) refl; found = found }
   where
-    by : (k : ℕ) → k < at → (b : Bool) → nat_lt k least ≡ b → is_undelivered given (k + 1) ≡ false
-    by k lt true e = is.before k (ltb-true _ _ e)
-    by k lt false e = other_fate (was_delivered (k + 1) given) (was_lost (k + 1) given) (λ undelivered. passed k (ltb-false _ _ e) lt (is.kept k ∙ undelivered))
+    now : IsMarked count (fates_after fates g) least (given_view script g ∷ given)
+    now = marked script count fates least given g is named
 
-passed_all : (count : ℕ) (fates : List Fate) (at : ℕ) (given : List HappeningView) → IsKept count fates at given
-    → undelivered count given ≡ filter (is_undelivered given) (range_with_len (1 + at) (count - at))
-passed_all count fates at given is =
-    passed_over (is_undelivered given) 1 count at is.within (λ k lt. let e : k + 1 ≡ 1 + k = omega arith in subst (λ n. is_undelivered given n ≡ false) e (is.before k lt))
+    by : (k : ℕ) → k < at → (b : Bool) → nat_lt k least ≡ b → is_undelivered (given_view script g ∷ given) (k + 1) ≡ false
+    by k lt true e = now.before k (ltb-true _ _ e)
+    by k lt false e =
+        other_fate (was_delivered (k + 1) (given_view script g ∷ given)) (was_lost (k + 1) (given_view script g ∷ given)) (λ undelivered. passed k (ltb-false _ _ e) lt (now.kept k ∙ undelivered))
 
-none_left : (count : ℕ) (fates : List Fate) (given : List HappeningView) → IsKept count fates count given → undelivered count given ≡ []
-none_left count fates given is = let none : count - count ≡ 0 = omega arith in passed_all count fates count given is ∙ rw none refl
+-- the same of a slice of the fates, as the code looks at it
+pub next_of : (script : List Line) (count : ℕ) (fates slice : List Fate) (least at : ℕ) (given : List HappeningView) (g : Given) → IsKept count fates least given → NamesPosted count g
+    → slice ≡ fates_after fates g → at ≤ length slice → ((k : ℕ) → least ≤ k → k < at → get_or slice k Undelivered ≢ Undelivered)
+    → (at < length slice → get_or slice at Undelivered ≡ Undelivered) → IsKept count (fates_after fates g) at (given_view script g ∷ given)
+next_of script count fates slice least at given g is named same le passed found =
+    keeps_given script count fates least at given g is named (omega (arith, le, ap length same, counted)) (λ k low high. subst (λ fs. get_or fs k Undelivered ≢ Undelivered) same (passed k low high))
+    (subst (λ fs. get_or fs at Undelivered ≡ Undelivered) same (by (nat_lt at (length slice)) refl))
+  where
+    counted : length (fates_after fates g) ≡ count
+    counted = now.counted
+      where
+        now : IsMarked count (fates_after fates g) least (given_view script g ∷ given)
+        now = marked script count fates least given g is named
 
-least_left : (count : ℕ) (fates : List Fate) (at : ℕ) (given : List HappeningView) → IsKept count fates at given → at < count → get_or fates at Undelivered ≡ Undelivered
-    → (rest : List ℕ) × (undelivered count given ≡ (at + 1) ∷ rest)
-least_left count fates at given is lt fate =
-    let more : count - at ≡ suc (count - at - 1) = omega arith in
-    let e : 1 + at ≡ at + 1 = omega arith in
-    let found = undelivered_fate (was_delivered (at + 1) given) (was_lost (at + 1) given) (sym (is.kept at) ∙ fate) in
-    let last : suc (count - at - 1) - 1 ≡ count - at - 1 = omega arith in
-    (filter (is_undelivered given) (range_with_len (at + 1 + 1) (count - at - 1)), passed_all count fates at given is ∙ rw (more, e, found, last) refl)
+    by : (b : Bool) → nat_lt at (length slice) ≡ b → get_or slice at Undelivered ≡ Undelivered
+    by true e = found (ltb-true _ _ e)
+    by false e = get_or_past slice at Undelivered (ltb-false _ _ e)
 
-module _ (s : Scene) (fates : List Fate) where
-  pub least_none : IsKept (length s.posted) fates (length s.posted) s.happenings → least_delivery s ≡ None
-  least_none is = ap (delivery_of_first s) (none_left (length s.posted) fates s.happenings is)
+module _ (count : ℕ) (fates : List Fate) (at : ℕ) (given : List HappeningView) (is : IsKept count fates at given) where
+  passed_all : undelivered count given ≡ filter (is_undelivered given) (range_with_len (1 + at) (count - at))
+  passed_all =
+      passed_over (is_undelivered given) 1 count at is.within (λ k lt. let e : k + 1 ≡ 1 + k = omega arith in subst (λ n. is_undelivered given n ≡ false) e (is.before k lt))
 
-  pub least_some : (at : ℕ) → IsKept (length s.posted) fates at s.happenings → at < length s.posted → get_or fates at Undelivered ≡ Undelivered → least_delivery s ≡ delivery s (at + 1)
-  least_some at is lt fate = ap (delivery_of_first s) (least_left (length s.posted) fates at s.happenings is lt fate).1
+  none_left : at ≡ count → undelivered count given ≡ []
+  none_left e = let none : count - at ≡ 0 = omega arith in passed_all ∙ rw none refl
+
+  least_left : at < count → (rest : List ℕ) × (undelivered count given ≡ (at + 1) ∷ rest)
+  least_left lt =
+      let more : count - at ≡ suc (count - at - 1) = omega arith in
+      let e : 1 + at ≡ at + 1 = omega arith in
+      let found = undelivered_fate (was_delivered (at + 1) given) (was_lost (at + 1) given) (sym (is.kept at) ∙ is.found) in
+      let last : suc (count - at - 1) - 1 ≡ count - at - 1 = omega arith in
+      (filter (is_undelivered given) (range_with_len (at + 1 + 1) (count - at - 1)), passed_all ∙ rw (more, e, found, last) refl)
+
+module _ (s : Scene) (fates : List Fate) (at : ℕ) (is : IsKept (length s.posted) fates at s.happenings) where
+  pub least_none : at ≡ length s.posted → least_delivery s ≡ None
+  least_none e = ap (delivery_of_first s) (none_left (length s.posted) fates at s.happenings is e)
+
+  pub least_some : at < length s.posted → least_delivery s ≡ delivery s (at + 1)
+  least_some lt = ap (delivery_of_first s) (least_left (length s.posted) fates at s.happenings is lt).1

@@ -1,6 +1,6 @@
 -- How a text is cut, and what the words of a line say by their number.
 use Rattle.std.proofs.Common.{◌≡◌, ℕ, suc, ◌+◌, ◌-◌, ◌≤◌, ◌==◌, Bool, true, false, not, cond, nat_lt, List, [], ◌∷◌, length, take, drop, Some, None, option_map, Result, Ok, Err, refl, subst, arith}
-use Rattle.std.specs.List.{position, position_or_len, slice_split, onto_first}
+use Rattle.std.specs.List.{count_by, position, position_or_len, slice_split, onto_first}
 use Rattle.std.proofs.lemmas.List.Splits.{length-slice_split, slice_split_first}
 use Rattle.std.proofs.lemmas.Bool.{ltb-true, ltb-false}
 use Rattle.std.proofs.lemmas.Grind.{common_steps}
@@ -8,7 +8,7 @@ use Rattle.exchange_trace.specs.Lines as spec
 use Rattle.exchange_trace.specs.Scripts as scripts
 use Rattle.exchange_trace.specs.declared.fault.ScriptFault.{ScriptFault}
 use Rattle.exchange_trace.specs.declared.fault.ScriptFault.TheVariants.{Word}
-use Rattle.link_net.specs.Reading.{count_of, info_of, only_two, only_word, tick_of, with_count, words_of}
+use Rattle.link_net.specs.Reading.{blksize_of, count_of, info_of, inject_of, more_than_two, only_four, only_two, only_word, power_of, tick_of, upload_of, with_count, words_in, words_of}
 
 -- ---- cuts
 
@@ -63,11 +63,54 @@ second_word first [] = refl
 second_word first (a ∷ []) = refl
 second_word first (a ∷ b ∷ words) = refl
 
+pub four_words : (first second : List ℕ) (words : List (List ℕ))
+    → only_four (first ∷ second ∷ words) ≡ option_map (λ pair. (first, second, pair.0, pair.1)) (only_two words)
+four_words first second [] = refl
+four_words first second (a ∷ []) = refl
+four_words first second (a ∷ b ∷ []) = refl
+four_words first second (a ∷ b ∷ c ∷ words) = refl
+
+pub third_word : (first second text : List ℕ) → more_than_two (first ∷ second ∷ words_in text) ≡ Some (first, second, words_in text)
+third_word first second text =
+    has_word (λ words. more_than_two (first ∷ second ∷ words) ≡ Some (first, second, words)) (λ word words. refl) _ _ (length-slice_split (λ byte. byte == 32) text)
+
+pub words_counted : (text : List ℕ) → length (words_in text) ≡ count_by (λ byte. byte == 32) text + 1
+words_counted text = length-slice_split (λ byte. byte == 32) text
+
 pub info_words : (line : ℕ) (words : List (List ℕ)) → scripts.line_said line scripts.info words ≡ info_of line (only_two words)
 info_words line [] = refl
 info_words line (a ∷ []) = refl
 info_words line (a ∷ b ∷ []) = refl
 info_words line (a ∷ b ∷ c ∷ words) = refl
+
+pub upload_words : (line : ℕ) (words : List (List ℕ)) → scripts.line_said line scripts.upload words ≡ upload_of line (more_than_two words)
+upload_words line [] = refl
+upload_words line (a ∷ []) = refl
+upload_words line (a ∷ b ∷ []) = refl
+upload_words line (a ∷ b ∷ c ∷ words) = refl
+
+pub inject_words : (line : ℕ) (words : List (List ℕ)) → scripts.line_said line scripts.inject words ≡ inject_of line (only_four words)
+inject_words line [] = refl
+inject_words line (a ∷ []) = refl
+inject_words line (a ∷ b ∷ []) = refl
+inject_words line (a ∷ b ∷ c ∷ []) = refl
+inject_words line (a ∷ b ∷ c ∷ d ∷ []) = refl
+inject_words line (a ∷ b ∷ c ∷ d ∷ e ∷ words) = refl
+
+pub power_words : (line : ℕ) (words : List (List ℕ)) → scripts.line_said line scripts.power words ≡ power_of line (only_two words)
+power_words line [] = refl
+power_words line (a ∷ []) = refl
+power_words line (a ∷ b ∷ []) = refl
+power_words line (a ∷ b ∷ c ∷ words) = refl
+
+pub boot_words : (line : ℕ) (text : List ℕ) → scripts.line_said line scripts.boot (words_of (Some text)) ≡ Err (Word line)
+boot_words line text =
+    has_word (λ words. scripts.line_said line scripts.boot words ≡ Err (Word line)) (λ word words. refl) _ _ (length-slice_split (λ byte. byte == 32) text)
+
+pub blksize_words : (line : ℕ) (words : List (List ℕ)) → scripts.line_said line scripts.blksize words ≡ blksize_of line (only_word words)
+blksize_words line [] = refl
+blksize_words line (a ∷ []) = refl
+blksize_words line (a ∷ b ∷ words) = refl
 
 pub tick_words : (line : ℕ) (words : List (List ℕ)) → scripts.line_said line scripts.tick words ≡ tick_of line (only_word words)
 tick_words line [] = refl

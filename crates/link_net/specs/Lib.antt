@@ -1,6 +1,7 @@
 pub mod Lines
 pub mod Reading
 pub mod Links
+pub mod Givens
 pub mod Mail
 pub mod Plans
 pub mod FailLink

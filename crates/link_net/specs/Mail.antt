@@ -1,29 +1,23 @@
 -- The datagrams that a link was posted, and what became of them.
 use Rattle.std.specs.Prelude.{◌≡◌, ℕ, ◌+◌, ◌-◌, ◌<◌, ◌≤◌, List, ◌∷◌, length, false, slice_set, Bool, if◌then◌else◌, ⊤}
 use Rattle.std.specs.List.{slice_index_or}
-use Rattle.exchange_trace.specs.Happenings as happenings
-use Rattle.exchange_trace.specs.Happenings.{DatagramView, HappeningView, datagram_view}
+use Rattle.exchange_trace.specs.Happenings.{DatagramView, HappeningView}
 use Rattle.exchange_trace.specs.Posts.{is_undelivered, was_delivered, was_lost}
 use Rattle.exchange_trace.specs.Following.{Scene}
 use Rattle.link_net.specs.declared.given.Given.{Given}
 use Rattle.link_net.specs.declared.given.Given.TheVariants as givens
+use Rattle.link_net.specs.declared.line.Line.{Line}
 use Rattle.link_net.specs.declared.mail.Fate.{Fate}
 use Rattle.link_net.specs.declared.mail.Fate.TheVariants.{Undelivered, Lost, Delivered}
 
-abbrev pub given_view : Given → HappeningView
-given_view (givens.Delivered side number) = happenings.Delivered side number
-given_view (givens.Lost number) = happenings.Lost number
-given_view (givens.Ticked side) = happenings.Ticked side
-given_view (givens.Info hw pos) = happenings.Info_started hw pos
-given_view givens.Ended = happenings.Ended
-
--- what was posted, the oldest first, and what was given, the newest first
+-- the lines of the script, what was posted, the oldest first, and what was given, the newest first
 pub record MailView : Type 0 where
+  pub lines : List Line
   pub posted : List DatagramView
   pub given : List HappeningView
 
 abbrev pub with_given : MailView → HappeningView → MailView
-with_given mail h = record { posted = mail.posted; given = h ∷ mail.given }
+with_given mail h = record { lines = mail.lines; posted = mail.posted; given = h ∷ mail.given }
 
 -- what became of the datagram of this number
 abbrev pub fate_of : List HappeningView → ℕ → Fate
@@ -32,29 +26,40 @@ fate_of given number =
     else if was_lost number given then Lost
     else Undelivered
 
--- the fate of each datagram is kept, and no datagram is undelivered before the least one that may be
+-- the fate of each datagram is kept, and which is the first undelivered one
 pub record IsKept (count : ℕ) (fates : List Fate) (least : ℕ) (given : List HappeningView) : Type 0 where
   pub counted : length fates ≡ count
   pub kept : (k : ℕ) → slice_index_or fates k Undelivered ≡ fate_of given (k + 1)
   pub within : least ≤ count
   pub before : (k : ℕ) → k < least → is_undelivered given (k + 1) ≡ false
+  pub found : slice_index_or fates least Undelivered ≡ Undelivered
 
--- the happening names a datagram that was posted, if it names one
-abbrev pub NamesPosted : (count : ℕ) → HappeningView → Type 0
-NamesPosted count (happenings.Delivered side number) = (1 ≤ number) × (number ≤ count)
-NamesPosted count (happenings.Lost number) = (1 ≤ number) × (number ≤ count)
-NamesPosted count h = ⊤
+-- what is given names a datagram that was posted, if it names one
+abbrev pub NamesPosted : (count : ℕ) → Given → Type 0
+NamesPosted count (givens.Delivered side number) = (1 ≤ number) × (number ≤ count)
+NamesPosted count (givens.Lost number) = (1 ≤ number) × (number ≤ count)
+NamesPosted count given = ⊤
+
+-- what is given names a line of the script, if it names one
+abbrev pub NamesLine : (count : ℕ) → Given → Type 0
+NamesLine count (givens.Said at) = at < count
+NamesLine count given = ⊤
+
+-- what is given names nothing that isn't there
+pub record NamesKnown (mail : MailView) (given : Given) : Type 0 where
+  pub line : NamesLine (length mail.lines) given
+  pub datagram : NamesPosted (length mail.posted) given
 
 abbrev pub after_loss : Fate → Fate
 after_loss Undelivered = Lost
 after_loss fate = fate
 
--- the fates after a happening
-abbrev pub fates_after : List Fate → HappeningView → List Fate
-fates_after fates (happenings.Delivered side number) = slice_set fates (number - 1) Delivered
-fates_after fates (happenings.Lost number) = slice_set fates (number - 1) (after_loss (slice_index_or fates (number - 1) Undelivered))
-fates_after fates h = fates
+-- the fates after what is given
+abbrev pub fates_after : List Fate → Given → List Fate
+fates_after fates (givens.Delivered side number) = slice_set fates (number - 1) Delivered
+fates_after fates (givens.Lost number) = slice_set fates (number - 1) (after_loss (slice_index_or fates (number - 1) Undelivered))
+fates_after fates given = fates
 
--- what following a script sees of it
+-- what following the script sees of it
 abbrev pub scene_in : MailView → (loader_waits target_waits : Bool) → Scene
 scene_in mail loader_waits target_waits = record { posted = mail.posted; happenings = mail.given; loader_waits = loader_waits; target_waits = target_waits }

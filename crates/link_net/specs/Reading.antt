@@ -1,5 +1,5 @@
 -- How a script is read, line by line and word by word (docs/FORMATS.md, "Script").
-use Rattle.std.specs.Prelude.{ℕ, List, [], ◌∷◌, ◌++◌, ◌==◌, Option, Some, None, Result, Ok, Err, if◌then◌else◌}
+use Rattle.std.specs.Prelude.{ℕ, List, [], ◌∷◌, ◌++◌, length, ◌==◌, nat_le, Option, Some, None, Result, Ok, Err, if◌then◌else◌}
 use Rattle.std.specs.List.{slice_split}
 use Rattle.exchange_trace.specs.Lines as spec
 use Rattle.exchange_trace.specs.Scripts as scripts
@@ -7,8 +7,6 @@ use Rattle.exchange_trace.specs.declared.fault.ScriptFault.{ScriptFault}
 use Rattle.exchange_trace.specs.declared.fault.ScriptFault.TheVariants.{Word}
 use Rattle.link_net.specs.declared.line.Keyword.{Keyword}
 use Rattle.link_net.specs.declared.line.Keyword.TheVariants as keywords
-use Rattle.link_net.specs.declared.line.Line.{Line}
-use Rattle.link_net.specs.Lines.{line_view}
 
 -- the parts of what is left of a text that is cut at each such byte; nothing is left after the last part
 abbrev pub parts_of : ℕ → Option (List ℕ) → List (List ℕ)
@@ -19,7 +17,11 @@ parts_of separator (Some text) = slice_split (λ byte. byte == separator) text
 abbrev pub words_of : Option (List ℕ) → List (List ℕ)
 words_of text = parts_of 32 text
 
--- the only word, or the only two
+-- the words of a text
+abbrev pub words_in : List ℕ → List (List ℕ)
+words_in text = words_of (Some text)
+
+-- the only word, the only two, or the only four
 abbrev pub only_word : List (List ℕ) → Option (List ℕ)
 only_word (word ∷ []) = Some word
 only_word words = None
@@ -27,6 +29,15 @@ only_word words = None
 abbrev pub only_two : List (List ℕ) → Option (List ℕ × List ℕ)
 only_two (first ∷ second ∷ []) = Some (first, second)
 only_two words = None
+
+abbrev pub only_four : List (List ℕ) → Option (List ℕ × List ℕ × List ℕ × List ℕ)
+only_four (first ∷ second ∷ third ∷ fourth ∷ []) = Some (first, second, third, fourth)
+only_four words = None
+
+-- the first two words and the others, of which there is one at least
+abbrev pub more_than_two : List (List ℕ) → Option (List ℕ × List ℕ × List (List ℕ))
+more_than_two (first ∷ second ∷ third ∷ words) = Some (first, second, third ∷ words)
+more_than_two words = None
 
 abbrev pub keyword_view : Keyword → scripts.Keyword
 keyword_view keywords.Info = scripts.info
@@ -41,19 +52,14 @@ keyword_view keywords.Boot = scripts.boot
 keyword_view keywords.Blksize = scripts.blksize
 keyword_view keywords.Finish = scripts.finish
 
--- the line that was read, or why it is none
-abbrev pub line_result : Result Line ScriptFault → Result spec.Line ScriptFault
-line_result (Ok line) = Ok (line_view line)
-line_result (Err fault) = Err fault
+-- these members, and then those that are said
+abbrev pub and_later : {T : Type 0} → List T → Result (List T) ScriptFault → Result (List T) ScriptFault
+and_later members (Ok later) = Ok (members ++ later)
+and_later members (Err fault) = Err fault
 
 -- what lines say
 abbrev pub Said : Type 0
 Said = Result (List spec.Line) ScriptFault
-
--- these lines, and then what later ones say
-abbrev pub and_later : List spec.Line → Said → Said
-and_later lines (Ok later) = Ok (lines ++ later)
-and_later lines (Err fault) = Err fault
 
 -- a line, and then what later ones say
 abbrev pub line_then : Result spec.Line ScriptFault → Said → Said
@@ -76,9 +82,25 @@ abbrev pub info_of : (line : ℕ) → Option (List ℕ × List ℕ) → Result s
 info_of line None = Err (Word line)
 info_of line (Some words) = scripts.line_said line scripts.info (words.0 ∷ words.1 ∷ [])
 
+abbrev pub upload_of : (line : ℕ) → Option (List ℕ × List ℕ × List (List ℕ)) → Result spec.Line ScriptFault
+upload_of line None = Err (Word line)
+upload_of line (Some words) = if nat_le (length words.2) 64 then scripts.upload_said line words.0 words.1 words.2 else Err (Word line)
+
 abbrev pub tick_of : (line : ℕ) → Option (List ℕ) → Result spec.Line ScriptFault
 tick_of line None = Err (Word line)
 tick_of line (Some word) = scripts.line_said line scripts.tick (word ∷ [])
+
+abbrev pub inject_of : (line : ℕ) → Option (List ℕ × List ℕ × List ℕ × List ℕ) → Result spec.Line ScriptFault
+inject_of line None = Err (Word line)
+inject_of line (Some words) = scripts.inject_said line words.0 words.1 words.2 words.3
+
+abbrev pub power_of : (line : ℕ) → Option (List ℕ × List ℕ) → Result spec.Line ScriptFault
+power_of line None = Err (Word line)
+power_of line (Some words) = scripts.line_said line scripts.power (words.0 ∷ words.1 ∷ [])
+
+abbrev pub blksize_of : (line : ℕ) → Option (List ℕ) → Result spec.Line ScriptFault
+blksize_of line None = Err (Word line)
+blksize_of line (Some word) = scripts.line_said line scripts.blksize (word ∷ [])
 
 -- the number that the only word writes
 abbrev pub count_of : (line : ℕ) → Option (List ℕ) → Result ℕ ScriptFault

@@ -14,6 +14,7 @@ mod script_link;
 #[cfg(test)]
 mod tests;
 mod turn;
+mod values;
 mod words;
 
 pub use exchange_trace::{Datagram, Happening, ScriptFault, Side};

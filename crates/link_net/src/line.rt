@@ -2,19 +2,37 @@
 ghost use Rattle.std.specs.Prelude.{◌≡◌, ◌==◌, option_map, option_copied};
 ghost use Rattle.std.specs.List.{slice_split};
 ghost use Rattle.exchange_trace.specs.Scripts as scripts;
-ghost use Rattle.link_net.specs.Reading.{count_of as only_count, keyword_view, line_result};
+ghost use Rattle.exchange_trace.specs.declared.fault.ScriptFault.TheVariants.{Memory};
+ghost use Rattle.field_grammar.specs.Answers.{Gives};
+ghost use Rattle.link_net.specs.Lines.{line_view};
+ghost use Rattle.link_net.specs.Reading.{count_of as only_count, keyword_view};
 ghost use Rattle.link_net.specs.Reading.{only_word, words_of};
 
-use crate::number::count_in;
-use crate::words::{cut, only_two_in, only_word_in};
-use exchange_trace::{ScriptFault, Side};
-use load_base::Ident;
+use crate::mail::other;
+use crate::number::{any_number_in, count_in, port_in, size_in};
+use crate::values::{ident_in, parts_in, payload_in, side_in};
+use crate::words::{cut, more_than_two_in, only_four_in, only_two_in, only_word_in, word_count};
+use exchange_trace::{Datagram, ScriptFault, Side};
+use load_base::{Ident, List, PartText};
+use std::alloc::Global;
+
+/// The most parts of an upload.
+const MOST_PARTS: usize = 64;
 
 /// What a line says (docs/FORMATS.md, "Script").
 #[derive(Drop)]
 pub enum Line {
     /// An information session is started with this target.
-    Info { hw: Ident, pos: Ident },
+    Info {
+        hw: Ident,
+        pos: Ident,
+    },
+    /// An upload of these parts to this target is started.
+    Upload {
+        hw: Ident,
+        pos: Ident,
+        parts: List<PartText>,
+    },
     /// The datagram of this number is delivered, if it was posted.
     Give(u32),
     /// The datagram of this number is lost, if it was posted and not delivered.
@@ -23,6 +41,17 @@ pub enum Line {
     Next(u32),
     /// The side's timer expires.
     Tick(Side),
+    /// This datagram, which nobody posted, is delivered to the other side than it names.
+    Inject(Datagram),
+    /// The disk loses power at the call of this number, or at once at 0, as the second number picks.
+    Power {
+        calls: u32,
+        pick: u32,
+    },
+    /// The target is switched off and on.
+    Boot,
+    /// Requests ask for this block size from now on, or for none.
+    Blksize(Option<u16>),
     /// Datagrams are delivered, and timers expire, until nothing is undelivered and neither side
     /// waits.
     Finish,
@@ -52,42 +81,47 @@ pub fn is_passed_over(text: &[u8]) -> bool
 }
 
 /// What the line of this number says, or the first fault in it.
-pub fn read_line(line: u64, text: &[u8]) -> Result<Line, ScriptFault>
-    ensures { line_result result
-        ≡ scripts.words_said line (slice_split (λ byte. byte == 32) text.now) }
+pub fn read_line(alloc: Global, line: u64, text: &[u8]) -> Result<Line, ScriptFault>
+    ensures { Gives Memory line_view result
+        (scripts.words_said line (slice_split (λ byte. byte == 32) text.now)) }
 {
     let (first, rest) = cut(text, b' ');
     match keyword_of(first) {
-        Some(keyword) => line_of(line, keyword, rest),
+        Some(keyword) => line_of(alloc, line, keyword, rest),
         None => Err(ScriptFault::Word(line)),
     }
 }
 
-// What the words after a keyword say. What happens at some lines isn't built yet: they are
-// refused.
+// What the words after a keyword say.
 #[tactic(auto, using(crate::proofs::Parts::give_words, crate::proofs::Parts::lose_words, crate::proofs::Parts::next_words))]
-fn line_of(line: u64, keyword: Keyword, rest: Option<&[u8]>) -> Result<Line, ScriptFault>
-    ensures { line_result result
-        ≡ scripts.by_keyword line (Some (keyword_view keyword))
-        (words_of (option_copied rest.entry)) }
+fn line_of(
+    alloc: Global,
+    line: u64,
+    keyword: Keyword,
+    rest: Option<&[u8]>,
+) -> Result<Line, ScriptFault>
+    ensures { Gives Memory line_view result (scripts.by_keyword line (Some (keyword_view keyword))
+        (words_of (option_copied rest.entry))) }
 {
     match keyword {
         Keyword::Info => info_of(line, rest),
+        Keyword::Upload => upload_of(alloc, line, rest),
         Keyword::Give => Ok(Line::Give(count_of(line, rest)?)),
         Keyword::Lose => Ok(Line::Lose(count_of(line, rest)?)),
         Keyword::Next => Ok(Line::Next(count_of(line, rest)?)),
         Keyword::Tick => tick_of(line, rest),
+        Keyword::Inject => inject_of(alloc, line, rest),
+        Keyword::Power => power_of(line, rest),
+        Keyword::Boot => boot_of(line, rest),
+        Keyword::Blksize => blksize_of(line, rest),
         Keyword::Finish => finish_of(line, rest),
-        Keyword::Upload | Keyword::Inject | Keyword::Power | Keyword::Boot | Keyword::Blksize => {
-            Err(ScriptFault::Word(line))
-        }
     }
 }
 
 #[tactic(auto, using(crate::proofs::Parts::info_words))]
 fn info_of(line: u64, rest: Option<&[u8]>) -> Result<Line, ScriptFault>
-    ensures { line_result result
-        ≡ scripts.line_said line scripts.info (words_of (option_copied rest.entry)) }
+    ensures { Gives Memory line_view result
+        (scripts.line_said line scripts.info (words_of (option_copied rest.entry))) }
 {
     let Some((hw, pos)) = only_two_in(rest) else {
         return Err(ScriptFault::Word(line));
@@ -97,13 +131,22 @@ fn info_of(line: u64, rest: Option<&[u8]>) -> Result<Line, ScriptFault>
     Ok(Line::Info { hw, pos })
 }
 
-fn ident_in(line: u64, word: &[u8]) -> Result<Ident, ScriptFault>
-    ensures { result ≡ scripts.ident_word line word.now }
+// The number of words is tested before any of them.
+#[tactic(auto, using(crate::proofs::Parts::upload_words))]
+fn upload_of(alloc: Global, line: u64, rest: Option<&[u8]>) -> Result<Line, ScriptFault>
+    ensures { Gives Memory line_view result
+        (scripts.line_said line scripts.upload (words_of (option_copied rest.entry))) }
 {
-    match Ident::read(word) {
-        Ok(ident) => Ok(ident),
-        Err(_) => Err(ScriptFault::Name(line)),
+    let Some((hw, pos, parts)) = more_than_two_in(rest) else {
+        return Err(ScriptFault::Word(line));
+    };
+    if word_count(parts) > MOST_PARTS {
+        return Err(ScriptFault::Word(line));
     }
+    let hw = ident_in(line, hw)?;
+    let pos = ident_in(line, pos)?;
+    let parts = parts_in(alloc, line, parts)?;
+    Ok(Line::Upload { hw, pos, parts })
 }
 
 fn count_of(line: u64, rest: Option<&[u8]>) -> Result<u32, ScriptFault>
@@ -117,8 +160,8 @@ fn count_of(line: u64, rest: Option<&[u8]>) -> Result<u32, ScriptFault>
 
 #[tactic(auto, using(crate::proofs::Parts::tick_words))]
 fn tick_of(line: u64, rest: Option<&[u8]>) -> Result<Line, ScriptFault>
-    ensures { line_result result
-        ≡ scripts.line_said line scripts.tick (words_of (option_copied rest.entry)) }
+    ensures { Gives Memory line_view result
+        (scripts.line_said line scripts.tick (words_of (option_copied rest.entry))) }
 {
     match only_word_in(rest) {
         Some(word) => Ok(Line::Tick(side_in(line, word)?)),
@@ -126,22 +169,66 @@ fn tick_of(line: u64, rest: Option<&[u8]>) -> Result<Line, ScriptFault>
     }
 }
 
-fn side_in(line: u64, word: &[u8]) -> Result<Side, ScriptFault>
-    ensures { result ≡ scripts.side_word line word.now }
+// The datagram seems to come from the side that doesn't get it.
+#[tactic(auto, using(crate::proofs::Parts::inject_words))]
+fn inject_of(alloc: Global, line: u64, rest: Option<&[u8]>) -> Result<Line, ScriptFault>
+    ensures { Gives Memory line_view result
+        (scripts.line_said line scripts.inject (words_of (option_copied rest.entry))) }
 {
-    if word == b"loader".as_slice() {
-        Ok(Side::Loader)
-    } else if word == b"target".as_slice() {
-        Ok(Side::Target)
-    } else {
-        Err(ScriptFault::Word(line))
+    let Some((side, from, to, payload)) = only_four_in(rest) else {
+        return Err(ScriptFault::Word(line));
+    };
+    let reached = side_in(line, side)?;
+    let from = port_in(line, from)?;
+    let to = port_in(line, to)?;
+    let bytes = payload_in(alloc, line, payload)?;
+    Ok(Line::Inject(Datagram {
+        from_side: other(reached),
+        from,
+        to,
+        bytes,
+    }))
+}
+
+#[tactic(auto, using(crate::proofs::Parts::power_words))]
+fn power_of(line: u64, rest: Option<&[u8]>) -> Result<Line, ScriptFault>
+    ensures { Gives Memory line_view result
+        (scripts.line_said line scripts.power (words_of (option_copied rest.entry))) }
+{
+    let Some((calls, pick)) = only_two_in(rest) else {
+        return Err(ScriptFault::Word(line));
+    };
+    let calls = any_number_in(line, calls)?;
+    let pick = any_number_in(line, pick)?;
+    Ok(Line::Power { calls, pick })
+}
+
+#[tactic(auto, using(crate::proofs::Parts::boot_words))]
+fn boot_of(line: u64, rest: Option<&[u8]>) -> Result<Line, ScriptFault>
+    ensures { Gives Memory line_view result
+        (scripts.line_said line scripts.boot (words_of (option_copied rest.entry))) }
+{
+    match rest {
+        Some(_) => Err(ScriptFault::Word(line)),
+        None => Ok(Line::Boot),
+    }
+}
+
+#[tactic(auto, using(crate::proofs::Parts::blksize_words))]
+fn blksize_of(line: u64, rest: Option<&[u8]>) -> Result<Line, ScriptFault>
+    ensures { Gives Memory line_view result
+        (scripts.line_said line scripts.blksize (words_of (option_copied rest.entry))) }
+{
+    match only_word_in(rest) {
+        Some(word) => Ok(Line::Blksize(size_in(line, word)?)),
+        None => Err(ScriptFault::Word(line)),
     }
 }
 
 #[tactic(auto, using(crate::proofs::Parts::finish_words))]
 fn finish_of(line: u64, rest: Option<&[u8]>) -> Result<Line, ScriptFault>
-    ensures { line_result result
-        ≡ scripts.line_said line scripts.finish (words_of (option_copied rest.entry)) }
+    ensures { Gives Memory line_view result
+        (scripts.line_said line scripts.finish (words_of (option_copied rest.entry))) }
 {
     match rest {
         Some(_) => Err(ScriptFault::Word(line)),

@@ -7,10 +7,12 @@ ghost use Rattle.exchange_trace.specs.Following.{delivery as delivery_of, least_
 ghost use Rattle.exchange_trace.specs.Following.{loss as loss_of};
 ghost use Rattle.exchange_trace.specs.Posts.{numbered};
 ghost use Rattle.link_net.specs.declared.mail.Fate.TheVariants.{Undelivered};
-ghost use Rattle.link_net.specs.Mail.{NamesPosted, after_loss, fates_after, given_view, scene_in};
+ghost use Rattle.link_net.specs.Givens.{given_view};
+ghost use Rattle.link_net.specs.Mail.{NamesKnown, NamesPosted, after_loss, fates_after, scene_in};
 ghost use Rattle.link_net.specs.Mail.{with_given};
 
 use crate::given::Given;
+use crate::line::Line;
 use exchange_trace::{Datagram, Side};
 use load_base::{List, NoMemory};
 use std::alloc::Global;
@@ -26,13 +28,14 @@ pub enum Fate {
     Delivered,
 }
 
-/// The datagrams that were posted, with what became of each, and all that was given. The least
-/// undelivered one is found without a search from the start.
+/// The datagrams that were posted, with what became of each, and all that was given by a script
+/// with these lines. The least undelivered one is found without a search.
 #[derive(Drop)]
 pub struct Mail {
+    lines: List<Line>,
     datagrams: List<Datagram>,
     fates: Vec<Fate>,
-    /// No datagram before this index is undelivered.
+    /// The index of the first undelivered datagram, or how many there are.
     least: usize,
     given: List<Given>,
 }
@@ -40,25 +43,28 @@ pub struct Mail {
 impl Model for Mail {
     ghost use Rattle.std.specs.Prelude.{length, map, reverse};
     ghost use Rattle.exchange_trace.specs.Happenings.{datagram_view};
-    ghost use Rattle.link_net.specs.Mail.{IsKept, MailView, given_view};
+    ghost use Rattle.link_net.specs.Givens.{given_view};
+    ghost use Rattle.link_net.specs.Mail.{IsKept, MailView};
 
     ghost Value = { MailView };
 
     ghost view = { λ mail. record {
+      lines = mail.lines.items;
       posted = map datagram_view mail.datagrams.items;
-      given = reverse (map given_view mail.given.items);
+      given = reverse (map (given_view mail.lines.items) mail.given.items);
     } };
 
     ghost invariant = { λ mail. IsKept (length mail.datagrams.items) mail.fates.items mail.least
-        (reverse (map given_view mail.given.items)) };
+        (reverse (map (given_view mail.lines.items) mail.given.items)) };
 }
 
 impl Mail {
     /// Nothing was posted, and nothing given.
-    pub fn new(alloc: Global) -> Mail
-        ensures { result ≡ record { posted = []; given = [] } }
+    pub fn new(alloc: Global, lines: List<Line>) -> Mail
+        ensures { result ≡ record { lines = lines.items; posted = []; given = [] } }
     {
         Mail {
+            lines,
             datagrams: List::new(alloc),
             fates: Vec::new(alloc),
             least: 0,
@@ -66,9 +72,17 @@ impl Mail {
         }
     }
 
+    /// The lines of the script.
+    pub fn lines(&self) -> &[Line]
+        ensures { result.now ≡ self.now.lines }
+    {
+        self.lines.as_slice()
+    }
+
     /// Takes a datagram, or nothing.
     pub fn post(&mut self, datagram: Datagram) -> Result<(), NoMemory>
         ensures ok { OnOk result (self.new ≡ record {
+          lines = self.old.lines;
           posted = self.old.posted ++ datagram_view datagram ∷ [];
           given = self.old.given;
         }) }
@@ -82,10 +96,9 @@ impl Mail {
 
     /// The delivery of the datagram of this number, if it was posted.
     pub fn delivery(&self, number: u64) -> Option<Given>
-        ensures value { (loader target : Bool) → option_map given_view result
+        ensures value { (loader target : Bool) → option_map (given_view self.now.lines) result
             ≡ delivery_of (scene_in self.now loader target) number }
-        ensures named { IfSome result
-            (λ given. NamesPosted (length self.now.posted) (given_view given)) }
+        ensures named { IfSome result (λ given. NamesKnown self.now given) }
     {
         let side = self.side_of(number)?;
         Some(Given::Delivered(other(side), number))
@@ -93,10 +106,9 @@ impl Mail {
 
     /// The loss of the datagram of this number, if it was posted and not delivered.
     pub fn loss(&self, number: u64) -> Option<Given>
-        ensures value { (loader target : Bool) → option_map given_view result
+        ensures value { (loader target : Bool) → option_map (given_view self.now.lines) result
             ≡ loss_of (scene_in self.now loader target) number }
-        ensures named { IfSome result
-            (λ given. NamesPosted (length self.now.posted) (given_view given)) }
+        ensures named { IfSome result (λ given. NamesKnown self.now given) }
     {
         self.side_of(number)?;
         match self.fates[number as usize - 1] {
@@ -106,14 +118,11 @@ impl Mail {
     }
 
     /// The delivery of the undelivered datagram with the least number, if there is one.
-    pub fn least_delivery(&mut self) -> Option<Given>
-        ensures value { (loader target : Bool) → option_map given_view result
-            ≡ least_delivery (scene_in self.old loader target) }
-        ensures named { IfSome result
-            (λ given. NamesPosted (length self.old.posted) (given_view given)) }
-        ensures same { self.new ≡ self.old }
+    pub fn least_delivery(&self) -> Option<Given>
+        ensures value { (loader target : Bool) → option_map (given_view self.now.lines) result
+            ≡ least_delivery (scene_in self.now loader target) }
+        ensures named { IfSome result (λ given. NamesKnown self.now given) }
     {
-        self.least = next_undelivered(self.fates.as_slice(), self.least);
         if self.least == self.fates.len() {
             return None;
         }
@@ -122,12 +131,14 @@ impl Mail {
 
     /// Keeps what is given, or nothing.
     pub fn give(&mut self, given: Given) -> Result<(), NoMemory>
-        requires { NamesPosted (length self.old.posted) (given_view given) }
-        ensures ok { OnOk result (self.new ≡ with_given self.old (given_view given)) }
+        requires { NamesKnown self.old given }
+        ensures ok { OnOk result
+            (self.new ≡ with_given self.old (given_view self.old.lines given)) }
         ensures err { OnErr result (self.new ≡ self.old) }
     {
         self.given.reserve(1)?;
-        mark(&mut self.fates, &given);
+        mark(&mut self.fates, given);
+        self.least = next_undelivered(self.fates.as_slice(), self.least);
         self.given.push(given)
     }
 
@@ -144,18 +155,18 @@ impl Mail {
     }
 }
 
-// The fates after a happening.
-fn mark(fates: &mut Vec<Fate>, given: &Given)
-    requires { NamesPosted (length fates.old.items) (given_view given.now) }
-    ensures { fates.new.items ≡ fates_after fates.old.items (given_view given.now) }
+// The fates after what is given.
+fn mark(fates: &mut Vec<Fate>, given: Given)
+    requires { NamesPosted (length fates.old.items) given }
+    ensures { fates.new.items ≡ fates_after fates.old.items given }
 {
     match given {
-        Given::Delivered(_, number) => fates[*number as usize - 1] = Fate::Delivered,
+        Given::Delivered(_, number) => fates[number as usize - 1] = Fate::Delivered,
         Given::Lost(number) => {
-            let index = *number as usize - 1;
+            let index = number as usize - 1;
             fates[index] = lost(fates[index]);
         }
-        Given::Ticked(_) | Given::Info { .. } | Given::Ended => {}
+        Given::Ticked(_) | Given::Said(_) | Given::Ended => {}
     }
 }
 

@@ -70,7 +70,7 @@ fn read_lines(alloc: Global, bytes: &[u8]) -> Result<List<Line>, ScriptFault>
     let mut left = Some(bytes);
     while let Some(text) = left {
         let (line, rest) = cut(text, b'\n');
-        if let Err(fault) = take_line(&mut lines, number, line) {
+        if let Err(fault) = take_line(alloc, &mut lines, number, line) {
             return Err(fault);
         }
         number += 1;
@@ -80,7 +80,12 @@ fn read_lines(alloc: Global, bytes: &[u8]) -> Result<List<Line>, ScriptFault>
 }
 
 // Adds what a line says, unless it is passed over.
-fn take_line(lines: &mut List<Line>, number: u64, text: &[u8]) -> Result<(), ScriptFault>
+fn take_line(
+    alloc: Global,
+    lines: &mut List<Line>,
+    number: u64,
+    text: &[u8],
+) -> Result<(), ScriptFault>
     ensures taken { OnOk result ((later : Said)
         → and_later (line_views lines.old.items) (and_said number text.now later)
         ≡ and_later (line_views lines.new.items) later) }
@@ -90,9 +95,7 @@ fn take_line(lines: &mut List<Line>, number: u64, text: &[u8]) -> Result<(), Scr
     if is_passed_over(text) {
         return Ok(());
     }
-    let line = read_line(number, text)?;
-    match lines.push(line) {
-        Ok(()) => Ok(()),
-        Err(_) => Err(ScriptFault::Memory),
-    }
+    let line = read_line(alloc, number, text)?;
+    lines.push(line)?;
+    Ok(())
 }

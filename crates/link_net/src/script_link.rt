@@ -4,13 +4,11 @@ ghost use Rattle.exchange_trace.specs.Following.{plan_of};
 ghost use Rattle.exchange_trace.specs.Happenings.{datagram_view, happening_view};
 ghost use Rattle.link_net.specs.Links.{Gives, HasLinkCause, LinkState, scene_of, with_posted};
 
-use crate::line::Line;
 use crate::link::{Link, LinkFault};
 use crate::mail::Mail;
 use crate::script::Script;
 use crate::turn::{Rest, Waiting, next_turn};
 use exchange_trace::{Datagram, Happening};
-use load_base::List;
 use std::alloc::Global;
 use std::marker::Model;
 
@@ -19,8 +17,8 @@ use std::marker::Model;
 /// passed once, and the datagrams that aren't undelivered any more, which are too.
 #[derive(Drop)]
 pub struct ScriptLink {
+    alloc: Global,
     mail: Mail,
-    lines: List<Line>,
     /// The offset of the line that comes next.
     next: usize,
     rest: Rest,
@@ -36,10 +34,10 @@ impl Model for ScriptLink {
     ghost view = { λ link. record {
       posted = link.mail.posted;
       given = link.mail.given;
-      plan = Some (plan_at link.rest link.lines.items link.next);
+      plan = Some (plan_at link.rest link.mail.lines link.next);
     } };
 
-    ghost invariant = { λ link. link.next ≤ length link.lines.items };
+    ghost invariant = { λ link. link.next ≤ length link.mail.lines };
 }
 
 impl ScriptLink {
@@ -49,8 +47,8 @@ impl ScriptLink {
     {
         let Script { lines } = script;
         ScriptLink {
-            mail: Mail::new(alloc),
-            lines,
+            alloc,
+            mail: Mail::new(alloc, lines),
             next: 0,
             rest: Rest::Nothing,
         }
@@ -74,14 +72,10 @@ impl Link for ScriptLink {
             loader: loader_waits,
             target: target_waits,
         };
-        let (turn, next) = next_turn(
-            &mut self.mail,
-            self.lines.as_slice(),
-            self.next,
-            self.rest,
-            waiting,
-        );
-        let happening = turn.given.happening();
+        let (turn, next) = next_turn(&self.mail, self.next, self.rest, waiting);
+        let Ok(happening) = turn.given.happening(self.alloc, self.mail.lines()) else {
+            return Err(LinkFault::Memory);
+        };
         match self.mail.give(turn.given) {
             Ok(()) => {
                 self.next = next;

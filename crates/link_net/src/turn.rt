@@ -1,8 +1,8 @@
 //! What a script gives next (docs/FORMATS.md, "Script").
-ghost use Rattle.std.specs.Prelude.{◌≡◌, ◌≤◌, length, drop, option_map, IfSome};
+ghost use Rattle.std.specs.Prelude.{◌≡◌, ◌≤◌, Some, length, drop, slice_get, option_map};
 ghost use Rattle.exchange_trace.specs.Following as following;
 ghost use Rattle.link_net.specs.Lines.{line_view, line_views};
-ghost use Rattle.link_net.specs.Mail.{MailView, NamesPosted, given_view, scene_in};
+ghost use Rattle.link_net.specs.Mail.{MailView, NamesKnown, scene_in};
 ghost use Rattle.link_net.specs.Plans.{IsTurn, plan_at, rest_view, turn_view};
 
 use crate::given::Given;
@@ -28,47 +28,40 @@ pub struct Waiting {
 }
 
 /// What happens, and what is left of its line then.
-#[derive(Drop)]
+#[derive(Clone, Copy)]
 pub struct Turn {
     pub given: Given,
     pub rest: Rest,
 }
 
 /// What happens next, and the offset of the line that comes after it.
-pub fn next_turn(
-    mail: &mut Mail,
-    lines: &[Line],
-    next: usize,
-    rest: Rest,
-    waiting: Waiting,
-) -> (Turn, usize)
-    requires { next ≤ length lines.now }
-    ensures turn { turn_view (line_views (drop result.1 lines.now)) result.0
-        ≡ following.next_turn (scene_in mail.old waiting.loader waiting.target)
-        (plan_at rest lines.now next) }
-    ensures named { NamesPosted (length mail.old.posted) (given_view result.0.given) }
-    ensures within { result.1 ≤ length lines.now }
-    ensures same { mail.new ≡ mail.old }
+pub fn next_turn(mail: &Mail, next: usize, rest: Rest, waiting: Waiting) -> (Turn, usize)
+    requires { next ≤ length mail.now.lines }
+    ensures turn { turn_view mail.now.lines (line_views (drop result.1 mail.now.lines)) result.0
+        ≡ following.next_turn (scene_in mail.now waiting.loader waiting.target)
+        (plan_at rest mail.now.lines next) }
+    ensures named { NamesKnown mail.now result.0.given }
+    ensures within { result.1 ≤ length mail.now.lines }
 {
     match goes_on(mail, rest, waiting) {
         Some(turn) => (turn, next),
-        None => from_lines(mail, lines, next, waiting),
+        None => from_lines(mail, next, waiting),
     }
 }
 
 // The first that the lines from this one on give; some give nothing. After the last comes the end.
-fn from_lines(mail: &mut Mail, lines: &[Line], next: usize, waiting: Waiting) -> (Turn, usize)
-    requires { next ≤ length lines.now }
-    ensures turn { turn_view (line_views (drop result.1 lines.now)) result.0
-        ≡ following.from_lines (scene_in mail.old waiting.loader waiting.target)
-        (line_views (drop next lines.now)) }
-    ensures named { NamesPosted (length mail.old.posted) (given_view result.0.given) }
-    ensures within { result.1 ≤ length lines.now }
-    ensures same { mail.new ≡ mail.old }
+fn from_lines(mail: &Mail, next: usize, waiting: Waiting) -> (Turn, usize)
+    requires { next ≤ length mail.now.lines }
+    ensures turn { turn_view mail.now.lines (line_views (drop result.1 mail.now.lines)) result.0
+        ≡ following.from_lines (scene_in mail.now waiting.loader waiting.target)
+        (line_views (drop next mail.now.lines)) }
+    ensures named { NamesKnown mail.now result.0.given }
+    ensures within { result.1 ≤ length mail.now.lines }
 {
+    let lines = mail.lines();
     let mut at = next;
     while at < lines.len() {
-        let begun = begins(mail, &lines[at], waiting);
+        let begun = begins(mail, &lines[at], at, waiting);
         at += 1;
         if let Some(turn) = begun {
             return (turn, at);
@@ -81,18 +74,19 @@ fn from_lines(mail: &mut Mail, lines: &[Line], next: usize, waiting: Waiting) ->
     (end, at)
 }
 
-// The first that a line gives, if it gives anything.
-fn begins(mail: &mut Mail, line: &Line, waiting: Waiting) -> Option<Turn>
-    ensures begins { IsTurn (length mail.old.posted) result
-        (following.begins (scene_in mail.old waiting.loader waiting.target) (line_view line.now)) }
-    ensures same { mail.new ≡ mail.old }
+// The first that the line at this offset gives, if it gives anything.
+fn begins(mail: &Mail, line: &Line, at: usize, waiting: Waiting) -> Option<Turn>
+    requires { slice_get mail.now.lines at ≡ Some line.now }
+    ensures { IsTurn mail.now result
+        (following.begins (scene_in mail.now waiting.loader waiting.target) (line_view line.now)) }
 {
     match line {
-        Line::Info { hw, pos } => once(Some(Given::Info { hw: *hw, pos: *pos })),
+        Line::Info { .. } | Line::Upload { .. } => once(Some(Given::Said(at))),
+        Line::Tick(_) | Line::Inject(_) | Line::Blksize(_) => once(Some(Given::Said(at))),
+        Line::Power { .. } | Line::Boot => once(Some(Given::Said(at))),
         Line::Give(number) => once(mail.delivery(u64::from(*number))),
         Line::Lose(number) => once(mail.loss(u64::from(*number))),
         Line::Next(count) => goes_on(mail, Rest::Deliveries(*count), waiting),
-        Line::Tick(side) => once(Some(Given::Ticked(*side))),
         Line::Finish => goes_on(mail, Rest::Finishing(Side::Loader), waiting),
     }
 }
@@ -111,10 +105,9 @@ fn once(given: Option<Given>) -> Option<Turn>
 }
 
 // What is left of a line gives something, or the line is done.
-fn goes_on(mail: &mut Mail, rest: Rest, waiting: Waiting) -> Option<Turn>
-    ensures goes_on { IsTurn (length mail.old.posted) result
-        (following.goes_on (scene_in mail.old waiting.loader waiting.target) (rest_view rest)) }
-    ensures same { mail.new ≡ mail.old }
+fn goes_on(mail: &Mail, rest: Rest, waiting: Waiting) -> Option<Turn>
+    ensures { IsTurn mail.now result
+        (following.goes_on (scene_in mail.now waiting.loader waiting.target) (rest_view rest)) }
 {
     match rest {
         Rest::Nothing | Rest::Deliveries(0) => None,
@@ -129,11 +122,10 @@ fn goes_on(mail: &mut Mail, rest: Rest, waiting: Waiting) -> Option<Turn>
     }
 }
 
-fn finishing(mail: &mut Mail, first: Side, waiting: Waiting) -> Option<Turn>
-    ensures goes_on { IsTurn (length mail.old.posted) result
-        (following.goes_on (scene_in mail.old waiting.loader waiting.target)
+fn finishing(mail: &Mail, first: Side, waiting: Waiting) -> Option<Turn>
+    ensures { IsTurn mail.now result
+        (following.goes_on (scene_in mail.now waiting.loader waiting.target)
         (following.Finishing first)) }
-    ensures same { mail.new ≡ mail.old }
 {
     if let Some(given) = mail.least_delivery() {
         return Some(Turn {

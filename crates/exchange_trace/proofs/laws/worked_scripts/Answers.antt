@@ -40,26 +40,42 @@ pub returns-clause-no_ident : goal.returns-clause-no_ident
 unfolding script_said written_lines decimal_between ident_fault_of part_text_fault_of decode_pairs
 returns-clause-no_ident c = refl
 
-pub returns-clause-not_built : goal.returns-clause-not_built
+pub returns-clause-no_part : goal.returns-clause-no_part
 unfolding script_said written_lines decimal_between ident_fault_of part_text_fault_of decode_pairs
-returns-clause-not_built c = refl
+returns-clause-no_part c = refl
 
-pub returns-clause-injection : goal.returns-clause-injection
+pub returns-clause-no_parts : goal.returns-clause-no_parts
 unfolding script_said written_lines decimal_between ident_fault_of part_text_fault_of decode_pairs
-returns-clause-injection c = refl
+returns-clause-no_parts c = refl
 
 pub returns-clause-no_bytes : goal.returns-clause-no_bytes
 unfolding script_said written_lines decimal_between ident_fault_of part_text_fault_of decode_pairs
 returns-clause-no_bytes c = refl
 
-pub returns-clause-upload_of_two : goal.returns-clause-upload_of_two
-unfolding script_said written_lines decimal_between ident_fault_of part_text_fault_of decode_pairs
-returns-clause-upload_of_two c = refl
-
 pub returns-clause-no_size : goal.returns-clause-no_size
 unfolding script_said written_lines decimal_between ident_fault_of part_text_fault_of decode_pairs
 returns-clause-no_size c = refl
 
+pub returns-clause-many_words : goal.returns-clause-many_words
+unfolding script_said written_lines decimal_between ident_fault_of part_text_fault_of decode_pairs
+returns-clause-many_words c = refl
+
+pub returns-clause-no_call : goal.returns-clause-no_call
+unfolding script_said written_lines decimal_between ident_fault_of part_text_fault_of decode_pairs
+returns-clause-no_call c = refl
+
+pub returns-clause-injection : goal.returns-clause-injection
+unfolding script_said written_lines decimal_between ident_fault_of part_text_fault_of decode_pairs
+returns-clause-injection c = refl
+
+pub returns-clause-upload_of_two : goal.returns-clause-upload_of_two
+unfolding script_said written_lines decimal_between ident_fault_of part_text_fault_of decode_pairs
+returns-clause-upload_of_two c = refl
+
 pub returns-clause-no_option : goal.returns-clause-no_option
 unfolding script_said written_lines decimal_between ident_fault_of part_text_fault_of decode_pairs
 returns-clause-no_option c = refl
+
+pub returns-clause-power_loss : goal.returns-clause-power_loss
+unfolding script_said written_lines decimal_between ident_fault_of part_text_fault_of decode_pairs
+returns-clause-power_loss c = refl

@@ -1,8 +1,9 @@
 use Rattle.std.proofs.Common.{◌≡◌, ◌∷◌, [], ◌++◌, Result, Ok, Err, IsOk, OnOk, length, map, reverse, sym, ap, subst, ◌∙◌}
 use Rattle.std.proofs.lemmas.List.{map-append, reverse-append, length-map}
 use Rattle.exchange_trace.specs.Happenings.{datagram_view}
-use Rattle.link_net.specs.Mail.{MailView, NamesPosted, given_view, fates_after}
-use Rattle.link_net.proofs.Fates.{keeps_given}
+use Rattle.link_net.specs.Givens.{given_view}
+use Rattle.link_net.specs.Mail.{MailView, NamesPosted, fates_after}
+use Rattle.link_net.proofs.Fates.{next_of}
 use Rattle.link_net.proofs.mail.Mail.give.Goals as goal
 
 from_ok : {T E : Type 0} (r : Result T E) (P : Type 0) → IsOk r → OnOk r P → P
@@ -12,12 +13,16 @@ from_ok (Err e) P ok h = absurd cc
 pub invariant_of-self-2 : goal.invariant_of-self-2
 invariant_of-self-2 c =
     let before = c.self.inside in
+    let view = given_view before.lines.items in
     let pushed = from_ok c.push.result _ (c.push.ensures.has_spare c.in_ok-reserve.ensures.ok) c.push.ensures.ok in
     let items : c.push.new.self.items ≡ before.given.items ++ c.args.given ∷ [] = cc in
-    let given : reverse (map given_view c.push.new.self.items) ≡ given_view c.args.given ∷ reverse (map given_view before.given.items) =
-    ap (λ xs. reverse (map given_view xs)) items ∙ (ap reverse (map-append given_view before.given.items (c.args.given ∷ [])) ∙ reverse-append (map given_view before.given.items) (given_view c.args.given ∷ [])) in
-    let fates : c.mark.new.fates.items ≡ fates_after before.fates.items (given_view c.args.given) = c.mark.ensures in
-    let named : NamesPosted (length (map datagram_view before.datagrams.items)) (given_view c.args.given) =
-    subst (λ (m : MailView). NamesPosted (length m.posted) (given_view c.args.given)) (sym c.self.view_is) c.requires in
-    let posted : NamesPosted (length before.datagrams.items) (given_view c.args.given) = subst (λ n. NamesPosted n (given_view c.args.given)) (length-map before.datagrams.items datagram_view) named in
-    rw (given, fates) (keeps_given (length before.datagrams.items) before.fates.items before.least (reverse (map given_view before.given.items)) (given_view c.args.given) c.self.invariant posted)
+    let given : reverse (map view c.push.new.self.items) ≡ view c.args.given ∷ reverse (map view before.given.items) =
+    ap (λ xs. reverse (map view xs)) items ∙ (ap reverse (map-append view before.given.items (c.args.given ∷ [])) ∙ reverse-append (map view before.given.items) (view c.args.given ∷ [])) in
+    let named : NamesPosted (length (map datagram_view before.datagrams.items)) c.args.given =
+    subst (λ (m : MailView). NamesPosted (length m.posted) c.args.given) (sym c.self.view_is) c.requires.datagram in
+    let posted : NamesPosted (length before.datagrams.items) c.args.given = subst (λ n. NamesPosted n c.args.given) (length-map before.datagrams.items datagram_view) named in
+    let looked = c.next_undelivered-self-inside.ensures in
+    let slice : c.as_slice.result.now ≡ fates_after before.fates.items c.args.given = c.as_slice.ensures.value ∙ c.mark.ensures in
+    rw (given, c.mark.ensures)
+    (next_of before.lines.items (length before.datagrams.items) before.fates.items c.as_slice.result.now before.least c.next_undelivered-self-inside.result (reverse (map view before.given.items)) c.args.given c.self.invariant
+    posted slice looked.within looked.passed looked.found)

@@ -3,10 +3,10 @@ use Rattle.std.specs.Str.Parse.{digits_value}
 use Rattle.std.proofs.lemmas.Int.Digits.{digits_value_more}
 use Rattle.exchange_trace.specs.Scripts.{is_decimal}
 use Rattle.link_net.proofs.Digits.{all_digits, digit_at, too_large}
-use Rattle.link_net.proofs.number.number_in.Goals as goal
+use Rattle.link_net.proofs.number.decimal_in.Goals as goal
 
-pub returns-then-number-high : goal.returns-then-number-high
-returns-then-number-high c =
+pub returns-then-number-high-clause-said : goal.returns-then-number-high-clause-said
+returns-then-number-high-clause-said c =
     let decimal : is_decimal c.args.word.now ≡ true = cc in
     let more = digits_value_more 10 c.args.word.now c.loop-byte.byte-index (omega arith) in
     let digit = digit_at c.args.word.now c.loop-byte.byte-index (all_digits c.args.word.now decimal) (omega arith) in
