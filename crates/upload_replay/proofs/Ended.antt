@@ -17,10 +17,10 @@ use Rattle.upload_replay.specs.Turns.{IsOfRun}
 use Rattle.upload_replay.specs.Endings.{HoldsStanding, IsLastFault, IsNoConfig, first_fault_of, last_refusal_of}
 
 pub first_refusal : (fault : BootFault) (first last : DiskState) → ForSome first.reads (λ image. BootFails image fault) → IsNoConfig (first_fault_of fault) first last
-first_refusal (boots.Recover (NotFormatted offset)) first last refused = inl refused
-first_refusal (boots.Recover NoOpenSlot) first last refused = inl refused
-first_refusal (boots.Recover (BadSlot offset)) first last refused = inl refused
-first_refusal (boots.Recover (BadManifest offset)) first last refused = inl refused
+first_refusal (boots.Recover (NotFormatted offset)) first last refused = (λ is. is, inl refused)
+first_refusal (boots.Recover NoOpenSlot) first last refused = (λ is. is, inl refused)
+first_refusal (boots.Recover (BadSlot offset)) first last refused = (λ is. is, inl refused)
+first_refusal (boots.Recover (BadManifest offset)) first last refused = (λ is. is, inl refused)
 first_refusal (boots.Recover DiskFailed) first last refused = tt
 first_refusal (boots.Recover Memory) first last refused = tt
 first_refusal boots.Memory first last refused = tt
@@ -28,10 +28,10 @@ first_refusal boots.Memory first last refused = tt
 -- the disk reads as it did
 pub last_fault : (fault : RecoverFault) (old new : DiskState) → ForSome old.reads (λ image. Refuses image fault) → RunsOnAfter old new fault
     → IfErr (last_refusal_of fault) (λ f. IsLastFault f new)
-last_fault (NotFormatted offset) old new refused on = λ image told. refused image (sym on.reads ∙ told)
-last_fault NoOpenSlot old new refused on = λ image told. refused image (sym on.reads ∙ told)
-last_fault (BadSlot offset) old new refused on = λ image told. refused image (sym on.reads ∙ told)
-last_fault (BadManifest offset) old new refused on = λ image told. refused image (sym on.reads ∙ told)
+last_fault (NotFormatted offset) old new refused on = (λ is. is, λ image told. refused image (sym on.reads ∙ told))
+last_fault NoOpenSlot old new refused on = (λ is. is, λ image told. refused image (sym on.reads ∙ told))
+last_fault (BadSlot offset) old new refused on = (λ is. is, λ image told. refused image (sym on.reads ∙ told))
+last_fault (BadManifest offset) old new refused on = (λ is. is, λ image told. refused image (sym on.reads ∙ told))
 last_fault DiskFailed old new refused on = tt
 last_fault Memory old new refused on = tt
 
@@ -52,7 +52,7 @@ of_run faults.Memory first last of = tt
 pub of_last : (fault : DriveFault) (first last : DiskState) → IsLastFault fault last → IsNoConfig fault first last
 of_last faults.Link first last refused = tt
 of_last faults.Disk first last refused = tt
-of_last (faults.NoConfig fault) first last refused = inr refused
+of_last (faults.NoConfig fault) first last refused = (refused.0, inr refused.1)
 of_last faults.Memory first last refused = tt
 
 -- what is said of a fault is said of the answer that has it

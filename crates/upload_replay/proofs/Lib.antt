@@ -1,4 +1,5 @@
 pub mod Begins
+pub mod Counted
 pub mod Ended
 pub mod Recorded
 pub mod Turning

@@ -17,9 +17,9 @@ use Rattle.session_rules.specs.Target.{TargetView}
 use Rattle.session_rules.specs.TargetLog.{TargetSessionLog, session_view as target_session}
 use Rattle.replay_rules.specs.BothEnds.{Is_down, Is_up, Setting, TargetState, gone_down, loader_at, reached, target_at, waiting, waits_in}
 use Rattle.loader_machine.specs.Machine.{LoaderState, media_of}
-use Rattle.replay_rules.specs.Due.{MayBeNoted, MayGoDown, goes_down, is_up}
+use Rattle.replay_rules.specs.Due.{MayBeNoted, goes_down, is_up}
 use Rattle.replay_rules.specs.Ties.{Reacts, StepKeepsTie, kept_after, kept_by, loader_next, loader_says, target_next, target_says}
-use Rattle.upload_replay.specs.Drives.{AllKeepPower, GoesOn, HasTurned, KeepsGoing, KeepsPower, TargetTurns, Turns, has_session, is_end}
+use Rattle.upload_replay.specs.Drives.{NeverBoots, GoesOn, HasTurned, KeepsGoing, TargetTurns, Turns, has_session, is_end}
 use Rattle.target_machine.specs.Decisions as machine
 use Rattle.accept_rules.specs.Interlocks.{Follows}
 use Rattle.load_header.specs.declared.header.LoadHeader.{LoadHeader}
@@ -128,18 +128,6 @@ loader_turns : (set : Setting) (e : Option Event) (before after : LoaderState) (
 loader_turns set None before after sent media takes = (ap (λ (l : LoaderState). l.view) takes.0, takes.1, ap (λ (l : LoaderState). l.set) takes.0)
 loader_turns set (Some e) before after sent media takes = (rw media takes.keeps, rw media takes.posts, takes.set)
 
-may_be_noted : (up : Bool) (first_port : ℕ) (h : HappeningView) (notes : List Note) → KeepsPower h → MayGoDown up notes → MayBeNoted up first_port h notes
-may_be_noted up first_port (Delivered side n) notes keeps may = may
-may_be_noted up first_port (Lost n) notes keeps may = may
-may_be_noted up first_port (Injected d) notes keeps may = may
-may_be_noted up first_port (Ticked side) notes keeps may = may
-may_be_noted up first_port (Size_told size) notes keeps may = may
-may_be_noted up first_port (Power_cut calls pick) notes keeps may = absurd keeps
-may_be_noted up first_port Booted notes keeps may = absurd keeps
-may_be_noted up first_port (Info_started hw pos) notes keeps may = may
-may_be_noted up first_port (Upload_started hw pos parts) notes keeps may = may
-may_be_noted up first_port Ended notes keeps may = may
-
 pub is_up_kept : {R : Type 0} (target : Option (machine.TargetState R)) → is_some (target_kept target) ≡ is_some target
 is_up_kept None = refl
 is_up_kept (Some t) = refl
@@ -148,10 +136,10 @@ pub turned : (set : Setting) (steps : List Step) (h : HappeningView) (loader loa
     (first second : List DatagramView) (notes : List Note) (loader_side target_side : Bool) → loader_side ≡ is_some loader.view.live → target_side ≡ has_session target
     → Gives link given (scene_of link loader_side target_side) h → set.media ≡ media_of loader.set
     → LoaderTakes (event_for sides.Loader (posted_in steps) h) loader loader_then first
-    → TargetTurns set (event_for sides.Target (posted_in steps) h) (target_at set steps) target target_then second notes → MayGoDown (is_some target) notes
-    → link_then ≡ link_with given (first ++ second) → KeepsPower h
+    → TargetTurns set (event_for sides.Target (posted_in steps) h) (target_at set steps) target target_then second notes
+    → MayBeNoted (is_some target) (first_port_after steps) h notes → link_then ≡ link_with given (first ++ second)
     → Turns set steps (record { given = h; posts = first ++ second; notes = notes }) loader.view loader_then.view target target_then link link_then
-turned set steps h loader loader_then target target_then link given link_then first second notes loader_side target_side l t gives media takes turns may linked keeps =
+turned set steps h loader loader_then target target_then link given link_then first second notes loader_side target_side l t gives media takes turns may linked =
     let does = loader_turns set (event_for sides.Loader (posted_in steps) h) loader loader_then first media takes in
     record {
       given = given;
@@ -162,7 +150,7 @@ turned set steps h loader loader_then target target_then link given link_then fi
       loader_says_so = does.1;
       target_does = turns;
       both_post = refl;
-      noted = may_be_noted (is_some target) (first_port_after steps) h notes keeps may;
+      noted = may;
       linked = linked;
     }
 
@@ -176,9 +164,14 @@ pub gone_on : {R : Type 0} → StepKeepsTie → (set : Setting) (began : LinkSta
     → HasTurned set ended steps steps_then loader loader_then target target_then link link_then
     → KeepsGoing set began steps steps_then loader loader_then target target_then link link_then
 gone_on keeps set began ended steps steps_then loader loader_then target target_then link link_then t before all =
-    let here : AllKeepPower (t.step ∷ steps) = subst (λ (list : List Step). AllKeepPower list) t.recorded all in
+    let here : NeverBoots (t.step ∷ steps) = subst (λ (list : List Step). NeverBoots list) t.recorded all in
     subst (λ (list : List Step). GoesOn set began list loader_then.view (target_kept target_then) link_then) (sym t.recorded)
     (turn_goes_on set began steps t.step loader.view loader_then.view (target_kept target) (target_kept target_then) link link_then keeps (before here.1) (t.turns here.0))
+
+-- a target that nothing reaches
+pub quiet_turn : (set : Setting) (state : TargetState) (kept : Option TargetView) → TargetTurns set None state kept kept [] []
+quiet_turn set state None = (refl, refl)
+quiet_turn set state (Some v) = (refl, refl)
 
 -- ---- turn after turn
 

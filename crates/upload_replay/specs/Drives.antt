@@ -2,7 +2,7 @@
 use Rattle.std.specs.Prelude.{◌≡◌, List, [], ◌∷◌, ◌++◌, Bool, true, false, is_some, Option, Some, None, ⊤}
 use Rattle.std.specs.List.{AllByRecursion}
 use Rattle.exchange_trace.specs.declared.trace.Side.TheVariants as sides
-use Rattle.exchange_trace.specs.Happenings.{DatagramView, HappeningView, Booted, Ended, Power_cut}
+use Rattle.exchange_trace.specs.Happenings.{DatagramView, HappeningView, Booted, Ended}
 use Rattle.exchange_trace.specs.Lines.{Line}
 use Rattle.exchange_trace.specs.Logs.{Event, event_for}
 use Rattle.exchange_trace.specs.Posts.{AllHonest, first_port_after, happenings_of, posted_in}
@@ -47,11 +47,10 @@ TargetTurns set e state before after posts (Came_up first_port sequence ∷ []) 
     (after ≡ kept_by set (come_up first_port sequence (gone_down state (reached set e state)))) × (posts ≡ []) × (e ≡ None)
 TargetTurns set e state before after posts notes = ⊥
 
--- the happening is no boot, and no loss of power
-abbrev pub KeepsPower : HappeningView → Type 0
-KeepsPower Booted = ⊥
-KeepsPower (Power_cut calls pick) = ⊥
-KeepsPower h = ⊤
+-- the happening is no boot
+abbrev pub IsNoBoot : HappeningView → Type 0
+IsNoBoot Booted = ⊥
+IsNoBoot h = ⊤
 
 abbrev pub is_end : HappeningView → Bool
 is_end Ended = true
@@ -71,18 +70,18 @@ pub record Turns (set : Setting) (steps : List Step) (s : Step) (loader loader_t
   pub noted : MayBeNoted (is_some target) (first_port_after steps) s.given s.notes
   pub linked : link_then ≡ link_with given s.posts
 
--- A turn is recorded as the newest step, and `ended` says whether the end came in it. What is said of a boot or a loss of
--- power isn't said yet.
+-- A turn is recorded as the newest step, and `ended` says whether the end came in it. What both ends keep after a boot isn't
+-- said yet.
 pub record HasTurned {R : Type 0} (set : Setting) (ended : Bool) (steps steps_then : List Step) (loader loader_then : LoaderState) (target target_then : Option (machine.TargetState R)) (link link_then : LinkState) : Type 0 where
   pub step : Step
   pub recorded : steps_then ≡ step ∷ steps
-  pub turns : KeepsPower step.given → Turns set steps step loader.view loader_then.view (target_kept target) (target_kept target_then) link link_then
+  pub turns : IsNoBoot step.given → Turns set steps step loader.view loader_then.view (target_kept target) (target_kept target_then) link link_then
   pub end : ended ≡ is_end step.given
   pub media : loader_then.set ≡ loader.set
 
--- no boot and no loss of power so far
-abbrev pub AllKeepPower : List Step → Type 0
-AllKeepPower steps = AllByRecursion (λ (s : Step). KeepsPower s.given) steps
+-- no boot so far
+abbrev pub NeverBoots : List Step → Type 0
+NeverBoots steps = AllByRecursion (λ (s : Step). IsNoBoot s.given) steps
 
 -- the trace has one step more, and `ended` says whether the end came in it
 pub record IsNewStep (ended : Bool) (steps steps_then : List Step) : Type 0 where
@@ -90,13 +89,12 @@ pub record IsNewStep (ended : Bool) (steps steps_then : List Step) : Type 0 wher
   pub recorded : steps_then ≡ step ∷ steps
   pub end : ended ≡ is_end step.given
 
--- What a turn, or all turns to the end, keeps of a run that began on a link so, under these rules, where no power was lost and
--- no boot came.
+-- What a turn, or all turns to the end, keeps of a run that began on a link so, under these rules, where no boot came.
 abbrev pub KeepsGoing : {R : Type 0} → Setting → (began : LinkState) → (steps steps_then : List Step) → (loader loader_then : LoaderState)
     → (target target_then : Option (machine.TargetState R)) → (link link_then : LinkState) → Type 0
 KeepsGoing set began steps steps_then loader loader_then target target_then link link_then =
-    (AllKeepPower steps → GoesOn set began steps loader.view (target_kept target) link)
-    → AllKeepPower steps_then → GoesOn set began steps_then loader_then.view (target_kept target_then) link_then
+    (NeverBoots steps → GoesOn set began steps loader.view (target_kept target) link)
+    → NeverBoots steps_then → GoesOn set began steps_then loader_then.view (target_kept target_then) link_then
 
 -- ---- a whole run
 

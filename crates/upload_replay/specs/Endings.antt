@@ -1,15 +1,20 @@
 -- How a run ends, and why there is none (docs/EXCHANGE.md, "Runs").
-use Rattle.std.specs.Prelude.{◌⊎◌, Option, Some, None, Result, Ok, Err, ⊤}
+use Rattle.std.specs.Prelude.{◌≡◌, ℕ, ◌+◌, true, ◌⊎◌, List, Option, Some, None, Result, Ok, Err, IsErrOf, ⊤}
 use Rattle.std.specs.Option.{ForSome}
+use Rattle.load_base.specs.Counts.{Rose}
+use Rattle.disk_layout.specs.DiskReads.{IsOfDisk}
 use Rattle.disk_layout.specs.Holds.{HasDiskFault, HoldsConfig, standing_view}
 use Rattle.disk_layout.specs.declared.fault.RecoverFault.{RecoverFault}
 use Rattle.disk_layout.specs.declared.fault.RecoverFault.TheVariants as recovers
 use Rattle.disk_layout.specs.declared.standing.Standing.{Standing}
-use Rattle.disk_model.specs.State.{DiskState}
+use Rattle.disk_model.specs.State.{DiskState, KeepsPower}
+use Rattle.exchange_trace.specs.Steps.{Step}
+use Rattle.link_net.specs.Links.{LinkState}
 use Rattle.target_machine.specs.declared.boot.BootFault.{BootFault}
 use Rattle.target_machine.specs.declared.boot.BootFault.TheVariants as boots
 use Rattle.upload_replay.specs.declared.outcome.DriveFault.{DriveFault}
 use Rattle.upload_replay.specs.declared.outcome.DriveFault.TheVariants as faults
+use Rattle.upload_replay.specs.Powers.{RoseBy, disk_stops}
 
 -- why there is no run where the target doesn't come up at first
 abbrev pub first_fault_of : BootFault → DriveFault
@@ -29,17 +34,36 @@ abbrev pub HoldsStanding : Option Standing → DiskState → Type 0
 HoldsStanding None disk = ⊤
 HoldsStanding (Some standing) disk = ForSome disk.reads (λ image. HoldsConfig image (standing_view standing))
 
+-- where nothing is known of what the disk holds, it failed once more than this often, and is stopped
+abbrev pub FailedIfUnknown : Option Standing → (began stops : ℕ) → DiskState → Type 0
+FailedIfUnknown None began stops disk = RoseBy (stops + 1) began disk.faults × (disk.stopped ≡ true)
+FailedIfUnknown (Some standing) began stops disk = ⊤
+
+-- The disk's count of faults rose at least by the number of times that the trace says that the disk stopped, and once more
+-- where nothing is known of what it holds.
+pub record CountsStops (steps : List Step) (standing : Option Standing) (old new : DiskState) : Type 0 where
+  pub stops : RoseBy (disk_stops steps) old.faults new.faults
+  pub unknown : FailedIfUnknown standing old.faults (disk_stops steps) new
+
+-- There is no run for the disk's failure only where the target didn't come up at first: the disk failed and is stopped,
+-- nothing was written, and nothing happened.
+pub record FailsAtFirst {T : Type 0} (old new : DiskState) (link link_then : LinkState) (result : Result T DriveFault) : Type 0 where
+  pub failed : IsErrOf result faults.Disk → Rose old.faults new.faults × (new.stopped ≡ true)
+  pub clock : IsErrOf result faults.Disk → new.clock ≡ old.clock
+  pub power : IsErrOf result faults.Disk → KeepsPower old new
+  pub untouched : IsErrOf result faults.Disk → link_then ≡ link
+
 -- the disk holds no configuration, and this is the first fault
 abbrev pub HoldsNone : RecoverFault → DiskState → Type 0
 HoldsNone fault disk = ForSome disk.reads (λ image. HasDiskFault image fault)
 
 -- a refusal of the last recovery
 abbrev pub IsLastFault : DriveFault → DiskState → Type 0
-IsLastFault (faults.NoConfig fault) disk = HoldsNone fault disk
+IsLastFault (faults.NoConfig fault) disk = ¬ IsOfDisk fault × HoldsNone fault disk
 IsLastFault faults.Memory disk = ⊤
 IsLastFault fault disk = ⊥
 
 -- a refusal for no configuration is one of what the disk held at first, or holds at the end
 abbrev pub IsNoConfig : DriveFault → (first last : DiskState) → Type 0
-IsNoConfig (faults.NoConfig fault) first last = HoldsNone fault first ⊎ HoldsNone fault last
+IsNoConfig (faults.NoConfig fault) first last = ¬ IsOfDisk fault × (HoldsNone fault first ⊎ HoldsNone fault last)
 IsNoConfig fault first last = ⊤

@@ -1,6 +1,7 @@
 pub mod Drives
 pub mod Endings
 pub mod Faults
+pub mod Powers
 pub mod Recordings
 pub mod Texts
 pub mod Turns

@@ -1,13 +1,13 @@
 -- What a turn of a run does (docs/EXCHANGE.md, "Runs").
-use Rattle.std.specs.Prelude.{◌≡◌, ℕ, ◌≤◌, List, [], ◌∷◌, ◌++◌, Bool, true, false, option_map, Option, Some, None, Result, IsErrOf, OnOk, ⊤}
+use Rattle.std.specs.Prelude.{◌≡◌, ℕ, ◌≤◌, List, [], ◌∷◌, ◌++◌, Bool, false, option_map, Option, Some, None, Result, IsErrOf, OnOk, ⊤}
 use Rattle.load_base.specs.Counts.{Rose}
 use Rattle.accept_rules.specs.Interlocks.{Follows}
 use Rattle.bank_store.specs.DiskWrites.{IsRunning}
 use Rattle.disk_layout.specs.DiskReads.{HasDiskCause}
-use Rattle.disk_model.specs.State.{DiskState}
+use Rattle.disk_model.specs.State.{DiskState, KeepsPower}
 use Rattle.exchange_trace.specs.Happenings.{DatagramView, HappeningView}
 use Rattle.exchange_trace.specs.Logs.{Event}
-use Rattle.exchange_trace.specs.Steps.{Note, Step, Went_down}
+use Rattle.exchange_trace.specs.Steps.{Note, Step, Boot_refused, Came_up, Went_down, with_note}
 use Rattle.link_net.specs.Links.{LinkState}
 use Rattle.load_header.specs.declared.header.LoadHeader.{LoadHeader}
 use Rattle.load_header.specs.Header.{HeaderView}
@@ -20,6 +20,8 @@ use Rattle.target_machine.specs.Decisions.{TargetState}
 use Rattle.upload_replay.specs.Recordings.{with_posts}
 use Rattle.upload_replay.specs.declared.outcome.DriveFault.{DriveFault}
 use Rattle.upload_replay.specs.declared.outcome.DriveFault.TheVariants as faults
+use Rattle.upload_replay.specs.declared.powering.PowerNote.{PowerNote}
+use Rattle.upload_replay.specs.declared.powering.PowerNote.TheVariants as power
 
 -- the loader takes what reaches it, if anything does
 abbrev pub LoaderTakes : Option Event → (before after : LoaderState) → List DatagramView → Type 0
@@ -47,16 +49,26 @@ abbrev pub RunsWhileUp : {R : Type 0} → Option (TargetState R) → DiskState �
 RunsWhileUp None disk = ⊤
 RunsWhileUp (Some t) disk = IsRunning disk
 
--- The disk's count of faults hasn't fallen; it runs on unless the target goes down, and its failure has its cause.
+-- The disk's count of faults hasn't fallen, and it wasn't armed; it runs on unless the target goes down, and its failure has
+-- its cause.
 pub record DiskRuns {T : Type 0} (old new : DiskState) (result : Result T Down) : Type 0 where
   pub faults : old.faults ≤ new.faults
+  pub power : KeepsPower old new
   pub running : OnOk result (new.stopped ≡ false)
   pub cause : HasDiskCause downs.DiskFailed old new result
 
 -- what is noted of it
-abbrev pub notes_of : (goes_down : Bool) → List Note
-notes_of false = []
-notes_of true = Went_down ∷ []
+abbrev pub notes_of : Option PowerNote → List Note
+notes_of None = []
+notes_of (Some power.Down) = Went_down ∷ []
+notes_of (Some (power.Up first_port sequence)) = Came_up first_port sequence ∷ []
+notes_of (Some (power.Refused fault)) = Boot_refused fault ∷ []
+
+-- the steps, with this noted in the newest
+abbrev pub noted_with : List Step → PowerNote → List Step
+noted_with steps power.Down = with_note steps Went_down
+noted_with steps (power.Up first_port sequence) = with_note steps (Came_up first_port sequence)
+noted_with steps (power.Refused fault) = with_note steps (Boot_refused fault)
 
 -- ---- the link and the trace
 

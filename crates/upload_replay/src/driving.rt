@@ -1,16 +1,21 @@
 //! A whole run.
-ghost use Rattle.std.specs.Prelude.{◌≡◌, [], Some, map, true, IfOk, IfErr};
+ghost use Rattle.std.specs.Prelude.{◌≡◌, ◌≤◌, ◌++◌, ℕ, [], Some, map, true};
+ghost use Rattle.std.specs.Prelude.{IfOk, IfErr};
 ghost use Rattle.accept_rules.specs.Interlocks.{Follows};
 ghost use Rattle.bank_store.specs.DiskWrites.{IsRunning};
 ghost use Rattle.disk_layout.specs.Holds.{HoldsConfig};
 ghost use Rattle.disk_model.specs.Image.{Image};
+ghost use Rattle.disk_model.specs.State.{KeepsPower};
+ghost use Rattle.exchange_trace.specs.Posts.{happenings_of};
 ghost use Rattle.exchange_trace.specs.Steps.{steps_of};
 ghost use Rattle.loader_machine.specs.Machine.{media_of, session_view};
 ghost use Rattle.media_check.specs.Sets.{set_view};
 ghost use Rattle.replay_rules.specs.BothEnds.{Setting};
-ghost use Rattle.upload_replay.specs.Drives.{AllKeepPower, IsRun};
+ghost use Rattle.upload_replay.specs.Drives.{NeverBoots, IsRun};
+ghost use Rattle.upload_replay.specs.Endings.{CountsStops, FailedIfUnknown, FailsAtFirst};
 ghost use Rattle.upload_replay.specs.Endings.{HoldsStanding, IsLastFault, IsNoConfig};
 ghost use Rattle.upload_replay.specs.Endings.{first_fault_of, last_refusal_of};
+ghost use Rattle.upload_replay.specs.Powers.{ArmsAsGiven, RoseBy};
 ghost use Rattle.upload_replay.specs.Turns.{HasDriveCause};
 
 use crate::outcome::{Drive, DriveFault};
@@ -19,7 +24,7 @@ use crate::running::run_to_end;
 use crate::turn::Replay;
 use accept_rules::{Interlock, Rule};
 use disk_layout::{RecoverFault, Standing, an_image_holds_one_configuration};
-use disk_model::Disk;
+use disk_model::{Disk, DiskFault, Power};
 use link_net::Link;
 use loader_machine::Loader;
 use media_check::MediaSet;
@@ -29,7 +34,7 @@ use target_machine::{BootFault, Target};
 
 /// Runs a loader that serves this media set, and the target of this disk, until the link gives the
 /// end. Nothing was posted to the link before.
-pub fn drive<L: Link, K: Disk, R: Rule>(
+pub fn drive<L: Link, K: Power, R: Rule>(
     alloc: Global,
     link: &mut L,
     disk: &mut K,
@@ -38,17 +43,26 @@ pub fn drive<L: Link, K: Disk, R: Rule>(
 ) -> Result<Drive, DriveFault>
     requires nothing_posted { (L.state link.old).posted ≡ [] }
     requires running { IsRunning (K.state disk.old) }
-    // With Ok, on a disk that tells its content, where no power was lost and no boot came.
+    // With Ok; on a disk that tells its content, where no boot came.
     ensures run { (set : Setting) (image : Image) → set.media ≡ media_of (set_view media.now)
         → Follows R.may_say interlock.now set.accepts → (K.state disk.old).reads ≡ Some image
         → HoldsConfig image set.start → IfOk result (λ drive.
-        AllKeepPower (steps_of drive.trace.items) → IsRun set (L.state link.old) (L.state link.new)
+        NeverBoots (steps_of drive.trace.items) → IsRun set (L.state link.old) (L.state link.new)
         (steps_of drive.trace.items) (map session_view drive.sessions.items)) }
     ensures standing { IfOk result (λ drive. HoldsStanding drive.standing (K.state disk.new)) }
+    ensures given { IfOk result (λ drive. (L.state link.new).given
+        ≡ happenings_of (steps_of drive.trace.items) ++ (L.state link.old).given) }
+    ensures stops { IfOk result (λ drive. CountsStops (steps_of drive.trace.items)
+        drive.standing (K.state disk.old) (K.state disk.new)) }
     // Refusals.
     ensures link_failed { HasDriveCause (L.faults link.old) (L.faults link.new) result }
+    ensures disk_failed { FailsAtFirst (K.state disk.old) (K.state disk.new) (L.state link.old)
+        (L.state link.new) result }
     ensures no_config { IfErr result
         (λ fault. IsNoConfig fault (K.state disk.old) (K.state disk.new)) }
+    // Whatever it answers.
+    ensures arms { ArmsAsGiven (L.state link.old).given (L.state link.new).given
+        (K.state disk.old) (K.state disk.new) }
 {
     an_image_holds_one_configuration();
     let target = match Target::boot(alloc, disk, interlock, 1024) {
@@ -60,7 +74,7 @@ pub fn drive<L: Link, K: Disk, R: Rule>(
         loader: Loader::new(alloc, media),
         target: Some(target),
     };
-    run_to_end(alloc, &mut run, link, disk)?;
+    run_to_end(alloc, interlock, &mut run, link, disk)?;
     let standing = standing_at_end(alloc, disk, run.target.is_some())?;
     Ok(Drive {
         trace: run.recording.into_trace(),
@@ -81,19 +95,40 @@ fn first_fault(fault: BootFault) -> DriveFault
     }
 }
 
-/// What the disk holds at the end. A target that is down left its disk stopped.
+/// What the disk holds at the end. Where the target is down the disk is restarted first.
 fn standing_at_end<K: Disk>(
     alloc: Global,
     disk: &mut K,
     up: bool,
 ) -> Result<Option<Standing>, DriveFault>
     requires { up ≡ true → IsRunning (K.state disk.old) }
+    ensures unknown { (began stops : ℕ) → RoseBy stops began (K.state disk.old).faults
+        → IfOk result (λ standing. FailedIfUnknown standing began stops (K.state disk.new)) }
+    ensures faults { (K.state disk.old).faults ≤ (K.state disk.new).faults }
     ensures standing { IfOk result (λ standing. HoldsStanding standing (K.state disk.new)) }
     ensures refused { IfErr result (λ fault. IsLastFault fault (K.state disk.new)) }
+    ensures power { KeepsPower (K.state disk.old) (K.state disk.new) }
 {
     if !up {
-        return Ok(None);
+        match disk.restart() {
+            Ok(()) => {}
+            Err(DiskFault::Failed) => return Ok(None),
+            Err(DiskFault::Memory) => return Err(DriveFault::Memory),
+        }
     }
+    recovered(alloc, disk)
+}
+
+/// What a disk that runs holds.
+fn recovered<K: Disk>(alloc: Global, disk: &mut K) -> Result<Option<Standing>, DriveFault>
+    requires { IsRunning (K.state disk.old) }
+    ensures unknown { (began stops : ℕ) → RoseBy stops began (K.state disk.old).faults
+        → IfOk result (λ standing. FailedIfUnknown standing began stops (K.state disk.new)) }
+    ensures faults { (K.state disk.old).faults ≤ (K.state disk.new).faults }
+    ensures standing { IfOk result (λ standing. HoldsStanding standing (K.state disk.new)) }
+    ensures refused { IfErr result (λ fault. IsLastFault fault (K.state disk.new)) }
+    ensures power { KeepsPower (K.state disk.old) (K.state disk.new) }
+{
     match recover(alloc, disk) {
         Ok(standing) => Ok(Some(standing)),
         Err(fault) => last_refusal(fault),

@@ -2,9 +2,12 @@
 //! happened in it, line by line (docs/FORMATS.md, "Printed text").
 #![tactic(auto)]
 
+#[cfg(test)]
+mod drive_tests;
 mod driving;
 mod outcome;
 mod posting;
+mod powering;
 mod reaching;
 mod recording;
 mod report;

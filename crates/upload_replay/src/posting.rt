@@ -24,6 +24,7 @@ pub(crate) fn post_all<L: Link>(
     ensures posts { OnOk result (IsPosted (posts_view posts) (L.state link.old) (L.state link.new)
         recording.old recording.new) }
     ensures begun { OnOk result (HasBegun recording.new) }
+    ensures given { (L.state link.new).given ≡ (L.state link.old).given }
     ensures told { IfErr result (λ fault. IsOfRun fault) }
     ensures cause { HasDriveCause (L.faults link.old) (L.faults link.new) result }
 {
@@ -41,6 +42,7 @@ fn post<L: Link>(
     ensures posts { OnOk result (IsPosted (posted datagram) (L.state link.old) (L.state link.new)
         recording.old recording.new) }
     ensures begun { OnOk result (HasBegun recording.new) }
+    ensures given { (L.state link.new).given ≡ (L.state link.old).given }
     ensures told { IfErr result (λ fault. IsOfRun fault) }
     ensures cause { HasDriveCause (L.faults link.old) (L.faults link.new) result }
 {

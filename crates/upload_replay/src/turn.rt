@@ -1,31 +1,34 @@
 //! A turn of a run.
-ghost use Rattle.std.specs.Prelude.{◌≡◌, ◌++◌, Bool, is_some, IfErr, IfOk, OnOk};
+ghost use Rattle.std.specs.Prelude.{◌≡◌, ◌++◌, ℕ, Bool, List, is_some, IfErr, IfOk, OnOk};
 ghost use Rattle.accept_rules.specs.Interlocks.{Follows};
 ghost use Rattle.bank_store.specs.DiskWrites.{IsRunning};
 ghost use Rattle.exchange_trace.specs.declared.trace.Side.TheVariants as sides;
-ghost use Rattle.exchange_trace.specs.Happenings.{happening_view};
+ghost use Rattle.exchange_trace.specs.Happenings.{HappeningView, happening_view};
 ghost use Rattle.exchange_trace.specs.Logs.{Gets, event_for};
-ghost use Rattle.exchange_trace.specs.Posts.{posted_in};
+ghost use Rattle.exchange_trace.specs.Posts.{first_port_after, happenings_of, posted_in};
 ghost use Rattle.load_header.specs.Header.{HeaderView};
+ghost use Rattle.loader_machine.specs.Machine.{media_of};
 ghost use Rattle.replay_rules.specs.BothEnds.{Setting, TargetState};
-ghost use Rattle.replay_rules.specs.Due.{MayGoDown};
+ghost use Rattle.replay_rules.specs.Due.{MayBeNoted};
 ghost use Rattle.target_machine.specs.Decisions.{Takes};
 ghost use Rattle.transfer_end.specs.Calls.{posts_view};
-ghost use Rattle.upload_replay.specs.Drives.{HasTurned, IsNewStep, TargetTurns};
+ghost use Rattle.upload_replay.specs.Drives.{HasTurned, IsNewStep, IsNoBoot, TargetTurns};
 ghost use Rattle.upload_replay.specs.Drives.{has_session};
 ghost use Rattle.upload_replay.specs.Drives.{is_end as is_end_of};
+ghost use Rattle.upload_replay.specs.Powers.{ArmsAsGiven, ArmsBy, LeavesPower, RoseBy};
+ghost use Rattle.upload_replay.specs.Powers.{disk_stops, stops_in};
+ghost use Rattle.upload_replay.specs.Turns.{DiskRuns, HasDriveCause, IsOfRun, IsStep};
+ghost use Rattle.upload_replay.specs.Turns.{RuleFollows, RunsWhileUp, TargetTakes, link_with};
+ghost use Rattle.upload_replay.specs.Turns.{noted_with, notes_of, target_kept};
 ghost use Rattle.upload_replay.specs.declared.outcome.DriveFault.TheVariants.{Memory};
-ghost use Rattle.loader_machine.specs.Machine.{media_of};
-ghost use Rattle.upload_replay.specs.Turns.{DiskRuns, HasDriveCause, IsStep, RuleFollows, RunsWhileUp};
-ghost use Rattle.upload_replay.specs.Turns.{IsOfRun, TargetTakes, link_with, notes_of};
-ghost use Rattle.upload_replay.specs.Turns.{target_kept};
 
 use crate::outcome::DriveFault;
 use crate::posting::post_all;
+use crate::powering::{PowerNote, boot_again, cut_power};
 use crate::reaching::loader_takes;
 use crate::recording::Recording;
-use accept_rules::Rule;
-use disk_model::Disk;
+use accept_rules::{Interlock, Rule};
+use disk_model::{Disk, Power};
 use exchange_trace::{Datagram, Happening, Side};
 use link_net::Link;
 use loader_machine::{Loader, Posts};
@@ -40,31 +43,51 @@ pub(crate) struct Replay<'r, R: Rule> {
     pub(crate) target: Option<Target<'r, R>>,
 }
 
-/// A turn: what the link gives comes to both sides, the loader first, and what they post goes to
-/// the link. Whether it was the end.
-pub(crate) fn turn<L: Link, K: Disk, R: Rule>(
+/// A turn: what the link gives comes to both sides, and what they post goes to the link, the
+/// loader's datagrams first. Whether it was the end.
+pub(crate) fn turn<'r, L: Link, K: Power, R: Rule>(
     alloc: Global,
-    run: &mut Replay<'_, R>,
+    interlock: &'r Interlock<R>,
+    run: &mut Replay<'r, R>,
     link: &mut L,
     disk: &mut K,
 ) -> Result<bool, DriveFault>
     requires { RunsWhileUp run.old.target (K.state disk.old) }
+    // With Ok.
     ensures turns { (set : Setting) → set.media ≡ media_of run.old.loader.set
         → RuleFollows R.may_say set.accepts run.old.target → IfOk result (λ ended. HasTurned set
         ended run.old.recording run.new.recording run.old.loader run.new.loader run.old.target
         run.new.target (L.state link.old) (L.state link.new)) }
     ensures step { IfOk result (λ ended. IsNewStep ended run.old.recording run.new.recording) }
     ensures media { OnOk result (run.new.loader.set ≡ run.old.loader.set) }
-    ensures rule { (accepts : HeaderView → Bool) → RuleFollows R.may_say accepts run.old.target
+    ensures rule { (accepts : HeaderView → Bool) → Follows R.may_say interlock.now accepts
+        → RuleFollows R.may_say accepts run.old.target
         → OnOk result (RuleFollows R.may_say accepts run.new.target) }
-    ensures told { IfErr result (λ fault. IsOfRun fault) }
     ensures running { OnOk result (RunsWhileUp run.new.target (K.state disk.new)) }
+    ensures stops { (began : ℕ) → RoseBy (disk_stops run.old.recording) began
+        (K.state disk.old).faults → OnOk result (RoseBy (disk_stops run.new.recording) began
+        (K.state disk.new).faults) }
+    ensures happened { (began : List HappeningView)
+        → (L.state link.old).given ≡ happenings_of run.old.recording ++ began
+        → OnOk result ((L.state link.new).given ≡ happenings_of run.new.recording ++ began) }
+    // Whatever it answers.
+    ensures told { IfErr result (λ fault. IsOfRun fault) }
     ensures cause { HasDriveCause (L.faults link.old) (L.faults link.new) result }
+    ensures arms { ArmsAsGiven (L.state link.old).given (L.state link.new).given
+        (K.state disk.old) (K.state disk.new) }
 {
     let happening = link.next(run.loader.waits(), waits(&run.target))?;
     let ended = is_end(&happening);
+    // The target first: a loss of power is armed whatever else may fail.
+    let second = target_turn(
+        alloc,
+        interlock,
+        &mut run.target,
+        disk,
+        &run.recording,
+        &happening,
+    )?;
     let first = loader_takes(&mut run.loader, &run.recording, &happening)?;
-    let second = target_turn(&mut run.target, disk, &run.recording, &happening)?;
     put_turn(alloc, link, &mut run.recording, happening, first, second)?;
     Ok(ended)
 }
@@ -89,47 +112,104 @@ fn waits<R: Rule>(target: &Option<Target<'_, R>>) -> bool
 #[derive(Drop)]
 pub(crate) struct Reply {
     posts: Posts,
-    goes_down: bool,
+    note: Option<PowerNote>,
 }
 
-/// The target, if it is up, takes what this happening brings to it, where this was recorded before;
-/// it goes down where its disk fails.
-pub(crate) fn target_turn<'i, K: Disk, R: Rule>(
+/// The target takes what this happening brings to it, where this was recorded before, or its power
+/// is cut, or it is switched off and on.
+pub(crate) fn target_turn<'i, K: Power, R: Rule>(
+    alloc: Global,
+    interlock: &'i Interlock<R>,
     slot: &mut Option<Target<'i, R>>,
     disk: &mut K,
     recording: &Recording,
     happening: &Happening,
 ) -> Result<Reply, DriveFault>
     requires { RunsWhileUp slot.old (K.state disk.old) }
+    // With Ok.
+    ensures turns { (set : Setting) (state : TargetState)
+        → RuleFollows R.may_say set.accepts slot.old → IsNoBoot (happening_view happening.now)
+        → IfOk result (λ reply. TargetTurns set
+        (event_for sides.Target (posted_in recording.now) (happening_view happening.now)) state
+        (target_kept slot.old) (target_kept slot.new) (posts_view reply.posts)
+        (notes_of reply.note)) }
+    ensures noted { IfOk result (λ reply. MayBeNoted (is_some slot.old)
+        (first_port_after recording.now) (happening_view happening.now) (notes_of reply.note)) }
+    ensures rule { (accepts : HeaderView → Bool) → Follows R.may_say interlock.now accepts
+        → RuleFollows R.may_say accepts slot.old
+        → OnOk result (RuleFollows R.may_say accepts slot.new) }
+    ensures running { OnOk result (RunsWhileUp slot.new (K.state disk.new)) }
+    ensures stops { IfOk result (λ reply. RoseBy
+        (stops_in (happening_view happening.now) (notes_of reply.note))
+        (K.state disk.old).faults (K.state disk.new).faults) }
+    // Whatever it answers.
+    ensures memory { IfErr result (λ fault. fault ≡ Memory) }
+    ensures arms { ArmsBy (happening_view happening.now) (K.state disk.old) (K.state disk.new) }
+{
+    match happening {
+        Happening::Power { calls, pick } => Ok(Reply {
+            posts: Posts::none(),
+            note: cut_power(slot, disk, *calls, *pick),
+        }),
+        Happening::Boot => {
+            let note = boot_again(alloc, interlock, slot, disk, recording.first_port())?;
+            Ok(Reply {
+                posts: Posts::none(),
+                note: Some(note),
+            })
+        }
+        Happening::ToLoader(_) | Happening::ToTarget(_) | Happening::Lost(_) => {
+            reach_target(slot, disk, recording, happening)
+        }
+        Happening::Injected(_) | Happening::TickLoader | Happening::TickTarget => {
+            reach_target(slot, disk, recording, happening)
+        }
+        Happening::BlockSize(_) | Happening::StartInfo { .. } | Happening::StartUpload { .. } => {
+            reach_target(slot, disk, recording, happening)
+        }
+        Happening::End => reach_target(slot, disk, recording, happening),
+    }
+}
+
+/// A target that is up takes what this happening brings to it; it goes down where its disk fails.
+fn reach_target<K: Disk, R: Rule>(
+    slot: &mut Option<Target<'_, R>>,
+    disk: &mut K,
+    recording: &Recording,
+    happening: &Happening,
+) -> Result<Reply, DriveFault>
+    requires running { RunsWhileUp slot.old (K.state disk.old) }
+    requires power { LeavesPower (happening_view happening.now) }
     ensures turns { (set : Setting) (state : TargetState)
         → RuleFollows R.may_say set.accepts slot.old → IfOk result (λ reply. TargetTurns set
         (event_for sides.Target (posted_in recording.now) (happening_view happening.now)) state
         (target_kept slot.old) (target_kept slot.new) (posts_view reply.posts)
-        (notes_of reply.goes_down)) }
-    ensures noted { IfOk result (λ reply.
-        MayGoDown (is_some slot.old) (notes_of reply.goes_down)) }
-    ensures memory { IfErr result (λ fault. fault ≡ Memory) }
+        (notes_of reply.note)) }
+    ensures noted { (first_port : ℕ) → IfOk result (λ reply. MayBeNoted (is_some slot.old)
+        first_port (happening_view happening.now) (notes_of reply.note)) }
     ensures rule { (accepts : HeaderView → Bool) → RuleFollows R.may_say accepts slot.old
         → OnOk result (RuleFollows R.may_say accepts slot.new) }
     ensures running { OnOk result (RunsWhileUp slot.new (K.state disk.new)) }
+    ensures stops { IfOk result (λ reply. RoseBy
+        (stops_in (happening_view happening.now) (notes_of reply.note))
+        (K.state disk.old).faults (K.state disk.new).faults) }
+    ensures memory { IfErr result (λ fault. fault ≡ Memory) }
+    ensures arms { ArmsBy (happening_view happening.now) (K.state disk.old) (K.state disk.new) }
 {
     let Some(mut target) = slot.take() else {
         return Ok(Reply {
             posts: Posts::none(),
-            goes_down: false,
+            note: None,
         });
     };
     match target_takes(&mut target, disk, recording, happening) {
         Ok(posts) => {
             *slot = Some(target);
-            Ok(Reply {
-                posts,
-                goes_down: false,
-            })
+            Ok(Reply { posts, note: None })
         }
         Err(Down::DiskFailed) => Ok(Reply {
             posts: Posts::none(),
-            goes_down: true,
+            note: Some(PowerNote::Down),
         }),
         Err(Down::Memory) => Err(DriveFault::Memory),
     }
@@ -195,18 +275,34 @@ pub(crate) fn put_turn<L: Link>(
     second: Reply,
 ) -> Result<(), DriveFault>
     ensures step { OnOk result (IsStep (happening_view happening)
-        (posts_view first ++ posts_view second.posts) (notes_of second.goes_down)
+        (posts_view first ++ posts_view second.posts) (notes_of second.note)
         recording.old recording.new) }
     ensures link { OnOk result (L.state link.new ≡ link_with (L.state link.old)
         (posts_view first ++ posts_view second.posts)) }
+    ensures given { (L.state link.new).given ≡ (L.state link.old).given }
     ensures told { IfErr result (λ fault. IsOfRun fault) }
     ensures cause { HasDriveCause (L.faults link.old) (L.faults link.new) result }
 {
     recording.give(happening)?;
     post_all(alloc, link, recording, first)?;
     post_all(alloc, link, recording, second.posts)?;
-    if second.goes_down {
-        recording.note_down()?;
+    if let Some(note) = second.note {
+        put_note(recording, note)?;
+    }
+    Ok(())
+}
+
+fn put_note(recording: &mut Recording, note: PowerNote) -> Result<(), DriveFault>
+    ensures noted { OnOk result (recording.new ≡ noted_with recording.old note) }
+    ensures told { IfErr result (λ fault. fault ≡ Memory) }
+{
+    match note {
+        PowerNote::Down => recording.note_down()?,
+        PowerNote::Up {
+            first_port,
+            sequence,
+        } => recording.note_up(first_port, sequence)?,
+        PowerNote::Refused(fault) => recording.note_refused(fault)?,
     }
     Ok(())
 }

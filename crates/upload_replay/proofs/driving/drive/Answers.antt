@@ -1,12 +1,15 @@
-use Rattle.std.proofs.Common.{List, [], Some, sym, ap, subst, ◌∙◌}
+use Rattle.std.proofs.Common.{◌≡◌, List, [], ◌++◌, Some, sym, ap, subst, ◌∙◌}
 use Rattle.std.specs.Prelude.{map}
-use Rattle.exchange_trace.specs.Steps.{Step}
+use Rattle.exchange_trace.specs.Posts.{happenings_of}
+use Rattle.exchange_trace.specs.Steps.{Step, steps_of}
 use Rattle.session_rules.specs.Loader.{LoaderView, new_loader}
 use Rattle.loader_machine.specs.Machine.{LoaderState, media_of, session_view}
 use Rattle.accept_rules.specs.Interlocks.{Follows}
-use Rattle.upload_replay.specs.Drives.{AllKeepPower, GoesOn, IsRun}
+use Rattle.upload_replay.specs.Drives.{NeverBoots, GoesOn, IsRun}
 use Rattle.upload_replay.specs.Turns.{target_kept}
+use Rattle.upload_replay.specs.Powers.{RoseBy, disk_stops}
 use Rattle.upload_replay.proofs.Begins.{begins, comes_up_with, is_run}
+use Rattle.upload_replay.proofs.Counted.{rose_not, rose_on}
 use Rattle.upload_replay.proofs.Ended.{first_refusal, of_last, of_run, refused_so}
 use Rattle.upload_replay.proofs.driving.drive.Goals as goal
 
@@ -36,9 +39,30 @@ returns-clause-run g c =
     subst (λ (v : LoaderView). GoesOn set began [] v (Some target.view) began) (sym (ap (λ (l : LoaderState). l.view) c.new-2.ensures)) start in
     let ready : GoesOn set began c.new.result c.new-2.result.view (Some target.view) began =
     subst (λ (steps : List Step). GoesOn set began steps c.new-2.result.view (Some target.view) began) (sym c.new.ensures) loader in
-    let all_of_run = subst (λ (steps : List Step). AllKeepPower steps) c.into_trace.ensures all in
+    let all_of_run = subst (λ (steps : List Step). NeverBoots steps) c.into_trace.ensures all in
     let rule = subst (λ rule. Follows g.R.Rule.may_say rule set.accepts) (sym c.in-Ok.ensures.comes_up.rule_is) follows in
-    let on = c.in_ok-run_to_end.ensures.goes_on set began (media ∙ ap (λ (l : LoaderState). media_of l.set) (sym c.new-2.ensures)) rule (λ none. ready) all_of_run in
+    let on = c.in_ok-run_to_end.ensures.goes_on set began (media ∙ ap (λ (l : LoaderState). media_of l.set) (sym c.new-2.ensures)) follows rule (λ none. ready) all_of_run in
     subst (λ (steps : List Step). IsRun set began (g.L.Link.state c.run_to_end.new.link) steps (map session_view c.into_sessions.result.items)) (sym c.into_trace.ensures)
     (is_run set began (g.L.Link.state c.run_to_end.new.link) c.run_to_end.new.run.recording c.run_to_end.new.run.loader.view (target_kept c.run_to_end.new.run.target)
     (map session_view c.into_sessions.result.items) on c.in_ok-run_to_end.ensures.ends c.into_sessions.ensures)
+
+pub returns-clause-given : goal.returns-clause-given
+returns-clause-given g c =
+    let first = g.L.Link.state c.args.link.now in
+    let none : first.given ≡ happenings_of c.new.result ++ first.given = ap (λ (steps : List Step). happenings_of steps ++ first.given) (sym c.new.ensures) in
+    subst (λ (steps : List Step). (g.L.Link.state c.run_to_end.new.link).given ≡ happenings_of steps ++ first.given) (sym c.into_trace.ensures)
+    (c.in_ok-run_to_end.ensures.happened first.given none)
+
+pub returns-clause-stops : goal.returns-clause-stops
+returns-clause-stops g c =
+    let first = g.K.Disk.state c.args.disk.now in
+    let last = g.K.Disk.state c.run_to_end.new.disk in
+    let began : RoseBy (disk_stops c.new.result) first.faults (g.K.Disk.state c.boot.new.disk).faults =
+    subst (λ (steps : List Step). RoseBy (disk_stops steps) first.faults (g.K.Disk.state c.boot.new.disk).faults) (sym c.new.ensures)
+    (rose_not first.faults (g.K.Disk.state c.boot.new.disk).faults c.in-Ok.ensures.reads_disk.only_reads.faults) in
+    let so_far : RoseBy (disk_stops (steps_of c.into_trace.result.items)) first.faults last.faults =
+    subst (λ (steps : List Step). RoseBy (disk_stops steps) first.faults last.faults) (sym c.into_trace.ensures) (c.in_ok-run_to_end.ensures.stops first.faults began) in
+    record {
+      stops = rose_on (disk_stops (steps_of c.into_trace.result.items)) first.faults last.faults (g.K.Disk.state c.standing_at_end.new.disk).faults so_far c.standing_at_end.ensures.faults;
+      unknown = c.in_ok-standing.ensures.unknown first.faults (disk_stops (steps_of c.into_trace.result.items)) so_far;
+    }

@@ -1,24 +1,11 @@
-use Rattle.std.proofs.Common.{◌≡◌, Some, sym, subst, ◌∙◌}
-use Rattle.exchange_trace.specs.declared.trace.Side.TheVariants as sides
-use Rattle.exchange_trace.specs.Happenings.{happening_view}
-use Rattle.exchange_trace.specs.Logs.{event_for}
-use Rattle.exchange_trace.specs.Posts.{posted_in}
-use Rattle.transfer_end.specs.Calls.{posts_view}
-use Rattle.upload_replay.specs.Turns.{RuleFollows}
-use Rattle.upload_replay.proofs.Turning.{took, took_rule}
+use Rattle.exchange_trace.specs.Posts.{first_port_after}
 use Rattle.upload_replay.proofs.turn.target_turn.Goals as goal
 
-pub returns-in-Ok-clause-turns : goal.returns-in-Ok-clause-turns
-returns-in-Ok-clause-turns g c =
-    λ set state follows.
-    let slot : c.args.slot.now ≡ Some c.in-Some.target = sym c.take.ensures.value ∙ c.in-Some.is in
-    took set (event_for sides.Target (posted_in c.args.recording.now) (happening_view c.args.happening.now)) state c.args.slot.now c.in-Some.target c.target_takes.new.target
-    (posts_view c.in-Ok.posts) slot (c.in-Ok.ensures.takes set.accepts (subst (λ o. RuleFollows g.R.Rule.may_say set.accepts o) slot follows))
+pub returns-in-Power-clause-turns : goal.returns-in-Power-clause-turns
+returns-in-Power-clause-turns g c = λ set state follows no_boot. rw (c.in-Power.is, c.none.ensures) (c.cut_power.ensures.turns set state)
 
-pub returns-in-Ok-clause-rule : goal.returns-in-Ok-clause-rule
-returns-in-Ok-clause-rule g c =
-    λ accepts follows.
-    let slot : c.args.slot.now ≡ Some c.in-Some.target = sym c.take.ensures.value ∙ c.in-Some.is in
-    let rule = subst (λ o. RuleFollows g.R.Rule.may_say accepts o) slot follows in
-    took_rule g.R.Rule.may_say accepts (event_for sides.Target (posted_in c.args.recording.now) (happening_view c.args.happening.now)) c.in-Some.target c.target_takes.new.target
-    (posts_view c.in-Ok.posts) (c.in-Ok.ensures.takes accepts rule) rule
+pub returns-in-Power-clause-noted : goal.returns-in-Power-clause-noted
+returns-in-Power-clause-noted g c = rw c.in-Power.is (c.cut_power.ensures.noted (first_port_after c.args.recording.now))
+
+pub returns-in-Power-clause-rule : goal.returns-in-Power-clause-rule
+returns-in-Power-clause-rule g c = λ accepts says follows. c.cut_power.ensures.rule accepts follows

@@ -1,5 +1,5 @@
 use Rattle.upload_replay.proofs.Ended.{last_fault, no_standing}
-use Rattle.upload_replay.proofs.driving.standing_at_end.Goals as goal
+use Rattle.upload_replay.proofs.driving.recovered.Goals as goal
 
 pub returns-in-Err-clause-standing : goal.returns-in-Err-clause-standing
 returns-in-Err-clause-standing g c = rw c.last_refusal.ensures (no_standing c.in-Err.fault (g.K.Disk.state c.recover.new.disk))
