@@ -2,7 +2,7 @@
 //! in the file `target.disk` of the current folder, and exits with the status of the run.
 #![tactic(auto)]
 
-use disk_model::FileDisk;
+use disk_model::{FileDisk, Fused};
 use load_base::{StdHost, StdSink};
 use loader_cli::run;
 use std::alloc::{AllocError, Global};
@@ -20,7 +20,7 @@ fn main(rt: HostRuntime) -> ExitCode {
     };
     let mut host = StdHost::new(&rt);
     let mut out = StdSink::new(&rt);
-    let mut disk = FileDisk::new(&rt, "target.disk");
+    let mut disk = Fused::new(FileDisk::new(&rt, "target.disk"));
     let ended = run(alloc, &words, &mut host, &mut out, &mut disk);
     ExitCode::from(ended.status)
 }

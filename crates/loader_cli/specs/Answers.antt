@@ -1,12 +1,15 @@
 -- The status and the text of what a run answers (docs/FORMATS.md, "Printed text").
-use Rattle.std.specs.Prelude.{ℕ, List, codes}
+use Rattle.std.specs.Prelude.{ℕ, List, codes, None, Result, Ok, Err}
+use Rattle.load_base.specs.declared.list.NoMemory.{NoMemory}
 use Rattle.loader_cli.specs.Texts.{refused_words, refused_input, disk_fault, host_fault, no_configuration}
 use Rattle.loader_cli.specs.declared.answer.Answer.{Answer}
-use Rattle.loader_cli.specs.declared.answer.Answer.TheVariants.{Done, Findings, RefusedWords, Absent, TooLong, AbsentFile, TooLongFile, TooLarge, RefusedInput, HostFault, DiskFault, NoConfiguration}
+use Rattle.loader_cli.specs.declared.answer.Answered.{Answered}
+use Rattle.loader_cli.specs.declared.answer.Answer.TheVariants.{Done, Findings, Unfinished, RefusedWords, Absent, TooLong, AbsentFile, TooLongFile, TooLarge, RefusedInput, RefusedFile, HostFault, DiskFault, NoConfiguration}
 
 abbrev pub status_of : Answer → ℕ
 status_of (Done text) = 0
 status_of (Findings text) = 1
+status_of (Unfinished text) = 1
 status_of RefusedWords = 2
 status_of (Absent name) = 3
 status_of (TooLong name) = 3
@@ -14,6 +17,7 @@ status_of (AbsentFile name) = 3
 status_of (TooLongFile name) = 3
 status_of (TooLarge folder) = 3
 status_of (RefusedInput name fault) = 3
+status_of (RefusedFile name fault) = 3
 status_of HostFault = 4
 status_of DiskFault = 5
 status_of (NoConfiguration fault) = 8
@@ -21,6 +25,7 @@ status_of (NoConfiguration fault) = 8
 abbrev pub text_of : Answer → List ℕ
 text_of (Done text) = text.items
 text_of (Findings text) = text.items
+text_of (Unfinished text) = text.items
 text_of RefusedWords = refused_words
 text_of (Absent name) = refused_input name.now (codes "absent")
 text_of (TooLong name) = refused_input name.now (codes "toolong")
@@ -28,6 +33,12 @@ text_of (AbsentFile name) = refused_input name.items (codes "absent")
 text_of (TooLongFile name) = refused_input name.items (codes "toolong")
 text_of (TooLarge folder) = refused_input folder.now (codes "toolarge")
 text_of (RefusedInput name fault) = refused_input name.now fault
+text_of (RefusedFile name fault) = refused_input name.items fault
 text_of HostFault = host_fault
 text_of DiskFault = disk_fault
 text_of (NoConfiguration fault) = no_configuration fault
+
+-- the answer of a command that hands out no run
+abbrev pub answered_of : Result Answer NoMemory → Result Answered NoMemory
+answered_of (Ok answer) = Ok (record { answer = answer; drive = None })
+answered_of (Err fault) = Err fault

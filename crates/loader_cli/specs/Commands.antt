@@ -27,6 +27,10 @@ pub data CommandView : Type 0 where
   build : (recipe folder : List ℕ) → CommandView
   -- `make NUMBER FOLDER`
   make : (number : ℕ) (folder : List ℕ) → CommandView
+  -- `replay FOLDER SCRIPT`
+  replay : (folder script : List ℕ) → CommandView
+  -- `wire FOLDER SCRIPT`
+  wire : (folder script : List ℕ) → CommandView
 
 -- 1 to 150 bytes 0x21 to 0x7E
 abbrev pub IsWord : List ℕ → Type 0
@@ -48,6 +52,8 @@ IsCommand words (show kind file) = (words ≡ codes "show" ∷ file ∷ []) × I
 IsCommand words (check folder) = (words ≡ codes "check" ∷ folder ∷ []) × IsWord folder
 IsCommand words (build recipe folder) = (words ≡ codes "build" ∷ recipe ∷ folder ∷ []) × IsWord recipe × IsWord folder
 IsCommand words (make number folder) = (words ≡ codes "make" ∷ decimal number ∷ folder ∷ []) × (number < 2 ^ 32) × IsWord folder
+IsCommand words (replay folder script) = (words ≡ codes "replay" ∷ folder ∷ script ∷ []) × IsWord folder × IsWord script
+IsCommand words (wire folder script) = (words ≡ codes "wire" ∷ folder ∷ script ∷ []) × IsWord folder × IsWord script
 
 -- the arguments are no command of this sort
 abbrev pub IsNo : (CommandView → Type 0) → List (List ℕ) → Type 0
@@ -64,6 +70,8 @@ UsesDisk (show kind file) = ⊥
 UsesDisk (check folder) = ⊥
 UsesDisk (build recipe folder) = ⊥
 UsesDisk (make number folder) = ⊥
+UsesDisk (replay folder script) = Unit {0}
+UsesDisk (wire folder script) = Unit {0}
 
 -- it writes to the disk
 abbrev pub WritesDisk : CommandView → Type 0
@@ -73,6 +81,8 @@ WritesDisk (show kind file) = ⊥
 WritesDisk (check folder) = ⊥
 WritesDisk (build recipe folder) = ⊥
 WritesDisk (make number folder) = ⊥
+WritesDisk (replay folder script) = Unit {0}
+WritesDisk (wire folder script) = Unit {0}
 
 -- it reads or writes files of the host
 abbrev pub UsesHost : CommandView → Type 0
@@ -82,6 +92,8 @@ UsesHost (show kind file) = Unit {0}
 UsesHost (check folder) = Unit {0}
 UsesHost (build recipe folder) = Unit {0}
 UsesHost (make number folder) = Unit {0}
+UsesHost (replay folder script) = Unit {0}
+UsesHost (wire folder script) = Unit {0}
 
 -- it writes files of the host
 abbrev pub WritesHost : CommandView → Type 0
@@ -91,6 +103,14 @@ WritesHost (show kind file) = ⊥
 WritesHost (check folder) = ⊥
 WritesHost (build recipe folder) = Unit {0}
 WritesHost (make number folder) = Unit {0}
+WritesHost (replay folder script) = ⊥
+WritesHost (wire folder script) = ⊥
+
+-- it runs a script
+abbrev pub UsesScript : CommandView → Type 0
+UsesScript (replay folder script) = Unit {0}
+UsesScript (wire folder script) = Unit {0}
+UsesScript command = ⊥
 
 abbrev pub command_view : Command → CommandView
 command_view commands.List = list
@@ -99,3 +119,5 @@ command_view (commands.Show kind file) = show kind file.now
 command_view (commands.Check folder) = check folder.now
 command_view (commands.Build recipe folder) = build recipe.now folder.now
 command_view (commands.Make number folder) = make number folder.now
+command_view (commands.Replay folder script) = replay folder.now script.now
+command_view (commands.Wire folder script) = wire folder.now script.now

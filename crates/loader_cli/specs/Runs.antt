@@ -26,8 +26,10 @@ use Rattle.disk_layout.specs.Holds.{StandingView, HoldsConfig, HasDiskFault}
 use Rattle.disk_layout.specs.declared.fault.RecoverFault.{RecoverFault}
 use Rattle.listing.specs.Listing.{listing}
 use Rattle.loader_cli.specs.Commands.{IsCommand, IsNo, IsAny}
-use Rattle.loader_cli.specs.Commands.CommandView.{list, format, show, check, build, make}
+use Rattle.loader_cli.specs.Commands.CommandView.{list, format, show, check, build, make, replay, wire}
 use Rattle.loader_cli.specs.Builds.{Builds, Makes, IsNameBuilt, IsNameMade}
+use Rattle.loader_cli.specs.Replays.{Replays, RunSeen}
+use Rattle.loader_cli.specs.declared.replay.Telling.TheVariants.{Report, Trace}
 use Rattle.loader_cli.specs.HostFiles.{Has, HasTooMany, HostWork}
 use Rattle.loader_cli.specs.Texts.{formatted_line, built_line, findings_text, refused_words, refused_input, disk_fault, host_fault, no_configuration}
 use Rattle.loader_cli.specs.declared.top_call.Ended.{Ended}
@@ -107,7 +109,8 @@ pub data Checks (folder : List ℕ) (files : Option Files) (before after : ℕ) 
 
 -- ---- a run
 
--- What a command works on: its arguments, the disk, and the host's files and faults, before and after.
+-- What a command works on: its arguments, the disk, and the host's files and faults, before and after; and the run that it
+-- hands out, if it is of a script.
 pub record Work : Type 1 where
   pub words : List (List ℕ)
   pub disk : DiskState
@@ -116,6 +119,7 @@ pub record Work : Type 1 where
   pub files_after : Option Files
   pub host_faults : ℕ
   pub host_faults_after : ℕ
+  pub handed : Option RunSeen
 
 -- what it does to the host
 abbrev pub host_work : Work → HostWork
@@ -141,6 +145,10 @@ pub data Says (work : Work) (status : ℕ) (text : List ℕ) : Type 0 where
       → Checks folder work.files work.host_faults work.host_faults_after status text → Says work status text
   builds : (recipe folder : List ℕ) → IsCommand work.words (build recipe folder) → Builds recipe folder (host_work work) status text → Says work status text
   makes : (number : ℕ) (folder : List ℕ) → IsCommand work.words (make number folder) → Makes number folder (host_work work) status text → Says work status text
+  replays : (folder script : List ℕ) → IsCommand work.words (replay folder script)
+      → Replays Report folder script work.files work.host_faults work.host_faults_after work.disk work.disk_after work.handed status text → Says work status text
+  traces : (folder script : List ℕ) → IsCommand work.words (wire folder script)
+      → Replays Trace folder script work.files work.host_faults work.host_faults_after work.disk work.disk_after work.handed status text → Says work status text
 
 -- how a run ends
 pub data Ends (run : Run) (ended : Ended) : Type 0 where

@@ -1,11 +1,12 @@
 //! What a run answers, with its status and its text.
-ghost use Rattle.std.specs.Prelude.{◌≡◌, IfOk};
+ghost use Rattle.std.specs.Prelude.{◌≡◌, None, IfOk};
 ghost use Rattle.loader_cli.specs.Answers.{status_of, text_of};
 
 use crate::text::{copy_of, no_configuration_text, refused_text};
 use load_base::{Bytes, NoMemory, Text};
 use recovery::RecoverFault;
 use std::alloc::Global;
+use upload_replay::Drive;
 
 /// What a run answers where its output goes through.
 #[derive(Drop)]
@@ -14,13 +15,15 @@ pub(crate) enum Answer<'w> {
     Done(Bytes),
     /// What is wrong with a media set, as it is printed.
     Findings(Bytes),
+    /// What a run came to in which not every session was completed, as it is printed.
+    Unfinished(Bytes),
     /// The arguments are no command.
     RefusedWords,
     /// There is no file of this name.
     Absent(&'w [u8]),
     /// The file of this name has too many bytes.
     TooLong(&'w [u8]),
-    /// There is no source of this name.
+    /// There is no source, and no list of a media set, of this name.
     AbsentFile(Bytes),
     /// The file of a media set, or the source, of this name has too many bytes.
     TooLongFile(Bytes),
@@ -28,10 +31,32 @@ pub(crate) enum Answer<'w> {
     TooLarge(&'w [u8]),
     /// The file of this name fails at the fault of this text.
     RefusedInput { name: &'w [u8], fault: Text },
+    /// The list of a media set of this name fails at the fault of this text.
+    RefusedFile { name: Bytes, fault: Text },
     HostFault,
     DiskFault,
     /// The disk holds no configuration.
     NoConfiguration(RecoverFault),
+}
+
+/// What a run answers, and what a script came to, where it ran one to its end.
+#[derive(Drop)]
+pub(crate) struct Answered<'w> {
+    pub(crate) answer: Answer<'w>,
+    pub(crate) drive: Option<Drive>,
+}
+
+impl<'w> Answered<'w> {
+    /// An answer without a run.
+    pub(crate) fn of(answer: Answer<'w>) -> Answered<'w>
+        ensures answer { result.answer ≡ answer.entry }
+        ensures drive { result.drive ≡ None }
+    {
+        Answered {
+            answer,
+            drive: None,
+        }
+    }
 }
 
 impl Answer<'_> {
@@ -40,10 +65,11 @@ impl Answer<'_> {
     {
         match self {
             Answer::Done(_) => 0,
-            Answer::Findings(_) => 1,
+            Answer::Findings(_) | Answer::Unfinished(_) => 1,
             Answer::RefusedWords => 2,
             Answer::Absent(_) | Answer::TooLong(_) | Answer::RefusedInput { .. } => 3,
             Answer::AbsentFile(_) | Answer::TooLongFile(_) | Answer::TooLarge(_) => 3,
+            Answer::RefusedFile { .. } => 3,
             Answer::HostFault => 4,
             Answer::DiskFault => 5,
             Answer::NoConfiguration(_) => 8,
@@ -55,7 +81,7 @@ impl Answer<'_> {
         ensures { IfOk result (λ text. text.items ≡ text_of self.entry) }
     {
         match self {
-            Answer::Done(text) | Answer::Findings(text) => Ok(text),
+            Answer::Done(text) | Answer::Findings(text) | Answer::Unfinished(text) => Ok(text),
             Answer::RefusedWords => copy_of(alloc, b"refused words\n"),
             Answer::Absent(name) => refused_text(alloc, name, b"absent"),
             Answer::TooLong(name) => refused_text(alloc, name, b"toolong"),
@@ -63,6 +89,9 @@ impl Answer<'_> {
             Answer::TooLongFile(name) => refused_text(alloc, name.as_slice(), b"toolong"),
             Answer::TooLarge(folder) => refused_text(alloc, folder, b"toolarge"),
             Answer::RefusedInput { name, fault } => refused_text(alloc, name, fault.as_slice()),
+            Answer::RefusedFile { name, fault } => {
+                refused_text(alloc, name.as_slice(), fault.as_slice())
+            }
             Answer::HostFault => copy_of(alloc, b"host fault\n"),
             Answer::DiskFault => copy_of(alloc, b"disk fault\n"),
             Answer::NoConfiguration(fault) => no_configuration_text(alloc, fault),

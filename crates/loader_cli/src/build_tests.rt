@@ -3,8 +3,7 @@ use crate::set_vectors::{
     APP_FILES, APP_HEADER, APP_LOADS, CFG, CFG_HEADER, FILES_1, FILES_2, LOADS_1, LOADS_2, NAV_TXT,
     NAV1, NAV2, OPS, OPS_HEADER,
 };
-use crate::tests::{NAV, run_over};
-use disk_model::MemDisk;
+use crate::tests::{NAV, disk_with, run_over};
 use load_base::{Bytes, Host, MemHost, ReadFault, StdHost, WriteFault};
 use std::alloc::Global;
 use std::fs;
@@ -58,7 +57,7 @@ fn has(alloc: Global, host: &mut MemHost, name: &[u8], bytes: &[u8]) -> Result<b
 
 // What a run on these arguments says.
 fn said(alloc: Global, words: &[&str], host: &mut MemHost) -> Result<Bytes, Fail> {
-    run_over(alloc, words, host, &mut MemDisk::new(alloc, b"")?)
+    run_over(alloc, words, host, &mut disk_with(alloc, b"")?)
 }
 
 // A host with this recipe and one source; it made two calls.
@@ -287,7 +286,7 @@ fn sets_over_the_real_host(rt: HostRuntime) -> Result<(), Fail> {
         (&["check", "M"], b"0 findings 0\n"),
     ];
     for (words, wanted) in rows {
-        let mut disk = MemDisk::new(rt.alloc(), b"")?;
+        let mut disk = disk_with(rt.alloc(), b"")?;
         let text = run_over(rt.alloc(), words, &mut StdHost::new(&rt), &mut disk)?;
         assert_eq!(rt; text.as_slice(), wanted);
     }

@@ -3,8 +3,7 @@ use crate::set_vectors::{
     APP_FILES, APP_HEADER, APP_LOADS, CFG, CFG_HEADER, FILES_1, FILES_2, LOADS_1, LOADS_2, NAV_TXT,
     NAV1, NAV2, OPS, OPS_HEADER,
 };
-use crate::tests::{NAV, run_over};
-use disk_model::MemDisk;
+use crate::tests::{NAV, disk_with, run_over};
 use load_base::{Bytes, Host, MemHost, WriteFault};
 use std::alloc::Global;
 use std::test::Fail;
@@ -12,7 +11,7 @@ use std::test::Fail;
 const CHECK: &[&str] = &["check", "P"];
 
 // Writes the file of this name.
-fn write(host: &mut MemHost, name: &[u8], bytes: &[u8]) -> Result<(), Fail> {
+pub(crate) fn write(host: &mut MemHost, name: &[u8], bytes: &[u8]) -> Result<(), Fail> {
     match host.write(name, bytes) {
         Ok(()) => Ok(()),
         Err(WriteFault::Failed) => Err(Fail::new("the host refused a file")),
@@ -22,12 +21,12 @@ fn write(host: &mut MemHost, name: &[u8], bytes: &[u8]) -> Result<(), Fail> {
 
 // What `check P` says of the set in this host.
 fn checked(alloc: Global, host: &mut MemHost) -> Result<Bytes, Fail> {
-    run_over(alloc, CHECK, host, &mut MemDisk::new(alloc, b"")?)
+    run_over(alloc, CHECK, host, &mut disk_with(alloc, b"")?)
 }
 
 // A host with both lists and the header of a set of one load, but without its file; it made three
 // calls.
-fn app_set(alloc: Global) -> Result<MemHost, Fail> {
+pub(crate) fn app_set(alloc: Global) -> Result<MemHost, Fail> {
     let mut host = MemHost::new(alloc);
     write(&mut host, b"P/1/LOADS.LUM", &APP_LOADS)?;
     write(&mut host, b"P/1/FILES.LUM", &APP_FILES)?;

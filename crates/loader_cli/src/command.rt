@@ -4,7 +4,7 @@ ghost use Rattle.std.specs.Fmt.{decimal};
 ghost use Rattle.disk_layout.specs.Offsets.{IsBankSize};
 ghost use Rattle.disk_layout.specs.declared.identity.Identity.{Identity};
 ghost use Rattle.shown_files.specs.Kinds.{IsNameOf};
-ghost use Rattle.loader_cli.specs.Commands.CommandView.{show, check, build, make};
+ghost use Rattle.loader_cli.specs.Commands.CommandView.{show, check, build, make, replay, wire};
 ghost use Rattle.loader_cli.specs.Commands.{IsAny, IsCommand, IsNo, IsWord, NamesTarget};
 ghost use Rattle.loader_cli.specs.Commands.{command_view, texts_of};
 
@@ -29,6 +29,10 @@ pub(crate) enum Command<'w> {
     Build { recipe: &'w str, folder: &'w str },
     /// `make NUMBER FOLDER`: make the generated set of a number in this folder.
     Make { number: u32, folder: &'w str },
+    /// `replay FOLDER SCRIPT`: run the sessions of a script, and print the report.
+    Replay { folder: &'w str, script: &'w str },
+    /// `wire FOLDER SCRIPT`: run the same sessions, and print the trace.
+    Wire { folder: &'w str, script: &'w str },
 }
 
 impl<'w> Command<'w> {
@@ -53,6 +57,12 @@ impl<'w> Command<'w> {
             }
             [word, number, folder] if is_text(word.as_str(), "make") => {
                 make_of(number.as_str(), folder.as_str())
+            }
+            [word, folder, script] if is_text(word.as_str(), "replay") => {
+                replay_of(folder.as_str(), script.as_str())
+            }
+            [word, folder, script] if is_text(word.as_str(), "wire") => {
+                wire_of(folder.as_str(), script.as_str())
             }
             _ => None,
         }
@@ -112,6 +122,34 @@ fn make_of<'w>(digits: &'w str, folder: &'w str) -> Option<Command<'w>>
     }
     let number = number(digits)?;
     Some(Command::Make { number, folder })
+}
+
+// The command `replay` for this folder and script.
+fn replay_of<'w>(folder: &'w str, script: &'w str) -> Option<Command<'w>>
+    ensures some { IfSome result (λ command.
+        (command_view command ≡ replay folder.now script.now)
+        × IsWord folder.now × IsWord script.now) }
+    ensures none { IfNone result (¬ (IsWord folder.now × IsWord script.now)) }
+{
+    if is_word(folder.as_bytes()) && is_word(script.as_bytes()) {
+        Some(Command::Replay { folder, script })
+    } else {
+        None
+    }
+}
+
+// The command `wire` for this folder and script.
+fn wire_of<'w>(folder: &'w str, script: &'w str) -> Option<Command<'w>>
+    ensures some { IfSome result (λ command.
+        (command_view command ≡ wire folder.now script.now)
+        × IsWord folder.now × IsWord script.now) }
+    ensures none { IfNone result (¬ (IsWord folder.now × IsWord script.now)) }
+{
+    if is_word(folder.as_bytes()) && is_word(script.as_bytes()) {
+        Some(Command::Wire { folder, script })
+    } else {
+        None
+    }
 }
 
 // The target that these arguments name.

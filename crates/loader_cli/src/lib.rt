@@ -9,6 +9,8 @@ mod answer;
 mod build;
 mod check;
 mod command;
+mod inputs;
+mod replay;
 mod show;
 mod text;
 mod top_call;
@@ -23,6 +25,10 @@ mod build_tests;
 #[cfg(test)]
 mod check_tests;
 #[cfg(test)]
+mod replay_tests;
+#[cfg(test)]
 mod set_vectors;
 #[cfg(test)]
 mod tests;
+#[cfg(test)]
+mod upload_tests;

@@ -1,8 +1,8 @@
 ghost use Rattle.std.specs.Prelude.{◌≡◌, ◌≤◌, length, false, IfOk};
-ghost use Rattle.disk_model.specs.MemDisk.{state_of};
+ghost use Rattle.disk_model.specs.declared.disk.TheConstants.{SIZE};
 
 use super::*;
-use disk_model::{Disk, FileDisk, MemDisk};
+use disk_model::{Disk, FileDisk, Fused, MemDisk};
 use load_base::{Bytes, Host, MemHost, MemSink, StdHost, StdSink};
 use std::alloc::Global;
 use std::fs;
@@ -25,7 +25,7 @@ const DISK: usize = 8300;
 static IDENTITY: &[u8] = b"A615\x00\x01\x00\x00\x10\x00\x03HW1\x01L\x03SN1\xB4\x3C";
 
 // A disk that was formatted for that target, with these bytes from an offset on.
-fn formatted(at: usize, bytes: &[u8]) -> [u8; DISK] {
+pub(crate) fn formatted(at: usize, bytes: &[u8]) -> [u8; DISK] {
     let mut disk = [0; DISK];
     put(&mut disk, 0, IDENTITY);
     put(&mut disk, 4096, &[0xA5]);
@@ -70,14 +70,22 @@ fn words_of(alloc: Global, words: &[&str]) -> Result<Vec<String>, Fail> {
     Ok(all)
 }
 
+// A disk with these bytes, whose power can be lost.
+pub(crate) fn disk_with(alloc: Global, bytes: &[u8]) -> Result<Fused<MemDisk>, Fail>
+    requires { length bytes.now ≤ SIZE }
+    ensures { IfOk result (λ disk. disk.stopped ≡ false) }
+{
+    Ok(Fused::new(MemDisk::new(alloc, bytes)?))
+}
+
 // The status of a run on these arguments as a digit, a space, and what the run prints.
 pub(crate) fn run_over<H: Host>(
     alloc: Global,
     words: &[&str],
     host: &mut H,
-    disk: &mut MemDisk,
+    disk: &mut Fused<MemDisk>,
 ) -> Result<Bytes, Fail>
-    requires { (state_of disk.old).stopped ≡ false }
+    requires { disk.old.stopped ≡ false }
 {
     let words = words_of(alloc, words)?;
     let mut out = MemSink::new(alloc);
@@ -90,7 +98,7 @@ pub(crate) fn run_over<H: Host>(
 
 // The same over a disk with these bytes and a host without files.
 fn run_on(alloc: Global, words: &[&str], disk: &[u8; DISK]) -> Result<Bytes, Fail> {
-    let mut disk = MemDisk::new(alloc, disk)?;
+    let mut disk = disk_with(alloc, disk)?;
     run_over(alloc, words, &mut MemHost::new(alloc), &mut disk)
 }
 
@@ -98,7 +106,7 @@ fn run_on(alloc: Global, words: &[&str], disk: &[u8; DISK]) -> Result<Bytes, Fai
 fn run_failing(alloc: Global, words: &[&str], disk: &[u8; DISK], call: u32) -> Result<Bytes, Fail> {
     let mut disk = MemDisk::new(alloc, disk)?;
     disk.fail_at(call)?;
-    run_over(alloc, words, &mut MemHost::new(alloc), &mut disk)
+    run_over(alloc, words, &mut MemHost::new(alloc), &mut Fused::new(disk))
 }
 
 #[test]
@@ -202,7 +210,7 @@ fn lists_two_loads_with_a_long_file(rt: HostRuntime) -> Result<(), Fail> {
         17_240,
         b"ABC42-0000-0002\x00\x01\x07OPS.LUH\x00\x00\x00\x01",
     );
-    let mut disk = MemDisk::new(rt.alloc(), &disk)?;
+    let mut disk = disk_with(rt.alloc(), &disk)?;
     let said = run_over(rt.alloc(), LIST, &mut MemHost::new(rt.alloc()), &mut disk)?;
     let wanted = b"0 target HW1 L SN1
 bank 0 sequence 4294967295
@@ -236,7 +244,7 @@ fn each_call_of_the_disk_fails_in_turn(rt: HostRuntime) -> Result<(), Fail> {
 #[test]
 fn formats_a_disk(rt: HostRuntime) -> Result<(), Fail> {
     let words = &["format", "FMC-1", "R", "SN77", "67108864"];
-    let mut disk = MemDisk::new(rt.alloc(), &loaded(4608, &[0xA5]))?;
+    let mut disk = disk_with(rt.alloc(), &loaded(4608, &[0xA5]))?;
     let said = run_over(rt.alloc(), words, &mut MemHost::new(rt.alloc()), &mut disk)?;
     assert_eq!(rt;
         said.as_slice(),
@@ -305,7 +313,7 @@ fn refuses_what_is_no_command(rt: HostRuntime) -> Result<(), Fail> {
 // The status of a run over a sink whose only call fails.
 fn status_without_output(alloc: Global, words: &[&str]) -> Result<u8, Fail> {
     let words = words_of(alloc, words)?;
-    let mut disk = MemDisk::new(alloc, &formatted(0, &[]))?;
+    let mut disk = disk_with(alloc, &formatted(0, &[]))?;
     let mut out = MemSink::new(alloc);
     out.fail_at(1)?;
     let ended = run(alloc, &words, &mut MemHost::new(alloc), &mut out, &mut disk);
@@ -324,7 +332,7 @@ fn a_sink_that_fails(rt: HostRuntime) -> Result<(), Fail> {
 fn status_on_file(rt: &HostRuntime, name: &str) -> Result<u8, Fail> {
     let alloc = rt.alloc();
     let words = words_of(alloc, LIST)?;
-    let mut disk = FileDisk::new(rt, name);
+    let mut disk = Fused::new(FileDisk::new(rt, name));
     let ended = run(
         alloc,
         &words,
@@ -400,7 +408,7 @@ fn run_beside(
 ) -> Result<Bytes, Fail> {
     let mut host = host_with(alloc, name.as_bytes(), bytes)?;
     host.fail_at(call)?;
-    let mut disk = MemDisk::new(alloc, &formatted(0, &[]))?;
+    let mut disk = disk_with(alloc, &formatted(0, &[]))?;
     run_over(alloc, words, &mut host, &mut disk)
 }
 
@@ -448,7 +456,7 @@ fn too_many_bytes_are_refused(rt: HostRuntime) -> Result<(), Fail> {
 fn status_of_file(rt: &HostRuntime, name: &str) -> Result<u8, Fail> {
     let alloc = rt.alloc();
     let words = words_of(alloc, &["show", name])?;
-    let mut disk = MemDisk::new(alloc, &formatted(0, &[]))?;
+    let mut disk = disk_with(alloc, &formatted(0, &[]))?;
     let ended = run(
         alloc,
         &words,

@@ -1,31 +1,34 @@
 //! The top call.
 ghost use Rattle.std.specs.Option.{ForSome};
-ghost use Rattle.std.specs.Prelude.{◌≡◌, false, IfOk};
-ghost use Rattle.disk_model.specs.State.{OnlyReads};
+ghost use Rattle.std.specs.Prelude.{◌≡◌, None, false, option_map, IfOk};
+ghost use Rattle.disk_model.specs.State.{KeepsPower, OnlyReads};
 ghost use Rattle.disk_layout.specs.Offsets.{IsBankSize};
 ghost use Rattle.disk_layout.specs.declared.identity.Identity.{Identity};
 ghost use Rattle.bank_store.specs.Formatting.{LeavesOldOrFormatted};
 ghost use Rattle.media_build.specs.WrittenFolders.{KeepsAllBut};
-ghost use Rattle.loader_cli.specs.Answers.{status_of, text_of};
+ghost use Rattle.loader_cli.specs.Answers.{answered_of, status_of, text_of};
 ghost use Rattle.loader_cli.specs.Commands.{texts_of, IsCommand, IsNo, UsesDisk, WritesDisk};
-ghost use Rattle.loader_cli.specs.Commands.{UsesHost, WritesHost};
+ghost use Rattle.loader_cli.specs.Commands.{UsesScript, UsesHost, WritesHost};
 ghost use Rattle.loader_cli.specs.Commands.CommandView.{format as format_command};
+ghost use Rattle.loader_cli.specs.Replays.{run_seen};
 ghost use Rattle.loader_cli.specs.Runs.{Run, Lists, Formats, Says, EndsAsPromised, IsWritten};
 
-use crate::answer::Answer;
+use crate::answer::{Answer, Answered};
 use crate::build::{build, make};
 use crate::check::check;
 use crate::command::Command;
+use crate::replay::{Telling, replay};
 use crate::show::show;
 use crate::text::formatted_text;
 use bank_store::{StoreFault, an_unformatted_disk_is_as_it_was, format};
 use disk_layout::Identity;
-use disk_model::Disk;
+use disk_model::{Disk, Power};
 use listing::listing_text;
 use load_base::{Host, NoMemory, Sink, WriteFault};
 use media_build::laws::{a_written_folder_holds_the_set, building_laws};
 use recovery::{RecoverFault, recover};
 use std::alloc::Global;
+use upload_replay::Drive;
 
 const OUT_OF_MEMORY: u8 = 6;
 
@@ -36,7 +39,7 @@ const OUTPUT_FAILED: u8 = 7;
 /// | status | when |
 /// |---|---|
 /// | 0 | what was asked for was printed |
-/// | 1 | `check` found something |
+/// | 1 | `check` found something, or a session of `replay` or `wire` wasn't completed |
 /// | 2 | the arguments are no command |
 /// | 3 | an input is absent, too long or not in its grammar, or a media set is too large |
 /// | 4 | the host failed |
@@ -44,21 +47,25 @@ const OUTPUT_FAILED: u8 = 7;
 /// | 6 | out of memory |
 /// | 7 | the output failed, and a prefix of it may have gone out |
 /// | 8 | the disk holds no configuration |
-#[derive(Clone, Copy, Debug, PartialEq, Eq)]
+#[derive(Drop)]
 pub struct Ended {
     pub status: u8,
+    /// What happened in a run of `replay` or `wire` that came to its end, its sessions, and what
+    /// the disk held then. None for other commands, and where memory ran out.
+    pub drive: Option<Drive>,
 }
 
 /// Runs the program on its arguments: `list`, `format HW POS SERIAL BANK`, `show FILE` with the
 /// name of a file of one of the kinds of [`shown_files::ShownKind`], `check FOLDER`,
-/// `build RECIPE FOLDER` or `make NUMBER FOLDER`. The output goes out in one piece at the end.
+/// `build RECIPE FOLDER`, `make NUMBER FOLDER`, `replay FOLDER SCRIPT` or `wire FOLDER SCRIPT`. The
+/// output goes out in one piece at the end.
 ///
 /// Only `build` and `make` write files of the host: those of the set, under their names. Where the
 /// host fails, those before it were written.
 ///
-/// Only `list` and `format` use the disk, and only `format` writes. While it does, a power loss
-/// leaves the old configuration whole, or a disk that holds nothing, or the formatted one.
-pub fn run<H: Host, O: Sink, K: Disk>(
+/// Only `list`, `format`, `replay` and `wire` use the disk, and `list` only reads it. While `format`
+/// writes, a power loss leaves the old configuration whole, or a disk that holds nothing, or the formatted one.
+pub fn run<H: Host, O: Sink, K: Power>(
     alloc: Global,
     words: &[String],
     host: &mut H,
@@ -79,6 +86,7 @@ pub fn run<H: Host, O: Sink, K: Disk>(
         files_after = H.files host.new;
         host_faults = H.faults host.old;
         host_faults_after = H.faults host.new;
+        handed = option_map run_seen result.drive;
       };
       output = O.content out.old;
       output_after = O.content out.new;
@@ -95,43 +103,51 @@ pub fn run<H: Host, O: Sink, K: Disk>(
         → H.files host.new ≡ H.files host.old }
     ensures other_files { ForSome (H.files host.old) (λ told.
         KeepsAllBut (IsWritten (texts_of words.now) told) told (H.files host.new)) }
+    ensures no_run { IsNo UsesScript (texts_of words.now) → result.drive ≡ None }
+    ensures never_armed { IsNo UsesScript (texts_of words.now)
+        → KeepsPower (K.state disk.old) (K.state disk.new) }
     // What a power loss leaves.
     ensures while_formatting { (id : Identity) → IsCommand (texts_of words.now) (format_command id)
         → LeavesOldOrFormatted id (K.state disk.old) (K.state disk.new) }
 {
     building_laws();
     a_written_folder_holds_the_set();
-    let Ok(answer) = answer(alloc, words, host, disk) else {
-        return Ended {
-            status: OUT_OF_MEMORY,
-        };
+    let Ok(Answered { answer, drive }) = answer(alloc, words, host, disk) else {
+        return out_of_memory();
     };
     let status = answer.status();
     let Ok(text) = answer.into_text(alloc) else {
-        return Ended {
-            status: OUT_OF_MEMORY,
-        };
+        return out_of_memory();
     };
     match out.put(text.as_slice()) {
-        Ok(()) => Ended { status },
+        Ok(()) => Ended { status, drive },
         Err(WriteFault::Failed) => Ended {
             status: OUTPUT_FAILED,
+            drive,
         },
-        Err(WriteFault::Memory) => Ended {
-            status: OUT_OF_MEMORY,
-        },
+        Err(WriteFault::Memory) => out_of_memory(),
+    }
+}
+
+fn out_of_memory() -> Ended
+    ensures status { result.status ≡ OUT_OF_MEMORY }
+    ensures drive { result.drive ≡ None }
+{
+    Ended {
+        status: OUT_OF_MEMORY,
+        drive: None,
     }
 }
 
 // Does what the arguments ask for.
-fn answer<'w, H: Host, K: Disk>(
+fn answer<'w, H: Host, K: Power>(
     alloc: Global,
     words: &'w [String],
     host: &mut H,
     disk: &mut K,
-) -> Result<Answer<'w>, NoMemory>
+) -> Result<Answered<'w>, NoMemory>
     requires { (K.state disk.old).stopped ≡ false }
-    ensures says { IfOk result (λ answer. Says (record {
+    ensures says { IfOk result (λ said. Says (record {
       words = texts_of words.now;
       disk = K.state disk.old;
       disk_after = K.state disk.new;
@@ -139,7 +155,12 @@ fn answer<'w, H: Host, K: Disk>(
       files_after = H.files host.new;
       host_faults = H.faults host.old;
       host_faults_after = H.faults host.new;
-    }) (status_of answer) (text_of answer)) }
+      handed = option_map run_seen said.drive;
+    }) (status_of said.answer) (text_of said.answer)) }
+    ensures no_run { IsNo UsesScript (texts_of words.now)
+        → IfOk result (λ said. said.drive ≡ None) }
+    ensures never_armed { IsNo UsesScript (texts_of words.now)
+        → KeepsPower (K.state disk.old) (K.state disk.new) }
     ensures disk_untouched { IsNo UsesDisk (texts_of words.now) → disk.new ≡ disk.old }
     ensures only_reads { IsNo WritesDisk (texts_of words.now)
         → OnlyReads (K.state disk.old) (K.state disk.new) }
@@ -152,13 +173,33 @@ fn answer<'w, H: Host, K: Disk>(
         → LeavesOldOrFormatted id (K.state disk.old) (K.state disk.new) }
 {
     match Command::read(words) {
-        None => Ok(Answer::RefusedWords),
-        Some(Command::List) => list(alloc, disk),
-        Some(Command::Format(identity)) => format_disk(alloc, disk, &identity),
-        Some(Command::Show { kind, file }) => show(alloc, host, kind, file),
-        Some(Command::Check { folder }) => check(alloc, host, folder),
-        Some(Command::Build { recipe, folder }) => build(alloc, host, recipe, folder),
-        Some(Command::Make { number, folder }) => make(alloc, host, number, folder),
+        None => Ok(Answered::of(Answer::RefusedWords)),
+        Some(Command::List) => alone(list(alloc, disk)),
+        Some(Command::Format(identity)) => alone(format_disk(alloc, disk, &identity)),
+        Some(Command::Show { kind, file }) => alone(show(alloc, host, kind, file)),
+        Some(Command::Check { folder }) => alone(check(alloc, host, folder)),
+        Some(Command::Build { recipe, folder }) => alone(build(alloc, host, recipe, folder)),
+        Some(Command::Make { number, folder }) => alone(make(alloc, host, number, folder)),
+        Some(Command::Replay { folder, script }) => {
+            replay(alloc, host, disk, folder, script, Telling::Report)
+        }
+        Some(Command::Wire { folder, script }) => {
+            replay(alloc, host, disk, folder, script, Telling::Trace)
+        }
+    }
+}
+
+// The answer of a command that runs no script.
+fn alone<'w>(answer: Result<Answer<'w>, NoMemory>) -> Result<Answered<'w>, NoMemory>
+    ensures same { result ≡ answered_of answer.entry }
+    ensures no_run { IfOk result (λ said. said.drive ≡ None) }
+{
+    match answer {
+        Ok(answer) => Ok(Answered {
+            answer,
+            drive: None,
+        }),
+        Err(fault) => Err(fault),
     }
 }
 
@@ -190,6 +231,7 @@ fn format_disk<'w, K: Disk>(
         (text_of answer)) }
     ensures while_formatting { LeavesOldOrFormatted identity.now (K.state disk.old)
         (K.state disk.new) }
+    ensures power { KeepsPower (K.state disk.old) (K.state disk.new) }
 {
     an_unformatted_disk_is_as_it_was::<K>();
     // Made first: once the disk is written, memory may not be what is lacking for saying so.

@@ -6,20 +6,21 @@ use Rattle.loader_cli.specs.Builds.{IsNameBuilt, IsNameMade}
 use Rattle.loader_cli.specs.Commands.{texts_of}
 use Rattle.loader_cli.specs.Runs.{IsWritten}
 use Rattle.loader_cli.specs.Runs.IsWritten.{built, made}
-use Rattle.loader_cli.specs.Runs.Says.{lists, formats, shows, checks, builds, makes}
+use Rattle.loader_cli.specs.Runs.Says.{lists, formats, shows, checks, builds, makes, replays, traces}
 use Rattle.loader_cli.proofs.OtherFiles.{sets_more}
+use Rattle.loader_cli.proofs.Replayed.{alone_so}
 use Rattle.loader_cli.proofs.Targets.{one_target}
 use Rattle.loader_cli.proofs.top_call.answer.Goals as goal
 
 pub returns-in-Some-List-clause-says : goal.returns-in-Some-List-clause-says
 returns-in-Some-List-clause-says g c =
     let command = rw c.in-Some-List.field-0-is at c.in-Some-List.ensures.some in
-    IfOk-weaker c.list.result _ _ (λ answer says. lists command says) c.list.ensures.says
+    alone_so c.list.result c.alone.result _ _ c.alone.ensures.same (λ answer says. lists command says) c.list.ensures.says
 
 pub returns-in-Some-Format-clause-says : goal.returns-in-Some-Format-clause-says
 returns-in-Some-Format-clause-says g c =
     let command = rw c.in-Some-Format.field-0-is at c.in-Some-Format.ensures.some in
-    IfOk-weaker c.format_disk.result _ _ (λ answer says. formats c.in-Some-Format.identity command says) c.format_disk.ensures.says
+    alone_so c.format_disk.result c.alone-in-Some-Format.result _ _ c.alone-in-Some-Format.ensures.same (λ answer says. formats c.in-Some-Format.identity command says) c.format_disk.ensures.says
 
 pub returns-in-Some-Format-clause-while_formatting : goal.returns-in-Some-Format-clause-while_formatting
 returns-in-Some-Format-clause-while_formatting g c id asked =
@@ -30,22 +31,22 @@ returns-in-Some-Format-clause-while_formatting g c id asked =
 pub returns-in-Some-Show-clause-says : goal.returns-in-Some-Show-clause-says
 returns-in-Some-Show-clause-says g c =
     let command = rw c.in-Some-Show.field-0-is at c.in-Some-Show.ensures.some in
-    IfOk-weaker c.show.result _ _ (λ answer says. shows c.in-Some-Show.kind c.in-Some-Show.file.now command says) c.show.ensures.shows
+    alone_so c.show.result c.alone-in-Some-Show.result _ _ c.alone-in-Some-Show.ensures.same (λ answer says. shows c.in-Some-Show.kind c.in-Some-Show.file.now command says) c.show.ensures.shows
 
 pub returns-in-Some-Check-clause-says : goal.returns-in-Some-Check-clause-says
 returns-in-Some-Check-clause-says g c =
     let command = rw c.in-Some-Check.field-0-is at c.in-Some-Check.ensures.some in
-    IfOk-weaker c.check.result _ _ (λ answer says. checks c.in-Some-Check.folder.now command says) c.check.ensures.checks
+    alone_so c.check.result c.alone-in-Some-Check.result _ _ c.alone-in-Some-Check.ensures.same (λ answer says. checks c.in-Some-Check.folder.now command says) c.check.ensures.checks
 
 pub returns-in-Some-Build-clause-says : goal.returns-in-Some-Build-clause-says
 returns-in-Some-Build-clause-says g c =
     let command = rw c.in-Some-Build.field-0-is at c.in-Some-Build.ensures.some in
-    IfOk-weaker c.build.result _ _ (λ answer says. builds c.in-Some-Build.recipe.now c.in-Some-Build.folder.now command says) c.build.ensures.says
+    alone_so c.build.result c.alone-in-Some-Build.result _ _ c.alone-in-Some-Build.ensures.same (λ answer says. builds c.in-Some-Build.recipe.now c.in-Some-Build.folder.now command says) c.build.ensures.says
 
 pub returns-in-Some-Make-clause-says : goal.returns-in-Some-Make-clause-says
 returns-in-Some-Make-clause-says g c =
     let command = rw c.in-Some-Make.field-0-is at c.in-Some-Make.ensures.some in
-    IfOk-weaker c.make.result _ _ (λ answer says. makes c.in-Some-Make.number c.in-Some-Make.folder.now command says) c.make.ensures.says
+    alone_so c.make.result c.alone-in-Some-Make.result _ _ c.alone-in-Some-Make.ensures.same (λ answer says. makes c.in-Some-Make.number c.in-Some-Make.folder.now command says) c.make.ensures.says
 
 pub returns-in-Some-Build-clause-other_files : goal.returns-in-Some-Build-clause-other_files
 returns-in-Some-Build-clause-other_files g c =
@@ -62,3 +63,13 @@ returns-in-Some-Make-clause-other_files g c =
     let folder = c.in-Some-Make.folder.now in
     sets_more (λ told. IsNameMade number folder) (λ told. IsWritten (texts_of c.args.words.now) told) (g.H.Host.files c.args.host.now) (g.H.Host.files c.args.host.now)
     (g.H.Host.files c.make.new.host) refl (λ told is name one. made number folder command one) c.make.ensures.others
+
+pub returns-in-Some-Replay-clause-says : goal.returns-in-Some-Replay-clause-says
+returns-in-Some-Replay-clause-says g c =
+    let command = rw c.in-Some-Replay.field-0-is at c.in-Some-Replay.ensures.some in
+    IfOk-weaker c.replay.result _ _ (λ answer says. replays c.in-Some-Replay.folder.now c.in-Some-Replay.script.now command says) c.replay.ensures.replays
+
+pub returns-in-Some-Wire-clause-says : goal.returns-in-Some-Wire-clause-says
+returns-in-Some-Wire-clause-says g c =
+    let command = rw c.in-Some-Wire.field-0-is at c.in-Some-Wire.ensures.some in
+    IfOk-weaker c.replay-in-Some-Wire.result _ _ (λ answer says. traces c.in-Some-Wire.folder.now c.in-Some-Wire.script.now command says) c.replay-in-Some-Wire.ensures.replays

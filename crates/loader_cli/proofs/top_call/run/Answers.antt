@@ -11,20 +11,20 @@ pub returns-in-Ok-put-clause-ends : goal.returns-in-Ok-put-clause-ends
 returns-in-Ok-put-clause-ends g c =
     let was = g.O.Sink.content c.args.out.now in
     let now = g.O.Sink.content c.put.new.self in
-    let text : c.as_slice.result.now ≡ text_of c.in-Ok.answer = c.as_slice.ensures ∙ c.in-Ok-into_text.ensures in
+    let text : c.as_slice.result.now ≡ text_of c.in-Ok.field-0.answer = c.as_slice.ensures ∙ c.in-Ok-into_text.ensures in
     let laws : BuildingLaws = record {
       sizes = c.building_laws.ensures.sizes;
       sources = c.building_laws.ensures.sources;
       built = c.a_written_folder_holds_the_set.ensures.built;
       made = c.a_written_folder_holds_the_set.ensures.made;
     } in
-    as_promised laws _ _ (told (text_of c.in-Ok.answer) (rw (← c.status-status.ensures) at c.in-Ok.ensures.says) (subst (λ (bytes : List ℕ). IsExtended was now bytes) text c.in-Ok-put.ensures.content))
+    as_promised laws _ _ (told (text_of c.in-Ok.field-0.answer) (rw (← c.status-status.ensures) at c.in-Ok.ensures.says) (subst (λ (bytes : List ℕ). IsExtended was now bytes) text c.in-Ok-put.ensures.content))
 
 pub returns-in-Err-Failed-clause-ends : goal.returns-in-Err-Failed-clause-ends
 returns-in-Err-Failed-clause-ends g c =
     let was = g.O.Sink.content c.args.out.now in
     let now = g.O.Sink.content c.put.new.self in
-    let text : c.as_slice.result.now ≡ text_of c.in-Ok.answer = c.as_slice.ensures ∙ c.in-Ok-into_text.ensures in
+    let text : c.as_slice.result.now ≡ text_of c.in-Ok.field-0.answer = c.as_slice.ensures ∙ c.in-Ok-into_text.ensures in
     let failed : c.in-Err-Failed.field-0 ≡ Failed = c.in-Err-Failed.field-0-is in
     let part = rw failed at c.in-Err-Failed.ensures.content in
     let laws : BuildingLaws = record {
@@ -33,5 +33,5 @@ returns-in-Err-Failed-clause-ends g c =
       built = c.a_written_folder_holds_the_set.ensures.built;
       made = c.a_written_folder_holds_the_set.ensures.made;
     } in
-    as_promised laws _ _ (sink_failed c.status-status.result (text_of c.in-Ok.answer) part.0 (rw (← c.status-status.ensures) at c.in-Ok.ensures.says)
+    as_promised laws _ _ (sink_failed c.status-status.result (text_of c.in-Ok.field-0.answer) part.0 (rw (← c.status-status.ensures) at c.in-Ok.ensures.says)
     (subst (λ (bytes : List ℕ). IsExtended was now (take part.0 bytes)) text part.1) (c.in-Err-Failed.ensures.cause.failed (cc)) refl)

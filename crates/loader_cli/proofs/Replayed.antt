@@ -1,0 +1,71 @@
+-- What a run of a script comes to.
+use Rattle.std.proofs.Common.{◌≡◌, ℕ, List, [], ◌∷◌, ◌++◌, Option, Some, None, refl, sym, ap, subst, ◌∙◌, ◌<◌, length}
+use Rattle.std.specs.Prelude.{All, IfOk, Result, Ok, Err, map, option_map}
+use Rattle.std.proofs.lemmas.List.{append-nil}
+use Rattle.std.proofs.lemmas.List.{get_or-map, length-map}
+use Rattle.disk_model.specs.State.{DiskState}
+use Rattle.disk_layout.specs.Holds.{standing_view}
+use Rattle.disk_layout.specs.declared.fault.RecoverFault.{RecoverFault}
+use Rattle.disk_layout.specs.declared.standing.Standing.{Standing}
+use Rattle.exchange_trace.specs.Lines.{Line}
+use Rattle.exchange_trace.specs.Happenings.{HappeningView}
+use Rattle.exchange_trace.specs.Posts.{happenings_of}
+use Rattle.exchange_trace.specs.Steps.{Step, steps_of}
+use Rattle.media_check.specs.Sets.{SetView}
+use Rattle.upload_replay.specs.Endings.{CountsStops, FailedIfUnknown, HoldsStanding, IsNoConfig}
+use Rattle.upload_replay.specs.Powers.{ArmsAsGiven, armed_after, armings_after, disk_stops}
+use Rattle.upload_replay.specs.declared.outcome.Drive.{Drive}
+use Rattle.upload_replay.specs.declared.outcome.DriveFault.TheVariants.{NoConfig}
+use Rattle.load_base.specs.declared.list.NoMemory.{NoMemory}
+use Rattle.loader_cli.specs.Answers.{answered_of}
+use Rattle.loader_cli.specs.declared.answer.Answer.{Answer}
+use Rattle.loader_cli.specs.declared.answer.Answered.{Answered}
+use Rattle.loader_cli.specs.Replays.{CountsPower, RunsScript, RunsTo, Tells, run_seen}
+use Rattle.loader_cli.specs.Replays.RunsTo.{ended, unknown, no_config}
+use Rattle.loader_cli.specs.Texts.{no_configuration}
+use Rattle.loader_cli.specs.declared.replay.Telling.{Telling}
+
+alone : (one other none : List HappeningView) → none ≡ [] → one ++ none ≡ other ++ none → one ≡ other
+alone one other none is same = sym (append-nil one) ∙ (ap (λ (rest : List HappeningView). one ++ rest) (sym is) ∙ (same ∙ (ap (λ (rest : List HappeningView). other ++ rest) is ∙ append-nil other)))
+
+-- what a drive says of its disk, by its trace
+pub counts_power : (steps : List Step) (standing : Option Standing) (old new : DiskState) (before after : List HappeningView) → before ≡ [] → CountsStops steps standing old new
+    → after ≡ happenings_of steps ++ before → ArmsAsGiven before after old new → CountsPower steps old new
+counts_power steps standing old new before after none stops is arms =
+    let same : arms.given ≡ happenings_of steps = alone arms.given (happenings_of steps) before none (sym arms.more ∙ is) in
+    record {
+      stops = stops.stops;
+      armings = arms.armings ∙ ap (λ (list : List HappeningView). armings_after list old.armings) same;
+      armed = arms.armed ∙ ap (λ (list : List HappeningView). armed_after list old.armed) same;
+    }
+
+pub ran_to : (told : Telling) (set : SetView) (script : List Line) (old new : DiskState) (run : Drive) (status : ℕ) (text : List ℕ)
+    → RunsScript set script old (run_seen run) → HoldsStanding run.standing new → CountsStops (steps_of run.trace.items) run.standing old new
+    → CountsPower (steps_of run.trace.items) old new → Tells told (run_seen run) (option_map standing_view run.standing) status text
+    → RunsTo told set script old new (Some (run_seen run)) status text
+ran_to told set script old new run status text runs holds stops counts tells = by run.standing refl holds stops.unknown tells
+  where
+    by : (standing : Option Standing) → run.standing ≡ standing → HoldsStanding standing new → FailedIfUnknown standing old.faults (disk_stops (steps_of run.trace.items)) new
+        → Tells told (run_seen run) (option_map standing_view standing) status text → RunsTo told set script old new (Some (run_seen run)) status text
+    by None is holds failed tells = unknown (run_seen run) refl (ap (option_map standing_view) is) runs counts failed.0 failed.1 tells.0 tells.1
+    by (Some standing) is holds failed tells = ended (run_seen run) (standing_view standing) refl (ap (option_map standing_view) is) runs holds counts tells.0 tells.1
+
+pub refused_to : (told : Telling) (set : SetView) (script : List Line) (old new : DiskState) (fault : RecoverFault) → IsNoConfig (NoConfig fault) old new
+    → RunsTo told set script old new None 8 (no_configuration fault)
+refused_to told set script old new fault refused = no_config fault refl refused.0 refused.1 refl refl
+
+-- what holds of all that is made of a list's elements
+pub each_of_map : {X Y : Type 0} (P : Y → Type 0) (f : X → Y) (xs : List X) → All P (map f xs) → All (λ x. P (f x)) xs
+each_of_map P f xs all k d small =
+    subst P (get_or-map f xs k d (f d) small) (all k (f d) (subst (λ (n : ℕ). k < n) (sym (length-map xs f)) small))
+
+-- ---- other commands
+
+-- what holds of an answer holds where no run is handed out beside it
+pub alone_so : (r : Result Answer NoMemory) (s : Result Answered NoMemory) (P : Answer → Type 0) (Q : Answered → Type 0) → s ≡ answered_of r
+    → ((answer : Answer) → P answer → Q (record { answer = answer; drive = None })) → IfOk r P → IfOk s Q
+alone_so r s P Q is so holds = subst (λ (t : Result Answered NoMemory). IfOk t Q) (sym is) (by r holds)
+  where
+    by : (r : Result Answer NoMemory) → IfOk r P → IfOk (answered_of r) Q
+    by (Ok answer) holds = so answer holds
+    by (Err fault) holds = tt

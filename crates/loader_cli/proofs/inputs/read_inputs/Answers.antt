@@ -1,0 +1,52 @@
+use Rattle.std.proofs.Common.{List, ℕ, Option, refl, ap, subst, arith}
+use Rattle.std.specs.Prelude.{IfOk, codes}
+use Rattle.std.proofs.lemmas.Result.{IfOk-weaker}
+use Rattle.load_base.specs.Host.{Files}
+use Rattle.load_base.specs.Listed.{Listed}
+use Rattle.media_check.specs.HostNames.{files_name, loads_name}
+use Rattle.media_lists.specs.ListFaultText.{list_fault_text}
+use Rattle.media_lists.specs.Files.{files_list, files_list_view}
+use Rattle.media_lists.specs.Loads.{loads_list, loads_list_view}
+use Rattle.loader_cli.specs.Inputs.{ReadsInputs}
+use Rattle.loader_cli.specs.Replays.RefusesInputs.{loads_too_long}
+use Rattle.loader_cli.specs.Texts.{refused_input}
+use Rattle.loader_cli.proofs.ReadInputs.{list_is_absent, list_is_faulty, list_read, never_large, refuses_loads}
+use Rattle.loader_cli.proofs.inputs.read_inputs.Goals as goal
+
+pub read_files-requires : goal.read_files-requires
+read_files-requires g c =
+    list_read loads_list_view loads_list (loads_name c.args.folder.now 1) (g.H.Host.files c.args.host.now) (g.H.Host.files c.read_loads_list.new.host) c.in-Ok-Read.loads c.read_loads_list.ensures.kept
+    (rw c.in-Ok-Read.field-0-is at c.in-Ok-Read.ensures.reads)
+
+pub returns-in-Ok-Read-clause-reads : goal.returns-in-Ok-Read-clause-reads
+returns-in-Ok-Read-clause-reads g c =
+    λ before least.
+    subst (λ (files : Option Files). IfOk c.read_files.result (λ read. ReadsInputs c.args.folder.now c.args.name.now files before (g.H.Host.faults c.read_files.new.host) read))
+    c.read_loads_list.ensures.kept (c.read_files.ensures.reads before (omega (arith, least, c.read_loads_list.ensures.cause.later)))
+
+pub returns-in-Ok-Missing-clause-reads : goal.returns-in-Ok-Missing-clause-reads
+returns-in-Ok-Missing-clause-reads g c =
+    λ before least.
+    let absent = list_is_absent loads_list_view loads_list (loads_name c.args.folder.now 1) (g.H.Host.files c.args.host.now) (rw c.in-Ok-Missing.field-0-is at c.in-Ok-Missing.ensures.reads) in
+    IfOk-weaker c.absent_list.result _ _
+    (λ read is. refuses_loads c.args.folder.now c.args.name.now (g.H.Host.files c.args.host.now) before _ (codes "absent") read absent is) c.absent_list.ensures
+
+pub returns-in-Ok-Refused-clause-reads : goal.returns-in-Ok-Refused-clause-reads
+returns-in-Ok-Refused-clause-reads g c =
+    λ before least.
+    let fault = c.in-Ok-Refused.fault in
+    let faulty = list_is_faulty loads_list_view loads_list (loads_name c.args.folder.now 1) (g.H.Host.files c.args.host.now) fault (rw c.in-Ok-Refused.field-0-is at c.in-Ok-Refused.ensures.reads) in
+    IfOk-weaker c.refused_list.result _ _
+    (λ read is. refuses_loads c.args.folder.now c.args.name.now (g.H.Host.files c.args.host.now) before _ (list_fault_text fault) read faulty is) c.refused_list.ensures
+
+pub returns-in-Err-TooLong-clause-reads : goal.returns-in-Err-TooLong-clause-reads
+returns-in-Err-TooLong-clause-reads g c =
+    λ before least.
+    let file = c.in-Err-TooLong.file in
+    loads_too_long file.items (rw c.in-Err-TooLong.field-0-is at c.in-Err-TooLong.ensures.reads) refl
+    (ap (λ (f : Listed ℕ). refused_input f.items (codes "toolong")) c.in-Err-TooLong.file-is)
+
+pub returns-in-Err-TooLarge-clause-reads : goal.returns-in-Err-TooLarge-clause-reads
+returns-in-Err-TooLarge-clause-reads g c =
+    λ before least.
+    never_large c.args.folder.now c.args.name.now (g.H.Host.files c.args.host.now) before _ (rw c.in-Err-TooLarge.field-0-is at c.in-Err-TooLarge.ensures.reads)

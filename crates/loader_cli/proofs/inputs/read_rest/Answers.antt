@@ -1,0 +1,29 @@
+use Rattle.std.proofs.Common.{List, ℕ, Option, refl, ap, subst, arith}
+use Rattle.std.specs.Prelude.{IfOk, codes}
+use Rattle.load_base.specs.Host.{Files}
+use Rattle.load_base.specs.Listed.{Listed}
+use Rattle.media_check.specs.HostNames.{files_name, loads_name}
+use Rattle.media_lists.specs.Files.{files_list, files_list_view}
+use Rattle.media_lists.specs.Loads.{loads_list, loads_list_view}
+use Rattle.loader_cli.specs.Inputs.{ReadsInputs}
+use Rattle.loader_cli.specs.Replays.RefusesInputs.{long_file}
+use Rattle.loader_cli.specs.Texts.{refused_input}
+use Rattle.loader_cli.proofs.ReadInputs.{has_list, long_in_rest}
+use Rattle.loader_cli.proofs.inputs.read_rest.Goals as goal
+
+pub returns-in-Ok-clause-reads : goal.returns-in-Ok-clause-reads
+returns-in-Ok-clause-reads g c =
+    λ before least.
+    subst (λ (files : Option Files). IfOk c.read_script.result (λ read. ReadsInputs c.args.folder.now c.args.name.now files before (g.H.Host.faults c.read_script.new.host) read))
+    c.open_rest.ensures.kept (c.read_script.ensures.reads before (omega (arith, least, c.open_rest.ensures.cause.later)))
+
+pub returns-in-Err-TooLong-clause-reads : goal.returns-in-Err-TooLong-clause-reads
+returns-in-Err-TooLong-clause-reads g c =
+    λ before least.
+    let folder = c.args.folder.now in
+    let files = g.H.Host.files c.args.host.now in
+    let file = c.in-Err-TooLong.file in
+    long_file file.items
+    (has_list loads_list files (loads_name folder 1) (loads_list_view c.args.loads) c.requires.loads, has_list files_list files (files_name folder 1) (files_list_view c.args.files) c.requires.files)
+    (long_in_rest folder files (loads_list_view c.args.loads) (files_list_view c.args.files) file c.requires.loads c.requires.files (rw c.in-Err-TooLong.field-0-is at c.in-Err-TooLong.ensures.opens))
+    refl (ap (λ (f : Listed ℕ). refused_input f.items (codes "toolong")) c.in-Err-TooLong.file-is)

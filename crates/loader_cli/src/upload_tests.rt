@@ -1,0 +1,276 @@
+//! Uploads by the command `replay`, as another program reported them.
+use crate::check_tests::{app_set, write};
+use crate::set_vectors::APP_HEADER;
+use crate::tests::{disk_with, formatted, run_over};
+use load_base::{Bytes, MemHost};
+use std::alloc::Global;
+use std::test::Fail;
+
+const REPLAY: &[&str] = &["replay", "P", "S"];
+
+const UPLOAD: &[u8] = b"upload HW1 L ABC41-0000-0001\nfinish\n";
+
+const RECIPE: &[u8] = b"set XYZ5A-0000-0001
+members 1
+load ABC41-0000-0001 APP.LUH 1 7 APP
+hardware HW1
+data APP.BIN 1 app.bin APP1
+";
+
+const FOR_OTHER_HARDWARE: &[u8] = b"set XYZ5A-0000-0001
+members 1
+load ABC41-0000-0001 APP.LUH 1 7 APP
+hardware HW9
+data APP.BIN 1 app.bin APP1
+";
+
+const OF_TYPE_0: &[u8] = b"set XYZ5A-0000-0001
+members 1
+load ABC41-0000-0001 APP.LUH 1 0 APP
+hardware HW1
+data APP.BIN 1 app.bin APP1
+";
+
+// The second load has no files and is for other hardware.
+const WITH_ANOTHER: &[u8] = b"set XYZ5A-0000-0001
+members 1
+load ABC41-0000-0001 APP.LUH 1 7 APP
+hardware HW1
+data APP.BIN 1 app.bin APP1
+load ABC42-0000-0002 BAD.LUH 1 8 BAD
+hardware HW9
+";
+
+const APP: &[u8] = b"123456789";
+
+static ZEROS: [u8; 3932] = [0; 3932];
+
+// What is reported of a script on the set of this recipe and source, over an empty target.
+fn reported(alloc: Global, recipe: &[u8], source: &[u8], script: &[u8]) -> Result<Bytes, Fail> {
+    let mut host = MemHost::new(alloc);
+    write(&mut host, b"R", recipe)?;
+    write(&mut host, b"app.bin", source)?;
+    write(&mut host, b"S", script)?;
+    let mut disk = disk_with(alloc, &formatted(0, b""))?;
+    run_over(alloc, &["build", "R", "P"], &mut host, &mut disk)?;
+    run_over(alloc, REPLAY, &mut host, &mut disk)
+}
+
+pub(crate) const NOT_INSTALLED: &[u8] = b"target HW1 L SN1\nbank 0 sequence 1\nloads 0\n";
+
+const INSTALLED: &[u8] = b"target HW1 L SN1
+bank 1 sequence 2
+loads 1
+load ABC41-0000-0001 APP.LUH 2
+file APP.LUH 122 248A
+file APP.BIN 9 29B1
+";
+
+pub(crate) fn is_report(said: &Bytes, sessions: &[u8], listing: &[u8]) -> bool {
+    let said = said.as_slice();
+    said.len() == sessions.len() + listing.len()
+        && said.starts_with(sessions)
+        && said.ends_with(listing)
+}
+
+#[test]
+fn an_upload_is_completed(rt: HostRuntime) -> Result<(), Fail> {
+    let rows: [(&[u8], &[u8]); 5] = [
+        (UPLOAD, b"0 session 1 upload completed\ndatagrams 21\n"),
+        (
+            b"upload HW1 L ABC41-0000-0001\nnext 1\ngive 1\nnext 1\ngive 2\nfinish\n",
+            b"0 session 1 upload completed\ndatagrams 22\n",
+        ),
+        (
+            b"upload HW1 L ABC41-0000-0001\nnext 6\ngive 8\nfinish\n",
+            b"0 session 1 upload completed\ndatagrams 22\n",
+        ),
+        (
+            b"upload HW1 L ABC41-0000-0001\nnext 10\nlose 11\ngive 12\ntick loader\nlose 13\ntick target\nlose 14\ntick loader\nlose 15\ntick target\nlose 16\nfinish\n",
+            b"0 session 1 upload completed\ndatagrams 28\n",
+        ),
+        (
+            b"info HW1 L\nfinish\nupload HW1 L ABC41-0000-0001\nfinish\n",
+            b"0 session 1 info completed\nhardware HW1 SN1\nsession 2 upload completed\ndatagrams 32\n",
+        ),
+    ];
+    for (script, sessions) in rows {
+        let said = reported(rt.alloc(), RECIPE, APP, script)?;
+        assert!(rt; is_report(&said, sessions, INSTALLED));
+    }
+    Ok(())
+}
+
+#[test]
+fn an_upload_ends_without_an_installation(rt: HostRuntime) -> Result<(), Fail> {
+    let rows: [(&[u8], &[u8], &[u8], &[u8]); 8] = [
+        (FOR_OTHER_HARDWARE, APP, UPLOAD, b"1 session 1 upload stopped A4\ndatagrams 18\n"),
+        (OF_TYPE_0, APP, UPLOAD, b"1 session 1 upload stopped A5\ndatagrams 18\n"),
+        (
+            RECIPE,
+            &ZEROS,
+            UPLOAD,
+            b"1 session 1 upload stopped A9 4097 4096\ndatagrams 18\n",
+        ),
+        (
+            RECIPE,
+            APP,
+            b"upload HW1 L ABC41-0000-0001\ntick loader\ntick loader\ntick loader\ntick loader\ntick loader\ntick loader\n",
+            b"1 session 1 upload gaveup\ndatagrams 6\n",
+        ),
+        (
+            RECIPE,
+            APP,
+            b"upload HW1 L ABC41-0000-0001\ntick loader\ntick loader\ntick loader\ntick loader\ntick loader\n",
+            b"1 session 1 upload open\ndatagrams 6\n",
+        ),
+        (
+            RECIPE,
+            APP,
+            b"upload HW1 L XYZ5A-0000-0001\n",
+            b"1 session 1 upload notonmedia XYZ5A-0000-0001\ndatagrams 0\n",
+        ),
+        (
+            RECIPE,
+            APP,
+            b"inject target 40000 59 00014857315f4c2e4c5549006f6374657400\nfinish\n",
+            b"0 datagrams 6\n",
+        ),
+        (RECIPE, APP, b"upload HW2 L ABC41-0000-0001\nfinish\n", b"1 session 1 upload peererror 1\ndatagrams 2\n"),
+    ];
+    for (recipe, source, script, sessions) in rows {
+        let said = reported(rt.alloc(), recipe, source, script)?;
+        assert!(rt; is_report(&said, sessions, NOT_INSTALLED));
+    }
+    Ok(())
+}
+
+// The target boots between the two, and datagrams of the first session come late.
+#[test]
+fn an_upload_that_is_stopped_leaves_the_one_before(rt: HostRuntime) -> Result<(), Fail> {
+    let script = b"upload HW1 L ABC41-0000-0001
+finish
+boot
+upload HW1 L ABC42-0000-0002
+next 3
+give 18
+give 20
+finish
+";
+    let said = reported(rt.alloc(), WITH_ANOTHER, APP, script)?;
+    let sessions =
+        b"1 session 1 upload completed\nsession 2 upload stopped A4\ndatagrams 39\n".as_slice();
+    assert!(rt; is_report(&said, sessions, INSTALLED));
+    Ok(())
+}
+
+// What an upload leaves on the disk where power is lost at this call: the old configuration, the
+// new one, or anything else.
+fn held_after_a_loss(alloc: Global, call: u32, pick: u32) -> Result<u8, Fail> {
+    let script =
+        format!(in alloc; "power {call} {pick}\nupload HW1 L ABC41-0000-0001\nfinish\n")?;
+    let said = reported(alloc, RECIPE, APP, script.as_bytes())?;
+    let said = said.as_slice();
+    if said.ends_with(NOT_INSTALLED) {
+        Ok(b'o')
+    } else if said.ends_with(INSTALLED) {
+        Ok(b'n')
+    } else {
+        Ok(b'?')
+    }
+}
+
+// Once the target is up, an installation syncs, as the other gate is shut; it writes the header,
+// the file, the manifest in two pieces and the other slot's body, and syncs; and the gate is call 8,
+// its sync 9. What wasn't synced stays, is zeroed, or becomes other bytes.
+#[test]
+fn a_power_loss_leaves_the_old_configuration_or_the_new(rt: HostRuntime) -> Result<(), Fail> {
+    for pick in 0..3u32 {
+        for call in 1..10u32 {
+            let held = held_after_a_loss(rt.alloc(), call, pick)?;
+            let wanted = if call >= 8 && pick == 0 { b'n' } else { b'o' };
+            assert_eq!(rt; held, wanted, "call {call} pick {pick}");
+        }
+    }
+    Ok(())
+}
+
+// Whole reports, of files that are read in other blocks.
+#[test]
+fn files_of_other_lengths_are_installed(rt: HostRuntime) -> Result<(), Fail> {
+    let rows: [(usize, &[u8], &[u8]); 4] = [
+        (0, UPLOAD, b"0 session 1 upload completed
+datagrams 21
+target HW1 L SN1
+bank 1 sequence 2
+loads 1
+load ABC41-0000-0001 APP.LUH 2
+file APP.LUH 122 724D
+file APP.BIN 0 FFFF
+"),
+        (1024, UPLOAD, b"0 session 1 upload completed
+datagrams 25
+target HW1 L SN1
+bank 1 sequence 2
+loads 1
+load ABC41-0000-0001 APP.LUH 2
+file APP.LUH 122 44FD
+file APP.BIN 1024 B76F
+"),
+        (1024, b"blksize 1024\nupload HW1 L ABC41-0000-0001\nfinish\n", b"0 session 1 upload completed
+datagrams 29
+target HW1 L SN1
+bank 1 sequence 2
+loads 1
+load ABC41-0000-0001 APP.LUH 2
+file APP.LUH 122 44FD
+file APP.BIN 1024 B76F
+"),
+        (3931, UPLOAD, b"0 session 1 upload completed
+datagrams 35
+target HW1 L SN1
+bank 1 sequence 2
+loads 1
+load ABC41-0000-0001 APP.LUH 2
+file APP.LUH 122 3A2E
+file APP.BIN 3931 EEA5
+"),
+    ];
+    for (length, script, wanted) in rows {
+        let said = reported(rt.alloc(), RECIPE, &ZEROS[..length.min(3932)], script)?;
+        assert_eq!(rt; said.as_slice(), wanted);
+    }
+    Ok(())
+}
+
+// What is reported of an upload of a set whose files are changed.
+fn reported_with(alloc: Global, name: &[u8], bytes: &[u8]) -> Result<Bytes, Fail> {
+    let mut host = app_set(alloc)?;
+    write(&mut host, b"S", UPLOAD)?;
+    write(&mut host, name, bytes)?;
+    run_over(alloc, REPLAY, &mut host, &mut disk_with(alloc, &formatted(0, b""))?)
+}
+
+#[test]
+fn a_changed_set_stops_an_upload(rt: HostRuntime) -> Result<(), Fail> {
+    let mut pointer = APP_HEADER;
+    pointer[27] = 39;
+    let rows: [(&[u8], &[u8], &[u8]); 3] = [
+        (b"Q", b"", b"1 session 1 upload stopped A1 1\ndatagrams 20\n"),
+        (
+            b"P/1/APP.BIN",
+            b"1234567890",
+            b"1 session 1 upload stopped A6 1 9 10\ndatagrams 21\n",
+        ),
+        (
+            b"P/1/APP.LUH",
+            &pointer,
+            b"1 session 1 upload stopped A2 H4 5 39 38\ndatagrams 18\n",
+        ),
+    ];
+    for (name, bytes, sessions) in rows {
+        let said = reported_with(rt.alloc(), name, bytes)?;
+        assert!(rt; is_report(&said, sessions, NOT_INSTALLED));
+    }
+    Ok(())
+}
