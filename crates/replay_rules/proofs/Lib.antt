@@ -4,3 +4,4 @@ pub mod InstalledMedia
 pub mod FirstPosting
 pub mod ToldTraces
 pub mod AskedFor
+pub mod PortsApart

@@ -278,7 +278,7 @@ module _ (joins : SumsJoin) (moves : MovesStayFair) (set : Setting) (s : Step) (
       }
 
 module _ (joins : SumsJoin) (moves : MovesStayFair) (set : Setting) where
-  trace_is_fair : (steps : List Step) → IsUninjected set steps → TraceIsFair set steps
+  pub trace_is_fair : (steps : List Step) → IsUninjected set steps → TraceIsFair set steps
   trace_is_fair [] is = record {
     target = record { one = nothing_is_fair sides.Target sides.Loader; other_one = nothing_is_fair sides.Loader sides.Target; has = (tt, record { counts = tt; first = omega arith; below = tt; rise = tt }) };
     last = tt;

@@ -185,7 +185,7 @@ module _ (set : Setting) where
   reached_target None (Is_down active interrupted) change is = is
   reached_target (Some e) (Is_down active interrupted) change is = is
 
-  has_target : (steps : List Step) → AllStayOrAreNew set steps → HasTarget (target_at set steps)
+  pub has_target : (steps : List Step) → AllStayOrAreNew set steps → HasTarget (target_at set steps)
   has_target [] all = refl
   has_target (s ∷ earlier) (change, all) =
       let is = has_target earlier all in

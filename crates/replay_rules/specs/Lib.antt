@@ -18,3 +18,4 @@ pub mod MediaTraces
 pub mod FirstPostTraces
 pub mod CompletedTraces
 pub mod AskedTraces
+pub mod PortTraces

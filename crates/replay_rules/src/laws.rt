@@ -8,6 +8,7 @@ ghost use Rattle.replay_rules.specs.ListTraces.{CompletedListsActive, TargetWrit
 ghost use Rattle.replay_rules.specs.MediaTraces.{InstallsAreOfMedia};
 ghost use Rattle.replay_rules.specs.OtherEndTraces.{LoaderGivesMedia, WhatArrivesWasSent};
 ghost use Rattle.replay_rules.specs.PlacedTraces.{DueIsPlaced, DueIsTwoAtMost, PortsRise};
+ghost use Rattle.replay_rules.specs.PortTraces.{PortsStayApart};
 ghost use Rattle.replay_rules.specs.Ties.{StepKeepsTie};
 
 use crc_fields::check_sum_laws;
@@ -47,6 +48,15 @@ pub fn what_arrives_was_sent()
     ensures sent { WhatArrivesWasSent }
     // Each file that the loader gives is the media set's file of its name.
     ensures media { LoaderGivesMedia }
+{
+    check_sum_laws();
+    what_comes_was_sent();
+}
+
+/// Where nothing is injected, the port that a side draws next is at every moment above port 59,
+/// above the other side's mark and above the port of its own kept transfer.
+pub fn ports_stay_apart()
+    ensures { PortsStayApart }
 {
     check_sum_laws();
     what_comes_was_sent();

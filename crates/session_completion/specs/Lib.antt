@@ -1,0 +1,14 @@
+pub mod Worlds
+pub mod Retries
+pub mod Requests
+pub mod Clean
+pub mod Laws
+pub mod Shapes
+pub mod Safety
+pub mod Finish
+pub mod Course
+pub mod Stages
+pub mod GoodRequests
+pub mod GoodUploads
+pub mod FaultFreeRuns
+pub mod FinishedRuns

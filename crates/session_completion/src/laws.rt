@@ -1,0 +1,113 @@
+//! What holds of uploads in which nothing is lost, and of runs that stand where these stand. These
+//! functions do nothing; their clauses are the law.
+ghost use Rattle.session_completion.specs.FaultFreeRuns.{FaultFreeRunsComplete, FaultFreeRunsLead};
+ghost use Rattle.session_completion.specs.FaultFreeRuns.{QuietIsIdle};
+ghost use Rattle.session_completion.specs.Finish.{FinishEnds};
+ghost use Rattle.session_completion.specs.FinishedRuns.{LeftToFinishCompletes};
+ghost use Rattle.session_completion.specs.GoodRequests.{GoodLoadsLeadOn, RequestsAreRead};
+ghost use Rattle.session_completion.specs.GoodUploads.{GoodUploadsComplete};
+ghost use Rattle.session_completion.specs.Laws.{AllComeOut, FewAreAhead, LastIsDone};
+ghost use Rattle.session_completion.specs.Laws.{LastWasPosted, NextComesAgain, NextMoves};
+ghost use Rattle.session_completion.specs.Laws.{OldIsHarmless, TwoAreQuiet};
+ghost use Rattle.session_completion.specs.Retries.{LoaderDoesTheSame, TargetDoesTheSame};
+ghost use Rattle.session_completion.specs.Safety.{DeliveringIsSafe, TellingIsSafe, TickingIsSafe};
+
+use crc_fields::check_sum_laws;
+use load_header::header_laws;
+use load_protocol_files::protocol_file_laws;
+use replay_rules::laws::{
+    a_step_keeps_the_tie, ports_stay_apart, the_configuration_changes_by_good_verdicts,
+};
+
+/// But for ticks, both ends do and post the same whatever their retries are.
+pub fn retries_matter_at_ticks_alone()
+    ensures loader { LoaderDoesTheSame }
+    ensures target { TargetDoesTheSame }
+{}
+
+/// A clean upload is one whose rows go well and whose datagrams are delivered in the order of their
+/// posts, each once. Datagram after datagram it comes to its end, where it is completed and its
+/// loads are installed.
+pub fn a_clean_upload_comes_to_its_end()
+    // Only the next datagram moves an end, and it does so whatever the retries are.
+    ensures old { OldIsHarmless }
+    ensures moves { NextMoves }
+    // Where it was lost, a tick at one of the ends brings it again, and no tick posts what wasn't
+    // posted.
+    ensures again { NextComesAgain }
+    ensures last { LastWasPosted }
+    // At most two are ahead, of which the first is answered by nothing.
+    ensures few { FewAreAhead }
+    ensures two { TwoAreQuiet }
+    // The end comes, and then the upload is done.
+    ensures come_out { AllComeOut }
+    ensures done { LastIsDone }
+{
+    check_sum_laws();
+}
+
+/// A run stands where a clean upload stands, but for its retries, whatever is delivered, lost,
+/// repeated or late, and whatever is ticked before an end gives up. A loss changes neither end.
+pub fn a_run_stands_where_a_clean_one_stands()
+    ensures delivered { DeliveringIsSafe }
+    ensures ticked { TickingIsSafe }
+    ensures told { TellingIsSafe }
+{
+    check_sum_laws();
+}
+
+/// Each run within the margin that stands where a clean upload stands comes to an end, whatever is
+/// undelivered: deliveries in their order and ticks in turn lead to where the upload is completed
+/// and its loads are installed.
+pub fn finish_comes_to_an_end()
+    ensures { FinishEnds }
+{
+    check_sum_laws();
+}
+
+/// The rows of an upload of good loads go well.
+pub fn good_uploads_go_well()
+    // Its protocol files can be exchanged, and each end reads in them what the other wrote.
+    ensures read { RequestsAreRead }
+    // Row after row it goes on to its last, with as many transfers as there are ports for.
+    ensures lead_on { GoodLoadsLeadOn }
+{
+    check_sum_laws();
+    header_laws();
+    protocol_file_laws();
+}
+
+/// An upload of good loads that was started where both ends were idle is completed by a `finish`,
+/// whatever was lost of it, repeated or late, if no end gave up and both are within the margin.
+pub fn good_uploads_complete()
+    ensures { GoodUploadsComplete }
+{
+    good_uploads_go_well();
+    a_run_stands_where_a_clean_one_stands();
+    finish_comes_to_an_end();
+}
+
+/// A fault-free run in which neither end gives up is such an upload, step by step, and within the
+/// margin a `finish` of both ends and of what was posted completes it.
+pub fn fault_free_runs_complete()
+    // From the world that its last start found to that of its last step.
+    ensures lead { FaultFreeRunsLead }
+    // A quiet run leaves both ends idle.
+    ensures idle { QuietIsIdle }
+    ensures complete { FaultFreeRunsComplete }
+{
+    check_sum_laws();
+    a_step_keeps_the_tie();
+    ports_stay_apart();
+    the_configuration_changes_by_good_verdicts();
+    good_uploads_complete();
+}
+
+/// So a fault-free run completes of which a script's last `finish` alone is left to follow: what a
+/// `finish` gives is that of both ends and of what was posted.
+pub fn a_run_left_to_finish_completes()
+    ensures { LeftToFinishCompletes }
+{
+    a_step_keeps_the_tie();
+    fault_free_runs_complete();
+}
