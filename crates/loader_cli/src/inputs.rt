@@ -6,7 +6,6 @@ ghost use Rattle.media_lists.specs.Files.{files_list_view};
 ghost use Rattle.media_lists.specs.Loads.{loads_list_view};
 ghost use Rattle.loader_cli.specs.Inputs.{HasListed, HasLoads, ReadsInputs};
 ghost use Rattle.loader_cli.specs.Replays.{HasSet};
-
 ghost use Rattle.std.specs.Prelude.{codes};
 ghost use Rattle.media_lists.specs.ListFaultText.{list_fault_text};
 ghost use Rattle.loader_cli.specs.Inputs.{IsRefusal, SaysScript, list_name};
@@ -15,8 +14,9 @@ ghost use Rattle.loader_cli.specs.Texts.{refused_input};
 use crate::answer::Answer;
 use link_net::{Script, ScriptFault};
 use load_base::{Host, NoMemory, ReadFault};
-use media_check::{Found, MediaSet, OpenFault};
-use media_check::{host_name, open_rest, read_files_list, read_loads_list};
+use media_check::{
+    Found, MediaSet, OpenFault, host_name, open_rest, read_files_list, read_loads_list,
+};
 use media_lists::{FilesList, ListFault, LoadsList};
 use printed_text::Printed;
 use std::alloc::Global;

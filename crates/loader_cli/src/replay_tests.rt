@@ -56,7 +56,10 @@ fn a_folder_without_lists_is_told_before_the_script(rt: HostRuntime) -> Result<(
         &mut MemHost::new(alloc),
         &mut disk_with(alloc, b"")?,
     )?;
-    assert_eq!(rt; said.as_slice(), b"3 refused P/1/LOADS.LUM absent\n".as_slice());
+    assert_eq!(rt;
+        said.as_slice(),
+        b"3 refused P/1/LOADS.LUM absent\n".as_slice()
+    );
     Ok(())
 }
 

@@ -106,7 +106,12 @@ fn run_on(alloc: Global, words: &[&str], disk: &[u8; DISK]) -> Result<Bytes, Fai
 fn run_failing(alloc: Global, words: &[&str], disk: &[u8; DISK], call: u32) -> Result<Bytes, Fail> {
     let mut disk = MemDisk::new(alloc, disk)?;
     disk.fail_at(call)?;
-    run_over(alloc, words, &mut MemHost::new(alloc), &mut Fused::new(disk))
+    run_over(
+        alloc,
+        words,
+        &mut MemHost::new(alloc),
+        &mut Fused::new(disk),
+    )
 }
 
 #[test]

@@ -51,8 +51,9 @@ fn reported(alloc: Global, recipe: &[u8], source: &[u8], script: &[u8]) -> Resul
     write(&mut host, b"R", recipe)?;
     write(&mut host, b"app.bin", source)?;
     write(&mut host, b"S", script)?;
+    let mut unused = disk_with(alloc, b"")?;
+    run_over(alloc, &["build", "R", "P"], &mut host, &mut unused)?;
     let mut disk = disk_with(alloc, &formatted(0, b""))?;
-    run_over(alloc, &["build", "R", "P"], &mut host, &mut disk)?;
     run_over(alloc, REPLAY, &mut host, &mut disk)
 }
 
@@ -68,9 +69,10 @@ file APP.BIN 9 29B1
 
 pub(crate) fn is_report(said: &Bytes, sessions: &[u8], listing: &[u8]) -> bool {
     let said = said.as_slice();
-    said.len() == sessions.len() + listing.len()
-        && said.starts_with(sessions)
-        && said.ends_with(listing)
+    match sessions.len().checked_add(listing.len()) {
+        Some(all) => { said.len() == all && said.starts_with(sessions) && said.ends_with(listing) }
+        None => false,
+    }
 }
 
 #[test]
@@ -104,8 +106,18 @@ fn an_upload_is_completed(rt: HostRuntime) -> Result<(), Fail> {
 #[test]
 fn an_upload_ends_without_an_installation(rt: HostRuntime) -> Result<(), Fail> {
     let rows: [(&[u8], &[u8], &[u8], &[u8]); 8] = [
-        (FOR_OTHER_HARDWARE, APP, UPLOAD, b"1 session 1 upload stopped A4\ndatagrams 18\n"),
-        (OF_TYPE_0, APP, UPLOAD, b"1 session 1 upload stopped A5\ndatagrams 18\n"),
+        (
+            FOR_OTHER_HARDWARE,
+            APP,
+            UPLOAD,
+            b"1 session 1 upload stopped A4\ndatagrams 18\n",
+        ),
+        (
+            OF_TYPE_0,
+            APP,
+            UPLOAD,
+            b"1 session 1 upload stopped A5\ndatagrams 18\n",
+        ),
         (
             RECIPE,
             &ZEROS,
@@ -136,7 +148,12 @@ fn an_upload_ends_without_an_installation(rt: HostRuntime) -> Result<(), Fail> {
             b"inject target 40000 59 00014857315f4c2e4c5549006f6374657400\nfinish\n",
             b"0 datagrams 6\n",
         ),
-        (RECIPE, APP, b"upload HW2 L ABC41-0000-0001\nfinish\n", b"1 session 1 upload peererror 1\ndatagrams 2\n"),
+        (
+            RECIPE,
+            APP,
+            b"upload HW2 L ABC41-0000-0001\nfinish\n",
+            b"1 session 1 upload peererror 1\ndatagrams 2\n",
+        ),
     ];
     for (recipe, source, script, sessions) in rows {
         let said = reported(rt.alloc(), recipe, source, script)?;
@@ -167,8 +184,7 @@ finish
 // What an upload leaves on the disk where power is lost at this call: the old configuration, the
 // new one, or anything else.
 fn held_after_a_loss(alloc: Global, call: u32, pick: u32) -> Result<u8, Fail> {
-    let script =
-        format!(in alloc; "power {call} {pick}\nupload HW1 L ABC41-0000-0001\nfinish\n")?;
+    let script = format!(in alloc; "power {call} {pick}\nupload HW1 L ABC41-0000-0001\nfinish\n")?;
     let said = reported(alloc, RECIPE, APP, script.as_bytes())?;
     let said = said.as_slice();
     if said.ends_with(NOT_INSTALLED) {
@@ -198,8 +214,12 @@ fn a_power_loss_leaves_the_old_configuration_or_the_new(rt: HostRuntime) -> Resu
 // Whole reports, of files that are read in other blocks.
 #[test]
 fn files_of_other_lengths_are_installed(rt: HostRuntime) -> Result<(), Fail> {
-    let rows: [(usize, &[u8], &[u8]); 4] = [
-        (0, UPLOAD, b"0 session 1 upload completed
+    let (some, most) = ([0u8; 1024], [0u8; 3931]);
+    let rows: [(&[u8], &[u8], &[u8]); 4] = [
+        (
+            b"",
+            UPLOAD,
+            b"0 session 1 upload completed
 datagrams 21
 target HW1 L SN1
 bank 1 sequence 2
@@ -207,8 +227,12 @@ loads 1
 load ABC41-0000-0001 APP.LUH 2
 file APP.LUH 122 724D
 file APP.BIN 0 FFFF
-"),
-        (1024, UPLOAD, b"0 session 1 upload completed
+",
+        ),
+        (
+            &some,
+            UPLOAD,
+            b"0 session 1 upload completed
 datagrams 25
 target HW1 L SN1
 bank 1 sequence 2
@@ -216,8 +240,12 @@ loads 1
 load ABC41-0000-0001 APP.LUH 2
 file APP.LUH 122 44FD
 file APP.BIN 1024 B76F
-"),
-        (1024, b"blksize 1024\nupload HW1 L ABC41-0000-0001\nfinish\n", b"0 session 1 upload completed
+",
+        ),
+        (
+            &some,
+            b"blksize 1024\nupload HW1 L ABC41-0000-0001\nfinish\n",
+            b"0 session 1 upload completed
 datagrams 29
 target HW1 L SN1
 bank 1 sequence 2
@@ -225,8 +253,12 @@ loads 1
 load ABC41-0000-0001 APP.LUH 2
 file APP.LUH 122 44FD
 file APP.BIN 1024 B76F
-"),
-        (3931, UPLOAD, b"0 session 1 upload completed
+",
+        ),
+        (
+            &most,
+            UPLOAD,
+            b"0 session 1 upload completed
 datagrams 35
 target HW1 L SN1
 bank 1 sequence 2
@@ -234,10 +266,11 @@ loads 1
 load ABC41-0000-0001 APP.LUH 2
 file APP.LUH 122 3A2E
 file APP.BIN 3931 EEA5
-"),
+",
+        ),
     ];
-    for (length, script, wanted) in rows {
-        let said = reported(rt.alloc(), RECIPE, &ZEROS[..length.min(3932)], script)?;
+    for (source, script, wanted) in rows {
+        let said = reported(rt.alloc(), RECIPE, source, script)?;
         assert_eq!(rt; said.as_slice(), wanted);
     }
     Ok(())
@@ -248,7 +281,12 @@ fn reported_with(alloc: Global, name: &[u8], bytes: &[u8]) -> Result<Bytes, Fail
     let mut host = app_set(alloc)?;
     write(&mut host, b"S", UPLOAD)?;
     write(&mut host, name, bytes)?;
-    run_over(alloc, REPLAY, &mut host, &mut disk_with(alloc, &formatted(0, b""))?)
+    run_over(
+        alloc,
+        REPLAY,
+        &mut host,
+        &mut disk_with(alloc, &formatted(0, b""))?,
+    )
 }
 
 #[test]
@@ -256,7 +294,11 @@ fn a_changed_set_stops_an_upload(rt: HostRuntime) -> Result<(), Fail> {
     let mut pointer = APP_HEADER;
     pointer[27] = 39;
     let rows: [(&[u8], &[u8], &[u8]); 3] = [
-        (b"Q", b"", b"1 session 1 upload stopped A1 1\ndatagrams 20\n"),
+        (
+            b"Q",
+            b"",
+            b"1 session 1 upload stopped A1 1\ndatagrams 20\n",
+        ),
         (
             b"P/1/APP.BIN",
             b"1234567890",

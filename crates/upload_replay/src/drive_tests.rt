@@ -1,7 +1,8 @@
 //! What runs come to, by the calls that fail.
-ghost use Rattle.std.specs.Prelude.{◌≡◌, ◌×◌, true, IfOk};
+ghost use Rattle.std.specs.Prelude.{◌≡◌, [], true, IfOk};
 ghost use Rattle.bank_store.specs.DiskWrites.{IsRunning};
 ghost use Rattle.disk_model.specs.MemDisk.{state_of};
+ghost use Rattle.link_net.specs.FailLink.{link_in};
 
 use crate::{Drive, DriveFault, drive};
 use accept_rules::{Interlock, PermitsAll};
@@ -48,7 +49,10 @@ fn formatted(alloc: Global) -> Result<MemDisk, Fail>
     }
 }
 
-fn link_of(alloc: Global, script: &[u8], call: u32) -> Result<FailLink, Fail> {
+// A link to which nothing was posted, of which this call fails.
+fn link_of(alloc: Global, script: &[u8], call: u32) -> Result<FailLink, Fail>
+    ensures { IfOk result (λ link. (link_in link).posted ≡ []) }
+{
     let Ok(script) = Script::read(alloc, script) else {
         return Err(Fail::new("no script"));
     };
@@ -61,7 +65,10 @@ fn link_of(alloc: Global, script: &[u8], call: u32) -> Result<FailLink, Fail> {
 // one for whether the configuration at the end is known.
 fn letters(run: &Result<Drive, DriveFault>) -> [u8; 2] {
     match run {
-        Ok(run) => [outcome(run), if run.standing.is_some() { b'k' } else { b'u' }],
+        Ok(run) => [
+            outcome(run),
+            if run.standing.is_some() { b'k' } else { b'u' },
+        ],
         Err(DriveFault::Link) => *b"l-",
         Err(DriveFault::Disk) => *b"d-",
         Err(DriveFault::NoConfig(_)) => *b"n-",
@@ -107,7 +114,12 @@ fn a_run_or_the_cause_why_there_is_none(rt: HostRuntime) -> Result<(), Fail> {
         (b"info HW2 L\nfinish\n", 0, 0, b"pk"),
         (b"info HW1 L\ninfo HW1 L\nfinish\n", 0, 0, b"rk"),
         (b"info HW1 L\n", 0, 0, b"ok"),
-        (b"power 0 3\ninfo HW1 L\nnext 1\nboot\nfinish\n", 0, 0, b"ck"),
+        (
+            b"power 0 3\ninfo HW1 L\nnext 1\nboot\nfinish\n",
+            0,
+            0,
+            b"ck",
+        ),
         (b"power 0 3\ninfo HW1 L\n", 0, 0, b"ok"),
         (b"power 4 0\n", 0, 0, b"0u"),
         (b"power 5 0\n", 0, 0, b"0k"),
@@ -121,7 +133,11 @@ fn a_run_or_the_cause_why_there_is_none(rt: HostRuntime) -> Result<(), Fail> {
     ];
     for (script, link, disk, wanted) in rows {
         let said = run_failing(rt.alloc(), script, link, disk)?;
-        assert_eq!(rt; said.as_slice(), wanted.as_slice(), "link {link} disk {disk}");
+        assert_eq!(rt;
+            said.as_slice(),
+            wanted.as_slice(),
+            "link {link} disk {disk}"
+        );
     }
     Ok(())
 }
