@@ -101,10 +101,10 @@ module _ (accepts : HeaderView → Bool) (id : Identity) (w : WholeView) (wanted
 no_wanted : Wanted
 no_wanted = record { header = []; part = [] }
 
-asked_of : WholeView → Wanted
+pub asked_of : WholeView → Wanted
 asked_of w = get_or w.request (length w.loads) no_wanted
 
-asked_is : (w : WholeView) (b : Buffer) → IsIntake (intake_at w None (Kept_bytes b)) w.need → slice_get w.request (length w.loads) ≡ Some (asked_of w)
+pub asked_is : (w : WholeView) (b : Buffer) → IsIntake (intake_at w None (Kept_bytes b)) w.need → slice_get w.request (length w.loads) ≡ Some (asked_of w)
 unfolding asked_of
 asked_is w b i = slice_get-get_or w.request (length w.loads) no_wanted i.left
 

@@ -9,3 +9,6 @@ pub mod Placing
 pub mod Rows
 pub mod Files
 pub mod Headers
+pub mod Filling
+pub mod Moving
+pub mod Accepting

@@ -6,8 +6,8 @@ use Rattle.disk_layout.specs.declared.identity.Identity.{Identity}
 use Rattle.session_rules.specs.declared.reason.Reason.{Reason}
 use Rattle.session_rules.specs.declared.reason.Reason.TheVariants as reasons
 use Rattle.session_rules.specs.Buffers.{Buffer}
-use Rattle.session_rules.specs.TargetRows.{Kept_bytes, Over, RowView, view_judged}
-use Rattle.session_rules.specs.Uploads.{is_for, judge_spelled_header, or_else, unless}
+use Rattle.session_rules.specs.TargetRows.{Kept_bytes, Over, RowView, WholeRow, row_judged, view_judged}
+use Rattle.session_rules.specs.Uploads.{Upload, UploadView, is_for, judge_spelled_header, next_wanted, or_else, unless, upload_view}
 use Rattle.load_intake.specs.States.{WholeView, upload_of}
 
 abbrev pub refused_for : (accepts : HeaderView → Bool) → Identity → Wanted → HeaderView → (need : ℕ) → Option Reason
@@ -33,3 +33,11 @@ header_row accepts id w h bytes = row_by (slice_get w.request (length w.loads))
     row_by : Option Wanted → RowView
     row_by None = Over
     row_by (Some wanted) = view_judged (upload_of w None) (Kept_bytes (whole_buffer bytes)) (judge_spelled_header accepts id (upload_of w None) wanted (whole_buffer bytes) h)
+
+-- with all contents, where this was asked for
+abbrev pub whole_judged : (accepts : HeaderView → Bool) → Identity → Upload → UploadView → HeaderView → (bytes : List ℕ) → Option Wanted → WholeRow
+whole_judged accepts id u v h bytes None = Over
+whole_judged accepts id u v h bytes (Some wanted) = row_judged u bytes (judge_spelled_header accepts id v wanted (whole_buffer bytes) h)
+
+abbrev pub whole_header_row : (accepts : HeaderView → Bool) → Identity → Upload → HeaderView → (bytes : List ℕ) → WholeRow
+whole_header_row accepts id u h bytes = whole_judged accepts id u (upload_view u) h bytes (next_wanted (upload_view u))

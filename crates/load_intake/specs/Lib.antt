@@ -1,3 +1,5 @@
+pub mod Contents
+pub mod ContentLaws
 pub mod Crcs
 pub mod Intakes
 pub mod Judging

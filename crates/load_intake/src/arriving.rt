@@ -1,23 +1,30 @@
 //! What a file comes to that arrived whole.
-ghost use Rattle.std.specs.Prelude.{◌≡◌, ◌+◌, ◌<◌, ◌≤◌, Bool, None, Some, IfOk, length};
+ghost use Rattle.std.specs.Prelude.{◌≡◌, ◌+◌, ◌<◌, ◌≤◌, [], ℕ, Bool, List as Items, None, Some};
+ghost use Rattle.std.specs.Prelude.{IfOk, length};
 ghost use Rattle.crc_fields.specs.CheckSums.{crc32_of};
 ghost use Rattle.accept_rules.specs.Interlocks.{Follows};
 ghost use Rattle.bank_store.specs.DiskWrites.{IsRunning};
+ghost use Rattle.bank_store.specs.Given.{Given, configured, loads_of};
 ghost use Rattle.bank_store.specs.Keeps.{Continues};
 ghost use Rattle.bank_store.specs.Store.{IsIdle, IsPrepared, bank_size_of};
 ghost use Rattle.bank_store.specs.declared.store.Store.{Store as StoreState};
 ghost use Rattle.disk_layout.specs.declared.identity.Identity.{Identity as IdentityState};
+ghost use Rattle.disk_layout.specs.Holds.{StandingView};
 ghost use Rattle.load_header.specs.Header.{HeaderView, header_view};
 ghost use Rattle.load_header.specs.HeaderFields.{HeaderSpells};
-ghost use Rattle.session_rules.specs.TargetRows.{Kept_bytes, Kept_sums, Reads_file, done_move};
-ghost use Rattle.session_rules.specs.TargetRows.{placed_view, stopped_upload, view_moved};
+ghost use Rattle.session_rules.specs.TargetRows.{Kept_bytes, Kept_sums, Over, Reads_file};
+ghost use Rattle.session_rules.specs.TargetRows.{done_move, placed_view, row_moved};
+ghost use Rattle.session_rules.specs.TargetRows.{stopped_upload, view_moved};
 ghost use Rattle.session_rules.specs.declared.reason.Reason.TheVariants.{HeaderRefused};
 ghost use Rattle.session_rules.specs.Uploads.{Complete, More_files, Next_load, covered_header};
-ghost use Rattle.session_rules.specs.Uploads.{files_of, next_with};
+ghost use Rattle.session_rules.specs.Uploads.{Upload, files_of, next_with, upload_view};
 ghost use Rattle.session_rules.specs.Uploads.{load_reason as load_fault, or_else};
+ghost use Rattle.load_intake.specs.Contents.{BringsRow, BringsTo, GoesTo, InstallsRow};
+ghost use Rattle.load_intake.specs.Contents.{IsGiven, IsOf};
 ghost use Rattle.load_intake.specs.Intakes.{BeginsNext, end_view, row_seen};
 ghost use Rattle.load_intake.specs.Kept.{IsAccepted, intake_at};
 ghost use Rattle.load_intake.specs.Judging.{Passes, header_row, refused_for, whole_buffer};
+ghost use Rattle.load_intake.specs.Judging.{whole_header_row};
 ghost use Rattle.load_intake.specs.Places.{next_seen};
 ghost use Rattle.load_intake.specs.States.{upload_of};
 ghost use Rattle.load_intake.specs.Stores.{Arrived, Ends, GoesOnInStep, HasAccepted, Writes};
@@ -62,6 +69,13 @@ pub(crate) fn header_arrived<K: Disk, R: Rule>(
         (Kept_bytes buffer.now))) }
     ensures ends { IfOk result (λ finished. Ends finished store.old store.new
         (K.state disk.old) (K.state disk.new)) }
+    ensures brings { (accepts : HeaderView → Bool) → Follows R.may_say interlock.now accepts
+        → (s : StandingView) (u : Upload) (arrived : Items ℕ)
+        → IsOf (intake_at whole None (Kept_bytes buffer.now)) u arrived
+        → InstallsRow store.old (K.state disk.old) s (Reads_file u) arrived
+        → BringsRow (K.state disk.old) store.new (K.state disk.new) s
+        (row_moved (Reads_file u) arrived (done_move accepts identity.now
+        (Reads_file (upload_of whole None)) (Kept_bytes buffer.now))) result }
     ensures size { bank_size_of store.new ≡ bank_size_of store.old }
     ensures writes { Writes (K.state disk.old) (K.state disk.new) result }
 {
@@ -113,6 +127,11 @@ fn header_read<K: Disk, R: Rule>(
         (header_view header) bytes.now) }
     ensures ends { IfOk result (λ finished. Ends finished store.old store.new
         (K.state disk.old) (K.state disk.new)) }
+    ensures brings { (accepts : HeaderView → Bool) → Follows R.may_say interlock.now accepts
+        → (s : StandingView) (u : Upload) → upload_of whole None ≡ upload_view u
+        → InstallsRow store.old (K.state disk.old) s (Reads_file u) bytes.now
+        → BringsRow (K.state disk.old) store.new (K.state disk.new) s
+        (whole_header_row accepts identity.now u (header_view header) bytes.now) result }
     ensures size { bank_size_of store.new ≡ bank_size_of store.old }
     ensures writes { Writes (K.state disk.old) (K.state disk.new) result }
 {
@@ -180,6 +199,13 @@ pub(crate) fn file_arrived<K: Disk>(
         (done_move accepts id (Reads_file (upload_of whole (Some load))) (Kept_sums sums))) }
     ensures ends { IfOk result (λ finished. Ends finished store.old store.new
         (K.state disk.old) (K.state disk.new)) }
+    ensures brings { (accepts : HeaderView → Bool) (id : IdentityState) (s : StandingView)
+        (u : Upload) (arrived : Items ℕ)
+        → IsOf (intake_at whole (Some load) (Kept_sums sums)) u arrived
+        → InstallsRow store.old (K.state disk.old) s (Reads_file u) arrived
+        → BringsRow (K.state disk.old) store.new (K.state disk.new) s
+        (row_moved (Reads_file u) arrived (done_move accepts id
+        (Reads_file (upload_of whole (Some load))) (Kept_sums sums))) result }
     ensures size { bank_size_of store.new ≡ bank_size_of store.old }
     ensures writes { Writes (K.state disk.old) (K.state disk.new) result }
 {
@@ -213,6 +239,8 @@ fn go_on<K: Disk>(
         ≡ placed_view (upload_of whole None) load (next_seen next)) }
     ensures ends { IfOk result (λ finished. Ends finished store.old store.new
         (K.state disk.old) (K.state disk.new)) }
+    ensures goes_to { (s : StandingView) (g : Given) → IsGiven store.old (K.state disk.old) s g
+        → GoesTo (next_seen next) (K.state disk.old) store.new (K.state disk.new) s g result }
     ensures size { bank_size_of store.new ≡ bank_size_of store.old }
     ensures writes { Writes (K.state disk.old) (K.state disk.new) result }
 {
@@ -269,6 +297,9 @@ fn complete<K: Disk>(
         ≡ placed_view (upload_of whole None) load Complete) }
     ensures ends { IfOk result (λ finished. Ends finished store.old store.new
         (K.state disk.old) (K.state disk.new)) }
+    ensures brings { (s : StandingView) (g : Given) → IsGiven store.old (K.state disk.old) s g
+        → BringsTo (K.state disk.old) store.new (K.state disk.new) s
+        (configured s (loads_of g)) Over [] result }
     ensures size { bank_size_of store.new ≡ bank_size_of store.old }
     ensures writes { Writes (K.state disk.old) (K.state disk.new) result }
 {

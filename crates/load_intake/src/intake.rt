@@ -1,13 +1,18 @@
 //! An upload at its target.
-ghost use Rattle.std.specs.Prelude.{◌≡◌, ◌+◌, ◌<◌, ◌≤◌, [], ℕ, Bool, length, IfOk, OnOk};
+ghost use Rattle.std.specs.Prelude.{◌≡◌, ◌+◌, ◌<◌, ◌≤◌, ◌++◌, [], ℕ, Bool, List as Items};
+ghost use Rattle.std.specs.Prelude.{length, IfOk, OnOk};
 ghost use Rattle.load_header.specs.Header.{HeaderView};
 ghost use Rattle.bank_store.specs.DiskWrites.{IsRunning};
 ghost use Rattle.bank_store.specs.Store.{IsPrepared, IsSpent, bank_size_of};
 ghost use Rattle.accept_rules.specs.Interlocks.{Follows};
-ghost use Rattle.session_rules.specs.Uploads.{next_name};
+ghost use Rattle.disk_layout.specs.Holds.{StandingView};
+ghost use Rattle.session_rules.specs.Uploads.{Upload, next_name};
+ghost use Rattle.bank_store.specs.Fits.{InstallsBeside};
 ghost use Rattle.bank_store.specs.Keeps.{Continues};
 ghost use Rattle.session_rules.specs.TargetRows.{Reads_file, Writes_stop, done_move, error_move};
-ghost use Rattle.session_rules.specs.TargetRows.{new_upload_view, view_moved};
+ghost use Rattle.session_rules.specs.TargetRows.{new_upload, new_upload_view, row_moved};
+ghost use Rattle.session_rules.specs.TargetRows.{view_moved};
+ghost use Rattle.load_intake.specs.Contents.{BringsRow, BringsTo, InstallsRow, IsOf};
 ghost use Rattle.load_intake.specs.Intakes.{IsFresh, end_view, row_seen, with_more};
 ghost use Rattle.load_intake.specs.Kept.{IsIntake, intake_at};
 ghost use Rattle.load_intake.specs.Places.{arriving_at, open_load};
@@ -75,6 +80,11 @@ impl Intake {
             (intake.upload ≡ new_upload_view request.items) × IsFresh intake) }
         ensures in_step { IfOk result (λ intake. StaysInStep intake store.old store.new
             (K.state disk.old) (K.state disk.new)) }
+        // Where the store works beside a configuration, nothing that is left breaks it.
+        ensures brings { (s : StandingView) → InstallsBeside store.old (K.state disk.old) s
+            → BringsTo (K.state disk.old) store.new (K.state disk.new) s s
+            (Reads_file (new_upload request.items)) [] result }
+        // Whatever it answers.
         ensures size { bank_size_of store.new ≡ bank_size_of store.old }
         ensures writes { Writes (K.state disk.old) (K.state disk.new) result }
     {
@@ -138,6 +148,12 @@ impl Intake {
         ensures takes { OnOk result (self.new ≡ with_more self.old bytes.now) }
         ensures in_step { OnOk result (StaysInStep self.new store.old store.new
             (K.state disk.old) (K.state disk.new)) }
+        // Where the disk has what arrived before, it has with Ok what arrives with these.
+        ensures brings { (s : StandingView) (u : Upload) (arrived : Items ℕ)
+            → IsOf self.old u arrived
+            → InstallsRow store.old (K.state disk.old) s (Reads_file u) arrived
+            → BringsTo (K.state disk.old) store.new (K.state disk.new) s s (Reads_file u)
+            (arrived ++ bytes.now) result }
         // Whatever it answers.
         ensures size { bank_size_of store.new ≡ bank_size_of store.old }
         ensures writes { Writes (K.state disk.old) (K.state disk.new) result }
@@ -164,6 +180,14 @@ impl Intake {
             self.arriving (done_move accepts identity.now (Reads_file self.upload) self.arriving)) }
         ensures ends { IfOk result (λ finished. Ends finished store.old store.new
             (K.state disk.old) (K.state disk.new)) }
+        // Where the disk has what arrived, it has with Ok what comes of it: the files so far, or
+        // the new configuration alone. Until then the old one is left, or in the last call either.
+        ensures brings { (accepts : HeaderView → Bool) → Follows R.may_say interlock.now accepts
+            → (s : StandingView) (u : Upload) (arrived : Items ℕ) → IsOf self u arrived
+            → InstallsRow store.old (K.state disk.old) s (Reads_file u) arrived
+            → BringsRow (K.state disk.old) store.new (K.state disk.new) s
+            (row_moved (Reads_file u) arrived (done_move accepts identity.now
+            (Reads_file self.upload) self.arriving)) result }
         // Whatever it answers.
         ensures size { bank_size_of store.new ≡ bank_size_of store.old }
         ensures writes { Writes (K.state disk.old) (K.state disk.new) result }

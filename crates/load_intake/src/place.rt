@@ -1,11 +1,15 @@
 //! The file of an upload that comes next.
-ghost use Rattle.std.specs.Prelude.{◌≡◌, ◌+◌, ◌-◌, ℕ, List as Items, OnOk, length, take};
+ghost use Rattle.std.specs.Prelude.{◌≡◌, ◌+◌, ◌-◌, ◌++◌, ℕ, List as Items, OnOk, length, take};
 ghost use Rattle.disk_layout.specs.Manifest.{LoadEntry};
 ghost use Rattle.bank_store.specs.Store.{bank_size_of};
 ghost use Rattle.bank_store.specs.DiskWrites.{IsRunning};
 ghost use Rattle.bank_store.specs.Store.{AwaitsFile};
+ghost use Rattle.bank_store.specs.Given.{Given, with_bytes as with_more};
+ghost use Rattle.disk_layout.specs.Holds.{StandingView};
 ghost use Rattle.session_rules.specs.Buffers.{summed_more};
-ghost use Rattle.session_rules.specs.TargetRows.{with_bytes};
+ghost use Rattle.session_rules.specs.TargetRows.{Reads_file, arriving_load, with_bytes};
+ghost use Rattle.session_rules.specs.Uploads.{Upload, current_view};
+ghost use Rattle.load_intake.specs.Contents.{BringsTo, Gives, InstallsRow, IsGiven};
 ghost use Rattle.load_intake.specs.Kept.{IsOfNext, bytes_taken};
 ghost use Rattle.load_intake.specs.Places.{arriving_at, open_load};
 ghost use Rattle.load_intake.specs.Stores.{GoesOn, Has, HasRoomFor, MayTake, Writes};
@@ -42,6 +46,12 @@ impl Place {
             → IsOfNext (open_load self.new) (arriving_at self.new) }
         ensures takes { OnOk result
             (arriving_at self.new ≡ with_bytes (arriving_at self.old) bytes.now) }
+        ensures brings { (s : StandingView) (u : Upload) (arrived : Items ℕ)
+            → current_view u.current ≡ open_load self.old
+            → arriving_load (current_view u.current) arrived ≡ arriving_at self.old
+            → InstallsRow store.old (K.state disk.old) s (Reads_file u) arrived
+            → BringsTo (K.state disk.old) store.new (K.state disk.new) s s (Reads_file u)
+            (arrived ++ bytes.now) result }
         ensures has { (loads : Items LoadEntry) (missing : ℕ)
             → Has store.old loads missing (bytes_taken (arriving_at self.old))
             → OnOk result (Has store.new loads missing (bytes_taken (arriving_at self.new))) }
@@ -72,6 +82,9 @@ fn write<K: Disk>(
     requires running { IsRunning (K.state disk.old) }
     ensures sums { OnOk result (sums.new ≡ summed_more sums.old bytes.now) }
     ensures said { sums.new.said ≡ sums.old.said }
+    ensures gives { (s : StandingView) (g : Given) → IsGiven store.old (K.state disk.old) s g
+        → Gives (K.state disk.old) store.new (K.state disk.new) s
+        (with_more (take (sums.old.said - sums.old.count) bytes.now) g) result }
     ensures has { (loads : Items LoadEntry) (missing taken : ℕ) → Has store.old loads missing taken
         → OnOk result (Has store.new loads missing
         (taken + length (take (sums.old.said - sums.old.count) bytes.now))) }

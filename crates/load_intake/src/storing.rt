@@ -8,6 +8,13 @@ ghost use Rattle.bank_store.specs.Store.{manifest_length};
 ghost use Rattle.disk_layout.specs.Manifest.{LoadEntry, total_length};
 ghost use Rattle.load_header.specs.Header.{header_view};
 ghost use Rattle.session_rules.specs.Uploads.{files_of};
+ghost use Rattle.disk_layout.specs.Holds.{StandingView};
+ghost use Rattle.disk_model.specs.Image.{Image};
+ghost use Rattle.bank_store.specs.Fits.{InstallsBeside};
+ghost use Rattle.bank_store.specs.Given.{Given, HasGiven, configured, loads_of, nothing_given};
+ghost use Rattle.bank_store.specs.Given.{with_bytes, with_file, with_load};
+ghost use Rattle.session_rules.specs.TargetRows.{Over};
+ghost use Rattle.load_intake.specs.Contents.{BringsTo, Gives, IsGiven, LeavesSealed};
 ghost use Rattle.load_intake.specs.Stores.{GoesOn, Has, HasRoomFor, Installs, Writes, down_of};
 ghost use Rattle.load_intake.specs.Stores.{header_alone, with_entry};
 
@@ -37,6 +44,8 @@ pub(crate) fn begin<K: Disk>(store: &mut Store, disk: &mut K) -> Result<(), Down
     requires sequence { ¬ IsSpent store.old }
     requires running { IsRunning (K.state disk.old) }
     ensures has { OnOk result (Has store.new [] 0 0) }
+    ensures gives { (s : StandingView) → InstallsBeside store.old (K.state disk.old) s
+        → Gives (K.state disk.old) store.new (K.state disk.new) s nothing_given result }
     ensures goes_on { OnOk result (GoesOn store.old store.new (K.state disk.old)
         (K.state disk.new)) }
     ensures size { bank_size_of store.new ≡ bank_size_of store.old }
@@ -55,6 +64,9 @@ pub(crate) fn append<K: Disk>(store: &mut Store, disk: &mut K, bytes: &[u8]) -> 
     requires running { IsRunning (K.state disk.old) }
     ensures has { (loads : List LoadEntry) (missing taken : ℕ) → Has store.old loads missing taken
         → OnOk result (Has store.new loads missing (taken + length bytes.now)) }
+    ensures gives { (s : StandingView) (g : Given) → IsGiven store.old (K.state disk.old) s g
+        → Gives (K.state disk.old) store.new (K.state disk.new) s (with_bytes bytes.now g)
+        result }
     ensures goes_on { OnOk result (GoesOn store.old store.new (K.state disk.old)
         (K.state disk.new)) }
     ensures size { bank_size_of store.new ≡ bank_size_of store.old }
@@ -73,6 +85,8 @@ fn start_load(store: &mut Store, part: PartText, files: u16)
     requires size { length part ≡ 15 }
     ensures has { (loads : List LoadEntry) → Has store.old loads 0 0
         → Has store.new (loads ++ record { part = part; files = [] } ∷ []) files 0 }
+    ensures given { (image : Image) (g : Given) → HasGiven store.old image g
+        → HasGiven store.new image (with_load part files g) }
     ensures continues { Continues store.old store.new }
 {
     match store.start_load(part, files) {
@@ -87,6 +101,8 @@ pub(crate) fn end_file(store: &mut Store, name: Name)
     ensures has { (loads : List LoadEntry) (load : LoadEntry) (missing taken : ℕ)
         → Has store.old (loads ++ load ∷ []) (missing + 1) taken
         → Has store.new (loads ++ with_entry load name taken ∷ []) missing 0 }
+    ensures given { (image : Image) (g : Given) → HasGiven store.old image g
+        → HasGiven store.new image (with_file name g) }
     ensures continues { Continues store.old store.new }
 {
     match store.end_file(name) {
@@ -114,6 +130,10 @@ pub(crate) fn write_header<K: Disk>(
     ensures has { OnOk result (Has store.new
         (whole.now.loads ++ header_alone wanted.now (length bytes.now) ∷ [])
         (length (files_of (header_view header.now))) 0) }
+    ensures gives { (s : StandingView) (g : Given) → IsGiven store.old (K.state disk.old) s g
+        → Gives (K.state disk.old) store.new (K.state disk.new) s
+        (with_file wanted.now.header (with_bytes bytes.now (with_load wanted.now.part
+        (length (files_of (header_view header.now)) + 1) g))) result }
     ensures goes_on { OnOk result (GoesOn store.old store.new (K.state disk.old)
         (K.state disk.new)) }
     ensures size { bank_size_of store.new ≡ bank_size_of store.old }
@@ -133,6 +153,9 @@ pub(crate) fn install<K: Disk>(store: &mut Store, disk: &mut K) -> Result<(), Do
     requires running { IsRunning (K.state disk.old) }
     ensures installs { OnOk result (Installs store.old store.new (K.state disk.old)
         (K.state disk.new)) }
+    ensures brings { (s : StandingView) (g : Given) → IsGiven store.old (K.state disk.old) s g
+        → BringsTo (K.state disk.old) store.new (K.state disk.new) s
+        (configured s (loads_of g)) Over [] result }
     ensures size { bank_size_of store.new ≡ bank_size_of store.old }
     ensures writes { Writes (K.state disk.old) (K.state disk.new) result }
 {
@@ -149,6 +172,8 @@ fn seal<K: Disk>(store: &mut Store, disk: &mut K) -> Result<(), Down>
     requires room { HasRoomFor (manifest_length store.old) store.old }
     requires running { IsRunning (K.state disk.old) }
     ensures sealed { OnOk result (IsSealed store.new) }
+    ensures seals { (s : StandingView) (g : Given) → IsGiven store.old (K.state disk.old) s g
+        → LeavesSealed (K.state disk.old) store.new (K.state disk.new) s (loads_of g) result }
     ensures goes_on { OnOk result (GoesOn store.old store.new (K.state disk.old)
         (K.state disk.new)) }
     ensures size { bank_size_of store.new ≡ bank_size_of store.old }

@@ -22,7 +22,7 @@ taken_past n more first rest e =
     let left : n - length first ≡ more = omega arith in
     rw (whole, left, e) (take-append-add first rest more)
 
-taken : (n : ℕ) (first rest : List ℕ) → take n (first ++ rest) ≡ take n first ++ take (n - length first) rest
+pub taken : (n : ℕ) (first rest : List ℕ) → take n (first ++ rest) ≡ take n first ++ take (n - length first) rest
 taken n first rest = elim (cases_lt (length first) n) [ inl lt ↦ taken_past n (n - length first) first rest (omega arith) | inr within ↦ taken_within n first rest within ]
 
 left_same : (n : ℕ) (first : List ℕ) → n - length (take n first) ≡ n - length first

@@ -9,6 +9,8 @@ pub mod Uploads
 pub mod TargetRows
 pub mod Target
 pub mod TargetLog
+pub mod Contents
+pub mod ContentLaws
 pub mod NewConfigs
 pub mod BufferLaws
 pub mod LoaderLaws

@@ -48,6 +48,7 @@ seen_row accepts id s = row_view (row_in accepts id s)
 pub record HasTurned (accepts : HeaderView → Bool) (id : Identity) (end : Reading) (s : TargetSessionLog) (moves : List Move) (move : RowMove) (more : List ℕ) : Type 0 where
   pub ended : Transfer
   pub is_newest : newest (after end moves).past ≡ ended ∷ []
+  pub bytes : arriving_in end.live ++ more ≡ arrived_of ended
   pub arrived : with_bytes (arriving_of (seen_row accepts id s) (arriving_in end.live)) more ≡ arriving_of (seen_row accepts id s) (arrived_of ended)
   pub comes_to : move ≡ row_move accepts id (seen_row accepts id s) (record { error = error_of ended; arriving = arriving_of (seen_row accepts id s) (arrived_of ended) })
   pub was_live : HasRole end.live ended.role
@@ -314,7 +315,7 @@ newest_stops r t one free = rw free one
 turned_on : (accepts : HeaderView → Bool) (id : Identity) (end : Reading) (s : TargetSessionLog) (moves : List Move) (move : RowMove) (more : List ℕ) (next : Move) → (h : HasTurned accepts id end s moves move more)
     → newest (reading_after sides.Target (after end moves) next).past ≡ h.ended ∷ [] → HasTurned accepts id end s (moves ++ next ∷ []) move more
 turned_on accepts id end s moves move more next h one =
-    record { ended = h.ended; is_newest = ap (λ (r : Reading). newest r.past) (after_more end moves next) ∙ one; arrived = h.arrived; comes_to = h.comes_to; was_live = h.was_live; over = h.over }
+    record { ended = h.ended; is_newest = ap (λ (r : Reading). newest r.past) (after_more end moves next) ∙ one; bytes = h.bytes; arrived = h.arrived; comes_to = h.comes_to; was_live = h.was_live; over = h.over }
 
 -- what a row asks for is of the row
 abbrev RoleFits : RowView → Option Role → Type 0
@@ -469,7 +470,7 @@ module _ (joins : SumsJoin) (accepts : HeaderView → Bool) (first_port : ℕ) (
       (view_moved (row_view row) (with_bytes (arriving_of (row_view row) (arrived_of t)) bytes) (row_move accepts active.identity (row_view row) (transfer_end (error_by answer) (with_bytes (arriving_of (row_view row) (arrived_of t)) bytes))))
       (row_request (viewed accepts end (Some s) active reason) (view_moved (row_view row) (with_bytes (arriving_of (row_view row) (arrived_of t)) bytes) (row_move accepts active.identity (row_view row) (transfer_end (error_by answer) (with_bytes (arriving_of (row_view row) (arrived_of t)) bytes)))))
       (record {
-        turned = record { ended = with_packet t from p; is_newest = one; arrived = all; comes_to = move_same accepts active.identity (row_view row) _ _ _ _ (sym (error_with t p answer e live from)) all; was_live = refl; over = over };
+        turned = record { ended = with_packet t from p; is_newest = one; bytes = arrives_with t p answer bytes e lent from; arrived = all; comes_to = move_same accepts active.identity (row_view row) _ _ _ _ (sym (error_with t p answer e live from)) all; was_live = refl; over = over };
         free = free;
       })
       refl (row_request_fits (viewed accepts end (Some s) active reason) _)

@@ -1,5 +1,6 @@
 //! What holds of both sides and their logs. These functions do nothing; their clauses are the law.
 ghost use Rattle.session_rules.specs.Completions.{CompletedUploadArrived, TargetTellsInstalled};
+ghost use Rattle.session_rules.specs.Contents.{ContentsAreKept, ContentsFollow};
 ghost use Rattle.session_rules.specs.Fairness.{LoaderGivesMediaFiles, LoaderMovesFit};
 ghost use Rattle.session_rules.specs.Fairness.{LoaderStaysFair, TargetMovesFit, TargetStaysFair};
 ghost use Rattle.session_rules.specs.FirstPosts.{LoaderBlocksInOrder, TargetBlocksInOrder};
@@ -24,6 +25,15 @@ use transfer_end::laws::{blocks_are_first_posted_in_order, what_comes_was_sent};
 pub fn both_ends_follow_their_logs()
     ensures loader { LoaderFollows }
     ensures target { TargetFollows }
+{
+    check_sum_laws();
+}
+
+/// What there is at a target with all contents, by its log, is what it keeps the view of, and
+/// changes with each event as the target decides.
+pub fn contents_follow_their_log()
+    ensures kept { ContentsAreKept }
+    ensures follow { ContentsFollow }
 {
     check_sum_laws();
 }

@@ -3,3 +3,5 @@ pub mod Following
 pub mod Entering
 pub mod Serving
 pub mod Turning
+pub mod Holding
+pub mod Bringing

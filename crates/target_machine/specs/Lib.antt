@@ -3,3 +3,5 @@ pub mod Machine
 pub mod Stages
 pub mod Booting
 pub mod Boots
+pub mod Disks
+pub mod DiskLaws

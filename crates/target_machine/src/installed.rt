@@ -1,19 +1,25 @@
 //! What is installed at a target, and how it changes.
 ghost use Rattle.std.specs.Option.{ForSome};
-ghost use Rattle.std.specs.Prelude.{◌≡◌, List, Bool, None, Some, IfOk, OnErr, OnOk};
+ghost use Rattle.std.specs.Prelude.{◌≡◌, ℕ, List, Bool, None, Some, IfOk, OnErr, OnOk};
 ghost use Rattle.accept_rules.specs.Interlocks.{Follows};
 ghost use Rattle.bank_store.specs.DiskWrites.{IsRunning};
+ghost use Rattle.bank_store.specs.Fits.{InstallsBeside};
 ghost use Rattle.bank_store.specs.Keeps.{Continues};
 ghost use Rattle.bank_store.specs.Store.{IsIdle, IsPrepared};
+ghost use Rattle.disk_layout.specs.Holds.{StandingView};
 ghost use Rattle.disk_layout.specs.Manifest.{LoadEntry};
 ghost use Rattle.load_header.specs.Header.{HeaderView};
 ghost use Rattle.session_rules.specs.Buffers.{Buffer};
 ghost use Rattle.session_rules.specs.TargetRows.{Awaits_lur, Kept_bytes, Reads_file, done_move};
 ghost use Rattle.session_rules.specs.TargetRows.{error_move, first_row as first_of, row_after};
-ghost use Rattle.session_rules.specs.TargetRows.{view_moved};
+ghost use Rattle.session_rules.specs.TargetRows.{row_moved, view_moved};
+ghost use Rattle.session_rules.specs.Contents.{SessionContents, session_kept};
+ghost use Rattle.session_rules.specs.Uploads.{Upload};
 ghost use Rattle.recovery.specs.Surveys.{IsSurveyInRange, outline_of_survey};
+ghost use Rattle.load_intake.specs.Contents.{BringsRow, InstallsRow, IsOf};
 ghost use Rattle.load_intake.specs.Stores.{IsInStep, Writes};
 ghost use Rattle.target_machine.specs.Decisions.{broken_to, kind_given, row_then};
+ghost use Rattle.target_machine.specs.Disks.{TurnsDisk, whole_row_then};
 ghost use Rattle.target_machine.specs.Machine.{arriving_in, next_seen, row_seen, session_seen};
 ghost use Rattle.target_machine.specs.Stages.{CanBegin, IsNextStage, IsReading, IsRowStage};
 ghost use Rattle.target_machine.specs.Stages.{StartsFresh, StaysOn, TurnsTo};
@@ -130,6 +136,12 @@ impl Installed {
         ensures failed { OnErr result (IsIdle self.new.store) }
         ensures goes_on { OnOk result (StaysOn self.old.store self.new.store (K.state disk.old)
             (K.state disk.new)) }
+        ensures brings { (accepts : HeaderView → Bool) → Follows R.may_say interlock.now accepts
+            → (s : StandingView) (x : SessionContents)
+            → session_seen self.old.active.loads session ≡ session_kept x
+            → InstallsRow self.old.store (K.state disk.old) s x.row x.arrived
+            → BringsRow (K.state disk.old) self.new.store (K.state disk.new) s
+            (whole_row_then accepts self.old.active.identity x error) result }
         ensures writes { Writes (K.state disk.old) (K.state disk.new) result }
     {
         a_store_goes_on_fitting::<K>();
@@ -159,6 +171,12 @@ impl Installed {
         ensures stage { IfOk result (λ next. ForSome next (λ row. IsRowStage row self.new.store)) }
         ensures goes_on { OnOk result (StaysOn self.old.store self.new.store (K.state disk.old)
             (K.state disk.new)) }
+        ensures brings { (accepts : HeaderView → Bool) → Follows R.may_say interlock.now accepts
+            → (s : StandingView) (x : SessionContents)
+            → session_seen self.old.active.loads session ≡ session_kept x
+            → InstallsRow self.old.store (K.state disk.old) s x.row x.arrived
+            → TurnsDisk (K.state disk.old) self.new.store (K.state disk.new) s
+            (whole_row_then accepts self.old.active.identity x error) result }
         ensures writes { Writes (K.state disk.old) (K.state disk.new) result }
     {
         a_store_goes_on_fitting::<K>();
@@ -200,6 +218,12 @@ impl Installed {
         ensures stage { IfOk result (λ next. ForSome next (λ row. IsRowStage row self.new.store)) }
         ensures goes_on { OnOk result (StaysOn self.old.store self.new.store (K.state disk.old)
             (K.state disk.new)) }
+        ensures brings { (accepts : HeaderView → Bool) → Follows R.may_say interlock.now accepts
+            → (s : StandingView) (x : SessionContents)
+            → session_seen self.old.active.loads session ≡ session_kept x
+            → InstallsRow self.old.store (K.state disk.old) s x.row x.arrived
+            → TurnsDisk (K.state disk.old) self.new.store (K.state disk.new) s
+            (whole_row_then accepts self.old.active.identity x None) result }
         ensures writes { Writes (K.state disk.old) (K.state disk.new) result }
     {
         let LiveSession { row, arriving } = session;
@@ -226,6 +250,12 @@ impl Installed {
         ensures stage { IfOk result (λ row. IsRowStage row self.new.store) }
         ensures goes_on { OnOk result (StaysOn self.old.store self.new.store (K.state disk.old)
             (K.state disk.new)) }
+        ensures brings { (accepts : HeaderView → Bool) → Follows R.may_say interlock.now accepts
+            → (s : StandingView) (u : Upload) (arrived : List ℕ) → IsOf intake u arrived
+            → InstallsRow self.old.store (K.state disk.old) s (Reads_file u) arrived
+            → BringsRow (K.state disk.old) self.new.store (K.state disk.new) s
+            (row_moved (Reads_file u) arrived (done_move accepts self.old.active.identity
+            (Reads_file intake.upload) intake.arriving)) result }
         ensures writes { Writes (K.state disk.old) (K.state disk.new) result }
     {
         match intake.finish(interlock, &self.identity, &mut self.store, disk)? {
@@ -260,6 +290,11 @@ impl Installed {
         ensures stage { IfOk result (λ row. IsRowStage row self.new.store) }
         ensures goes_on { OnOk result (StaysOn self.old.store self.new.store (K.state disk.old)
             (K.state disk.new)) }
+        ensures brings { (accepts : HeaderView → Bool) (s : StandingView) (arrived : List ℕ)
+            → InstallsBeside self.old.store (K.state disk.old) s
+            → BringsRow (K.state disk.old) self.new.store (K.state disk.new) s
+            (row_moved Awaits_lur arrived (done_move accepts self.old.active.identity Awaits_lur
+            (Kept_bytes file.now))) result }
         ensures writes { Writes (K.state disk.old) (K.state disk.new) result }
     {
         match read_request(alloc, file)? {

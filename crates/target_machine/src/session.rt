@@ -1,9 +1,12 @@
 //! The session of a target.
-ghost use Rattle.std.specs.Prelude.{◌≡◌, List, OnOk, OnErr};
+ghost use Rattle.std.specs.Prelude.{◌≡◌, ◌++◌, List, OnOk};
 ghost use Rattle.bank_store.specs.DiskWrites.{IsRunning};
 ghost use Rattle.bank_store.specs.Store.{bank_size_of};
+ghost use Rattle.disk_layout.specs.Holds.{StandingView};
 ghost use Rattle.disk_layout.specs.Manifest.{LoadEntry};
 ghost use Rattle.session_rules.specs.Buffers.{empty_buffer};
+ghost use Rattle.session_rules.specs.Contents.{SessionContents, session_kept};
+ghost use Rattle.load_intake.specs.Contents.{BringsTo, InstallsRow};
 ghost use Rattle.load_intake.specs.Stores.{GoesOn, Writes};
 ghost use Rattle.target_machine.specs.Machine.{session_seen, session_with};
 ghost use Rattle.target_machine.specs.Stages.{IsRowStage};
@@ -48,6 +51,11 @@ impl LiveSession {
         ensures takes { (active : List LoadEntry) → OnOk result (session_seen active self.new
             ≡ session_with (session_seen active self.old) payload.now) }
         ensures stage { OnOk result (IsRowStage self.new.row store.new) }
+        ensures brings { (active : List LoadEntry) (s : StandingView) (x : SessionContents)
+            → session_seen active self.old ≡ session_kept x
+            → InstallsRow store.old (K.state disk.old) s x.row x.arrived
+            → BringsTo (K.state disk.old) store.new (K.state disk.new) s s x.row
+            (x.arrived ++ payload.now) result }
         ensures goes_on { OnOk result (GoesOn store.old store.new (K.state disk.old)
             (K.state disk.new)) }
         ensures size { bank_size_of store.new ≡ bank_size_of store.old }

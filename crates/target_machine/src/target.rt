@@ -8,6 +8,7 @@ ghost use Rattle.bank_store.specs.Fits.{Fits, Works};
 ghost use Rattle.bank_store.specs.Keeps.{Continues};
 ghost use Rattle.bank_store.specs.Store.{IsIdle};
 ghost use Rattle.disk_layout.specs.DiskReads.{HasDiskCause};
+ghost use Rattle.disk_layout.specs.Holds.{StandingView};
 ghost use Rattle.disk_model.specs.State.{IsSettled};
 ghost use Rattle.exchange_trace.specs.Logs.{Gets, Learns, Ticks};
 ghost use Rattle.load_header.specs.Header.{HeaderView};
@@ -18,11 +19,15 @@ ghost use Rattle.exchange_trace.specs.declared.trace.Side.TheVariants as sides;
 ghost use Rattle.transfer_end.specs.Calls.{Makes, posted, posts_view};
 ghost use Rattle.transfer_end.specs.Moves.{Stops, view_after};
 ghost use Rattle.transfer_end.specs.Packets.{has_port};
+ghost use Rattle.session_rules.specs.Contents.{AreKept, SessionContents, TargetContents};
+ghost use Rattle.session_rules.specs.Contents.{contents_after, contents_changed, session_kept};
+ghost use Rattle.session_rules.specs.Target.{Continues as Goes_on};
 ghost use Rattle.session_rules.specs.Target.{continued, ending, later_reason, nothing};
 ghost use Rattle.session_rules.specs.Target.{own_decision, own_name};
 ghost use Rattle.session_rules.specs.Target.{read_decision, request_decision, tick_decision};
 ghost use Rattle.session_rules.specs.Target.{row_request, transfer_decision, turn_decision};
 ghost use Rattle.load_intake.specs.declared.down.Down.TheVariants as downs;
+ghost use Rattle.load_intake.specs.Contents.{BringsRow, InstallsRow};
 ghost use Rattle.load_intake.specs.Stores.{Writes};
 ghost use Rattle.target_machine.specs.Boots.{BootFails, BootReads, ComesUp};
 ghost use Rattle.target_machine.specs.Decisions.{Does, Enters, IsCalm, Keeps, Serving};
@@ -31,6 +36,9 @@ ghost use Rattle.target_machine.specs.Decisions.{awaits_file, end_with};
 ghost use Rattle.target_machine.specs.Decisions.{following, given_kind, in_next_row, kind_given};
 ghost use Rattle.target_machine.specs.Decisions.{refusing, row_then, with_live};
 ghost use Rattle.target_machine.specs.Decisions.{writing_decision};
+ghost use Rattle.target_machine.specs.Disks.{BringsContents, HoldsContents, IsAtRest};
+ghost use Rattle.target_machine.specs.Disks.{KeepsDisk, KeepsWork, StartsOn, change_heard};
+ghost use Rattle.target_machine.specs.Disks.{change_turned, whole_row_then};
 ghost use Rattle.target_machine.specs.Stages.{StaysOn};
 
 use crate::boot::BootFault;
@@ -39,7 +47,7 @@ use crate::request::{given_file, request};
 use crate::row::Row;
 use crate::session::LiveSession;
 use accept_rules::{Interlock, Rule};
-use bank_store::a_store_goes_on_fitting;
+use bank_store::{a_settled_disk_works, a_store_goes_on_fitting};
 use disk_layout::Identity;
 use disk_model::Disk;
 use exchange_trace::{Datagram, Side};
@@ -47,6 +55,7 @@ use load_base::{Name, NoMemory};
 use load_intake::Down;
 use recovery::survey;
 use session_files::file_name;
+use session_rules::laws::contents_follow_their_log;
 use session_rules::{FileKind, Reason, SessionKind};
 use std::alloc::Global;
 use std::marker::Model;
@@ -103,6 +112,9 @@ impl<'i, R: Rule> Target<'i, R> {
         ensures fits { IfOk result (λ target. Fits target.store (K.state disk.new)) }
         ensures works { IfOk result (λ target. IsSettled (K.state disk.old)
             → Works target.store (K.state disk.new)) }
+        ensures starts { IfOk result (λ target. IsSettled (K.state disk.old)
+            → ForSome (K.state disk.old).reads (λ image. StartsOn target.view target.store image
+            (K.state disk.new))) }
         ensures refused { IfErr result (λ fault. ForSome (K.state disk.old).reads
             (λ image. BootFails image fault)) }
         ensures reads_disk { BootReads (K.state disk.old) (K.state disk.new) result }
@@ -130,11 +142,19 @@ impl<'i, R: Rule> Target<'i, R> {
         ensures takes { (accepts : HeaderView → Bool) → Follows R.may_say self.old.rule accepts
             → IfOk result (λ posts. Takes accepts (Gets from to bytes.now)
             self.old self.new (posts_view posts)) }
+        // What the disk has then, and what a power loss may have left.
+        ensures keeps_disk { (accepts : HeaderView → Bool)
+            → Follows R.may_say self.old.rule accepts
+            → (c : TargetContents) → AreKept c self.old.view
+            → HoldsContents self.old.store (K.state disk.old) c
+            → KeepsDisk (K.state disk.old) self.new.store (K.state disk.new) c
+            (contents_after accepts self.old.view (Gets from to bytes.now) c) result }
         ensures stays_on { OnOk result (StaysOn self.old.store self.new.store (K.state disk.old)
             (K.state disk.new)) }
         ensures writes { Writes (K.state disk.old) (K.state disk.new) result }
     {
         a_store_goes_on_fitting::<K>();
+        a_settled_disk_works::<K>();
         let packet = packet_in(bytes);
         match &packet {
             Some(packet) if to == REQUEST_PORT => Ok(self.on_request(from, packet)?),
@@ -158,10 +178,15 @@ impl<'i, R: Rule> Target<'i, R> {
         requires { IsRunning (K.state _disk.old) }
         ensures takes { (accepts : HeaderView → Bool) → IfOk result (λ posts.
             Takes accepts Ticks self.old self.new (posts_view posts)) }
+        ensures keeps_disk { (accepts : HeaderView → Bool) (c : TargetContents)
+            → AreKept c self.old.view → HoldsContents self.old.store (K.state _disk.old) c
+            → KeepsDisk (K.state _disk.old) self.new.store (K.state _disk.new) c
+            (contents_after accepts self.old.view Ticks c) result }
         ensures untouched { _disk.new ≡ _disk.old }
         ensures cause { HasDiskCause downs.DiskFailed (K.state _disk.old) (K.state _disk.new) result }
         ensures store { OnOk result (Continues self.old.store self.new.store) }
     {
+        a_settled_disk_works::<K>();
         Ok(self.tick()?)
     }
 
@@ -169,6 +194,7 @@ impl<'i, R: Rule> Target<'i, R> {
         ensures does { IfOk result (λ posts. Does (tick_decision self.old.view.end self.old.view.live)
             self.old self.new (posts_view posts)) }
         ensures store { OnOk result (Continues self.old.store self.new.store) }
+        ensures work { OnOk result (KeepsWork self.old self.new) }
     {
         if self.live.is_none() {
             return Ok(Posts::none());
@@ -232,6 +258,7 @@ impl<'i, R: Rule> Target<'i, R> {
     fn end_session(&mut self, reason: Option<Reason>)
         ensures does { Does (ending reason) self.old self.new [] }
         ensures store { Continues self.old.store self.new.store }
+        ensures rests { IsAtRest self.new.view.live }
     {
         self.close();
         self.reason = later(self.reason, reason);
@@ -242,6 +269,7 @@ impl<'i, R: Rule> Target<'i, R> {
         ensures closes { Keeps self.old self.new (with_live (end_with self.old.view
             (view_after sides.Target self.old.view.end Stops)) None) }
         ensures store { Continues self.old.store self.new.store }
+        ensures rests { IsAtRest self.new.view.live }
         ensures idle { IsIdle self.new.store }
     {
         self.end.stop();
@@ -257,6 +285,7 @@ impl<'i, R: Rule> Target<'i, R> {
         ensures does { IfOk result (λ posts. Does (request_decision self.old.view from
             (packet_view packet.now)) self.old self.new (posts_view posts)) }
         ensures store { OnOk result (Continues self.old.store self.new.store) }
+        ensures work { OnOk result (KeepsWork self.old self.new) }
     {
         match packet {
             Packet::Rrq { name, options } => self.give(from, name, *options),
@@ -272,6 +301,7 @@ impl<'i, R: Rule> Target<'i, R> {
         ensures does { IfOk result (λ posts. Does (read_decision self.old.view from name.now
             options) self.old self.new (posts_view posts)) }
         ensures store { OnOk result (Continues self.old.store self.new.store) }
+        ensures work { OnOk result (KeepsWork self.old self.new) }
     {
         match self.given(name)? {
             Some(kind) => self.begin(from, kind, options),
@@ -320,6 +350,7 @@ impl<'i, R: Rule> Target<'i, R> {
         ensures does { (name : List ℕ) → IfOk result (λ posts. Does (own_decision self.old.view from
             (kind_given kind) name options) self.old self.new (posts_view posts)) }
         ensures store { OnOk result (Continues self.old.store self.new.store) }
+        ensures work { OnOk result (KeepsWork self.old self.new) }
     {
         if !self.may_serve(from) {
             return Ok(Posts::none());
@@ -338,6 +369,7 @@ impl<'i, R: Rule> Target<'i, R> {
     fn may_serve(&mut self, from: u16) -> bool
         ensures serves { Serving result from self.old self.new }
         ensures store { Continues self.old.store self.new.store }
+        ensures work { KeepsWork self.old self.new }
     {
         if !self.end.is_fresh(from) {
             return false;
@@ -357,6 +389,7 @@ impl<'i, R: Rule> Target<'i, R> {
         ensures does { IfOk result (λ posts. Does (writing_decision self.old.view from name.now
             options) self.old self.new (posts_view posts)) }
         ensures store { OnOk result (Continues self.old.store self.new.store) }
+        ensures work { OnOk result (KeepsWork self.old self.new) }
     {
         if self.end.is_busy() || !self.awaits(name)? {
             return Ok(Posts::none());
@@ -400,6 +433,12 @@ impl<'i, R: Rule> Target<'i, R> {
             → IfOk result (λ posts. Does (transfer_decision accepts self.old.view
             self.old.view.live from to (packet_view packet.now))
             self.old self.new (posts_view posts)) }
+        ensures brings { (accepts : HeaderView → Bool) → Follows R.may_say self.old.rule accepts
+            → (c : TargetContents) → AreKept c self.old.view
+            → HoldsContents self.old.store (K.state disk.old) c
+            → BringsContents (K.state disk.old) self.new.store (K.state disk.new) c
+            (contents_changed c (transfer_decision accepts self.old.view self.old.view.live from to
+            (packet_view packet.now)).change) result }
         ensures stays_on { OnOk result (StaysOn self.old.store self.new.store (K.state disk.old)
             (K.state disk.new)) }
         ensures writes { Writes (K.state disk.old) (K.state disk.new) result }
@@ -418,10 +457,17 @@ impl<'i, R: Rule> Target<'i, R> {
             self.old self.new (posted post))) }
         ensures idle { self.old.view.live ≡ None → IfOk result (λ post.
             (posted post ≡ []) × (self.new ≡ self.old)) }
+        ensures brings { (accepts : HeaderView → Bool) → Follows R.may_say self.old.rule accepts
+            → (c : TargetContents) → AreKept c self.old.view
+            → HoldsContents self.old.store (K.state disk.old) c
+            → BringsContents (K.state disk.old) self.new.store (K.state disk.new) c
+            (contents_changed c (change_heard accepts self.old.view self.old.view.live
+            (news_view news.now))) result }
         ensures stays_on { OnOk result (StaysOn self.old.store self.new.store (K.state disk.old)
             (K.state disk.new)) }
         ensures writes { Writes (K.state disk.old) (K.state disk.new) result }
     {
+        contents_follow_their_log();
         match news {
             News::Nothing => Ok(self.go_on()),
             News::Block(payload) => {
@@ -454,6 +500,10 @@ impl<'i, R: Rule> Target<'i, R> {
             (with_live self.old.view (continued self.old.view.live payload.now))) }
         ensures idle { self.old.view.live ≡ None → OnOk result (self.new ≡ self.old) }
         ensures calm { OnOk result (IsCalm self.new.view.live) }
+        ensures brings { (c : TargetContents) → AreKept c self.old.view
+            → HoldsContents self.old.store (K.state disk.old) c
+            → BringsContents (K.state disk.old) self.new.store (K.state disk.new) c
+            (contents_changed c (Goes_on payload.now)) result }
         ensures stays_on { OnOk result (StaysOn self.old.store self.new.store (K.state disk.old)
             (K.state disk.new)) }
         ensures writes { Writes (K.state disk.old) (K.state disk.new) result }
@@ -482,6 +532,11 @@ impl<'i, R: Rule> Target<'i, R> {
             self.old self.new (posted post))) }
         ensures idle { self.old.view.live ≡ None → IfOk result (λ post.
             (posted post ≡ []) × (self.new ≡ self.old)) }
+        ensures brings { (accepts : HeaderView → Bool) → Follows R.may_say self.old.rule accepts
+            → (c : TargetContents) → AreKept c self.old.view
+            → HoldsContents self.old.store (K.state disk.old) c
+            → BringsContents (K.state disk.old) self.new.store (K.state disk.new) c
+            (contents_changed c (change_turned accepts self.old.view self.old.view.live error)) result }
         ensures stays_on { OnOk result (StaysOn self.old.store self.new.store (K.state disk.old)
             (K.state disk.new)) }
         ensures writes { Writes (K.state disk.old) (K.state disk.new) result }
@@ -490,6 +545,7 @@ impl<'i, R: Rule> Target<'i, R> {
             return Ok(None);
         }
         a_store_goes_on_fitting::<K>();
+        contents_follow_their_log();
         self.turn_row(disk, error)?;
         Ok(self.ask()?)
     }
@@ -500,6 +556,12 @@ impl<'i, R: Rule> Target<'i, R> {
         ensures session { (accepts : HeaderView → Bool) → Follows R.may_say self.old.rule accepts
             → ForSome self.old.view.live (λ s. OnOk result (Keeps self.old self.new
             (in_next_row self.old.view (row_then accepts self.old.view.active.identity s error)))) }
+        ensures brings { (accepts : HeaderView → Bool) → Follows R.may_say self.old.rule accepts
+            → (s : StandingView) (x : SessionContents)
+            → self.old.view.live ≡ Some (session_kept x)
+            → InstallsRow self.old.store (K.state disk.old) s x.row x.arrived
+            → BringsRow (K.state disk.old) self.new.store (K.state disk.new) s
+            (whole_row_then accepts self.old.view.active.identity x error) result }
         ensures stays_on { OnOk result (StaysOn self.old.store self.new.store (K.state disk.old)
             (K.state disk.new)) }
         ensures writes { Writes (K.state disk.old) (K.state disk.new) result }
@@ -522,6 +584,7 @@ impl<'i, R: Rule> Target<'i, R> {
     fn ask(&mut self) -> Result<Option<Datagram>, NoMemory>
         ensures enters { IfOk result (λ post. Enters self.old self.new (posted post)) }
         ensures store { OnOk result (Continues self.old.store self.new.store) }
+        ensures work { OnOk result (KeepsWork self.old self.new) }
     {
         let Some(session) = &self.live else {
             self.end.stop();

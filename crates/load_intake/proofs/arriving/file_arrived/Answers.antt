@@ -7,6 +7,11 @@ use Rattle.load_intake.specs.Intakes.{row_seen}
 use Rattle.load_intake.specs.Places.{next_seen}
 use Rattle.load_intake.specs.States.{upload_of, with_one}
 use Rattle.load_intake.proofs.Files.{accepts_one, before_end, count_right, ends_next, entry_after, has_one, file_of, next_after_one, next_is}
+use Rattle.session_rules.specs.TargetRows.{Kept_sums, Reads_file, done_move}
+use Rattle.load_intake.specs.Contents.{given_of}
+use Rattle.load_intake.proofs.Accepting.{file_brings}
+use Rattle.load_intake.proofs.Filling.{gives_more}
+use Rattle.load_intake.proofs.Moving.{brings_stop, stops}
 use Rattle.load_intake.proofs.Going.{continued, ends_after, stops_there}
 use Rattle.load_intake.proofs.Rows.{file_placed, file_stopped, moved}
 use Rattle.load_intake.proofs.arriving.file_arrived.Goals as goal
@@ -68,3 +73,18 @@ returns-clause-row g c accepts id =
 
 pub returns-clause-ends : goal.returns-clause-ends
 returns-clause-ends g c = ends_after c.go_on.result _ _ _ _ _ _ (continued _ _ _ c.end_file.ensures.continues c.requires.arrived.running) c.go_on.ensures.ends
+
+pub returns-in-Some-clause-brings : goal.returns-in-Some-clause-brings
+returns-in-Some-clause-brings g c = λ accepts id s u arrived is installs.
+    let v = upload_of c.args.whole (Some c.args.load) in
+    brings_stop c.args.store.now c.stop.new.store (g.K.Disk.state c.args.disk.now) s u arrived _ _ (stops u v arrived (Kept_sums c.args.sums) (done_move accepts id (Reads_file v) (Kept_sums c.args.sums)) _ (returns-in-Some-clause-row g c accepts id)) c.stop.ensures.continues installs
+
+pub returns-clause-brings : goal.returns-clause-brings
+returns-clause-brings g c = λ accepts id s u arrived is installs.
+    let l = c.args.load in
+    let entry = next_is l c.requires.arrived.keeps.next.left in
+    let e = entry_after l in
+    file_brings accepts id c.args.whole l c.args.sums e u arrived c.next_file-file.result.name (next_seen c.next_in-next.result) (g.K.Disk.state c.args.disk.now) c.go_on.new.store (g.K.Disk.state c.go_on.new.disk) s c.go_on.result is entry (c.next_in-next.ensures (Some l))
+    (sym c.in_default.is ∙ c.verdict.ensures e entry) c.requires.arrived.keeps.next.left (ap (λ (f : ManifestFile). f.name) (c.next_file-file.ensures e entry)) installs.holds.headers
+    (c.go_on.ensures.goes_to s _
+    (gives_more c.args.store.now c.end_file.new.store (g.K.Disk.state c.args.disk.now) s (given_of u arrived) _ c.end_file.ensures.continues (λ image has. c.end_file.ensures.given image _ has) (record { beside = installs.beside; given = installs.holds.given })))

@@ -1,9 +1,13 @@
-use Rattle.std.proofs.Common.{◌≡◌, length, None, sym, ap, ◌∙◌, arith}
+use Rattle.std.proofs.Common.{◌≡◌, [], length, None, sym, ap, ◌∙◌, arith}
 use Rattle.std.proofs.lemmas.Result.{IfOk-weaker}
 use Rattle.session_rules.specs.TargetRows.{UploadEnd, Writes_stop, placed_view}
 use Rattle.load_header.specs.Header.{header_view}
 use Rattle.load_intake.specs.Intakes.{row_seen}
-use Rattle.load_intake.specs.Judging.{header_row, whole_buffer}
+use Rattle.load_intake.specs.Contents.{given_of}
+use Rattle.load_intake.specs.Judging.{header_row, whole_buffer, whole_header_row}
+use Rattle.load_intake.proofs.Accepting.{header_brings, header_judged, header_stops}
+use Rattle.load_intake.proofs.Filling.{begin_fails}
+use Rattle.load_intake.proofs.Moving.{brings_stop, goes_then}
 use Rattle.load_intake.specs.Places.{next_seen}
 use Rattle.load_intake.specs.States.{upload_of}
 use Rattle.load_intake.proofs.Going.{ends_after, stops_there}
@@ -63,3 +67,27 @@ returns-clause-row g c accepts follows =
 
 pub returns-clause-ends : goal.returns-clause-ends
 returns-clause-ends g c = ends_after c.go_on.result _ _ _ _ _ _ c.in_ok-write_header.ensures.goes_on c.go_on.ensures.ends
+
+pub returns-in-Some-clause-brings : goal.returns-in-Some-clause-brings
+returns-in-Some-clause-brings g c = λ accepts follows s u seen installs.
+    let h = header_view c.args.header in
+    brings_stop c.args.store.now c.stop.new.store (g.K.Disk.state c.args.disk.now) s u c.args.bytes.now (whole_header_row accepts c.args.identity.now u h c.args.bytes.now) _
+    (header_stops accepts c.args.identity.now c.args.whole c.next_wanted.result.now h c.args.bytes.now u _ seen c.next_wanted.ensures (returns-in-Some-clause-row g c accepts follows)) c.stop.ensures.continues installs
+
+pub returns-in_err-write_header-clause-brings : goal.returns-in_err-write_header-clause-brings
+returns-in_err-write_header-clause-brings g c = λ accepts follows s u seen installs.
+    begin_fails (g.K.Disk.state c.args.disk.now) c.write_header.new.store c.write_header.new.store (g.K.Disk.state c.write_header.new.disk) s _ _ _ [] c.write_header.result c.from_residual.result c.from_residual.ensures.0
+    (c.write_header.ensures.gives s (given_of u c.args.bytes.now) (record { beside = installs.beside; given = installs.holds.given }))
+
+pub returns-clause-brings : goal.returns-clause-brings
+returns-clause-brings g c = λ accepts follows s u seen installs.
+    let w = c.args.whole in
+    let h = header_view c.args.header in
+    let bytes = c.args.bytes.now in
+    let wanted = c.next_wanted.result.now in
+    let next = next_seen c.next_after-next.result in
+    let need = c.need_with-need.ensures ∙ need_is w (whole_buffer bytes) wanted h (length bytes) c.requires.arrived.keeps c.requires.spelled.0 in
+    let judged = header_judged accepts c.args.identity.now w wanted h bytes c.need_with-need.result next c.value-crc.result need (c.next_after-next.ensures None) (c.value-crc.ensures ∙ c.header_sum-sum.ensures) (sym c.in_default.is ∙ c.header_verdict-refused.ensures.is accepts follows) in
+    header_brings accepts c.args.identity.now w wanted h bytes u next (g.K.Disk.state c.args.disk.now) c.go_on.new.store (g.K.Disk.state c.go_on.new.disk) s c.go_on.result seen c.next_wanted.ensures judged (c.next_after-next.ensures None) installs.holds.headers
+    (goes_then next (g.K.Disk.state c.args.disk.now) c.write_header.new.store (g.K.Disk.state c.write_header.new.disk) c.go_on.new.store (g.K.Disk.state c.go_on.new.disk) s _ _ c.go_on.result
+    (c.in_ok-write_header.ensures.gives s (given_of u bytes) (record { beside = installs.beside; given = installs.holds.given })) (λ given. c.go_on.ensures.goes_to s _ given))

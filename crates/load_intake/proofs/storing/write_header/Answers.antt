@@ -1,8 +1,12 @@
-use Rattle.std.proofs.Common.{arith, [], length, ◌+◌, ◌≡◌, length-append}
+use Rattle.std.proofs.Common.{arith, [], ℕ, List, Ok, length, ◌+◌, ◌≡◌, length-append, subst}
 use Rattle.bank_store.specs.Store.{bank_size_of}
 use Rattle.disk_layout.specs.Manifest.{LoadEntry}
 use Rattle.load_header.specs.Header.{header_view}
 use Rattle.session_rules.specs.Uploads.{files_of}
+use Rattle.bank_store.specs.Given.{with_bytes, with_file, with_load}
+use Rattle.load_intake.specs.declared.down.Down.{Down}
+use Rattle.load_intake.specs.Contents.{Gives}
+use Rattle.load_intake.proofs.Filling.{gives_fails, gives_more}
 use Rattle.load_intake.proofs.Going.{continued, then_on}
 use Rattle.load_intake.proofs.Sizes.{total_more}
 use Rattle.load_intake.proofs.Steps.{awaits_end, awaits_file, header_there, room}
@@ -35,3 +39,19 @@ pub returns-clause-goes_on : goal.returns-clause-goes_on
 returns-clause-goes_on g c =
     then_on _ _ _ _ _ _ (continued _ _ _ c.start_load.ensures.continues c.requires.running)
     (then_on _ _ _ _ _ _ c.in_ok-append.ensures.goes_on (continued _ _ _ c.end_file.ensures.continues c.in_ok-append.ensures.goes_on.running))
+
+pub returns-in_err-append-clause-gives : goal.returns-in_err-append-clause-gives
+returns-in_err-append-clause-gives g c = λ s given is.
+    gives_fails (g.K.Disk.state c.args.disk.now) c.append.new.store c.append.new.store (g.K.Disk.state c.append.new.disk) s _ _ c.append.result c.from_residual.result c.from_residual.ensures.0
+    (c.append.ensures.gives s _ (gives_more c.args.store.now c.start_load.new.store (g.K.Disk.state c.args.disk.now) s given _ c.start_load.ensures.continues (λ image has. c.start_load.ensures.given image given has) is))
+
+pub returns-clause-gives : goal.returns-clause-gives
+returns-clause-gives g c = λ s given is.
+    let n = length (files_of (header_view c.args.header.now)) in
+    let few : c.len.result + c.len-2.result + 1 ≡ n + 1 = omega (arith, c.len.ensures, c.len-2.ensures, length-append c.args.header.now.data_files.items c.args.header.now.support_files.items) in
+    let begun = gives_more c.args.store.now c.start_load.new.store (g.K.Disk.state c.args.disk.now) s given _ c.start_load.ensures.continues (λ image has. c.start_load.ensures.given image given has) is in
+    let wrote = c.in_ok-append.ensures.gives s _ begun in
+    let ended = gives_more c.append.new.store c.end_file.new.store (g.K.Disk.state c.append.new.disk) s _ _ c.end_file.ensures.continues (λ image has. c.end_file.ensures.given image _ has) wrote.ok in
+    subst (λ (part : List ℕ). Gives {E = Down} (g.K.Disk.state c.args.disk.now) c.end_file.new.store (g.K.Disk.state c.append.new.disk) s (with_file c.args.wanted.now.header (with_bytes c.args.bytes.now (with_load part (n + 1) given))) (Ok tt)) c.text.ensures
+    (subst (λ (k : ℕ). Gives {E = Down} (g.K.Disk.state c.args.disk.now) c.end_file.new.store (g.K.Disk.state c.append.new.disk) s (with_file c.args.wanted.now.header (with_bytes c.args.bytes.now (with_load c.text.result k given))) (Ok tt)) few
+    (record { adds = wrote.adds; ok = ended }))

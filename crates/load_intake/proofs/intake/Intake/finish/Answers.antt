@@ -1,5 +1,6 @@
 use Rattle.std.proofs.Common.{◌≡◌, IfOk, sym, ap, subst, ◌∙◌}
-use Rattle.session_rules.specs.TargetRows.{Reads_file, done_move, view_moved}
+use Rattle.session_rules.specs.TargetRows.{Reads_file, done_move, row_moved, view_moved}
+use Rattle.load_intake.specs.Contents.{BringsRow, IsOf}
 use Rattle.load_intake.specs.declared.place.Place.{Place}
 use Rattle.load_intake.specs.Intakes.{row_seen}
 use Rattle.load_intake.specs.Kept.{intake_at}
@@ -20,3 +21,17 @@ returns-in-File-clause-row g c accepts follows =
     let is = ap (λ (p : Place). intake_at c.self.inside.whole (open_load p) (arriving_at p)) (sym c.in-File.is) ∙ c.self.view_is in
     subst (λ (st : IntakeState). IfOk c.file_arrived.result (λ f. row_seen f ≡ view_moved (Reads_file st.upload) st.arriving (done_move accepts id (Reads_file st.upload) st.arriving))) is
     (c.file_arrived.ensures.row accepts id)
+
+pub returns-in-Header-clause-brings : goal.returns-in-Header-clause-brings
+returns-in-Header-clause-brings g c = λ accepts follows s u arrived is installs.
+    let id = c.args.identity.now in
+    let same = ap (λ (p : Place). intake_at c.self.inside.whole (open_load p) (arriving_at p)) (sym c.in-Header.is) ∙ c.self.view_is in
+    subst (λ (st : IntakeState). IsOf st u arrived → BringsRow (g.K.Disk.state c.args.disk.now) c.header_arrived.new.store (g.K.Disk.state c.header_arrived.new.disk) s (row_moved (Reads_file u) arrived (done_move accepts id (Reads_file st.upload) st.arriving)) c.header_arrived.result) same
+    (λ of. c.header_arrived.ensures.brings accepts follows s u arrived of installs) is
+
+pub returns-in-File-clause-brings : goal.returns-in-File-clause-brings
+returns-in-File-clause-brings g c = λ accepts follows s u arrived is installs.
+    let id = c.args.identity.now in
+    let same = ap (λ (p : Place). intake_at c.self.inside.whole (open_load p) (arriving_at p)) (sym c.in-File.is) ∙ c.self.view_is in
+    subst (λ (st : IntakeState). IsOf st u arrived → BringsRow (g.K.Disk.state c.args.disk.now) c.file_arrived.new.store (g.K.Disk.state c.file_arrived.new.disk) s (row_moved (Reads_file u) arrived (done_move accepts id (Reads_file st.upload) st.arriving)) c.file_arrived.result) same
+    (λ of. c.file_arrived.ensures.brings accepts id s u arrived of installs) is

@@ -1,4 +1,5 @@
-use Rattle.std.proofs.Common.{◌++◌, subst, sym}
+use Rattle.std.proofs.Common.{◌++◌, ap, subst, sym, ◌∙◌}
+use Rattle.session_rules.specs.Uploads.{UploadView}
 use Rattle.load_intake.specs.Kept.{current_load, files_missing}
 use Rattle.load_intake.specs.Places.{arriving_at, open_load}
 use Rattle.load_intake.specs.States.{IntakeState}
@@ -18,3 +19,10 @@ returns-clause-in_step g c =
     let step = subst (λ (st : IntakeState). IsInStep st c.args.store.now) (sym c.self.view_is) c.requires.in_step in
     stays_more c.take.result i.whole (open_load i.place) (open_load c.take.new.self) (arriving_at i.place) (arriving_at c.take.new.self) c.args.store.now c.take.new.store _ _ c.take.ensures.load step
     (c.take.ensures.has (i.whole.loads ++ current_load (open_load i.place)) (files_missing (open_load i.place)) step.has) c.take.ensures.goes_on
+
+pub returns-clause-brings : goal.returns-clause-brings
+returns-clause-brings g c = λ s u arrived is installs.
+    c.take.ensures.brings s u arrived
+    (ap (λ (v : UploadView). v.current) (sym is.upload ∙ ap (λ (st : IntakeState). st.upload) (sym c.self.view_is)))
+    (sym is.arriving ∙ ap (λ (st : IntakeState). st.arriving) (sym c.self.view_is))
+    installs

@@ -7,6 +7,13 @@ use Rattle.target_machine.specs.Stages.{TurnsTo}
 use Rattle.target_machine.specs.declared.row.Row.{Row}
 use Rattle.target_machine.proofs.Calm.{begins_in}
 use Rattle.target_machine.proofs.Entering.{ends_row, turns_row}
+use Rattle.std.proofs.Common.{[], Ok}
+use Rattle.load_intake.specs.declared.down.Down.{Down}
+use Rattle.load_intake.specs.Contents.{BringsRow, InstallsRow}
+use Rattle.session_rules.specs.Contents.{session_kept}
+use Rattle.target_machine.specs.Disks.{whole_row_then}
+use Rattle.target_machine.proofs.Calm.{session_is}
+use Rattle.target_machine.proofs.Holding.{answers_so, fails_so}
 use Rattle.target_machine.proofs.target.Target.turn_row.Goals as goal
 
 pub returns-in-Some-next-clause-session : goal.returns-in-Some-next-clause-session
@@ -28,3 +35,30 @@ returns-in_default-next-clause-session g c = λ accepts follows x live.
     ends_row accepts _ c.args.self.now _ c.args.error x (session_seen loads c.in-Some.session) c.self.inside.installed c.turn.new.self c.self.view_is live
     (ap (option_map (session_seen loads)) (sym c.take.ensures.value ∙ c.in-Some.is)) refl refl refl refl turns
     (ap (option_map (session_seen c.turn.new.self.active.loads)) c.take.ensures.after) refl
+
+pub returns-in-Some-next-clause-brings : goal.returns-in-Some-next-clause-brings
+returns-in-Some-next-clause-brings g c = λ accepts follows s x live installs.
+    let loads = c.self.inside.installed.active.loads in
+    let follows_inside = subst (λ (y : TargetState g.row.R.Denot). Follows g.R.Rule.may_say y.rule accepts) (sym c.self.view_is) follows in
+    let seen = sym (session_is loads c.self.inside.live c.in-Some.session (session_kept x) (sym c.take.ensures.value ∙ c.in-Some.is) (ap (λ (y : TargetState g.row.R.Denot). y.view.live) c.self.view_is ∙ live)) in
+    let inside = subst (λ (y : TargetState g.row.R.Denot). InstallsRow y.store (g.K.Disk.state c.args.disk.now) s x.row x.arrived) (sym c.self.view_is) installs in
+    subst (λ (y : TargetState g.row.R.Denot). BringsRow {E = Down} (g.K.Disk.state c.args.disk.now) c.turn.new.self.store (g.K.Disk.state c.turn.new.disk) s (whole_row_then accepts y.view.active.identity x c.args.error) (Ok tt)) c.self.view_is
+    (answers_so (g.K.Disk.state c.args.disk.now) c.turn.new.self.store (g.K.Disk.state c.turn.new.disk) s _ _ [] _ tt (c.in_ok-next.ensures.brings accepts follows_inside s x seen inside))
+
+pub returns-in_default-next-clause-brings : goal.returns-in_default-next-clause-brings
+returns-in_default-next-clause-brings g c = λ accepts follows s x live installs.
+    let loads = c.self.inside.installed.active.loads in
+    let follows_inside = subst (λ (y : TargetState g.row.R.Denot). Follows g.R.Rule.may_say y.rule accepts) (sym c.self.view_is) follows in
+    let seen = sym (session_is loads c.self.inside.live c.in-Some.session (session_kept x) (sym c.take.ensures.value ∙ c.in-Some.is) (ap (λ (y : TargetState g.row.R.Denot). y.view.live) c.self.view_is ∙ live)) in
+    let inside = subst (λ (y : TargetState g.row.R.Denot). InstallsRow y.store (g.K.Disk.state c.args.disk.now) s x.row x.arrived) (sym c.self.view_is) installs in
+    subst (λ (y : TargetState g.row.R.Denot). BringsRow {E = Down} (g.K.Disk.state c.args.disk.now) c.turn.new.self.store (g.K.Disk.state c.turn.new.disk) s (whole_row_then accepts y.view.active.identity x c.args.error) (Ok tt)) c.self.view_is
+    (answers_so (g.K.Disk.state c.args.disk.now) c.turn.new.self.store (g.K.Disk.state c.turn.new.disk) s _ _ [] _ tt (c.in_ok-next.ensures.brings accepts follows_inside s x seen inside))
+
+pub returns-in_err-next-clause-brings : goal.returns-in_err-next-clause-brings
+returns-in_err-next-clause-brings g c = λ accepts follows s x live installs.
+    let loads = c.self.inside.installed.active.loads in
+    let follows_inside = subst (λ (y : TargetState g.row.R.Denot). Follows g.R.Rule.may_say y.rule accepts) (sym c.self.view_is) follows in
+    let seen = sym (session_is loads c.self.inside.live c.in-Some.session (session_kept x) (sym c.take.ensures.value ∙ c.in-Some.is) (ap (λ (y : TargetState g.row.R.Denot). y.view.live) c.self.view_is ∙ live)) in
+    let inside = subst (λ (y : TargetState g.row.R.Denot). InstallsRow y.store (g.K.Disk.state c.args.disk.now) s x.row x.arrived) (sym c.self.view_is) installs in
+    subst (λ (y : TargetState g.row.R.Denot). BringsRow (g.K.Disk.state c.args.disk.now) c.turn.new.self.store (g.K.Disk.state c.turn.new.disk) s (whole_row_then accepts y.view.active.identity x c.args.error) c.from_residual.result) c.self.view_is
+    (fails_so (g.K.Disk.state c.args.disk.now) c.turn.new.self.store c.turn.new.self.store (g.K.Disk.state c.turn.new.disk) s _ _ [] c.turn.result c.from_residual.result c.from_residual.ensures.0 (c.turn.ensures.brings accepts follows_inside s x seen inside))

@@ -1,0 +1,28 @@
+use Rattle.std.proofs.Common.{◌≡◌, rules, Err, Ok, Some, ap, option_map, refl, subst, sym, ◌∙◌}
+use Rattle.load_intake.specs.Contents.{InstallsRow}
+use Rattle.target_machine.specs.Decisions.{TargetState}
+use Rattle.target_machine.specs.Machine.{session_seen}
+use Rattle.target_machine.proofs.Bringing.{take_live}
+use Rattle.target_machine.proofs.Holding.{fails_so}
+use Rattle.target_machine.proofs.target.Target.take.Goals as goal
+
+pub returns-in-Ok-clause-brings : goal.returns-in-Ok-clause-brings
+returns-in-Ok-clause-brings g c = λ x kept holds.
+    let loads = c.self.inside.installed.active.loads in
+    let there : c.self.inside.live ≡ Some c.in-Some.session = search rules in
+    let live = sym (ap (λ (y : TargetState g.row.R.Denot). y.view.live) c.self.view_is) ∙ ap (option_map (session_seen loads)) there in
+    take_live c.args.self.now.store (g.K.Disk.state c.args.disk.now) c.take-2.new.store (g.K.Disk.state c.take-2.new.disk) x c.args.self.now.view (session_seen loads c.in-Some.session) c.args.payload.now (Ok tt) kept live holds
+    (λ y seen installs. c.in-Ok.ensures.brings loads x.active y seen
+    (subst (λ i. InstallsRow i.installed.store (g.K.Disk.state c.args.disk.now) x.active y.row y.arrived) (sym c.self-inside.view_is)
+    (subst (λ (t : TargetState g.row.R.Denot). InstallsRow t.store (g.K.Disk.state c.args.disk.now) x.active y.row y.arrived) (sym c.self.view_is) installs)))
+
+pub returns-in-Err-clause-brings : goal.returns-in-Err-clause-brings
+returns-in-Err-clause-brings g c = λ x kept holds.
+    let loads = c.self.inside.installed.active.loads in
+    let there : c.self.inside.live ≡ Some c.in-Some.session = search rules in
+    let live = sym (ap (λ (y : TargetState g.row.R.Denot). y.view.live) c.self.view_is) ∙ ap (option_map (session_seen loads)) there in
+    fails_so (g.K.Disk.state c.args.disk.now) c.take-2.new.store c.abandon.new.self.store (g.K.Disk.state c.take-2.new.disk) x.active _ _ _ c.take-2.result (Err c.in-Err.down) refl
+    (take_live c.args.self.now.store (g.K.Disk.state c.args.disk.now) c.take-2.new.store (g.K.Disk.state c.take-2.new.disk) x c.args.self.now.view (session_seen loads c.in-Some.session) c.args.payload.now c.take-2.result kept live holds
+    (λ y seen installs. c.take-2.ensures.brings loads x.active y seen
+    (subst (λ i. InstallsRow i.installed.store (g.K.Disk.state c.args.disk.now) x.active y.row y.arrived) (sym c.self-inside.view_is)
+    (subst (λ (t : TargetState g.row.R.Denot). InstallsRow t.store (g.K.Disk.state c.args.disk.now) x.active y.row y.arrived) (sym c.self.view_is) installs))))
