@@ -1,5 +1,5 @@
 -- What the store's calls give and leave of an upload.
-use Rattle.std.proofs.Common.{◌≡◌, ◌⊎◌, inl, inr, true, false, ℕ, ◌+◌, ◌-◌, List, [], ◌∷◌, ◌++◌, Result, Ok, Err, IsErr, Option, Some, None, OnOk, length, map, take, refl, sym, ap, subst, ◌∙◌}
+use Rattle.std.proofs.Common.{◌≡◌, ◌⊎◌, inl, inr, true, false, ℕ, ◌+◌, ◌-◌, ◌<◌, ◌≤◌, arith, List, [], ◌∷◌, ◌++◌, Result, Ok, Err, IsErr, Option, Some, None, OnOk, length, map, take, refl, sym, ap, subst, ◌∙◌}
 use Rattle.std.proofs.lemmas.List.Elements.{All-nil}
 use Rattle.disk_layout.specs.Contents.{HeaderIsFirst, HeadersAreFirst}
 use Rattle.load_protocol_files.specs.declared.lur.Wanted.{Wanted}
@@ -12,20 +12,20 @@ use Rattle.disk_model.specs.State.{DiskState}
 use Rattle.disk_layout.specs.Holds.{HoldsConfig, StandingView}
 use Rattle.bank_store.specs.declared.fault.StoreFault.{StoreFault}
 use Rattle.bank_store.specs.declared.store.Store.{Store}
-use Rattle.bank_store.specs.DiskWrites.{AddsOnly}
+use Rattle.bank_store.specs.DiskWrites.{AddsOnly, TimeGoesOn}
 use Rattle.bank_store.specs.Fits.{CanActivate, InstallsBeside}
 use Rattle.bank_store.specs.Given.{Given, GivenLoad, HasGiven, configured, loads_of, nothing_given, with_bytes, with_file, with_load}
 use Rattle.bank_store.specs.Keeps.{Activates, Appends, Begins, Continues, FitsOn, IsOldOrNew, Keeps, LeavesActive, Seals}
 use Rattle.bank_store.specs.Store.{with_gate_open, with_gate_shut, with_manifest, with_piece, with_slot, manifest_length}
 use Rattle.session_rules.specs.TargetRows.{Kept_bytes, Kept_sums, Over, Reads_file, WholeRow, arriving_load, new_upload, said_length}
 use Rattle.load_intake.specs.declared.down.Down.{Down}
-use Rattle.load_intake.specs.Contents.{AddsAtMost, BringsTo, Gives, InstallsRow, IsGiven, LeavesSealed, given_current, given_load, given_of}
-use Rattle.load_intake.specs.ContentLaws.{adds_both, adds_nothing, adds_old, adds_only, adds_weaker, beside_continued}
+use Rattle.load_intake.specs.Contents.{AddsAtMost, BringsTo, Gives, InstallsRow, IsGiven, LeavesSealed, OpensGate, given_current, given_load, given_of}
+use Rattle.load_intake.specs.ContentLaws.{adds_both, adds_nothing, adds_old, adds_only, adds_then, beside_continued}
 
 -- ---- the old configuration alone
 
-pub leaves_old : (store : Store) (old new : DiskState) (s : StandingView) → LeavesActive store old new → InstallsBeside store old s → AddsAtMost old new (λ left. HoldsConfig left s)
-leaves_old store old new s leaves beside = adds_only old new (λ left. HoldsConfig left s) (leaves s beside)
+pub leaves_old : (store : Store) (old new : DiskState) (s : StandingView) → old.clock ≤ new.clock → LeavesActive store old new → InstallsBeside store old s → AddsAtMost old new (λ left. HoldsConfig left s)
+leaves_old store old new s later leaves beside = adds_only old new (λ left. HoldsConfig left s) later (leaves s beside)
 
 abbrev pub beside_on : (before after : Store) (old new : DiskState) (s : StandingView) (now : Image) → FitsOn before after old new → (beside : InstallsBeside before old s) → new.reads ≡ Some now → InstallsBeside after new s
 beside_on before after old new s now on beside told = record {
@@ -38,26 +38,26 @@ beside_on before after old new s now on beside told = record {
 -- ---- what calls give
 
 -- where the disk or memory failed
-pub gives_failed : {T : Type 0} (before after : Store) (old new : DiskState) (s : StandingView) (g : Given) (e : Down) → LeavesActive before old new → InstallsBeside before old s → Gives {T = T} old after new s g (Err e)
-gives_failed before after old new s g e leaves beside = record { adds = leaves_old before old new s leaves beside; ok = tt }
+pub gives_failed : {T : Type 0} (before after : Store) (old new : DiskState) (s : StandingView) (g : Given) (e : Down) → old.clock ≤ new.clock → LeavesActive before old new → InstallsBeside before old s → Gives {T = T} old after new s g (Err e)
+gives_failed before after old new s g e later leaves beside = record { adds = leaves_old before old new s later leaves beside; ok = tt }
 
-pub begin_gives : {T : Type 0} (before after : Store) (old new : DiskState) (s : StandingView) (x : T) → Begins before after old new → LeavesActive before old new → FitsOn before after old new → InstallsBeside before old s
+pub begin_gives : {T : Type 0} (before after : Store) (old new : DiskState) (s : StandingView) (x : T) → Begins before after old new → old.clock ≤ new.clock → LeavesActive before old new → FitsOn before after old new → InstallsBeside before old s
     → Gives {E = Down} old after new s nothing_given (Ok x)
-begin_gives before after old new s x begins leaves on beside =
+begin_gives before after old new s x begins later leaves on beside =
     let told = begins.written beside.image beside.told in
     record {
-      adds = leaves_old before old new s leaves beside;
+      adds = leaves_old before old new s later leaves beside;
       ok = record { beside = beside_on before after old new s (with_gate_shut before beside.image) on beside told; given = begins.given (with_gate_shut before beside.image) told };
     }
 
-pub append_gives : {T : Type 0} (before after : Store) (old new : DiskState) (s : StandingView) (g : Given) (bytes : List ℕ) (x : T) → Appends before after old new bytes → LeavesActive before old new → FitsOn before after old new
+pub append_gives : {T : Type 0} (before after : Store) (old new : DiskState) (s : StandingView) (g : Given) (bytes : List ℕ) (x : T) → Appends before after old new bytes → old.clock ≤ new.clock → LeavesActive before old new → FitsOn before after old new
     → IsGiven before old s g → Gives {E = Down} old after new s (with_bytes bytes g) (Ok x)
-append_gives before after old new s g bytes x appends leaves on is =
+append_gives before after old new s g bytes x appends later leaves on is =
     let image = is.beside.image in
     let now = with_piece before is.given.progress bytes image in
     let told : new.reads ≡ Some now = appends.written image is.beside.told is.given.progress is.given.stage in
     record {
-      adds = leaves_old before old new s leaves is.beside;
+      adds = leaves_old before old new s later leaves is.beside;
       ok = record { beside = beside_on before after old new s now on is.beside told; given = appends.given image is.beside.told now told g is.given };
     }
 
@@ -73,28 +73,30 @@ gives_then a b mid c after s g more x r one other =
 
 -- ---- sealing and activating
 
-pub seal_leaves : {T : Type 0} (before after : Store) (old new : DiskState) (s : StandingView) (g : Given) (x : T) → Seals before after old new → LeavesActive before old new → FitsOn before after old new → IsGiven before old s g
+pub seal_leaves : {T : Type 0} (before after : Store) (old new : DiskState) (s : StandingView) (g : Given) (x : T) → Seals before after old new → old.clock < new.clock → LeavesActive before old new → FitsOn before after old new → IsGiven before old s g
     → LeavesSealed {E = Down} old after new s (loads_of g) (Ok x)
-seal_leaves before after old new s g x seals leaves on is =
+seal_leaves before after old new s g x seals rises leaves on is =
     let image = is.beside.image in
     let p = is.given.progress in
     let now = with_slot before p.end (manifest_length before) (with_manifest before p image) in
     let told : new.reads ≡ Some now = seals.written image is.beside.told p is.given.stage in
     record {
-      adds = leaves_old before old new s leaves is.beside;
+      adds = leaves_old before old new s (omega (arith, rises)) leaves is.beside;
+      rises = rises;
       ok = record { beside = beside_on before after old new s now on is.beside told; ready = seals.ready image is.beside.told now told s g is.beside.holds is.given };
     }
 
-pub seal_failed : {T : Type 0} (before after : Store) (old new : DiskState) (s : StandingView) (g : Given) (e : Down) → LeavesActive before old new → IsGiven before old s g → LeavesSealed {T = T} old after new s (loads_of g) (Err e)
-seal_failed before after old new s g e leaves is = record { adds = leaves_old before old new s leaves is.beside; ok = tt }
+pub seal_failed : {T : Type 0} (before after : Store) (old new : DiskState) (s : StandingView) (g : Given) (e : Down) → old.clock ≤ new.clock → LeavesActive before old new → IsGiven before old s g → LeavesSealed {T = T} old after new s (loads_of g) (Err e)
+seal_failed before after old new s g e later leaves is = record { adds = leaves_old before old new s later leaves is.beside; rises = tt; ok = tt }
 
-pub activate_brings : {T : Type 0} (before after : Store) (old new : DiskState) (s : StandingView) (loads : List LoadView) (x : T) → Activates before after old new → AddsOnly old new (IsOldOrNew s (configured s loads)) → CanActivate before old s loads
-    → BringsTo {E = Down} old after new s (configured s loads) Over [] (Ok x)
-activate_brings before after old new s loads x activates adds can =
+pub activate_brings : {T : Type 0} (before after : Store) (old new : DiskState) (s : StandingView) (loads : List LoadView) (x : T) → Activates before after old new → TimeGoesOn old new → AddsOnly old new (IsOldOrNew s (configured s loads)) → CanActivate before old s loads
+    → OpensGate {E = Down} old after new s (configured s loads) (Ok x)
+activate_brings before after old new s loads x activates goes adds can =
     let image = can.beside.image in
     let told = activates.written image can.beside.told in
     record {
-      adds = adds_only old new (IsOldOrNew s (configured s loads)) adds;
+      adds = adds_only old new (IsOldOrNew s (configured s loads)) goes.later adds;
+      earlier = goes.earlier;
       ok = record {
         beside = record {
           works = activates.works can.beside.works;
@@ -106,15 +108,15 @@ activate_brings before after old new s loads x activates adds can =
       };
     }
 
-pub activate_failed : {T : Type 0} (after : Store) (old new : DiskState) (s : StandingView) (loads : List LoadView) (e : Down) → AddsOnly old new (IsOldOrNew s (configured s loads)) → BringsTo {T = T} old after new s (configured s loads) Over [] (Err e)
-activate_failed after old new s loads e adds = record { adds = adds_only old new (IsOldOrNew s (configured s loads)) adds; ok = tt }
+pub activate_failed : {T : Type 0} (after : Store) (old new : DiskState) (s : StandingView) (loads : List LoadView) (e : Down) → TimeGoesOn old new → AddsOnly old new (IsOldOrNew s (configured s loads)) → OpensGate {T = T} old after new s (configured s loads) (Err e)
+activate_failed after old new s loads e goes adds = record { adds = adds_only old new (IsOldOrNew s (configured s loads)) goes.later adds; earlier = goes.earlier; ok = tt }
 
 -- once it is sealed
 pub installs_then : {S T : Type 0} (a b : DiskState) (mid : Store) (c : DiskState) (after : Store) (s : StandingView) (loads : List LoadView) (x : S) (r : Result T Down) → LeavesSealed {E = Down} a mid b s loads (Ok x)
-    → (CanActivate mid b s loads → BringsTo b after c s (configured s loads) Over [] r) → BringsTo a after c s (configured s loads) Over [] r
+    → (CanActivate mid b s loads → OpensGate b after c s (configured s loads) r) → BringsTo a after c s (configured s loads) Over [] r
 installs_then a b mid c after s loads x r sealed other =
     let next = other sealed.ok in
-    record { adds = adds_both a b c (IsOldOrNew s (configured s loads)) (adds_old a b s (configured s loads) sealed.adds) next.adds; ok = next.ok }
+    record { adds = adds_then a b c s (configured s loads) sealed.adds sealed.rises next.adds next.earlier; ok = next.ok }
 
 -- or couldn't be
 pub installs_failed : {S T : Type 0} (a b : DiskState) (mid after : Store) (s : StandingView) (loads : List LoadView) (r : Result S Down) (x : Result T Down) → IsErr x → LeavesSealed a mid b s loads r → BringsTo a after b s (configured s loads) Over [] x
@@ -164,7 +166,7 @@ header_takes store disk s u arrived more is installs = record { beside = install
 
 pub header_brings_more : {T : Type 0} (store : Store) (disk : DiskState) (s : StandingView) (u : Upload) (arrived more : List ℕ) (x : T) → current_view u.current ≡ None → InstallsRow store disk s (Reads_file u) arrived
     → BringsTo {E = Down} disk store disk s s (Reads_file u) (arrived ++ more) (Ok x)
-header_brings_more store disk s u arrived more x is installs = record { adds = adds_nothing disk _; ok = header_takes store disk s u arrived (arrived ++ more) is installs }
+header_brings_more store disk s u arrived more x is installs = record { adds = adds_nothing disk _ _; ok = header_takes store disk s u arrived (arrived ++ more) is installs }
 
 -- of another file
 given_more : (loads : List GivenLoad) (said : ℕ) (arrived more : List ℕ) → with_bytes (take (said - length arrived) more) (record { loads = loads; bytes = take said arrived }) ≡ record { loads = loads; bytes = take said (arrived ++ more) }

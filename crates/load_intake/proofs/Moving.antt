@@ -19,7 +19,7 @@ use Rattle.session_rules.specs.TargetRows.{Arriving, Kept_bytes, Kept_sums, Over
 use Rattle.session_rules.specs.Uploads.{Accepts_file, Accepts_header, Complete, Judgement, More_files, Next, Next_load, OpenLoad, OpenLoadView, Stops_for, Upload, UploadView, files_of, next_entry, next_name, next_wanted, next_with, open_load_view, upload_view}
 use Rattle.load_intake.specs.declared.down.Down.{Down}
 use Rattle.load_intake.specs.Contents.{BringsRow, BringsTo, Gives, GoesTo, HoldsUpload, InstallsRow, IsGiven, active_next, given_current, given_load, given_of, given_open}
-use Rattle.load_intake.specs.ContentLaws.{adds_both, adds_nothing, adds_old, beside_continued}
+use Rattle.load_intake.specs.ContentLaws.{adds_nothing, adds_old, beside_continued, both_add}
 
 -- ---- a file is refused
 
@@ -47,11 +47,11 @@ stops u v arrived arriving Breaks_off e is = absurd cc
 
 pub brings_stop : {T : Type 0} (before after : Store) (disk : DiskState) (s : StandingView) (u : Upload) (arrived : List ℕ) (row : WholeRow) (f : T) → (x : UploadEnd) × (row ≡ Writes_stop x) → Continues before after → InstallsRow before disk s (Reads_file u) arrived
     → BringsRow {E = Down} disk after disk s row (Ok f)
-brings_stop before after disk s u arrived row f (x, is) c installs = rw is (record { adds = adds_nothing disk _; ok = record { beside = beside_continued before after disk s c installs.beside; holds = tt } })
+brings_stop before after disk s u arrived row f (x, is) c installs = rw is (record { adds = adds_nothing disk _ _; ok = record { beside = beside_continued before after disk s c installs.beside; holds = tt } })
 
 -- or memory failed before a call of the disk
 pub brings_nothing : {T : Type 0} (after : Store) (disk : DiskState) (s : StandingView) (row : WholeRow) (e : Down) → BringsRow {T = T} disk after disk s row (Err e)
-brings_nothing after disk s row e = record { adds = adds_nothing disk _; ok = tt }
+brings_nothing after disk s row e = record { adds = adds_nothing disk _ _; ok = tt }
 
 -- ---- a file is accepted
 
@@ -168,7 +168,10 @@ next_brings u l Complete old after new s g r headers whole is goes =
 -- ---- where a file was accepted
 
 pub goes_more : {T : Type 0} (next : Next) (store : Store) (disk : DiskState) (s : StandingView) (g : Given) (x : T) → next ≡ More_files → IsGiven store disk s g → GoesTo {E = Down} next disk store disk s g (Ok x)
-goes_more next store disk s g x is given = rw is (record { adds = adds_nothing disk _; ok = given })
+goes_more next store disk s g x is given = rw is (record { adds = adds_nothing disk _ _; ok = given })
+
+pub goes_next : {T : Type 0} (next : Next) (store : Store) (disk : DiskState) (s : StandingView) (g : Given) (x : T) → next ≡ Next_load → IsGiven store disk s g → GoesTo {E = Down} next disk store disk s g (Ok x)
+goes_next next store disk s g x is given = rw is (record { adds = adds_nothing disk _ _; ok = given })
 
 pub goes_complete : {T : Type 0} (next : Next) (old : DiskState) (after : Store) (new : DiskState) (s : StandingView) (g : Given) (r : Result T Down) → next ≡ Complete → BringsTo old after new s (configured s (loads_of g)) Over [] r → GoesTo next old after new s g r
 goes_complete next old after new s g r is brings = rw is (record { adds = brings.adds; ok = on_ok r brings.ok (λ installs. installs.beside) })
@@ -177,4 +180,4 @@ pub goes_then : {S T : Type 0} (next : Next) (old : DiskState) (mid : Store) (th
     → (IsGiven mid there s g → GoesTo next there after new s g r) → GoesTo next old after new s g r
 goes_then next old mid there after new s g x r gives other =
     let goes = other gives.ok in
-    record { adds = adds_both old there new (IsOldOrNew s (active_next next s g)) (adds_old old there s (active_next next s g) gives.adds) goes.adds; ok = goes.ok }
+    record { adds = both_add old there new s (active_next next s g) (adds_old old there s (active_next next s g) gives.adds) goes.adds; ok = goes.ok }

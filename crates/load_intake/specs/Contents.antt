@@ -1,6 +1,6 @@
 -- What a store and its disk have of an upload with all contents, and what calls leave of it (docs/EXCHANGE.md, "Upload";
 -- docs/DISK.md).
-use Rattle.std.specs.Prelude.{◌≡◌, ◌⊎◌, ℕ, ◌+◌, List, [], ◌∷◌, ◌++◌, length, map, take, Option, Some, None, Result, OnOk}
+use Rattle.std.specs.Prelude.{◌≡◌, ◌⊎◌, ℕ, ◌+◌, ◌<◌, ◌≤◌, List, [], ◌∷◌, ◌++◌, length, map, take, Option, Some, None, Result, OnOk}
 use Rattle.load_base.specs.Config.{LoadView}
 use Rattle.disk_model.specs.Image.{Image}
 use Rattle.disk_model.specs.State.{DiskState}
@@ -12,7 +12,7 @@ use Rattle.bank_store.specs.Keeps.{IsOldOrNew}
 use Rattle.bank_store.specs.declared.store.Store.{Store}
 use Rattle.session_rules.specs.Uploads.{Complete, Next, OpenLoad, Upload, current_view, files_of, next_entry, open_load_view, upload_view}
 use Rattle.session_rules.specs.TargetLog.{standing_in}
-use Rattle.session_rules.specs.TargetRows.{Reads_file, WholeRow, Writes_progress, arriving_load, said_length}
+use Rattle.session_rules.specs.TargetRows.{Over, Reads_file, WholeRow, Writes_progress, arriving_load, said_length}
 use Rattle.load_intake.specs.States.{IntakeState}
 
 -- ---- what the store was given
@@ -63,15 +63,26 @@ pub record IsOf (st : IntakeState) (u : Upload) (arrived : List ℕ) : Type 0 wh
 
 -- ---- what calls leave
 
--- Inside these calls and after them a power loss may leave nothing that it couldn't before, but images with this property.
+-- Time goes on, and inside these calls and after them a power loss may leave nothing that it couldn't before, but images with
+-- this property.
 pub record AddsAtMost (old new : DiskState) (P : Image → Type 0) : Type 0 where
+  pub later : old.clock ≤ new.clock
   pub each : (t u : ℕ) (image : Image) → new.between t u image → old.between t u image ⊎ P image
   pub here : (image : Image) → new.now image → old.now image ⊎ P image
+
+-- At the clock of the calls' start, and so inside the first of them, nothing is added but images with this property.
+abbrev pub AddsAtFirst : (old new : DiskState) → (Image → Type 0) → Type 0
+AddsAtFirst old new P = (t u : ℕ) (image : Image) → u ≤ old.clock → new.between t u image → old.between t u image ⊎ P image
+
+-- Nothing is added but what holds the one configuration or the other, and the other only once the clock went on.
+pub record AddsOldOrNew (old new : DiskState) (s next : StandingView) : Type 0 where
+  pub adds : AddsAtMost old new (IsOldOrNew s next)
+  pub first : AddsAtFirst old new (λ left. HoldsConfig left s)
 
 -- What a call leaves, whatever it answers: nothing new but what holds the one configuration or the other. With Ok the store
 -- works beside the other, and both have what arrived of the session that has come to this row.
 pub record BringsTo {T E : Type 0} (old : DiskState) (after : Store) (new : DiskState) (s next : StandingView) (row : WholeRow) (arrived : List ℕ) (result : Result T E) : Type 0 where
-  pub adds : AddsAtMost old new (IsOldOrNew s next)
+  pub adds : AddsOldOrNew old new s next
   pub ok : OnOk result (InstallsRow after new next row arrived)
 
 -- what the end of a file leaves of a session that comes to this row
@@ -90,10 +101,18 @@ pub record Gives {T E : Type 0} (old : DiskState) (after : Store) (new : DiskSta
   pub adds : AddsAtMost old new (λ left. HoldsConfig left s)
   pub ok : OnOk result (IsGiven after new s g)
 
--- With Ok the gate is all that the disk lacks to hold the configuration of these loads.
+-- With Ok the gate is all that the disk lacks to hold the configuration of these loads, and the clock went on.
 pub record LeavesSealed {T E : Type 0} (old : DiskState) (after : Store) (new : DiskState) (s : StandingView) (loads : List LoadView) (result : Result T E) : Type 0 where
   pub adds : AddsAtMost old new (λ left. HoldsConfig left s)
+  pub rises : OnOk result (old.clock < new.clock)
   pub ok : OnOk result (CanActivate after new s loads)
+
+-- What the opening of the gate leaves: the one configuration or the other, and before it began nothing new. With Ok the store
+-- works beside the other.
+pub record OpensGate {T E : Type 0} (old : DiskState) (after : Store) (new : DiskState) (s next : StandingView) (result : Result T E) : Type 0 where
+  pub adds : AddsAtMost old new (IsOldOrNew s next)
+  pub earlier : (t u : ℕ) (image : Image) → u < old.clock → new.between t u image → old.between t u image
+  pub ok : OnOk result (InstallsRow after new next Over [])
 
 -- what is active once a file was accepted: where it was the last of all, what was given
 abbrev pub active_next : Next → StandingView → Given → StandingView
@@ -106,5 +125,5 @@ IsGivenNext next store disk s g = IsGiven store disk s g
 
 -- What is left where a file was accepted.
 pub record GoesTo {T E : Type 0} (next : Next) (old : DiskState) (after : Store) (new : DiskState) (s : StandingView) (g : Given) (result : Result T E) : Type 0 where
-  pub adds : AddsAtMost old new (IsOldOrNew s (active_next next s g))
+  pub adds : AddsOldOrNew old new s (active_next next s g)
   pub ok : OnOk result (IsGivenNext next after new s g)

@@ -19,3 +19,5 @@ pub mod FirstPostTraces
 pub mod CompletedTraces
 pub mod AskedTraces
 pub mod PortTraces
+pub mod ContentTraces
+pub mod FirstOrGood

@@ -2,7 +2,9 @@
 ghost use Rattle.replay_rules.specs.AskedTraces.{InstallsAreAsked, UploadsAreInstalled};
 ghost use Rattle.replay_rules.specs.CameTraces.{BothTakeWhatCame, DueIsAcked};
 ghost use Rattle.replay_rules.specs.Changes.{ChangesAreNew, InstallsAreGood};
+ghost use Rattle.replay_rules.specs.ContentTraces.{ContentsFollowTraces};
 ghost use Rattle.replay_rules.specs.CompletedTraces.{CompletedWasBrought, TargetTellsInTime};
+ghost use Rattle.replay_rules.specs.FirstOrGood.{ActiveIsFirstOrGood};
 ghost use Rattle.replay_rules.specs.FirstPostTraces.{LoaderPostsInOrder, TargetPostsInOrder};
 ghost use Rattle.replay_rules.specs.ListTraces.{CompletedListsActive, TargetWritesInTime};
 ghost use Rattle.replay_rules.specs.MediaTraces.{InstallsAreOfMedia};
@@ -21,6 +23,14 @@ use transfer_end::laws::{blocks_are_first_posted_in_order, what_comes_was_sent};
 /// and all that was posted was due.
 pub fn a_step_keeps_the_tie()
     ensures { StepKeepsTie }
+{
+    check_sum_laws();
+}
+
+/// After the steps of every trace, what there is at a target that is up, with all contents, is what
+/// it keeps the view of, and changes with each event as the target decides.
+pub fn contents_follow_their_trace()
+    ensures { ContentsFollowTraces }
 {
     check_sum_laws();
 }
@@ -128,10 +138,12 @@ pub fn a_completed_upload_is_installed()
 
 /// Whatever is delivered, lost, repeated, reordered, delayed or injected in a run, and wherever
 /// power fails, the configuration changes by good verdicts alone: each is the new configuration of
-/// what its session asked for and read, made of loads that are good for the target.
+/// what its session asked for and read, made of loads that are good for the target. So whatever may
+/// be active at a moment was active at the start, or has a load and good loads alone.
 pub fn the_configuration_changes_by_good_verdicts()
     ensures changes { ChangesAreNew }
     ensures good { InstallsAreGood }
+    ensures active { ActiveIsFirstOrGood }
 {
     check_sum_laws();
     header_laws();

@@ -28,8 +28,8 @@ use Rattle.session_rules.specs.Target.{TargetChange, TargetDecision, TargetSessi
 use Rattle.session_rules.specs.TargetLog.{standing_in}
 use Rattle.session_rules.specs.TargetRows.{Arriving, Awaits_lur, Gives_denial, Gives_lci, Gives_lui, Over, Reads_file, RowMove, RowView, WholeRow, Writes_completion, Writes_lcl, Writes_lcs, Writes_progress, Writes_ready, Writes_stop, arriving_of, first_row, row_move, row_moved, row_view, view_moved, with_bytes}
 use Rattle.load_intake.specs.declared.down.Down.{Down}
-use Rattle.load_intake.specs.Contents.{AddsAtMost, BringsRow, BringsTo, HoldsRow, InstallsRow}
-use Rattle.load_intake.specs.ContentLaws.{adds_both, adds_nothing, adds_weaker, beside_continued}
+use Rattle.load_intake.specs.Contents.{AddsOldOrNew, BringsRow, BringsTo, HoldsRow, InstallsRow}
+use Rattle.load_intake.specs.ContentLaws.{adds_nothing, adds_same, beside_continued, both_add}
 use Rattle.target_machine.specs.Decisions.{end_with, following, with_live}
 use Rattle.target_machine.specs.DiskLaws.{quiet_contents}
 use Rattle.target_machine.specs.Disks.{BringsContents, HoldsContents, IsAtRest, IsResting, KeepsDisk, change_heard, change_turned, live_arrived, live_row, whole_row_then}
@@ -146,7 +146,7 @@ turn_brings v c row change old mid after new now x y end t brings cont work is =
 pub turn_fails : {S T : Type 0} (v : TargetView) (c : TargetContents) (row : WholeRow) (change : TargetChange) (old : DiskState) (mid after : Store) (new : DiskState) (one : Result S Down) (r : Result T Down) → IsErr r
     → TurnsContents v c row change → BringsRow old mid new c.active row one → BringsContents old after new c (contents_changed c change) r
 turn_fails v c row change old mid after new one (Ok x) err t brings = absurd (let wrong : false ≡ true = err in cc)
-turn_fails v c row change old mid after new one (Err e) err t brings = record { adds = subst (λ (s : StandingView). AddsAtMost old new (IsOldOrNew c.active s)) (sym t.active) brings.adds; ok = tt }
+turn_fails v c row change old mid after new one (Err e) err t brings = record { adds = subst (λ (s : StandingView). AddsOldOrNew old new c.active s) (sym t.active) brings.adds; ok = tt }
 
 -- ---- changes without a call of the disk
 
@@ -257,9 +257,10 @@ pub keeps_disk : {T : Type 0} (before : Store) (old : DiskState) (after : Store)
     → ((s : StandingView) (left : Image) → InstallsBeside after new s → new.now left → HoldsFor after left s) → BringsContents old after new c next r → KeepsDisk old after new c next r
 keeps_disk {T} before old after new c next r first now brings = record {
   adds = record {
-    each = brings.adds.each;
-    here = λ image may. elim (brings.adds.here image may) [ inl was ↦ inl (config_of before image c.active (first image was)) | inr is ↦ is ];
+    each = brings.adds.adds.each;
+    here = λ image may. elim (brings.adds.adds.here image may) [ inl was ↦ inl (config_of before image c.active (first image was)) | inr is ↦ is ];
   };
+  first = brings.adds.first;
   holds = brings.ok;
   alone = alone_on r brings.ok;
 }
@@ -270,13 +271,13 @@ keeps_disk {T} before old after new c next r first now brings = record {
 
 pub quiet_brings : {T : Type 0} (before after : Store) (disk : DiskState) (v : TargetView) (c : TargetContents) (now : Option TargetSession) (end : EndView) (change : TargetChange) (x : T) → IsQuiet change → AreKept c v → now ≡ (target_changed end v change).live
     → Continues before after → (after ≡ before) ⊎ IsAtRest now → HoldsContents before disk c → BringsContents {E = Down} disk after disk c (contents_changed c change) (Ok x)
-quiet_brings before after disk v c now end change x quiet kept is cont work holds = record { adds = adds_nothing disk _; ok = quiet_holds before after disk v c now end change quiet kept is cont work holds }
+quiet_brings before after disk v c now end change x quiet kept is cont work holds = record { adds = adds_nothing disk _ _; ok = quiet_holds before after disk v c now end change quiet kept is cont work holds }
 
 -- ---- a live session, or none
 
 take_idle_in : {T : Type 0} (store : Store) (disk : DiskState) (active : StandingView) (live : Option SessionContents) (more : List ℕ) (x : T) → option_map session_kept live ≡ None → HoldsContents store disk (whole active live)
     → BringsContents {E = Down} disk store disk (whole active live) (whole active (contents_continued live more)) (Ok x)
-take_idle_in store disk active None more x none holds = record { adds = adds_nothing disk _; ok = holds }
+take_idle_in store disk active None more x none holds = record { adds = adds_nothing disk _ _; ok = holds }
 take_idle_in store disk active (Some s) more x none holds = absurd cc
 
 -- nothing arrives where no session is live
@@ -357,7 +358,7 @@ nothing_heard accepts v (Some s) = refl
 
 pub hears_nothing : {T : Type 0} (accepts : HeaderView → Bool) (store : Store) (disk : DiskState) (c : TargetContents) (v : TargetView) (x : T) → HoldsContents store disk c → BringsContents {E = Down} disk store disk c (contents_changed c (change_heard accepts v v.live Nothing)) (Ok x)
 hears_nothing accepts store disk c v x holds =
-    same_heard disk store disk c (Target.Continues []) (change_heard accepts v v.live Nothing) (Ok x) (nothing_heard accepts v v.live) (record { adds = adds_nothing disk _; ok = quiet_contents store disk c.active c.live holds })
+    same_heard disk store disk c (Target.Continues []) (change_heard accepts v v.live Nothing) (Ok x) (nothing_heard accepts v v.live) (record { adds = adds_nothing disk _ _; ok = quiet_contents store disk c.active c.live holds })
 
 block_heard : (accepts : HeaderView → Bool) (v : TargetView) (c : TargetContents) (payload : List ℕ) → v.live ≡ option_map session_kept c.live → contents_changed c (Target.Continues payload) ≡ contents_changed c (change_heard accepts v v.live (Block payload))
 block_heard accepts v c payload is = by_live c.active c.live v.live is
@@ -475,9 +476,6 @@ last_heard k accepts v w c payload kept is =
     ∙ (ap (λ (live : Option TargetSession). contents_changed (contents_changed c (Target.Continues payload)) (change_turned accepts (with_live v (Target.continued live payload)) (Target.continued live payload) None)) kept.live
     ∙ (last_heard_in k accepts v c.active c.live payload ∙ ap (λ (live : Option TargetSession). contents_changed c (change_heard accepts v live (Last payload))) (sym kept.live)))
 
-either_old : (old new : DiskState) (s next : StandingView) → AddsAtMost old new (IsOldOrNew s s) → AddsAtMost old new (IsOldOrNew s next)
-either_old old new s next adds = adds_weaker old new (IsOldOrNew s s) (IsOldOrNew s next) (λ image is. elim is [ inl one ↦ inl one | inr one ↦ inl one ]) adds
-
 pub hears_last : {S T : Type 0} → ContentsAreKept → (accepts : HeaderView → Bool) (v w : TargetView) (c : TargetContents) (payload : List ℕ) (old : DiskState) (mid : Store) (there : DiskState) (after : Store) (new : DiskState) (x : S) (r : Result T Down) → AreKept c v
     → w ≡ with_live v (Target.continued v.live payload) → BringsContents {E = Down} old mid there c (contents_changed c (Target.Continues payload)) (Ok x)
     → (AreKept (contents_changed c (Target.Continues payload)) w → HoldsContents mid there (contents_changed c (Target.Continues payload))
@@ -488,13 +486,13 @@ hears_last k accepts v w c payload old mid there after new x r kept is takes tur
     let next = contents_changed one (change_turned accepts w w.live None) in
     let turned = turns (kept_with k c v w payload kept is) takes.ok in
     subst (λ (y : TargetContents). BringsContents old after new c y r) (last_heard k accepts v w c payload kept is)
-    (record { adds = adds_both old there new (IsOldOrNew c.active next.active) (either_old old there c.active next.active takes.adds) turned.adds; ok = turned.ok })
+    (record { adds = both_add old there new c.active next.active (adds_same old there c.active next.active takes.adds) turned.adds; ok = turned.ok })
 
 -- the bytes couldn't be taken
 pub last_fails : {S T : Type 0} (old : DiskState) (after other : Store) (new : DiskState) (c next : TargetContents) (payload : List ℕ) (one : Result S Down) (r : Result T Down) → IsErr r → BringsContents old after new c (contents_changed c (Target.Continues payload)) one
     → BringsContents old other new c next r
 last_fails old after other new c next payload one (Ok x) err brings = absurd (let wrong : false ≡ true = err in cc)
-last_fails old after other new c next payload one (Err e) err brings = record { adds = either_old old new c.active next.active brings.adds; ok = tt }
+last_fails old after other new c next payload one (Err e) err brings = record { adds = adds_same old new c.active next.active brings.adds; ok = tt }
 
 -- ---- a packet of a transfer
 
@@ -530,4 +528,4 @@ got_nothing accepts v from to found is = rw is refl
 
 -- what came is dropped
 pub drops : {T : Type 0} (store : Store) (disk : DiskState) (c : TargetContents) (x : T) → HoldsContents store disk c → BringsContents {E = Down} disk store disk c (contents_changed c (Target.Continues [])) (Ok x)
-drops store disk c x holds = record { adds = adds_nothing disk _; ok = quiet_contents store disk c.active c.live holds }
+drops store disk c x holds = record { adds = adds_nothing disk _ _; ok = quiet_contents store disk c.active c.live holds }

@@ -14,7 +14,7 @@ use Rattle.session_rules.specs.TargetRows.{Arriving, Awaits_lur, Gives_denial, G
 use Rattle.session_rules.specs.Uploads.{Upload, UploadView, upload_view}
 use Rattle.load_intake.specs.declared.down.Down.{Down}
 use Rattle.load_intake.specs.Contents.{BringsRow, BringsTo, HoldsRow, InstallsRow, IsOf}
-use Rattle.load_intake.specs.ContentLaws.{adds_nothing, adds_weaker, beside_continued}
+use Rattle.load_intake.specs.ContentLaws.{adds_nothing, adds_same, beside_continued}
 use Rattle.load_intake.specs.States.{IntakeState}
 use Rattle.disk_layout.specs.Manifest.{LoadEntry}
 use Rattle.target_machine.specs.Disks.{IsResting, TurnsDisk}
@@ -52,7 +52,7 @@ fails_so old after other new s next row arrived one (Err e) err brings = record 
 -- nothing was written, and memory failed
 pub fails_here : {T : Type 0} (after : Store) (disk : DiskState) (s next : StandingView) (row : WholeRow) (arrived : List ℕ) (r : Result T Down) → IsErr r → BringsTo disk after disk s next row arrived r
 fails_here after disk s next row arrived (Ok x) err = absurd (let wrong : false ≡ true = err in cc)
-fails_here after disk s next row arrived (Err e) err = record { adds = adds_nothing disk _; ok = tt }
+fails_here after disk s next row arrived (Err e) err = record { adds = adds_nothing disk _ _; ok = tt }
 
 -- ---- the end of a transfer
 
@@ -61,7 +61,7 @@ pub rests_at : {T : Type 0} (before after : Store) (disk : DiskState) (s : Stand
     → BringsRow {E = Down} disk after disk s row (Ok f)
 rests_at before after disk s row f same rests c beside =
     let there = beside_continued before after disk s c beside in
-    subst (λ (x : StandingView). BringsTo {E = Down} disk after disk s x row [] (Ok f)) (sym same) (record { adds = adds_nothing disk _; ok = record { beside = there; holds = resting_holds after there.image row [] rests } })
+    subst (λ (x : StandingView). BringsTo {E = Down} disk after disk s x row [] (Ok f)) (sym same) (record { adds = adds_nothing disk _ _; ok = record { beside = there; holds = resting_holds after there.image row [] rests } })
 
 error_stays : (s : StandingView) (row : WholeRow) (arrived : List ℕ) (code : ℕ) → standing_in s (row_moved row arrived (error_move (row_view row) code)) ≡ s
 error_stays s Gives_lci arrived code = refl
@@ -105,18 +105,18 @@ module _ (accepts : HeaderView → Bool) (id : Identity) where
   -- a row that no file decides
   pub passed_brings : {T : Type 0} (store : Store) (disk : DiskState) (s : StandingView) (row : WholeRow) (arrived : List ℕ) (f : T) → ((u : UploadView) → row_view row ≡ Reads_file u → ⊥) → (row_view row ≡ Awaits_lur → ⊥) → InstallsRow store disk s row arrived
       → BringsRow {E = Down} disk store disk s (moved_to row arrived) (Ok f)
-  passed_brings store disk s Gives_lci arrived f reads awaits installs = record { adds = adds_nothing disk _; ok = record { beside = installs.beside; holds = tt } }
-  passed_brings store disk s Writes_lcs arrived f reads awaits installs = record { adds = adds_nothing disk _; ok = record { beside = installs.beside; holds = tt } }
-  passed_brings store disk s Writes_lcl arrived f reads awaits installs = record { adds = adds_nothing disk _; ok = record { beside = installs.beside; holds = tt } }
-  passed_brings store disk s Gives_lui arrived f reads awaits installs = record { adds = adds_nothing disk _; ok = record { beside = installs.beside; holds = tt } }
-  passed_brings store disk s Gives_denial arrived f reads awaits installs = record { adds = adds_nothing disk _; ok = record { beside = installs.beside; holds = tt } }
-  passed_brings store disk s Writes_ready arrived f reads awaits installs = record { adds = adds_nothing disk _; ok = record { beside = installs.beside; holds = tt } }
+  passed_brings store disk s Gives_lci arrived f reads awaits installs = record { adds = adds_nothing disk _ _; ok = record { beside = installs.beside; holds = tt } }
+  passed_brings store disk s Writes_lcs arrived f reads awaits installs = record { adds = adds_nothing disk _ _; ok = record { beside = installs.beside; holds = tt } }
+  passed_brings store disk s Writes_lcl arrived f reads awaits installs = record { adds = adds_nothing disk _ _; ok = record { beside = installs.beside; holds = tt } }
+  passed_brings store disk s Gives_lui arrived f reads awaits installs = record { adds = adds_nothing disk _ _; ok = record { beside = installs.beside; holds = tt } }
+  passed_brings store disk s Gives_denial arrived f reads awaits installs = record { adds = adds_nothing disk _ _; ok = record { beside = installs.beside; holds = tt } }
+  passed_brings store disk s Writes_ready arrived f reads awaits installs = record { adds = adds_nothing disk _ _; ok = record { beside = installs.beside; holds = tt } }
   passed_brings store disk s Awaits_lur arrived f reads awaits installs = absurd (awaits refl)
   passed_brings store disk s (Reads_file u) arrived f reads awaits installs = absurd (reads (upload_view u) refl)
-  passed_brings store disk s (Writes_progress u) arrived f reads awaits installs = record { adds = adds_nothing disk _; ok = record { beside = installs.beside; holds = installs.holds } }
-  passed_brings store disk s (Writes_stop e) arrived f reads awaits installs = record { adds = adds_nothing disk _; ok = record { beside = installs.beside; holds = tt } }
-  passed_brings store disk s (Writes_completion e loads) arrived f reads awaits installs = record { adds = adds_nothing disk _; ok = record { beside = installs.beside; holds = tt } }
-  passed_brings store disk s Over arrived f reads awaits installs = record { adds = adds_nothing disk _; ok = record { beside = installs.beside; holds = tt } }
+  passed_brings store disk s (Writes_progress u) arrived f reads awaits installs = record { adds = adds_nothing disk _ _; ok = record { beside = installs.beside; holds = installs.holds } }
+  passed_brings store disk s (Writes_stop e) arrived f reads awaits installs = record { adds = adds_nothing disk _ _; ok = record { beside = installs.beside; holds = tt } }
+  passed_brings store disk s (Writes_completion e loads) arrived f reads awaits installs = record { adds = adds_nothing disk _ _; ok = record { beside = installs.beside; holds = tt } }
+  passed_brings store disk s Over arrived f reads awaits installs = record { adds = adds_nothing disk _ _; ok = record { beside = installs.beside; holds = tt } }
 
   -- and after which the session is over
   pub passed_rests : (row : WholeRow) (arrived : List ℕ) → ((u : UploadView) → row_view row ≡ Reads_file u → ⊥) → (row_view row ≡ Awaits_lur → ⊥) → row_after (row_view row) ≡ Over → IsResting (row_view (moved_to row arrived))
@@ -207,8 +207,8 @@ still_there store disk s Over arrived more reads installs = record { beside = in
 
 pub passes_takes : {T : Type 0} (store : Store) (disk : DiskState) (s : StandingView) (row : WholeRow) (arrived more : List ℕ) (r : Result T Down) → ((u : UploadView) → row_view row ≡ Reads_file u → ⊥) → InstallsRow store disk s row arrived
     → BringsTo disk store disk s s row (arrived ++ more) r
-passes_takes store disk s row arrived more (Ok x) reads installs = record { adds = adds_nothing disk _; ok = still_there store disk s row arrived more reads installs }
-passes_takes store disk s row arrived more (Err e) reads installs = record { adds = adds_nothing disk _; ok = tt }
+passes_takes store disk s row arrived more (Ok x) reads installs = record { adds = adds_nothing disk _ _; ok = still_there store disk s row arrived more reads installs }
+passes_takes store disk s row arrived more (Err e) reads installs = record { adds = adds_nothing disk _ _; ok = tt }
 
 -- ---- a row of the code
 
@@ -257,7 +257,7 @@ turns_fail old after other new s row one (Err e) err brings = record { brings = 
 
 -- the request is refused, or can't be read
 pub rests_of : {T : Type 0} (store : Store) (disk : DiskState) (s : StandingView) (row : WholeRow) (x : T) (e : UploadEnd) → row ≡ Writes_stop e → InstallsBeside store disk s → BringsRow {E = Down} disk store disk s row (Ok x)
-rests_of store disk s row x e is beside = rw is (record { adds = adds_nothing disk _; ok = record { beside = beside; holds = tt } })
+rests_of store disk s row x e is beside = rw is (record { adds = adds_nothing disk _ _; ok = record { beside = beside; holds = tt } })
 
 pub begins_of : {S T : Type 0} (old : DiskState) (after : Store) (new : DiskState) (s : StandingView) (row : WholeRow) (u : Upload) (x : S) (y : T) → row ≡ Reads_file u → BringsTo {E = Down} old after new s s (Reads_file u) [] (Ok x) → BringsRow {E = Down} old after new s row (Ok y)
 begins_of old after new s row u x y is brings = rw is (record { adds = brings.adds; ok = brings.ok })
@@ -266,7 +266,7 @@ begins_of old after new s row u x y is brings = rw is (record { adds = brings.ad
 pub begin_fails : {S T : Type 0} (old : DiskState) (after other : Store) (new : DiskState) (s : StandingView) (row : WholeRow) (u : Upload) (one : Result S Down) (r : Result T Down) → IsErr r → BringsTo old after new s s (Reads_file u) [] one → BringsRow old other new s row r
 begin_fails old after other new s row u one (Ok x) err brings = absurd (let wrong : false ≡ true = err in cc)
 begin_fails old after other new s row u one (Err e) err brings = record {
-  adds = adds_weaker old new (IsOldOrNew s s) (IsOldOrNew s (standing_in s row)) (λ image is. elim is [ inl held ↦ inl held | inr held ↦ inl held ]) brings.adds;
+  adds = adds_same old new s (standing_in s row) brings.adds;
   ok = tt;
 }
 

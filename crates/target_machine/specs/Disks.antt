@@ -11,7 +11,7 @@ use Rattle.bank_store.specs.declared.store.Store.{Store}
 use Rattle.session_rules.specs.Contents.{AreKept, SessionContents, TargetContents, session_kept}
 use Rattle.session_rules.specs.Target.{Continues, TargetChange, TargetSession, TargetView, turn_decision}
 use Rattle.session_rules.specs.TargetRows.{Over, Reads_file, RowView, WholeRow, Writes_progress, row_move, row_moved, row_view}
-use Rattle.load_intake.specs.Contents.{BringsRow, BringsTo, InstallsRow}
+use Rattle.load_intake.specs.Contents.{AddsAtFirst, BringsRow, BringsTo, InstallsRow}
 use Rattle.load_intake.specs.declared.down.Down.{Down}
 use Rattle.target_machine.specs.declared.row.Row.{Row}
 use Rattle.tftp_link.specs.Answers.{NewsView}
@@ -36,10 +36,11 @@ HoldsContents store disk c = InstallsRow store disk c.active (live_row c.live) (
 -- ---- what a call leaves
 
 -- Whatever a call answers that takes these contents to the next, each image that it adds to what a power loss might leave
--- holds the configuration that was active or the one that is then. With Ok the disk holds the next contents, and nothing
--- else may be left than what is active then.
+-- holds the configuration that was active or the one that is then, and this one only once the clock went on. With Ok the
+-- disk holds the next contents, and nothing else may be left than what is active then.
 pub record KeepsDisk {T E : Type 0} (old : DiskState) (after : Store) (new : DiskState) (c next : TargetContents) (result : Result T E) : Type 0 where
   pub adds : AddsOnly old new (IsOldOrNew c.active next.active)
+  pub first : AddsAtFirst old new (λ left. HoldsConfig left c.active)
   pub holds : OnOk result (HoldsContents after new next)
   pub alone : OnOk result ((left : Image) → new.now left → HoldsConfig left next.active)
 

@@ -8,7 +8,7 @@ returns-in-Ok-clause-has g c = begun_has c.begin.new.self c.in-Ok.ensures.begins
 
 pub returns-in-Ok-clause-gives : goal.returns-in-Ok-clause-gives
 returns-in-Ok-clause-gives g c = λ s beside.
-    begin_gives c.args.store.now c.begin.new.self (g.K.Disk.state c.args.disk.now) (g.K.Disk.state c.begin.new.disk) s _ c.in-Ok.ensures.begins c.in-Ok.ensures.keeps.leaves (c.in-Ok.ensures.keeps.answered tt) beside
+    begin_gives c.args.store.now c.begin.new.self (g.K.Disk.state c.args.disk.now) (g.K.Disk.state c.begin.new.disk) s _ c.in-Ok.ensures.begins c.in-Ok.ensures.writes_disk.goes_on.later c.in-Ok.ensures.keeps.leaves (c.in-Ok.ensures.keeps.answered tt) beside
 
 pub returns-in-Err-clause-gives : goal.returns-in-Err-clause-gives
-returns-in-Err-clause-gives g c = λ s beside. gives_failed c.args.store.now c.begin.new.self (g.K.Disk.state c.args.disk.now) (g.K.Disk.state c.begin.new.disk) s nothing_given _ c.in-Err.ensures.keeps.leaves beside
+returns-in-Err-clause-gives g c = λ s beside. gives_failed c.args.store.now c.begin.new.self (g.K.Disk.state c.args.disk.now) (g.K.Disk.state c.begin.new.disk) s nothing_given _ c.in-Err.ensures.writes_disk.goes_on.later c.in-Err.ensures.keeps.leaves beside

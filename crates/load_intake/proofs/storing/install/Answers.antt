@@ -9,9 +9,9 @@ returns-in_err-seal-clause-brings g c = λ s given is.
 pub returns-in-Ok-clause-brings : goal.returns-in-Ok-clause-brings
 returns-in-Ok-clause-brings g c = λ s given is.
     installs_then (g.K.Disk.state c.args.disk.now) (g.K.Disk.state c.seal.new.disk) c.seal.new.store (g.K.Disk.state c.activate.new.disk) c.activate.new.self s (loads_of given) _ _ (c.in_ok-seal.ensures.seals s given is)
-    (λ can. activate_brings c.seal.new.store c.activate.new.self (g.K.Disk.state c.seal.new.disk) (g.K.Disk.state c.activate.new.disk) s (loads_of given) _ c.in-Ok.ensures.activates (c.activate.ensures.adds s (loads_of given) can) can)
+    (λ can. activate_brings c.seal.new.store c.activate.new.self (g.K.Disk.state c.seal.new.disk) (g.K.Disk.state c.activate.new.disk) s (loads_of given) _ c.in-Ok.ensures.activates c.activate.ensures.writes_disk.goes_on (c.activate.ensures.adds s (loads_of given) can) can)
 
 pub returns-in-Err-clause-brings : goal.returns-in-Err-clause-brings
 returns-in-Err-clause-brings g c = λ s given is.
     installs_then (g.K.Disk.state c.args.disk.now) (g.K.Disk.state c.seal.new.disk) c.seal.new.store (g.K.Disk.state c.activate.new.disk) c.activate.new.self s (loads_of given) _ _ (c.in_ok-seal.ensures.seals s given is)
-    (λ can. activate_failed c.activate.new.self (g.K.Disk.state c.seal.new.disk) (g.K.Disk.state c.activate.new.disk) s (loads_of given) _ (c.activate.ensures.adds s (loads_of given) can))
+    (λ can. activate_failed c.activate.new.self (g.K.Disk.state c.seal.new.disk) (g.K.Disk.state c.activate.new.disk) s (loads_of given) _ c.activate.ensures.writes_disk.goes_on (c.activate.ensures.adds s (loads_of given) can))

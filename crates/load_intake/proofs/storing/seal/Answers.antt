@@ -10,8 +10,8 @@ down-requires g c =
 
 pub returns-in-Ok-clause-seals : goal.returns-in-Ok-clause-seals
 returns-in-Ok-clause-seals g c = λ s given is.
-    seal_leaves c.args.store.now c.seal.new.self (g.K.Disk.state c.args.disk.now) (g.K.Disk.state c.seal.new.disk) s given _ c.in-Ok.ensures.seals c.in-Ok.ensures.keeps.leaves (c.in-Ok.ensures.keeps.answered tt) is
+    seal_leaves c.args.store.now c.seal.new.self (g.K.Disk.state c.args.disk.now) (g.K.Disk.state c.seal.new.disk) s given _ c.in-Ok.ensures.seals c.in-Ok.ensures.clock c.in-Ok.ensures.keeps.leaves (c.in-Ok.ensures.keeps.answered tt) is
 
 pub returns-in-Err-clause-seals : goal.returns-in-Err-clause-seals
 returns-in-Err-clause-seals g c = λ s given is.
-    seal_failed c.args.store.now c.seal.new.self (g.K.Disk.state c.args.disk.now) (g.K.Disk.state c.seal.new.disk) s given _ c.in-Err.ensures.keeps.leaves is
+    seal_failed c.args.store.now c.seal.new.self (g.K.Disk.state c.args.disk.now) (g.K.Disk.state c.seal.new.disk) s given _ c.in-Err.ensures.writes_disk.goes_on.later c.in-Err.ensures.keeps.leaves is

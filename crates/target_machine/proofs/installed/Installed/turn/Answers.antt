@@ -31,3 +31,6 @@ returns-then-not-matches-clause-brings g c = λ accepts follows s x kept install
     ] in
     turn_abandons (g.K.Disk.state c.args.disk.now) c.self.inside.store c.abandon.new.self (g.K.Disk.state c.next_row-result.new.disk) s (whole_row_then accepts c.args.self.now.active.identity x c.args.error) c.next_row-result.result ended c.abandon.ensures.continues
     (subst (λ (i : InstalledState). TurnsDisk (g.K.Disk.state c.args.disk.now) i.store (g.K.Disk.state c.next_row-result.new.disk) s (whole_row_then accepts c.args.self.now.active.identity x c.args.error) c.next_row-result.result) (sym c.self.view_is) (c.next_row-result.ensures.brings accepts follows s x kept installs))
+
+pub returns-else-not-matches-clause-brings : goal.returns-else-not-matches-clause-brings
+returns-else-not-matches-clause-brings g c = λ accepts follows s x kept installs. (c.next_row-result.ensures.brings accepts follows s x kept installs).brings

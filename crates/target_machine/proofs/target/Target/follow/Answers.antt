@@ -3,8 +3,8 @@ use Rattle.exchange_trace.specs.declared.trace.Datagram.{Datagram}
 use Rattle.load_intake.specs.declared.down.Down.{Down}
 use Rattle.session_rules.specs.Contents.{contents_changed}
 use Rattle.target_machine.specs.Disks.{BringsContents, change_heard}
-use Rattle.target_machine.proofs.Bringing.{hears_block, hears_done, hears_error, hears_last, hears_nothing}
-use Rattle.target_machine.proofs.Holding.{answers_so}
+use Rattle.target_machine.proofs.Bringing.{hears_block, hears_done, hears_error, hears_last, hears_nothing, last_fails}
+use Rattle.target_machine.proofs.Holding.{answers_so, fails_so}
 use Rattle.accept_rules.specs.Interlocks.{Follows}
 use Rattle.tftp_link.specs.Answers.{news_view}
 use Rattle.transfer_end.specs.Calls.{posted}
@@ -56,3 +56,15 @@ pub returns-in-PeerError-clause-brings : goal.returns-in-PeerError-clause-brings
 returns-in-PeerError-clause-brings g c = λ accepts follows x kept holds.
     subst (λ news. BringsContents (g.K.Disk.state c.args.disk.now) c.turn-in-PeerError.new.self.store (g.K.Disk.state c.turn-in-PeerError.new.disk) x (contents_changed x (change_heard accepts c.args.self.now.view c.args.self.now.view.live (news_view news))) c.turn-in-PeerError.result) (sym c.in-PeerError.is)
     (hears_error accepts (g.K.Disk.state c.args.disk.now) c.turn-in-PeerError.new.self.store (g.K.Disk.state c.turn-in-PeerError.new.disk) x c.args.self.now.view c.in-PeerError.code c.turn-in-PeerError.result (c.turn-in-PeerError.ensures.brings accepts follows x kept holds))
+
+pub returns-in_err-take-in-Block-clause-brings : goal.returns-in_err-take-in-Block-clause-brings
+returns-in_err-take-in-Block-clause-brings g c = λ accepts follows x kept holds.
+    subst (λ news. BringsContents (g.K.Disk.state c.args.disk.now) c.take.new.self.store (g.K.Disk.state c.take.new.disk) x (contents_changed x (change_heard accepts c.args.self.now.view c.args.self.now.view.live (news_view news))) c.from_residual.result) (sym c.in-Block.is)
+    (hears_block accepts (g.K.Disk.state c.args.disk.now) c.take.new.self.store (g.K.Disk.state c.take.new.disk) x c.args.self.now.view c.in-Block.payload.now c.from_residual.result kept
+    (fails_so (g.K.Disk.state c.args.disk.now) c.take.new.self.store c.take.new.self.store (g.K.Disk.state c.take.new.disk) x.active _ _ _ c.take.result c.from_residual.result c.from_residual.ensures.0 (c.take.ensures.brings x kept holds)))
+
+pub returns-in_err-take-in-Last-clause-brings : goal.returns-in_err-take-in-Last-clause-brings
+returns-in_err-take-in-Last-clause-brings g c = λ accepts follows x kept holds.
+    last_fails (g.K.Disk.state c.args.disk.now) c.take-in-Last.new.self.store c.take-in-Last.new.self.store (g.K.Disk.state c.take-in-Last.new.disk) x
+    (contents_changed x (change_heard accepts c.args.self.now.view c.args.self.now.view.live (news_view c.args.news.now))) c.in-Last.payload.now c.take-in-Last.result
+    c.from_residual-in_err-take-in-Last.result c.from_residual-in_err-take-in-Last.ensures.0 (c.take-in-Last.ensures.brings x kept holds)
