@@ -1,0 +1,9 @@
+pub mod Weights
+pub mod Ends
+pub mod Moves
+pub mod LoaderFalls
+pub mod TargetFalls
+pub mod Undelivered
+pub mod Finishes
+pub mod Given
+pub mod Scripts

@@ -1,0 +1,25 @@
+//! What holds of each `finish`. These functions do nothing; their clauses are the law.
+ghost use Rattle.finish_ends.specs.Finishes.{FinishEnds, FinishLeavesQuiet, ScriptGivesFinish};
+ghost use Rattle.finish_ends.specs.Scripts.{ScriptsEnd};
+
+use crc_fields::check_sum_laws;
+
+/// Each `finish` ends, whatever came before it: it has no more happenings than a number that is
+/// told, and two for each datagram that is undelivered as it begins.
+pub fn every_finish_ends()
+    ensures ends { FinishEnds }
+    // What a script's `finish` gives is such a happening.
+    ensures given { ScriptGivesFinish }
+    // Where it gives nothing more, the run is quiet.
+    ensures quiet { FinishLeavesQuiet }
+{
+    check_sum_laws();
+}
+
+/// So each `finish` of a script passes on to the next line, and the script comes to its end, after
+/// no more happenings than can be computed from its lines alone.
+pub fn every_script_ends()
+    ensures { ScriptsEnd }
+{
+    check_sum_laws();
+}
