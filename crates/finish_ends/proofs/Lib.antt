@@ -6,4 +6,5 @@ pub mod TargetFalls
 pub mod Undelivered
 pub mod Finishes
 pub mod Given
+pub mod Passing
 pub mod Scripts

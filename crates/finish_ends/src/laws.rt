@@ -1,6 +1,6 @@
 //! What holds of each `finish`. These functions do nothing; their clauses are the law.
 ghost use Rattle.finish_ends.specs.Finishes.{FinishEnds, FinishLeavesQuiet, ScriptGivesFinish};
-ghost use Rattle.finish_ends.specs.Scripts.{ScriptsEnd};
+ghost use Rattle.finish_ends.specs.Scripts.{FinishPassesOn, ScriptsEnd};
 
 use crc_fields::check_sum_laws;
 
@@ -16,10 +16,13 @@ pub fn every_finish_ends()
     check_sum_laws();
 }
 
-/// So each `finish` of a script passes on to the next line, and the script comes to its end, after
-/// no more happenings than can be computed from its lines alone.
+/// So each script comes to its end, after no more happenings than can be computed from its lines
+/// alone.
 pub fn every_script_ends()
-    ensures { ScriptsEnd }
+    // Each `finish` passes on to the lines after it.
+    ensures passes { FinishPassesOn }
+    ensures ends { ScriptsEnd }
 {
     check_sum_laws();
+    every_finish_ends();
 }
