@@ -1,5 +1,5 @@
 -- Each script comes to its end.
-use Rattle.std.proofs.Common.{◌≡◌, ◌⊎◌, inl, inr, ℕ, zero, suc, ◌+◌, ◌*◌, ◌≤◌, List, [], ◌∷◌, length, Option, Some, None, refl, sym, ap, subst, ◌∙◌, arith, length-append}
+use Rattle.std.proofs.Common.{◌≡◌, ◌⊎◌, inl, inr, ℕ, zero, suc, ◌+◌, ◌<◌, ◌*◌, ◌≤◌, List, [], ◌∷◌, length, Option, Some, None, refl, sym, ap, subst, ◌∙◌, arith, length-append}
 use Rattle.std.specs.List.{AllByRecursion}
 use Rattle.exchange_trace.specs.declared.trace.Side.{Side}
 use Rattle.exchange_trace.specs.declared.trace.Side.TheVariants as sides
@@ -14,9 +14,10 @@ use Rattle.replay_rules.specs.BothEnds.{Setting}
 use Rattle.replay_rules.specs.Changes.{AllCarryBytes}
 use Rattle.replay_rules.specs.Due.{AllDue, AllNoted}
 use Rattle.replay_rules.specs.PlacedTraceLaws.{due_is_two_at_most}
+use Rattle.replay_rules.specs.Promises.{EndsOnce, IsNoEnd}
 use Rattle.replay_rules.specs.Runs.{Follows, plan_at, scene_at}
 use Rattle.finish_ends.specs.Finishes.{IsOfFinish, most_of_finish}
-use Rattle.finish_ends.specs.Scripts.{HasEnded, ScriptsEnd, most_of_lines, most_with}
+use Rattle.finish_ends.specs.Scripts.{HasEnded, ScriptsEnd, TracesAreBounded, most_of_lines, most_with}
 use Rattle.finish_ends.proofs.Finishes.{left_after, most_left_after, step_falls}
 use Rattle.finish_ends.proofs.Given.{Gives, finish_gives, gives, is_done}
 use Rattle.finish_ends.proofs.Undelivered.{weight_of_posted}
@@ -183,3 +184,26 @@ scripts_end joins set script steps follows run long = by (ends_or_passes joins s
     by : EndsOrPasses set script steps → HasEnded steps
     by (inl ended) = ended
     by (inr le) = absurd (let least = lines_at_least (plan_at set script steps).lines (length steps + rest_most set steps (plan_at set script steps).rest) in omega (arith, le, least, long))
+
+-- ---- a whole trace
+
+not_ended : (s : Step) (earlier : List Step) → EndsOnce (s ∷ earlier) → HasEnded earlier → ⊥
+not_ended s [] ends ended = ended
+not_ended s (e ∷ earlier) ends ended = subst (λ (h : HappeningView). IsNoEnd h) ended ends.1.0
+
+at_most : (n m : ℕ) → (n ≤ m) ⊎ (m < n)
+at_most zero m = inl (omega arith)
+at_most (suc n) zero = inr (omega arith)
+at_most (suc n) (suc m) = by (at_most n m)
+  where
+    by : (n ≤ m) ⊎ (m < n) → (suc n ≤ suc m) ⊎ (suc m < suc n)
+    by (inl le) = inl (omega (arith, le))
+    by (inr lt) = inr (omega (arith, lt))
+
+pub traces_are_bounded : ScriptsEnd → TracesAreBounded
+traces_are_bounded ends set script [] follows trace carry = absurd trace.ends
+traces_are_bounded ends set script (s ∷ earlier) follows trace carry = by (at_most (length earlier) (most_of_lines 0 script))
+  where
+    by : (length earlier ≤ most_of_lines 0 script) ⊎ (most_of_lines 0 script < length earlier) → suc (length earlier) ≤ most_of_lines 0 script + 1
+    by (inl le) = omega (arith, le)
+    by (inr lt) = absurd (not_ended s earlier trace.ends (ends set script earlier follows.1 (record { due = trace.due.1; noted = trace.noted.1; carries = carry.1 }) lt))

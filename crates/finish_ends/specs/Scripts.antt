@@ -1,5 +1,5 @@
 -- How long a script may go on (docs/EXCHANGE.md, "Every `finish` ends").
-use Rattle.std.specs.Prelude.{◌≡◌, ℕ, ◌+◌, ◌*◌, ◌<◌, List, [], ◌∷◌, ◌++◌, length}
+use Rattle.std.specs.Prelude.{◌≡◌, ℕ, ◌+◌, ◌*◌, ◌<◌, ◌≤◌, List, [], ◌∷◌, ◌++◌, length}
 use Rattle.exchange_trace.specs.declared.trace.Side.{Side}
 use Rattle.exchange_trace.specs.Following.{Finishing, from_lines, next_turn}
 use Rattle.exchange_trace.specs.Happenings.{Ended}
@@ -7,6 +7,8 @@ use Rattle.exchange_trace.specs.Lines.{Finish, Line, Next}
 use Rattle.exchange_trace.specs.Posts.{undelivered_after}
 use Rattle.exchange_trace.specs.Steps.{Step}
 use Rattle.replay_rules.specs.BothEnds.{Setting}
+use Rattle.replay_rules.specs.Changes.{AllCarryBytes}
+use Rattle.replay_rules.specs.Promises.{IsTrace}
 use Rattle.replay_rules.specs.Runs.{Follows, IsQuiet, plan_at, scene_at}
 use Rattle.finish_ends.specs.Finishes.{AllOfFinish, IsRun, most_of_finish}
 
@@ -50,3 +52,8 @@ HasEnded (s ∷ earlier) = s.given ≡ Ended
 abbrev pub ScriptsEnd : Type 0
 ScriptsEnd = (set : Setting) (script : List Line) (steps : List Step) → Follows set script steps → IsRun set steps
     → most_of_lines 0 script < length steps → HasEnded steps
+
+-- So the trace of a whole run has no more steps than that, and one for the end.
+abbrev pub TracesAreBounded : Type 0
+TracesAreBounded = (set : Setting) (script : List Line) (steps : List Step) → Follows set script steps → IsTrace set steps → AllCarryBytes steps
+    → length steps ≤ most_of_lines 0 script + 1

@@ -1,5 +1,5 @@
 use Rattle.finish_ends.proofs.Passing.{finish_passes_on}
-use Rattle.finish_ends.proofs.Scripts.{scripts_end}
+use Rattle.finish_ends.proofs.Scripts.{scripts_end, traces_are_bounded}
 use Rattle.finish_ends.proofs.laws.every_script_ends.Goals as goal
 
 pub returns-clause-passes : goal.returns-clause-passes
@@ -10,3 +10,9 @@ returns-clause-ends c = scripts_end (record {
   crc16 = c.check_sum_laws.ensures.crc16_joined;
   crc32 = c.check_sum_laws.ensures.crc32_joined;
 })
+
+pub returns-clause-bounded : goal.returns-clause-bounded
+returns-clause-bounded c = traces_are_bounded (scripts_end (record {
+  crc16 = c.check_sum_laws.ensures.crc16_joined;
+  crc32 = c.check_sum_laws.ensures.crc32_joined;
+}))
