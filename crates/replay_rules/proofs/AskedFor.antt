@@ -1,4 +1,4 @@
--- Proofs that what is installed was asked for, and that completed uploads were installed.
+-- Proofs that what is installed was asked for.
 use Rattle.std.proofs.Common.{suc, arith, ◌≡◌, ◌↔◌, ◌⊎◌, inl, inr, ⊎_elim, ℕ, ◌≤◌, Bool, true, false, cond, List, [], ◌∷◌, ◌++◌, length, map, Option, Some, None, Result, Ok, Err, refl, sym, ap, subst, ◌∙◌}
 use Rattle.std.specs.Prelude.{bytes_eq, ◌==◌}
 use Rattle.std.specs.List.{All, AllByRecursion, AllZip}
@@ -25,10 +25,9 @@ use Rattle.exchange_trace.specs.Posts.{numbered, posted_in}
 use Rattle.exchange_trace.specs.Steps.{Boot_refused, Came_up, Note, Step, Went_down}
 use Rattle.accept_rules.specs.Permissions.{Permits}
 use Rattle.transfer_end.specs.Moves.{past_with}
-use Rattle.transfer_end.specs.OtherEndLaws.{all_at, among_either, among_left}
+use Rattle.transfer_end.specs.OtherEndLaws.{all_at, among_either, among_left, among_right}
 use Rattle.transfer_end.specs.OtherEnds.{Among, AnswersRequest, ComesFromEnd, MovesStayFair, TellsLength, file_sent, is_asking, of_end, of_none}
 use Rattle.transfer_end.specs.Transfers.{Reads, Role, ServesRead, ServesWrite, Transfer, Writes, arrived_of}
-use Rattle.session_rules.specs.declared.outcome.SessionKind.TheVariants.{Upload}
 use Rattle.session_rules.specs.ArrivedRequestLaws.{target_step_requests}
 use Rattle.session_rules.specs.BufferLaws.{SumsJoin}
 use Rattle.session_rules.specs.MediaFiles.{Media, entry_with, wanted_of, with_entry}
@@ -41,20 +40,17 @@ use Rattle.session_rules.specs.SoundLogLaws.{PayloadsAreBytes}
 use Rattle.session_rules.specs.SoundLogs.{IsNewAt}
 use Rattle.session_rules.specs.SoundnessLaws.{HeadersAreSpelled}
 use Rattle.session_rules.specs.TargetLog.{TargetReading, target_extended}
-use Rattle.replay_rules.specs.AskedTraces.{AllBroughtAreAsked, BroughtIsAsked, EntriesFit, InstallsAreAsked, IsAskedFor, UploadsAreInstalled}
+use Rattle.replay_rules.specs.AskedTraces.{AllBroughtAreAsked, BroughtIsAsked, EntriesFit, InstallsAreAsked, IsAskedFor}
 use Rattle.replay_rules.specs.BothEnds.{Is_down, Is_up, Setting, TargetState, changed, come_up, gone_down, loader_at, noted, reached, target_at}
 use Rattle.replay_rules.specs.CameTraceLaws.{target_takes}
 use Rattle.replay_rules.specs.CameTraces.{TargetTakes}
 use Rattle.replay_rules.specs.ChangeLaws.{TargetIsSound, changes_are_new, event_bytes, posted_bytes, target_sound, BringsBytes}
 use Rattle.replay_rules.specs.Changes.{AllCarryBytes, AllStayOrAreNew, TargetStaysOrIsNew}
-use Rattle.replay_rules.specs.CompletedTraces.{AllBroughtWhereCompleted, WasBrought}
 use Rattle.replay_rules.specs.Histories.{active_in, brings}
 use Rattle.replay_rules.specs.OtherEndTraces.{AllArriveAsSent, ArrivesAsSent, former_at, loader_transfers, target_transfers, transfers_of}
-use Rattle.replay_rules.specs.Promises.{CompletedIsInstalled, HasCompleted, HasEnded, WasInstalled}
 use Rattle.replay_rules.specs.TieLaws.{HasLive, target_is_live}
 use Rattle.replay_rules.proofs.ListedTraces.{false_is_true, only_loader}
 use Rattle.replay_rules.proofs.SentTraces.{what_arrives_was_sent}
-use Rattle.replay_rules.proofs.ToldTraces.{StatusesAreSpelled, completed_was_brought}
 
 -- ---- requests that can be told
 
@@ -74,10 +70,10 @@ fits_entry (w ∷ entries) part entry (one, all) e = by (bytes_eq w.part part) (
     by false rest is e = rest e
 
 -- what is found fits, and has these parts
-abbrev Found : List (List ℕ) → List Wanted → Type 0
+abbrev pub Found : List (List ℕ) → List Wanted → Type 0
 Found parts loads = All (λ (w : Wanted). WantedFits w) loads × (map (λ (w : Wanted). w.part) loads ≡ parts) × (length loads ≡ length parts)
 
-found_fits : (entries : List Wanted) (parts : List (List ℕ)) (loads : List Wanted) → AllByRecursion (λ (w : Wanted). WantedFits w) entries → wanted_of entries parts ≡ Ok loads → Found parts loads
+pub found_fits : (entries : List Wanted) (parts : List (List ℕ)) (loads : List Wanted) → AllByRecursion (λ (w : Wanted). WantedFits w) entries → wanted_of entries parts ≡ Ok loads → Found parts loads
 found_fits entries [] loads all e = let same : [] ≡ loads = cc in subst (Found []) same (All-nil (λ (w : Wanted). WantedFits w), refl, refl)
 found_fits entries (part ∷ parts) loads all e = by (entry_with part entries) (wanted_of entries parts) (λ others rest. found_fits entries parts others all rest) refl refl e
   where
@@ -95,11 +91,11 @@ request_spells : (loads : List Wanted) → LurFits (record { loads = loads }) �
 unfolding lur_file file_fields number_bytes counted_fields
 request_spells loads fits = (fits, record { small = lur_is_small (record { loads = loads }) fits; written = refl })
 
-started_spells : (media : Media) (parts : List (List ℕ)) (loads : List Wanted) → EntriesFit media → length parts ≤ 32 → wanted_of media.loads parts ≡ Ok loads → LurSpells (record { loads = loads }) (lur_file loads)
+pub started_spells : (media : Media) (parts : List (List ℕ)) (loads : List Wanted) → EntriesFit media → length parts ≤ 32 → wanted_of media.loads parts ≡ Ok loads → LurSpells (record { loads = loads }) (lur_file loads)
 started_spells media parts loads entries few found =
     let (fits, named, count) = found_fits media.loads parts loads entries found in request_spells loads (record { count = omega (arith, few, count); loads = fits })
 
-one_request : RequestsAreRead → (a b : List Wanted) (bytes : List ℕ) → LurSpells (record { loads = a }) bytes → LurSpells (record { loads = b }) bytes → a ≡ b
+pub one_request : RequestsAreRead → (a b : List Wanted) (bytes : List ℕ) → LurSpells (record { loads = a }) bytes → LurSpells (record { loads = b }) bytes → a ≡ b
 one_request reads a b bytes one two =
     let same : Ok (record { loads = a }) ≡ Ok (record { loads = b }) = sym (reads (record { loads = a }) bytes one) ∙ reads (record { loads = b }) bytes two in
     ap (λ (v : LurView). v.loads) (ok_is (record { loads = a }) (record { loads = b }) same)
@@ -107,7 +103,7 @@ one_request reads a b bytes one two =
     ok_is : (v w : LurView) → (◌≡◌ {A = Result LurView FileFault} (Ok v) (Ok w)) → v ≡ w
     ok_is v w e = cc
 
-parts_of : (request : List Wanted) (loads : List LoadView) → AllZip IsWanted request loads → map (λ (load : LoadView). load.part) loads ≡ map (λ (w : Wanted). w.part) request
+pub parts_of : (request : List Wanted) (loads : List LoadView) → AllZip IsWanted request loads → map (λ (load : LoadView). load.part) loads ≡ map (λ (w : Wanted). w.part) request
 parts_of [] [] each = refl
 parts_of [] (load ∷ loads) each = absurd each
 parts_of (w ∷ request) [] each = absurd each
@@ -119,7 +115,7 @@ gets_starts_not : (d : Option DatagramView) (hw pos : List ℕ) (parts : List (L
 gets_starts_not None hw pos parts e = cc
 gets_starts_not (Some d) hw pos parts e = cc
 
-given_starts : (posted : List DatagramView) (h : HappeningView) (hw pos : List ℕ) (parts : List (List ℕ)) → event_for sides.Loader posted h ≡ Some (Starts_upload hw pos parts) → h ≡ Upload_started hw pos parts
+pub given_starts : (posted : List DatagramView) (h : HappeningView) (hw pos : List ℕ) (parts : List (List ℕ)) → event_for sides.Loader posted h ≡ Some (Starts_upload hw pos parts) → h ≡ Upload_started hw pos parts
 given_starts posted (Upload_started one two all) hw pos parts e = let same : Starts_upload one two all ≡ Starts_upload hw pos parts = cc in cc
 given_starts posted (Delivered to n) hw pos parts e = absurd (by (is_same_side sides.Loader to) e)
   where
@@ -206,7 +202,7 @@ module _ (reads : RequestsAreRead) (set : Setting) (s : Step) (earlier : List St
   new_is_asked : (r : TargetReading) (e : Event) → target_at set earlier ≡ Is_up r → event_for sides.Target (posted_in earlier) s.given ≡ Some e → (new : IsNewAt set.accepts r (target_extended set.accepts r e)) → RequestArrived (target_extended set.accepts r e).end new.upload.request
       → IsAskedFor earlier (target_extended set.accepts r e).active
   new_is_asked r e up comes new h =
-      let started : AreStarted set.media (loader_log (s ∷ earlier)) new.upload.request = request_started new.upload.request (target_extended set.accepts r e).end h (there h.transfer h.past) in
+      let started : AreStarted set.media (loader_log (s ∷ earlier)) new.upload.request = request_started new.upload.request (target_extended set.accepts r e).end h (there h.transfer (subst (λ (ts : List Transfer). Among h.transfer ts) (sym h.past) (among_right h.transfer h.since (h.transfer ∷ h.before) (inl refl)))) in
       let (between, start, before, split, starts) = start_step earlier started.hw started.pos started.parts (before_now e started.hw started.pos started.parts comes started.among) in
       let (fits, parts, count) = found_fits set.media.loads started.parts new.upload.request entries started.found in
       record {
@@ -233,7 +229,7 @@ module _ (reads : RequestsAreRead) (set : Setting) (s : Step) (earlier : List St
 
 -- ---- what the target was asked for, at each moment
 
-abbrev TargetHas : Setting → TargetState → Type 0
+abbrev pub TargetHas : Setting → TargetState → Type 0
 TargetHas set (Is_up r) = SessionHasRequest set.accepts r
 TargetHas set (Is_down active interrupted) = Unit {0}
 
@@ -253,7 +249,7 @@ noted_has set (Came_up first_port sequence ∷ notes) before after h =
     let up = come_up first_port sequence (gone_down before after) in noted_has set notes up up (come_has set first_port sequence (gone_down before after) (gone_has set before after))
 noted_has set (Boot_refused fault ∷ notes) before after h = noted_has set notes (gone_down before after) (gone_down before after) (gone_has set before after)
 
-abbrev NewHas : Setting → TargetState → Option Event → Type 0
+abbrev pub NewHas : Setting → TargetState → Option Event → Type 0
 NewHas set (Is_up r) (Some e) = InstallsRequest set.accepts r (target_extended set.accepts r e)
 NewHas set state e = Unit {0}
 
@@ -266,13 +262,13 @@ module _ (joins : SumsJoin) (spells : HeadersAreSpelled) (payloads : PayloadsAre
   reached_has Down (Is_down active interrupted) None now takes live sound h = (tt, tt)
   reached_has Down (Is_down active interrupted) (Some e) now takes live sound h = (tt, tt)
 
-  step_has : (s : Step) (earlier : List Step) → AllCarryBytes (s ∷ earlier) → TargetHas set (target_at set earlier)
+  pub step_has : (s : Step) (earlier : List Step) → AllCarryBytes (s ∷ earlier) → TargetHas set (target_at set earlier)
       → TargetHas set (reached set (event_for sides.Target (posted_in earlier) s.given) (target_at set earlier)) × NewHas set (target_at set earlier) (event_for sides.Target (posted_in earlier) s.given)
   step_has s earlier ((posts, given), all) h =
       reached_has (target_life earlier) (target_at set earlier) (event_for sides.Target (posted_in earlier) s.given) (event_bytes (posted_in earlier) s.given (posted_bytes earlier all) given) (target_takes set earlier) (target_is_live joins set earlier)
       (target_sound joins spells payloads set permits earlier all) h
 
-  target_has : (steps : List Step) → AllCarryBytes steps → TargetHas set (target_at set steps)
+  pub target_has : (steps : List Step) → AllCarryBytes steps → TargetHas set (target_at set steps)
   target_has [] all = tt
   target_has (s ∷ earlier) (now, all) = noted_has set s.notes (target_at set earlier) _ (step_has s earlier (now, all) (target_has earlier all)).0
 
@@ -309,45 +305,3 @@ all_asked joins spells payloads requests reads set permits entries (s ∷ earlie
 pub installs_are_asked : SumsJoin → MovesStayFair → HeadersAreSpelled → PayloadsAreBytes → RequestsAreSpelled → RequestsAreRead → InstallsAreAsked
 installs_are_asked joins moves spells payloads requests reads set steps permits entries is =
     all_asked joins spells payloads requests reads set permits entries steps is.carries (changes_are_new joins spells payloads set steps permits is.carries) (what_arrives_was_sent joins moves set steps is)
-
--- ---- completed uploads
-
-asked_at : (set : Setting) (since : List Step) (install : Step) (before : List Step) → AllBroughtAreAsked set (since ++ install ∷ before) → BroughtIsAsked (brings set install before) before
-asked_at set [] install before (now, all) = now
-asked_at set (s ∷ since) install before (now, all) = asked_at set since install before all
-
-installed : (set : Setting) (steps : List Step) → AllBroughtAreAsked set steps → WasBrought set steps → WasInstalled set steps
-installed set steps all h =
-    let asked : IsAskedFor h.before h.new =
-    subst (λ (x : Option StandingView). BroughtIsAsked x h.before) h.brought (asked_at set h.since h.install h.before (subst (λ (x : List Step). AllBroughtAreAsked set x) h.split all)) in
-    record {
-      since = h.since;
-      install = h.install;
-      between = asked.between;
-      start = asked.start;
-      before = asked.before;
-      hw = asked.hw;
-      pos = asked.pos;
-      parts = asked.parts;
-      new = h.new;
-      split = h.split ∙ ap (λ (x : List Step). h.since ++ h.install ∷ x) asked.split;
-      starts = asked.starts;
-      brought = subst (λ (x : List Step). brings set h.install x ≡ Some h.new) asked.split h.brought;
-      asked = asked.asked;
-      stays_up = h.stays_up;
-    }
-
-all_installed : (set : Setting) (steps : List Step) → AllBroughtAreAsked set steps → AllBroughtWhereCompleted set steps → CompletedIsInstalled set steps
-all_installed set [] asked brought = tt
-all_installed set (s ∷ earlier) (now, asked) (one, brought) = (
-  λ ended completed. newest_installed ended completed,
-  all_installed set earlier asked brought,
-)
-  where
-    newest_installed : HasEnded set s earlier → HasCompleted Upload (loader_at set (s ∷ earlier)).ended → WasInstalled set (s ∷ earlier)
-    newest_installed (session, grows) completed =
-        let (kind, over) = subst (HasCompleted Upload) grows completed in installed set (s ∷ earlier) (now, asked) (one session grows kind over)
-
-pub uploads_are_installed : SumsJoin → MovesStayFair → HeadersAreSpelled → PayloadsAreBytes → RequestsAreSpelled → RequestsAreRead → StatusesAreSpelled → UploadsAreInstalled
-uploads_are_installed joins moves spells payloads requests reads statuses set steps permits entries is =
-    all_installed set steps (installs_are_asked joins moves spells payloads requests reads set steps permits entries is) (completed_was_brought joins moves payloads statuses set steps is)

@@ -6,3 +6,8 @@ pub mod FirstPosting
 pub mod ToldTraces
 pub mod AskedFor
 pub mod PortsApart
+pub mod Growing
+pub mod AnsweredLater
+pub mod InstalledBefore
+pub mod OwnSession
+pub mod Counted

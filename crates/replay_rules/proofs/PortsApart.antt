@@ -77,7 +77,7 @@ kept_before r former fit = by r.past (λ t a. own_is_below r former fit t (in_al
 
 -- ---- ports of the other side
 
-abbrev PeerIsBelow : ℕ → Option ℕ → Type 0
+abbrev pub PeerIsBelow : ℕ → Option ℕ → Type 0
 PeerIsBelow port None = Unit {0}
 PeerIsBelow port (Some peer) = peer < port
 
@@ -96,7 +96,7 @@ mark_is r = by r.live
     by None = refl
     by (Some t) = refl
 
-peer_below : (me them : Side) (mine theirs : List Transfer) (posted : List DatagramView) (port : ℕ) → IsFair me them mine theirs posted → IsFair them me theirs mine posted → 59 < port
+pub peer_below : (me them : Side) (mine theirs : List Transfer) (posted : List DatagramView) (port : ℕ) → IsFair me them mine theirs posted → IsFair them me theirs mine posted → 59 < port
     → ((t : Transfer) → Among t theirs → t.own < port) → (t : Transfer) → Among t mine → PeerIsBelow port t.peer
 peer_below me them mine theirs posted port one other_one low below t a = by (one.begun t a)
   where

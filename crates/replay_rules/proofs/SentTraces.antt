@@ -29,7 +29,7 @@ use Rattle.replay_rules.specs.TieLaws.{HasLive, target_is_live}
 
 -- ---- what reaches a side was posted by the other
 
-posted_bytes : (steps : List Step) → AllCarryBytes steps → AllByRecursion CarriesBytes (posted_in steps)
+pub posted_bytes : (steps : List Step) → AllCarryBytes steps → AllByRecursion CarriesBytes (posted_in steps)
 posted_bytes [] all = tt
 posted_bytes (s ∷ earlier) ((posts, given), all) = all_append CarriesBytes (posted_in earlier) s.posts (posted_bytes earlier all) posts
 
@@ -128,7 +128,7 @@ noted_as up port Ended notes may = may_go_down up port Ended notes may
 -- ---- both sides in a trace
 
 -- of a target that is up
-abbrev TargetHas : TargetState → (former : List Transfer) → Type 0
+abbrev pub TargetHas : TargetState → (former : List Transfer) → Type 0
 TargetHas (Is_up r) former = LastIsPost sides.Target (all_of r.end former) r.end.last × PortsFit r.end former
 TargetHas (Is_down active interrupted) former = Unit {0}
 
@@ -234,27 +234,27 @@ was_still posted more side None h = tt
 was_still posted more side (Some e) h = was_posted_still posted more side e h
 
 module _ (joins : SumsJoin) (moves : MovesStayFair) (set : Setting) (s : Step) (earlier : List Step) (honest : IsHonest (posted_in earlier) s.given) (none : IsNoInjection s.given) (bytes : AllByRecursion CarriesBytes (posted_in earlier)) (h : TraceIsFair set earlier) where
-  abbrev to_loader : Option Event
+  abbrev pub to_loader : Option Event
   to_loader = event_for sides.Loader (posted_in earlier) s.given
 
-  abbrev to_target : Option Event
+  abbrev pub to_target : Option Event
   to_target = event_for sides.Target (posted_in earlier) s.given
 
-  abbrev loader_posts_now : List DatagramView
+  abbrev pub loader_posts_now : List DatagramView
   loader_posts_now = due_of_loader set (loader_at set earlier) to_loader
 
-  abbrev target_posts_now : List DatagramView
+  abbrev pub target_posts_now : List DatagramView
   target_posts_now = due_of_target set (target_at set earlier) to_target
 
-  loader_now : AreFair sides.Loader sides.Target (loader_transfers set (s ∷ earlier)) (transfers_of (target_at set earlier) ++ former_at set earlier) (loader_at set (s ∷ earlier)).end.last (posted_in earlier ++ loader_posts_now)
+  pub loader_now : AreFair sides.Loader sides.Target (loader_transfers set (s ∷ earlier)) (transfers_of (target_at set earlier) ++ former_at set earlier) (loader_at set (s ∷ earlier)).end.last (posted_in earlier ++ loader_posts_now)
   loader_now =
       loader_fair set moves (loader_log earlier) to_loader (transfers_of (target_at set earlier) ++ former_at set earlier) (posted_in earlier) (event_was_posted sides.Loader (posted_in earlier) s.given bytes honest none)
       (record { one = h.target.other_one; other = h.target.one; last_is = h.last })
 
-  target_before : TargetIsFair (target_at set earlier) (former_at set earlier) (loader_transfers set (s ∷ earlier)) (posted_in earlier ++ loader_posts_now)
+  pub target_before : TargetIsFair (target_at set earlier) (former_at set earlier) (loader_transfers set (s ∷ earlier)) (posted_in earlier ++ loader_posts_now)
   target_before = record { one = loader_now.other; other_one = loader_now.one; has = h.target.has }
 
-  target_now : TargetIsFair (reached set to_target (target_at set earlier)) (former_at set earlier) (loader_transfers set (s ∷ earlier)) ((posted_in earlier ++ loader_posts_now) ++ target_posts_now)
+  pub target_now : TargetIsFair (reached set to_target (target_at set earlier)) (former_at set earlier) (loader_transfers set (s ∷ earlier)) ((posted_in earlier ++ loader_posts_now) ++ target_posts_now)
   target_now =
       target_fair set moves (target_at set earlier) to_target (former_at set earlier) (loader_transfers set (s ∷ earlier)) (posted_in earlier ++ loader_posts_now)
       (was_still (posted_in earlier) loader_posts_now sides.Loader to_target (event_was_posted sides.Target (posted_in earlier) s.given bytes honest none)) (target_is_live joins set earlier) target_before

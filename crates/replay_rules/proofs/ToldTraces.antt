@@ -25,7 +25,7 @@ use Rattle.session_rules.specs.CompletionLaws.{completed_upload_arrived, target_
 use Rattle.session_rules.specs.Completions.{CompletionArrived, InstallsNow, SaysCompleted, TellsInstalled}
 use Rattle.session_rules.specs.HeardLaws.{loader_takes_what_came}
 use Rattle.session_rules.specs.Loader.{EndedSession}
-use Rattle.session_rules.specs.LoaderLog.{loader_extended, loader_reading}
+use Rattle.session_rules.specs.LoaderLog.{loader_extended, loader_reading, newest}
 use Rattle.session_rules.specs.SoundLogLaws.{PayloadsAreBytes, newest_bytes}
 use Rattle.session_rules.specs.SoundLogs.{LogIsBytes}
 use Rattle.session_rules.specs.SoundnessLaws.{read_is_spelled}
@@ -62,7 +62,7 @@ one_more : (n : ℕ) (b : Bool) → (n == n + 1) ≡ b → b ≡ false
 one_more n true e = let same : n ≡ n + 1 = eqb-true n (n + 1) e in absurd (omega (arith, same))
 one_more n false e = refl
 
-changes : (before after : StandingView) (loads : List _) → after ≡ standing_after before loads → changed before after ≡ Some after
+pub changes : (before after : StandingView) (loads : List _) → after ≡ standing_after before loads → changed before after ≡ Some after
 changes before after loads is =
     ap (λ (b : Bool). cond b None (Some after)) (ap (λ (x : StandingView). before.sequence == x.sequence) is ∙ one_more before.sequence (before.sequence == before.sequence + 1) refl)
 
@@ -194,7 +194,7 @@ module _ (joins : SumsJoin) (payloads : PayloadsAreBytes) (spells : StatusesAreS
       there : (h : CompletionArrived set.media (loader_at set earlier) e) → Among h.transfer (loader_transfers set (s ∷ earlier))
       there h =
           subst (λ (x : Option Event). Among h.transfer (all_of (loader_reading set.media (logged x (loader_log earlier))).end [])) (sym comes)
-          (among_left h.transfer _ [] (among_past (loader_extended set.media (loader_at set earlier) e).end.live (loader_extended set.media (loader_at set earlier) e).end.past h.transfer h.is_newest))
+          (among_left h.transfer _ [] (among_past (loader_extended set.media (loader_at set earlier) e).end.live (loader_extended set.media (loader_at set earlier) e).end.past h.transfer (ap newest h.past)))
 
       fit : LogIsBytes (e ∷ loader_log earlier)
       fit = subst (λ (x : Option Event). LogIsBytes (logged x (loader_log earlier))) comes (loader_log_bytes (s ∷ earlier) carries)
@@ -202,7 +202,7 @@ module _ (joins : SumsJoin) (payloads : PayloadsAreBytes) (spells : StatusesAreS
       by : (event_for sides.Target (posted_in earlier) s.given ≡ None) ⊎ ((size : Option ℕ) × (e ≡ Learns size)) → WasBrought set (s ∷ earlier)
       by (inl alone) =
           let h = completed_upload_arrived set.media (loader_log earlier) e session grows upload over in
-          by_transfer e alone h (newest_bytes payloads (e ∷ loader_log earlier) (loader_extended set.media (loader_at set earlier) e).end h.transfer fit (loader_takes_what_came set.media (e ∷ loader_log earlier)).0 h.is_newest) (there h)
+          by_transfer e alone h (newest_bytes payloads (e ∷ loader_log earlier) (loader_extended set.media (loader_at set earlier) e).end h.transfer fit (loader_takes_what_came set.media (e ∷ loader_log earlier)).0 (ap newest h.past)) (there h)
       by (inr (size, learns)) = absurd (longer (loader_at set earlier).ended session (subst (λ (x : Event). (loader_extended set.media (loader_at set earlier) x).ended ≡ session ∷ (loader_at set earlier).ended) learns grows))
 
   pub brought_where_completed : (loader_at set (s ∷ earlier)).ended ≡ session ∷ (loader_at set earlier).ended → session.kind ≡ Upload → session.outcome ≡ Completed → WasBrought set (s ∷ earlier)

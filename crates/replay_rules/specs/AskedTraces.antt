@@ -12,7 +12,7 @@ use Rattle.session_rules.specs.MediaFiles.{Media}
 use Rattle.replay_rules.specs.BothEnds.{Setting}
 use Rattle.replay_rules.specs.Histories.{brings}
 use Rattle.replay_rules.specs.OtherEndTraces.{IsUninjected}
-use Rattle.replay_rules.specs.Promises.{CompletedIsInstalled, HasParts}
+use Rattle.replay_rules.specs.Promises.{HasParts}
 
 -- each entry of the media set has a name and a part number, so that a request can tell it
 abbrev pub EntriesFit : Media → Type 0
@@ -43,7 +43,3 @@ AllBroughtAreAsked set (s ∷ earlier) = BroughtIsAsked (brings set s earlier) e
 -- through losses, repeats, other orders, power losses and boots.
 abbrev pub InstallsAreAsked : Type 0
 InstallsAreAsked = (set : Setting) (steps : List Step) → ((h : HeaderView) → set.accepts h ≡ true → Permits h) → EntriesFit set.media → IsUninjected set steps → AllBroughtAreAsked set steps
-
--- And so, where an upload is completed, such a configuration was installed.
-abbrev pub UploadsAreInstalled : Type 0
-UploadsAreInstalled = (set : Setting) (steps : List Step) → ((h : HeaderView) → set.accepts h ≡ true → Permits h) → EntriesFit set.media → IsUninjected set steps → CompletedIsInstalled set steps

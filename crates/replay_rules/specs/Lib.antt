@@ -21,3 +21,4 @@ pub mod AskedTraces
 pub mod PortTraces
 pub mod ContentTraces
 pub mod FirstOrGood
+pub mod OwnSessionTraces

@@ -1,12 +1,12 @@
 -- What is to be promised of a run, part by part (docs/PROMISES.md). These are statements; a promise is kept once a public
 -- call has it as a clause.
-use Rattle.std.specs.Prelude.{◌≡◌, ◌⊎◌, ℕ, List, [], ◌∷◌, ◌++◌, map, true, false, Option, Some, None, Contains, ⊤}
+use Rattle.std.specs.Prelude.{◌≡◌, ◌⊎◌, ℕ, List, [], ◌∷◌, ◌++◌, map, true, Option, Some, None, Contains, ⊤}
 use Rattle.std.specs.List.{AllByRecursion}
 use Rattle.load_base.specs.Config.{LoadView}
 use Rattle.load_protocol_files.specs.Lcl.{LclView}
 use Rattle.disk_model.specs.Image.{Image}
 use Rattle.disk_layout.specs.Holds.{StandingView, HoldsConfig, outline_of}
-use Rattle.exchange_trace.specs.Happenings.{HappeningView, Ended, Upload_started}
+use Rattle.exchange_trace.specs.Happenings.{HappeningView, Ended}
 use Rattle.exchange_trace.specs.Following.{Turn, goes_on}
 use Rattle.exchange_trace.specs.Lines.{Line, Finish}
 use Rattle.exchange_trace.specs.Steps.{Step}
@@ -19,7 +19,7 @@ use Rattle.session_rules.specs.NewConfigs.{AreOfMedia}
 use Rattle.session_rules.specs.TargetRows.{WholeRow, Writes_lcl}
 use Rattle.session_rules.specs.TargetLog.{TargetReading, TargetSessionLog, row_in}
 use Rattle.replay_rules.specs.BothEnds.{Setting, TargetState, Is_up, Is_down, loader_at, target_at, loader_waits}
-use Rattle.replay_rules.specs.Due.{AllDue, AllNoted, goes_down}
+use Rattle.replay_rules.specs.Due.{AllDue, AllNoted}
 use Rattle.replay_rules.specs.FaultFree.{IsFaultFree, NothingInjected}
 use Rattle.replay_rules.specs.Histories.{active_at, may_be_active, brings, history_of, active_by}
 use Rattle.replay_rules.specs.Runs.{Follows, IsQuiet, IsWithinMargin, plan_at, scene_at}
@@ -78,24 +78,6 @@ ListsActive set steps (Some listed) = (since : List Step) × (made : Step) × (b
 abbrev pub HasParts : List (List ℕ) → List LoadView → Type 0
 HasParts parts loads = map (λ (load : LoadView). load.part) loads ≡ parts
 
--- Since a start of an upload, one of these steps brought a configuration with the parts of that start. It isn't said that the
--- start is of the session that is completed, nor that it names this target's hardware and position.
-pub record WasInstalled (set : Setting) (steps : List Step) : Type 0 where
-  pub since : List Step
-  pub install : Step
-  pub between : List Step
-  pub start : Step
-  pub before : List Step
-  pub hw : List ℕ
-  pub pos : List ℕ
-  pub parts : List (List ℕ)
-  pub new : StandingView
-  pub split : steps ≡ since ++ install ∷ (between ++ start ∷ before)
-  pub starts : start.given ≡ Upload_started hw pos parts
-  pub brought : brings set install (between ++ start ∷ before) ≡ Some new
-  pub asked : HasParts parts new.loads
-  pub stays_up : goes_down install.notes ≡ false
-
 -- the newest session that ended is a completed one of this kind
 abbrev pub HasCompleted : SessionKind → List EndedSession → Type 0
 HasCompleted kind [] = ⊥
@@ -104,12 +86,6 @@ HasCompleted kind (s ∷ earlier) = (s.kind ≡ kind) × (s.outcome ≡ Complete
 -- a session ended in the newest step
 abbrev pub HasEnded : Setting → Step → List Step → Type 0
 HasEnded set s earlier = (e : EndedSession) × ((loader_at set (s ∷ earlier)).ended ≡ e ∷ (loader_at set earlier).ended)
-
--- without injection each upload is completed only in or after a step that installed the parts of a start
-abbrev pub CompletedIsInstalled : Setting → List Step → Type 0
-CompletedIsInstalled set [] = ⊤
-CompletedIsInstalled set (s ∷ earlier) =
-    (HasEnded set s earlier → HasCompleted Upload (loader_at set (s ∷ earlier)).ended → WasInstalled set (s ∷ earlier)) × CompletedIsInstalled set earlier
 
 -- ---- at every moment the old configuration or the complete new one
 

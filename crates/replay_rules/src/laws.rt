@@ -1,5 +1,5 @@
 //! What ties both ends to the trace. These functions do nothing; their clauses are the law.
-ghost use Rattle.replay_rules.specs.AskedTraces.{InstallsAreAsked, UploadsAreInstalled};
+ghost use Rattle.replay_rules.specs.AskedTraces.{InstallsAreAsked};
 ghost use Rattle.replay_rules.specs.CameTraces.{BothTakeWhatCame, DueIsAcked};
 ghost use Rattle.replay_rules.specs.Changes.{ChangesAreNew, InstallsAreGood};
 ghost use Rattle.replay_rules.specs.ContentTraces.{ContentsFollowTraces};
@@ -9,6 +9,7 @@ ghost use Rattle.replay_rules.specs.FirstPostTraces.{LoaderPostsInOrder, TargetP
 ghost use Rattle.replay_rules.specs.ListTraces.{CompletedListsActive, TargetWritesInTime};
 ghost use Rattle.replay_rules.specs.MediaTraces.{InstallsAreOfMedia};
 ghost use Rattle.replay_rules.specs.OtherEndTraces.{LoaderGivesMedia, WhatArrivesWasSent};
+ghost use Rattle.replay_rules.specs.OwnSessionTraces.{CompletedInSession, CompletedStays};
 ghost use Rattle.replay_rules.specs.PlacedTraces.{DueIsPlaced, DueIsTwoAtMost, PortsRise};
 ghost use Rattle.replay_rules.specs.PortTraces.{PortsStayApart};
 ghost use Rattle.replay_rules.specs.Ties.{StepKeepsTie};
@@ -123,11 +124,13 @@ pub fn an_upload_is_completed_after_a_step_that_installed()
 
 /// Where nothing is injected and the media set's entries can be told in a request, each
 /// configuration that an install step brings has the parts, in their order, of some start of an
-/// upload before it; so each upload is completed only in or after such a step, in which the target
-/// stayed up. It isn't said that the start is the completed session's own.
+/// upload before it. An upload is completed only where such a step came in its own session, after
+/// its start: it brought exactly the parts of that start, and the target stayed up in it. What it
+/// brought stays in the history of the run, and no earlier member is active at its end.
 pub fn a_completed_upload_is_installed()
     ensures asked { InstallsAreAsked }
-    ensures installed { UploadsAreInstalled }
+    ensures installed { CompletedInSession }
+    ensures stays { CompletedStays }
 {
     check_sum_laws();
     header_laws();

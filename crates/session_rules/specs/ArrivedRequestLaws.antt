@@ -26,7 +26,7 @@ use Rattle.transfer_end.specs.Came.{PacketsCame}
 use Rattle.transfer_end.specs.CameLaws.{moves_came}
 use Rattle.transfer_end.specs.Laws.{IsLive}
 use Rattle.transfer_end.specs.Moves.{Move}
-use Rattle.transfer_end.specs.OtherEnds.{Among, is_asking, is_receiving}
+use Rattle.transfer_end.specs.OtherEnds.{is_asking, is_receiving}
 use Rattle.transfer_end.specs.Readings.{Reading}
 use Rattle.transfer_end.specs.RfcLaws.{end_is_of_link}
 use Rattle.transfer_end.specs.Transfers.{LinkEnd, Reads, Receives, Role, Sends, ServesRead, ServesWrite, Transfer, Writes, arrived_in, arrived_of, end_in, end_of, error_of, is_received, phase_of, taken_from}
@@ -39,9 +39,9 @@ use Rattle.session_rules.specs.BufferLaws.{SumsJoin}
 use Rattle.session_rules.specs.Buffers.{buffer_size, buffered, is_too_long}
 use Rattle.session_rules.specs.HeardLaws.{target_moves_heard}
 use Rattle.session_rules.specs.LoaderLog.{newest}
-use Rattle.session_rules.specs.ReadFileLaws.{RequestsAreSpelled, finished_of, moves_past, newest_among, no_new, one_is, reading, session_is}
+use Rattle.session_rules.specs.ReadFileLaws.{RequestsAreSpelled, finished_of, no_new, one_is, reading, session_is}
 use Rattle.session_rules.specs.Requests.{HasRequest, InstallsRequest, RequestArrived, RequestIn, SessionHasRequest}
-use Rattle.session_rules.specs.Roles.{HasRole, IsOfView, LiveFits, ReadsNothing}
+use Rattle.session_rules.specs.Roles.{HasRole, IsOfView, LiveFits, ReadsFile, ReadsNothing, WritesFile}
 use Rattle.session_rules.specs.SoundLogLaws.{PayloadsAreBytes, begins_active, newest_bytes}
 use Rattle.session_rules.specs.SoundLogs.{LogIsBytes, SessionIsSound, SoundIn}
 use Rattle.session_rules.specs.Target.{Begins, Continues, Ends, TargetChange, Turns, Turns_without_port, target_decision}
@@ -138,21 +138,27 @@ request_accepted reads bytes loads fit is = by (is_too_long (buffered bytes)) re
         let whole : take buffer_size bytes ≡ bytes = take_all buffer_size bytes (ltb-false buffer_size (length bytes) e) in
         read_accepted reads bytes loads fit (answer lur bytes) refl (sym (ap (λ (x : List ℕ). request_read (answer lur x)) whole) ∙ is)
 
-request_arrived : RequestsAreSpelled → (end : Reading) (t : Transfer) (loads : List Wanted) → Among t end.past → ReadsNothing t.role → IsBytes (arrived_of t) → is_live (phase_of (end_in t)) ≡ false → error_of t ≡ None → judge_request (buffered (arrived_of t)) ≡ Ok loads → RequestArrived end loads
-request_arrived reads end t loads a nothing fit over none is =
+request_arrived : RequestsAreSpelled → (end : Reading) (t : Transfer) (before : List Transfer) (loads : List Wanted) → end.past ≡ t ∷ before → ReadsNothing t.role → IsBytes (arrived_of t) → is_live (phase_of (end_in t)) ≡ false → error_of t ≡ None → judge_request (buffered (arrived_of t)) ≡ Ok loads → RequestArrived end loads
+request_arrived reads end t before loads a nothing fit over none is =
     let spells : LurSpells (record { loads = loads }) (arrived_of t) = request_accepted reads (arrived_of t) loads fit is in
     let (receives, serves, received) = came_whole t.role t.got nothing (not_empty (record { loads = loads }) (arrived_of t) spells) over none in
-    record { transfer = t; past = a; receives = receives; serves = serves; received = received; spells = spells }
+    record { since = []; transfer = t; before = before; past = a; asks = tt; receives = receives; serves = serves; received = received; spells = spells }
 
 -- ---- one transfer of a session
 
-module _ (reads : RequestsAreSpelled) (accepts : HeaderView → Bool) (id : Identity) (end : Reading) (t : Transfer) (a : Among t end.past) (fit : IsBytes (arrived_of t)) (over : is_live (phase_of (end_in t)) ≡ false) where
+-- what is asked for in a row in which a file is read or progress is told
+abbrev RequestBefore : Reading → WholeRow → Type 0
+RequestBefore end (Reads_file u) = RequestArrived end u.request
+RequestBefore end (Writes_progress u) = RequestArrived end u.request
+RequestBefore end row = Unit {0}
+
+module _ (reads : RequestsAreSpelled) (accepts : HeaderView → Bool) (id : Identity) (end : Reading) (t : Transfer) (before : List Transfer) (a : end.past ≡ t ∷ before) (fit : IsBytes (arrived_of t)) (over : is_live (phase_of (end_in t)) ≡ false) where
   abbrev Brings : RowMove → Type 0
   Brings (Requests loads) = RequestArrived end loads
   Brings move = Unit {0}
 
   as_move : (found : Result (List Wanted) RequestFault) → ReadsNothing t.role → error_of t ≡ None → judge_request (buffered (arrived_of t)) ≡ found → Brings (request_move found)
-  as_move (Ok loads) nothing none is = request_arrived reads end t loads a nothing fit over none is
+  as_move (Ok loads) nothing none is = request_arrived reads end t before loads a nothing fit over none is
   as_move (Err fault) nothing none is = tt
 
   header_brings : (u : UploadView) (wanted : Option Wanted) (arriving : Arriving) → Brings (header_move accepts id u wanted arriving)
@@ -213,7 +219,7 @@ module _ (reads : RequestsAreSpelled) (accepts : HeaderView → Bool) (id : Iden
   judged_has u bytes (Accepts_header header next) h = placed_has u (with_header (next_wanted (upload_view u)) header bytes) next h
   judged_has u bytes (Accepts_file next) h = placed_has u (with_file u.current (next_name (upload_view u)) bytes) next h
 
-  moved_has : (row : WholeRow) (bytes : List ℕ) (move : RowMove) → Brings move → HasRequest end row → HasRequest end (row_moved row bytes move)
+  moved_has : (row : WholeRow) (bytes : List ℕ) (move : RowMove) → Brings move → RequestBefore end row → HasRequest end (row_moved row bytes move)
   moved_has row bytes (Requests loads) brings h = brings
   moved_has row bytes (Refuses_request fault) brings h = tt
   moved_has row bytes Breaks_off brings h = tt
@@ -242,27 +248,69 @@ module _ (reads : RequestsAreSpelled) (accepts : HeaderView → Bool) (id : Iden
   moved_has (Writes_completion e loads) bytes Passes brings h = tt
   moved_has Over bytes Passes brings h = tt
 
-  row_has : (row : WholeRow) → IsOfView (row_view row) t.role → HasRequest end row → HasRequest end (row_with accepts id row t)
+  row_has : (row : WholeRow) → IsOfView (row_view row) t.role → RequestBefore end row → HasRequest end (row_with accepts id row t)
   row_has row is h = moved_has row (arrived_of t) (row_move accepts id (row_view row) (transfer_end (row_view row) t)) (move_brings row (error_of t) is refl) h
 
 -- ---- one event more
 
-arrived_then : (end : Reading) (moves : List Move) (loads : List Wanted) → RequestArrived end loads → RequestArrived (after end moves) loads
-arrived_then end moves loads h = record { transfer = h.transfer; past = moves_past sides.Target end moves h.transfer h.past; receives = h.receives; serves = h.serves; received = h.received; spells = h.spells }
+-- the transfers that are over are the same
+arrived_still : (end then : Reading) (loads : List Wanted) → then.past ≡ end.past → RequestArrived end loads → RequestArrived then loads
+arrived_still end then loads same h =
+    record { since = h.since; transfer = h.transfer; before = h.before; past = same ∙ h.past; asks = h.asks; receives = h.receives; serves = h.serves; received = h.received; spells = h.spells }
 
-has_then : (end : Reading) (moves : List Move) (row : WholeRow) → HasRequest end row → HasRequest (after end moves) row
-has_then end moves (Reads_file u) h = arrived_then end moves u.request h
-has_then end moves (Writes_progress u) h = arrived_then end moves u.request h
-has_then end moves (Writes_completion e loads) h = arrived_then end moves e.request h
-has_then end moves (Writes_stop e) h = tt
-has_then end moves Gives_lci h = tt
-has_then end moves Writes_lcs h = tt
-has_then end moves Writes_lcl h = tt
-has_then end moves Gives_lui h = tt
-has_then end moves Gives_denial h = tt
-has_then end moves Writes_ready h = tt
-has_then end moves Awaits_lur h = tt
-has_then end moves Over h = tt
+has_still : (end then : Reading) (row : WholeRow) → then.past ≡ end.past → HasRequest end row → HasRequest then row
+has_still end then (Reads_file u) same h = arrived_still end then u.request same h
+has_still end then (Writes_progress u) same h = arrived_still end then u.request same h
+has_still end then (Writes_completion e loads) same h = arrived_still end then e.request same h
+has_still end then (Writes_stop e) same h = tt
+has_still end then Gives_lci same h = tt
+has_still end then Writes_lcs same h = tt
+has_still end then Writes_lcl same h = tt
+has_still end then Gives_lui same h = tt
+has_still end then Gives_denial same h = tt
+has_still end then Writes_ready same h = tt
+has_still end then Awaits_lur same h = tt
+has_still end then Over same h = tt
+
+-- one more is over, which the target asked for
+arrived_then : (end then : Reading) (t : Transfer) (loads : List Wanted) → then.past ≡ t ∷ end.past → is_asking t.role ≡ true → RequestArrived end loads → RequestArrived then loads
+arrived_then end then t loads more asks h = record {
+  since = t ∷ h.since;
+  transfer = h.transfer;
+  before = h.before;
+  past = more ∙ ap (λ (ts : List Transfer). t ∷ ts) h.past;
+  asks = (asks, h.asks);
+  receives = h.receives;
+  serves = h.serves;
+  received = h.received;
+  spells = h.spells;
+}
+
+reads_asks : (next : List ℕ) (role : Role) → ReadsFile next role → is_asking role ≡ true
+reads_asks next (Reads name o) is = refl
+reads_asks next (Writes name o file) is = absurd is
+reads_asks next (ServesRead name o file) is = absurd is
+reads_asks next (ServesWrite name o) is = absurd is
+
+writes_asks : (role : Role) → WritesFile role → is_asking role ≡ true
+writes_asks (Writes name o file) is = refl
+writes_asks (Reads name o) is = absurd is
+writes_asks (ServesRead name o file) is = absurd is
+writes_asks (ServesWrite name o) is = absurd is
+
+has_then : (end then : Reading) (t : Transfer) (row : WholeRow) → then.past ≡ t ∷ end.past → IsOfView (row_view row) t.role → HasRequest end row → RequestBefore then row
+has_then end then t (Reads_file u) more is h = arrived_then end then t u.request more (reads_asks (next_name (upload_view u)) t.role is) h
+has_then end then t (Writes_progress u) more is h = arrived_then end then t u.request more (writes_asks t.role is) h
+has_then end then t (Writes_completion e loads) more is h = tt
+has_then end then t (Writes_stop e) more is h = tt
+has_then end then t Gives_lci more is h = tt
+has_then end then t Writes_lcs more is h = tt
+has_then end then t Writes_lcl more is h = tt
+has_then end then t Gives_lui more is h = tt
+has_then end then t Gives_denial more is h = tt
+has_then end then t Writes_ready more is h = tt
+has_then end then t Awaits_lur more is h = tt
+has_then end then t Over more is h = tt
 
 of_view : (row : RowView) (live : Option Transfer) (role : Role) → HasRole live role → LiveFits row live → IsOfView row role
 of_view row None role was fits = absurd was
@@ -273,7 +321,10 @@ turned_has : RequestsAreSpelled → (accepts : HeaderView → Bool) (id : Identi
     → LiveFits (row_view (row_in accepts id s)) end.live → HasRequest end (row_in accepts id s) → HasRequest (after end moves) (row_in accepts id (with_done s (h.ended ∷ [])))
 turned_has reads accepts id end s moves move more h fit role was =
     subst (λ (row : WholeRow). HasRequest (after end moves) row) (sym (row_of_more accepts id s.first s.done h.ended))
-    (row_has reads accepts id (after end moves) h.ended (newest_among (after end moves).past h.ended h.is_newest) fit h.over (row_in accepts id s) (of_view (row_view (row_in accepts id s)) end.live h.ended.role h.was_live role) (has_then end moves (row_in accepts id s) was))
+    (row_has reads accepts id (after end moves) h.ended end.past h.past fit h.over (row_in accepts id s) is (has_then end (after end moves) h.ended (row_in accepts id s) h.past is was))
+  where
+    is : IsOfView (row_view (row_in accepts id s)) h.ended.role
+    is = of_view (row_view (row_in accepts id s)) end.live h.ended.role h.was_live role
 
 first_has : (end : Reading) (kind : FileKind) (sequence : ℕ) → HasRequest end (first_row kind sequence)
 first_has end Lci sequence = tt
@@ -314,7 +365,7 @@ module _ (reads : RequestsAreSpelled) (accepts : HeaderView → Bool) where
   changed_requests end None active reason moves (Continues more) fits sound h bytes = (tt, λ new. no_new _ accepts _ _ refl new)
   changed_requests end None active reason moves (Turns move more) fits sound h bytes = (tt, λ new. no_new _ accepts _ _ refl new)
   changed_requests end None active reason moves (Turns_without_port move more) fits sound h bytes = (tt, λ new. no_new _ accepts _ _ refl new)
-  changed_requests end (Some s) active reason moves (Continues more) fits sound h bytes = (has_then end moves (row_in accepts active.identity s) h, λ new. no_new _ accepts _ _ refl new)
+  changed_requests end (Some s) active reason moves (Continues more) fits sound h bytes = (has_still end (after end moves) (row_in accepts active.identity s) fits.2 h, λ new. no_new _ accepts _ _ refl new)
   changed_requests end (Some s) active reason moves (Turns move more) (turn, none, role) sound h bytes =
       let now = turned_has reads accepts active.identity end s moves move more turn (bytes turn.ended turn.is_newest) sound.role h in
       let then = with_done s (newest (after end moves).past) in (

@@ -55,6 +55,8 @@ use Rattle.session_rules.specs.LoaderRoles.{EndsByFile, FitsLoaderChange, loader
 use Rattle.session_rules.specs.LoaderRows.{Comes_to, Goes_on, LoaderRow, Reads_lci, Reads_lui, Serves_files, Takes_lcl, Takes_lcs, Takes_lus, Turn, Writes_lur, bad_file, bytes_turn, first_lus_turn, later_lus_turn, lui_turn, row_after, row_of}
 use Rattle.session_rules.specs.MediaFiles.{Media}
 use Rattle.session_rules.specs.Reports.{accepted, accepting_lui, completed, denied, denying_lui, in_progress, lci_file, lcl_file, lcs_file, progress_lus, ready_lus, stopped, stopped_lus}
+use Rattle.session_rules.specs.SessionLaws.{begun_by, decision_begins}
+use Rattle.session_rules.specs.Sessions.{started_by}
 use Rattle.session_rules.specs.Target as target
 use Rattle.session_rules.specs.TargetLaws.{FitsChange, HasTurned, after, decision_fits, seen_row, turned_row, turned_view}
 use Rattle.session_rules.specs.TargetLog.{TargetReading, TargetSessionLog, reading_turned, row_in, session_view, standing_after, standing_in, target_extended, target_view, with_done}
@@ -142,39 +144,40 @@ upload_row Info done e = absurd cc
 abbrev Reads : List ℕ → Type 0
 Reads bytes = (v : LusView) × (answer lus bytes ≡ Ok v) × (v.status ≡ completed)
 
--- a turn that completes is of an LUS that says so
-abbrev Says : List ℕ → Turn → Type 0
-Says bytes turn = turn ≡ Comes_to Completed → Reads bytes
+-- what holds where a turn completes a session
+abbrev Says : Type 0 → Turn → Type 0
+Says A turn = turn ≡ Comes_to Completed → A
 
-says_if : (bytes : List ℕ) (b : Bool) (x y : Turn) → (b ≡ true → Says bytes x) → (b ≡ false → Says bytes y) → Says bytes (cond b x y)
-says_if bytes true x y p q = p refl
-says_if bytes false x y p q = q refl
+says_if : (A : Type 0) (b : Bool) (x y : Turn) → (b ≡ true → Says A x) → (b ≡ false → Says A y) → Says A (cond b x y)
+says_if A true x y p q = p refl
+says_if A false x y p q = q refl
 
-lui_says : (bytes : List ℕ) (found : Result Lui FileFault) → Says bytes (lui_turn found)
-lui_says bytes (Ok v) =
-    says_if bytes (v.status == accepted) Goes_on (cond (v.status == denied) (Comes_to (Denied v.description)) (bad_file kinds.Lui 6)) (λ b e. absurd cc)
-    (λ b. says_if bytes (v.status == denied) (Comes_to (Denied v.description)) (bad_file kinds.Lui 6) (λ b e. absurd cc) (λ b e. absurd cc))
-lui_says bytes (Err fault) = λ e. absurd cc
+lui_says : (A : Type 0) (found : Result Lui FileFault) → Says A (lui_turn found)
+lui_says A (Ok v) =
+    says_if A (v.status == accepted) Goes_on (cond (v.status == denied) (Comes_to (Denied v.description)) (bad_file kinds.Lui 6)) (λ b e. absurd cc)
+    (λ b. says_if A (v.status == denied) (Comes_to (Denied v.description)) (bad_file kinds.Lui 6) (λ b e. absurd cc) (λ b e. absurd cc))
+lui_says A (Err fault) = λ e. absurd cc
 
-first_lus_says : (bytes : List ℕ) (found : Result LusView FileFault) → Says bytes (first_lus_turn found)
-first_lus_says bytes (Ok v) =
-    says_if bytes (v.status == accepted) Goes_on (cond (v.status == stopped) (Comes_to (TargetStopped v.description)) (bad_file kinds.Lus 6)) (λ b e. absurd cc)
-    (λ b. says_if bytes (v.status == stopped) (Comes_to (TargetStopped v.description)) (bad_file kinds.Lus 6) (λ b e. absurd cc) (λ b e. absurd cc))
-first_lus_says bytes (Err fault) = λ e. absurd cc
+first_lus_says : (A : Type 0) (found : Result LusView FileFault) → Says A (first_lus_turn found)
+first_lus_says A (Ok v) =
+    says_if A (v.status == accepted) Goes_on (cond (v.status == stopped) (Comes_to (TargetStopped v.description)) (bad_file kinds.Lus 6)) (λ b e. absurd cc)
+    (λ b. says_if A (v.status == stopped) (Comes_to (TargetStopped v.description)) (bad_file kinds.Lus 6) (λ b e. absurd cc) (λ b e. absurd cc))
+first_lus_says A (Err fault) = λ e. absurd cc
 
-later_lus_says : (bytes : List ℕ) (found : Result LusView FileFault) → answer lus bytes ≡ found → Says bytes (later_lus_turn found)
+later_lus_says : (bytes : List ℕ) (found : Result LusView FileFault) → answer lus bytes ≡ found → Says (Reads bytes) (later_lus_turn found)
 later_lus_says bytes (Ok v) is =
-    says_if bytes (v.status == completed) (Comes_to Completed) (cond (v.status == in_progress) Goes_on (cond (v.status == stopped) (Comes_to (TargetStopped v.description)) (bad_file kinds.Lus 6)))
+    says_if (Reads bytes) (v.status == completed) (Comes_to Completed) (cond (v.status == in_progress) Goes_on (cond (v.status == stopped) (Comes_to (TargetStopped v.description)) (bad_file kinds.Lus 6)))
     (λ b e. (v, is, eqb-true v.status completed b))
-    (λ b. says_if bytes (v.status == in_progress) Goes_on (cond (v.status == stopped) (Comes_to (TargetStopped v.description)) (bad_file kinds.Lus 6)) (λ b e. absurd cc)
-    (λ b. says_if bytes (v.status == stopped) (Comes_to (TargetStopped v.description)) (bad_file kinds.Lus 6) (λ b e. absurd cc) (λ b e. absurd cc)))
+    (λ b. says_if (Reads bytes) (v.status == in_progress) Goes_on (cond (v.status == stopped) (Comes_to (TargetStopped v.description)) (bad_file kinds.Lus 6)) (λ b e. absurd cc)
+    (λ b. says_if (Reads bytes) (v.status == stopped) (Comes_to (TargetStopped v.description)) (bad_file kinds.Lus 6) (λ b e. absurd cc) (λ b e. absurd cc)))
 later_lus_says bytes (Err fault) is = λ e. absurd cc
 
-completing_says : (row : LoaderRow) (bytes : List ℕ) → IsUploadRow row → Says bytes (bytes_turn row bytes)
-completing_says Reads_lui bytes upload = lui_says bytes (answer lui bytes)
-completing_says Takes_lus bytes upload = first_lus_says bytes (answer lus bytes)
+-- the row in which files are served completes an upload, by an LUS that says so
+completing_says : (row : LoaderRow) (bytes : List ℕ) → IsUploadRow row → Says ((row ≡ Serves_files) × Reads bytes) (bytes_turn row bytes)
+completing_says Reads_lui bytes upload = lui_says _ (answer lui bytes)
+completing_says Takes_lus bytes upload = first_lus_says _ (answer lus bytes)
 completing_says Writes_lur bytes upload = λ e. absurd cc
-completing_says Serves_files bytes upload = later_lus_says bytes (answer lus bytes) refl
+completing_says Serves_files bytes upload = λ e. (refl, later_lus_says bytes (answer lus bytes) refl e)
 completing_says Reads_lci bytes upload = absurd upload
 completing_says Takes_lcs bytes upload = absurd upload
 completing_says Takes_lcl bytes upload = absurd upload
@@ -246,44 +249,56 @@ module _ (media : Media) (r : LoaderReading) (e : Event) (session : EndedSession
   abbrev then : Reading
   then = readings_after sides.Loader r.end moves_now
 
-  by_file : (s : SessionLog) (outcome : Outcome) (more : List ℕ) → EndsByFile r.end s moves_now more → newest (loader_extended media r e).end.past ≡ newest then.past
+  by_file : (s : SessionLog) (outcome : Outcome) (more : List ℕ) → r.live ≡ Some s → EndsByFile r.end s moves_now more → [] ≡ started_by e → (loader_extended media r e).end ≡ then
       → ended_as s.start.kind outcome (buffered_more (buffered (arriving_in r.end.live)) more).prefix ≡ session → CompletionArrived media r e
-  by_file s outcome more h past is =
+  by_file s outcome more was h none end is =
       let (short, turn) = not_too_long (loader_row s) (buffered_more (buffered (arriving_in r.end.live)) more) h.turn in
       let kind : s.start.kind ≡ Upload = ap (λ (x : EndedSession). x.kind) is ∙ upload in
       let arriving : arriving_in r.end.live ≡ arrived_of h.live = ap arriving_in h.was_live in
       let bytes : (buffered_more (buffered (arriving_in r.end.live)) more).prefix ≡ arrived_of (with_packet h.live h.from h.packet) =
       whole_prefix (arriving_in r.end.live) more short ∙ ap (λ (x : List ℕ). x ++ more) arriving ∙ sym (arrived_last h.live h.from h.packet more h.last) in
       let (receives, received) = last_received h.live.role h.live.got h.packet more h.last in
+      let (row, says) = completing_says (loader_row s) _ (upload_row s.start.kind s.done kind) turn in
       record {
+        session = s;
+        was_live = was;
+        upload = kind;
+        no_start = sym none;
+        row = row;
+        live = h.live;
+        going = h.was_live;
+        from = h.from;
+        packet = h.packet;
         transfer = with_packet h.live h.from h.packet;
-        is_newest = past ∙ h.is_newest;
+        is = refl;
+        past = ap (λ (x : Reading). x.past) end ∙ h.past;
+        free = ap (λ (x : Reading). x.live) end ∙ h.free;
         receives = receives;
         received = received;
-        says = subst Reads bytes (completing_says (loader_row s) _ (upload_row s.start.kind s.done kind) turn);
+        says = subst Reads bytes says;
       }
 
   not_replaced : (s : SessionLog) (bytes : List ℕ) → ended_as s.start.kind Replaced bytes ≡ session → ⊥
   not_replaced s bytes is = let wrong : Replaced ≡ Completed = ap (λ (x : EndedSession). x.outcome) is ∙ over in cc
 
-  by_change : (live : Option SessionLog) (change : LoaderChange) → FitsLoaderChange r.end live moves_now change → newest (loader_extended media r e).end.past ≡ newest then.past
+  by_change : (live : Option SessionLog) (change : LoaderChange) → r.live ≡ live → FitsLoaderChange r.end live moves_now change → begun_by change ≡ started_by e → (loader_extended media r e).end ≡ then
       → (loader_reading_changed then (record { end = r.end; live = live; ended = r.ended }) change).ended ≡ session ∷ r.ended → CompletionArrived media r e
-  by_change live (Continues more) fits past grows = absurd (longer r.ended session grows)
-  by_change live Advances fits past grows = absurd (longer r.ended session grows)
-  by_change None (Ends outcome more) fits past grows = absurd (longer r.ended session grows)
-  by_change (Some s) (Ends outcome more) fits past grows =
+  by_change live (Continues more) was fits none end grows = absurd (longer r.ended session grows)
+  by_change live Advances was fits none end grows = absurd (longer r.ended session grows)
+  by_change None (Ends outcome more) was fits none end grows = absurd (longer r.ended session grows)
+  by_change (Some s) (Ends outcome more) was fits none end grows =
       let is : ended_as s.start.kind outcome (buffered_more (buffered (arriving_in r.end.live)) more).prefix ≡ session = head_is r.ended _ session grows in
-      by_file s outcome more (fits (ap (λ (x : EndedSession). x.outcome) is ∙ over)) past is
-  by_change None (Begins start) fits past grows = absurd (longer r.ended session grows)
-  by_change (Some s) (Begins start) fits past grows = absurd (not_replaced s _ (head_is r.ended _ session grows))
-  by_change None (Begins_over kind outcome) fits past grows = absurd (fits (ap (λ (x : EndedSession). x.outcome) (head_is r.ended _ session grows) ∙ over))
-  by_change (Some s) (Begins_over kind outcome) fits past grows = absurd (longer_two r.ended _ _ session grows)
+      by_file s outcome more was (fits (ap (λ (x : EndedSession). x.outcome) is ∙ over)) none end is
+  by_change None (Begins start) was fits none end grows = absurd (longer r.ended session grows)
+  by_change (Some s) (Begins start) was fits none end grows = absurd (not_replaced s _ (head_is r.ended _ session grows))
+  by_change None (Begins_over kind outcome) was fits none end grows = absurd (fits (ap (λ (x : EndedSession). x.outcome) (head_is r.ended _ session grows) ∙ over))
+  by_change (Some s) (Begins_over kind outcome) was fits none end grows = absurd (longer_two r.ended _ _ session grows)
 
 pub completed_upload_arrived : CompletedUploadArrived
 completed_upload_arrived media log e session grows upload over =
     let r = loader_reading media log in
     let d = loader_decision media (loader_view r) e in
-    by_change media r e session upload over r.live d.change (loader_decision_fits media r.end r.live r.ended e) (ap (λ (x : Reading). newest x.past) (loader_end_stays (readings_after sides.Loader r.end d.moves) r d.change)) grows
+    by_change media r e session upload over r.live d.change refl (loader_decision_fits media r.end r.live r.ended e) (decision_begins media (loader_view r) e) (loader_end_stays (readings_after sides.Loader r.end d.moves) r d.change) grows
 
 -- ---- the target: which row says so
 

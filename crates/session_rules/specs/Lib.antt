@@ -27,6 +27,7 @@ pub mod AckLaws
 pub mod SoundLogs
 pub mod SoundLogLaws
 pub mod Sessions
+pub mod OwnSessions
 pub mod SessionLaws
 pub mod Fairness
 pub mod FairLaws
@@ -43,3 +44,4 @@ pub mod CompletionLaws
 pub mod Requests
 pub mod RequestLaws
 pub mod ArrivedRequestLaws
+pub mod OwnSessionLaws

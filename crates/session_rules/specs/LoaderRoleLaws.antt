@@ -1,9 +1,9 @@
 -- Proofs of which transfers the rows of the loader have, and of how its sessions are completed.
-use Rattle.std.proofs.Common.{◌≡◌, ℕ, Bool, true, false, cond, eqb, List, [], ◌∷◌, ◌++◌, length, Option, Some, None, Result, Ok, Err, refl, sym, ap, subst, ◌∙◌, append-nil, arith}
+use Rattle.std.proofs.Common.{◌≡◌, ℕ, ◌<◌, Bool, true, false, cond, eqb, List, [], ◌∷◌, ◌++◌, length, Option, Some, None, Result, Ok, Err, refl, sym, ap, subst, ◌∙◌, append-nil, arith}
 use Rattle.std.specs.Prelude.{bytes_eq, nat_lt, fold, ◌==◌}
 use Rattle.std.specs.List.{concat}
 use Rattle.std.specs.Result.{result_ok}
-use Rattle.std.proofs.lemmas.Bool.{ltb-false}
+use Rattle.std.proofs.lemmas.Bool.{ltb-false, ltb-true}
 use Rattle.std.proofs.lemmas.List.{take_all}
 use Rattle.std.proofs.lemmas.Slice.Eq.{bytes_eq-Decides}
 use Rattle.field_grammar.specs.Answers.{answer}
@@ -16,7 +16,9 @@ use Rattle.load_protocol_files.specs.Lcl.{lcl}
 use Rattle.load_protocol_files.specs.Lcs.{lcs}
 use Rattle.tftp_packet.specs.declared.options.Options.{Options}
 use Rattle.tftp_packet.specs.Packets.{PacketView, Rrq, Wrq, Data, Ack, Error, Oack}
-use Rattle.tftp_link.specs.Answers.{Again, Answer, Completes, Dropped, Fails, Grants, Proceeds, TakesBlock, TakesLast}
+use Rattle.tftp_link.specs.declared.phase.Phase.{Phase}
+use Rattle.tftp_link.specs.declared.phase.Phase.TheVariants.{Waiting, Running, Finished, Failed}
+use Rattle.tftp_link.specs.Answers.{Again, Answer, Completes, Dropped, Fails, Grants, Proceeds, TakesBlock, TakesLast, error_answer}
 use Rattle.exchange_trace.specs.declared.trace.Side.TheVariants as sides
 use Rattle.exchange_trace.specs.Happenings.{DatagramView}
 use Rattle.exchange_trace.specs.Logs.{Event, Gets, Learns, Starts_info, Starts_upload, Ticks}
@@ -24,10 +26,11 @@ use Rattle.tftp_link.specs.Answers.{lent_by}
 use Rattle.transfer_end.specs.ArrivalLaws.{arrived_more}
 use Rattle.transfer_end.specs.RfcLaws.{end_is_of_link}
 use Rattle.transfer_end.specs.ViewLaws.{end_of_more}
-use Rattle.transfer_end.specs.Transfers.{LinkEnd, Reads, Role, ServesRead, ServesWrite, Transfer, Writes, arrived_of, arriving_in, end_answer, end_in, end_moved, end_of, is_received, with_packet}
-use Rattle.transfer_end.specs.Readings.{Reading}
+use Rattle.transfer_end.specs.Transfers.{LinkEnd, Reads, Receives, Role, Sends, ServesRead, ServesWrite, Transfer, Writes, arrived_of, arriving_in, bound_to, end_answer, end_in, end_moved, end_of, is_received, with_packet}
+use Rattle.transfer_end.specs.OtherEnds.{is_asking}
+use Rattle.transfer_end.specs.Readings.{Reading, mark_in, mark_of, mark_with}
 use Rattle.transfer_end.specs.Views.{EndView, end_view, transfer_view}
-use Rattle.transfer_end.specs.Moves.{Asks, Asks_size, Hears, Move, Recalls, Refuses, Repeats, Stops, reading_after, reading_unchanged, readings_after}
+use Rattle.transfer_end.specs.Moves.{Asks, Asks_size, Hears, Move, Recalls, Refuses, Repeats, Stops, past_with, reading_after, reading_unchanged, readings_after}
 use Rattle.transfer_end.specs.Packets.{belongs, has_port, heard_answer, is_busy, is_fresh, may_repeat, packet_in, transfer_moves}
 use Rattle.session_rules.specs.declared.outcome.FileKind.{FileKind}
 use Rattle.session_rules.specs.declared.outcome.FileKind.TheVariants as kinds
@@ -42,9 +45,9 @@ use Rattle.session_rules.specs.Loader.{Advances, Begins, Begins_over, Continues,
 use Rattle.session_rules.specs.BufferLaws.{buffered_on}
 use Rattle.session_rules.specs.LoaderLaws.{FitsChange, decision_fits, end_stays, row_of_more, row_of_none}
 use Rattle.session_rules.specs.LoaderLog.{LoaderReading, SessionLog, loader_extended, loader_reading, loader_reading_changed, loader_view, newest, session_view}
-use Rattle.session_rules.specs.LoaderRoles.{CompletedListsArrived, EndsByFile, ListsArrived, TakesFile, FitsLoaderChange, IsOfLoaderRow, LoaderLiveFits, LoaderRoleFits, LoaderRolesFit, loader_row}
+use Rattle.session_rules.specs.LoaderRoles.{CompletedListsArrived, EndsByFile, EndsLive, IsAboveMark, IsNoError, ListsArrived, ServedIsFresh, TakesFile, FitsLoaderChange, IsOfLoaderRow, LoaderLiveFits, LoaderRoleFits, LoaderRolesFit, loader_row}
 use Rattle.session_rules.specs.MediaFiles.{Media, wanted_of}
-use Rattle.session_rules.specs.Reports.{accepted, denied, in_progress, stopped}
+use Rattle.session_rules.specs.Reports.{accepted, denied, in_progress, lur_file, stopped}
 
 abbrev after : Reading → List Move → Reading
 after end moves = readings_after sides.Loader end moves
@@ -65,17 +68,48 @@ first_any : (start : Start) (kind : SessionKind) (role : Role) → IsOfLoaderRow
 first_any start Info role = tt
 first_any start Upload role = tt
 
-stays_fits : (end : Reading) (live : Option SessionLog) (moves : List Move) → (after end moves).live ≡ end.live → Fits end live (doing moves)
-stays_fits end None moves e = tt
-stays_fits end (Some s) moves e = λ fits. subst (λ (t : Option Transfer). LoaderLiveFits s.start (loader_row s) t) (sym e) fits
+stays_fits : (end : Reading) (live : Option SessionLog) (moves : List Move) → (after end moves).live ≡ end.live → (after end moves).past ≡ end.past → Fits end live (doing moves)
+stays_fits end None moves e f = tt
+stays_fits end (Some s) moves e f = (
+  λ fits. subst (λ (t : Option Transfer). LoaderLiveFits s.start (loader_row s) t) (sym e) fits,
+  f,
+  λ fresh. subst (λ (t : Option Transfer). ServedIsFresh t (after end moves).past) (sym e) (subst (λ (ts : List Transfer). ServedIsFresh end.live ts) (sym f) fresh),
+)
 
-begins_fits : (end : Reading) (live : Option SessionLog) (s : Start) (role : Option Role) → Fits end live (begin_with (end_view end) s role)
-begins_fits end live s None = stays_fits end live [] refl
-begins_fits end live s (Some role) = fits_if end live (has_port (end_view end)) _ _ (λ e. first_any s s.kind role) (λ e f. cc)
+nothing_fits : (end : Reading) (live : Option SessionLog) → Fits end live (doing [])
+nothing_fits end live = stays_fits end live [] refl refl
+
+-- a row asks in a role that asks
+asks_role : (size : Option ℕ) (start : Start) (row : LoaderRow) (role : Role) → row_request size start row ≡ Some role → is_asking role ≡ true
+asks_role size start row (Reads name o) e = refl
+asks_role size start row (Writes name o file) e = refl
+asks_role size start Reads_lci (ServesRead name o file) e = absurd cc
+asks_role size start Reads_lui (ServesRead name o file) e = absurd cc
+asks_role size start Writes_lur (ServesRead name o file) e = absurd cc
+asks_role size start Serves_files (ServesRead name o file) e = absurd cc
+asks_role size start Takes_lcs (ServesRead name o file) e = absurd cc
+asks_role size start Takes_lcl (ServesRead name o file) e = absurd cc
+asks_role size start Takes_lus (ServesRead name o file) e = absurd cc
+asks_role size start Reads_lci (ServesWrite name o) e = absurd cc
+asks_role size start Reads_lui (ServesWrite name o) e = absurd cc
+asks_role size start Writes_lur (ServesWrite name o) e = absurd cc
+asks_role size start Serves_files (ServesWrite name o) e = absurd cc
+asks_role size start Takes_lcs (ServesWrite name o) e = absurd cc
+asks_role size start Takes_lcl (ServesWrite name o) e = absurd cc
+asks_role size start Takes_lus (ServesWrite name o) e = absurd cc
+
+asks_not : (role : Role) → is_asking role ≡ true → is_asking role ≡ false → ⊥
+asks_not role asks serves = let wrong : true ≡ false = sym asks ∙ serves in cc
+
+begins_fits : (end : Reading) (live : Option SessionLog) (s : Start) (role : Option Role) → row_request end.asks_size s (first_row s.kind) ≡ role → Fits end live (begin_with (end_view end) s role)
+begins_fits end live s None is = nothing_fits end live
+begins_fits end live s (Some role) is =
+    fits_if end live (has_port (end_view end)) _ _
+    (λ e. (first_any s s.kind role, refl, λ serves. absurd (asks_not role (asks_role end.asks_size s (first_row s.kind) role is) serves))) (λ e f. cc)
 
 listed_fits : (end : Reading) (live : Option SessionLog) (hw pos : List ℕ) (found : Result (List Wanted) (List ℕ)) → Fits end live (listed_upload (end_view end) hw pos found)
 listed_fits end live hw pos (Ok loads) =
-    begins_fits end live (record { kind = Upload; hw = hw; pos = pos; loads = loads }) (row_request end.asks_size (record { kind = Upload; hw = hw; pos = pos; loads = loads }) (first_row Upload))
+    begins_fits end live (record { kind = Upload; hw = hw; pos = pos; loads = loads }) (row_request end.asks_size (record { kind = Upload; hw = hw; pos = pos; loads = loads }) (first_row Upload)) refl
 listed_fits end live hw pos (Err part) = λ f. cc
 
 -- ---- requests
@@ -83,24 +117,31 @@ listed_fits end live hw pos (Err part) = λ f. cc
 ends_otherwise : (end : Reading) (s : SessionLog) (moves : List Move) (outcome : Outcome) (more : List ℕ) → (outcome ≡ Completed → ⊥) → FitsLoaderChange end (Some s) moves (Ends outcome more)
 ends_otherwise end s moves outcome more other = λ e. absurd (other e)
 
-taken_fits : (end : Reading) (s : SessionLog) (from : ℕ) (role : Role) → IsOfLoaderRow s.start (loader_row s) role → Fits end (Some s) (take_request (end_view end) from role)
-taken_fits end s from role is =
+mark_is : (live : Option Transfer) (past : List Transfer) → mark_with (mark_in past) live ≡ mark_in (past_with live past)
+mark_is None past = refl
+mark_is (Some t) past = refl
+
+taken_fits : (end : Reading) (s : SessionLog) (from : ℕ) (role : Role) → end.live ≡ None → IsOfLoaderRow s.start (loader_row s) role → Fits end (Some s) (take_request (end_view end) from role)
+taken_fits end s from role free is =
     fits_if end (Some s) (is_fresh (end_view end) from) _ _
-    (λ e. fits_if end (Some s) (has_port (end_view end)) _ _ (λ e fits. is) (λ e. ends_otherwise end s (Stops ∷ []) PortsSpent [] (λ f. cc)))
-    (λ e. stays_fits end (Some s) [] refl)
+    (λ e. fits_if end (Some s) (has_port (end_view end)) _ _ (λ f. (λ fits. is, ap (λ (t : Option Transfer). past_with t end.past) free, λ fresh serves. above e)) (λ f. ends_otherwise end s (Stops ∷ []) PortsSpent [] (λ g. cc)))
+    (λ e. nothing_fits end (Some s))
+  where
+    above : is_fresh (end_view end) from ≡ true → mark_in (past_with end.live end.past) < from
+    above e = subst (λ (mark : ℕ). mark < from) (mark_is end.live end.past) (ltb-true (mark_of end) from e)
 
-serves_any : (start : Start) (row : LoaderRow) (role : Role) → serves_files row ≡ true → IsOfLoaderRow start row role
-serves_any start Reads_lci role e = tt
-serves_any start Takes_lcs role e = absurd cc
-serves_any start Takes_lcl role e = absurd cc
-serves_any start Reads_lui role e = tt
-serves_any start Takes_lus role e = absurd cc
-serves_any start Writes_lur role e = tt
-serves_any start Serves_files role e = tt
+serves_any : (start : Start) (row : LoaderRow) (role : Role) → serves_files row ≡ true → is_asking role ≡ false → IsOfLoaderRow start row role
+serves_any start Reads_lci role e serves = tt
+serves_any start Takes_lcs role e serves = absurd cc
+serves_any start Takes_lcl role e serves = absurd cc
+serves_any start Reads_lui role e serves = tt
+serves_any start Takes_lus role e serves = absurd cc
+serves_any start Writes_lur role e serves = absurd cc
+serves_any start Serves_files role e serves = serves
 
-read_fits : (end : Reading) (s : SessionLog) (from : ℕ) (name : List ℕ) (o : Options) (found : Option (List ℕ)) → serves_files (loader_row s) ≡ true → Fits end (Some s) (read_decision (end_view end) from name o found)
-read_fits end s from name o None serves = stays_fits end (Some s) (Refuses from ∷ []) refl
-read_fits end s from name o (Some file) serves = taken_fits end s from _ (serves_any s.start (loader_row s) (ServesRead name o file) serves)
+read_fits : (end : Reading) (s : SessionLog) (from : ℕ) (name : List ℕ) (o : Options) (found : Option (List ℕ)) → end.live ≡ None → serves_files (loader_row s) ≡ true → Fits end (Some s) (read_decision (end_view end) from name o found)
+read_fits end s from name o None free serves = stays_fits end (Some s) (Refuses from ∷ []) refl refl
+read_fits end s from name o (Some file) free serves = taken_fits end s from _ free (serves_any s.start (loader_row s) (ServesRead name o file) serves refl)
 
 takes_named : (start : Start) (row : LoaderRow) (kind : FileKind) (name : List ℕ) (o : Options) → kind_taken row ≡ Some kind → name ≡ file_name start.hw start.pos kind → IsOfLoaderRow start row (ServesWrite name o)
 takes_named start Takes_lcs kind name o e named = let same : kinds.Lcs ≡ kind = cc in named ∙ ap (λ (k : FileKind). file_name start.hw start.pos k) (sym same)
@@ -108,22 +149,22 @@ takes_named start Takes_lcl kind name o e named = let same : kinds.Lcl ≡ kind 
 takes_named start Takes_lus kind name o e named = let same : kinds.Lus ≡ kind = cc in named ∙ ap (λ (k : FileKind). file_name start.hw start.pos k) (sym same)
 takes_named start Reads_lci kind name o e named = tt
 takes_named start Reads_lui kind name o e named = tt
-takes_named start Writes_lur kind name o e named = tt
-takes_named start Serves_files kind name o e named = tt
+takes_named start Writes_lur kind name o e named = absurd cc
+takes_named start Serves_files kind name o e named = refl
 
-write_fits : (end : Reading) (s : SessionLog) (from : ℕ) (name : List ℕ) (o : Options) (kind : Option FileKind) → kind_taken (loader_row s) ≡ kind → Fits end (Some s) (write_decision (end_view end) s.start from name o kind)
-write_fits end s from name o None is = stays_fits end (Some s) [] refl
-write_fits end s from name o (Some kind) is =
+write_fits : (end : Reading) (s : SessionLog) (from : ℕ) (name : List ℕ) (o : Options) (kind : Option FileKind) → end.live ≡ None → kind_taken (loader_row s) ≡ kind → Fits end (Some s) (write_decision (end_view end) s.start from name o kind)
+write_fits end s from name o None free is = nothing_fits end (Some s)
+write_fits end s from name o (Some kind) free is =
     fits_if end (Some s) (bytes_eq name (file_name s.start.hw s.start.pos kind)) _ _
-    (λ e. taken_fits end s from _ (takes_named s.start (loader_row s) kind name o is ((bytes_eq-Decides name (file_name s.start.hw s.start.pos kind)).0 e))) (λ e. stays_fits end (Some s) [] refl)
+    (λ e. taken_fits end s from _ free (takes_named s.start (loader_row s) kind name o is ((bytes_eq-Decides name (file_name s.start.hw s.start.pos kind)).0 e))) (λ e. nothing_fits end (Some s))
 
-request_fits : (media : Media) (end : Reading) (s : SessionLog) (from : ℕ) (p : PacketView) → Fits end (Some s) (request_decision media (end_view end) (kept s end) from p)
-request_fits media end s from (Rrq name o) = fits_if end (Some s) (serves_files (loader_row s)) _ _ (λ e. read_fits end s from name o (media.file name) e) (λ e. stays_fits end (Some s) [] refl)
-request_fits media end s from (Wrq name o) = write_fits end s from name o (kind_taken (loader_row s)) refl
-request_fits media end s from (Data k b) = stays_fits end (Some s) [] refl
-request_fits media end s from (Ack k) = stays_fits end (Some s) [] refl
-request_fits media end s from (Error code m) = stays_fits end (Some s) [] refl
-request_fits media end s from (Oack o) = stays_fits end (Some s) [] refl
+request_fits : (media : Media) (end : Reading) (s : SessionLog) (from : ℕ) (p : PacketView) → end.live ≡ None → Fits end (Some s) (request_decision media (end_view end) (kept s end) from p)
+request_fits media end s from (Rrq name o) free = fits_if end (Some s) (serves_files (loader_row s)) _ _ (λ e. read_fits end s from name o (media.file name) free e) (λ e. nothing_fits end (Some s))
+request_fits media end s from (Wrq name o) free = write_fits end s from name o (kind_taken (loader_row s)) free refl
+request_fits media end s from (Data k b) free = nothing_fits end (Some s)
+request_fits media end s from (Ack k) free = nothing_fits end (Some s)
+request_fits media end s from (Error code m) free = nothing_fits end (Some s)
+request_fits media end s from (Oack o) free = nothing_fits end (Some s)
 
 -- ---- the end of a transfer
 
@@ -131,39 +172,78 @@ after_more : (end : Reading) (moves : List Move) (move : Move) → after end (mo
 after_more end [] move = refl
 after_more end (first ∷ moves) move = after_more (reading_after sides.Loader end first) moves move
 
--- a row in which the loader asks takes no file
-asking_row : (size : Option ℕ) (start : Start) (row : LoaderRow) (role other : Role) → row_request size start row ≡ Some role → IsOfLoaderRow start row other
-asking_row size start Reads_lci role other e = tt
-asking_row size start Reads_lui role other e = tt
-asking_row size start Writes_lur role other e = tt
-asking_row size start Serves_files role other e = tt
-asking_row size start Takes_lcs role other e = absurd cc
-asking_row size start Takes_lcl role other e = absurd cc
-asking_row size start Takes_lus role other e = absurd cc
+-- what a row asks for is of the row
+asking_row : (size : Option ℕ) (start : Start) (row : LoaderRow) (role : Role) → row_request size start row ≡ Some role → IsOfLoaderRow start row role
+asking_row size start Reads_lci role e = tt
+asking_row size start Reads_lui role e = tt
+asking_row size start Writes_lur (Writes name o file) e = let same : lur_file start.loads ≡ file = cc in sym same
+asking_row size start Writes_lur (Reads name o) e = absurd cc
+asking_row size start Writes_lur (ServesRead name o file) e = absurd cc
+asking_row size start Writes_lur (ServesWrite name o) e = absurd cc
+asking_row size start Serves_files role e = absurd cc
+asking_row size start Takes_lcs role e = absurd cc
+asking_row size start Takes_lcl role e = absurd cc
+asking_row size start Takes_lus role e = absurd cc
 
-next_fits : (end : Reading) (s : SessionLog) (moves : List Move) (more : List ℕ) (role : Option Role) → row_request end.asks_size s.start (row_after (loader_row s)) ≡ role → (after end moves).live ≡ None → Fits end (Some s) (next_decision (end_view end) moves more role)
-next_fits end s moves more None is free = subst (λ (t : Option Transfer). LoaderLiveFits s.start (row_after (loader_row s)) t) (sym free) tt
-next_fits end s moves more (Some role) is free =
+next_fits : (end : Reading) (s : SessionLog) (moves : List Move) (more : List ℕ) (role : Option Role) → row_request end.asks_size s.start (row_after (loader_row s)) ≡ role → (after end moves).live ≡ None → EndsLive end moves
+    → Fits end (Some s) (next_decision (end_view end) moves more role)
+next_fits end s moves more None is free ends = (
+  subst (λ (t : Option Transfer). LoaderLiveFits s.start (row_after (loader_row s)) t) (sym free) tt,
+  ends,
+  subst (λ (t : Option Transfer). ServedIsFresh t (after end moves).past) (sym free) tt,
+)
+next_fits end s moves more (Some role) is free ends =
     fits_if end (Some s) (has_port (end_view end)) _ _
-    (λ e. subst (λ (r : Reading). LoaderLiveFits s.start (row_after (loader_row s)) r.live) (sym (after_more end moves (Asks role))) (asking_row end.asks_size s.start (row_after (loader_row s)) role role is))
+    (λ e. (
+      subst (λ (r : Reading). LoaderLiveFits s.start (row_after (loader_row s)) r.live) (sym (after_more end moves (Asks role))) (asking_row end.asks_size s.start (row_after (loader_row s)) role is),
+      record {
+        live = ends.live;
+        was_live = ends.was_live;
+        from = ends.from;
+        packet = ends.packet;
+        no_error = ends.no_error;
+        past = ap (λ (r : Reading). r.past) (after_more end moves (Asks role)) ∙ ap (λ (t : Option Transfer). past_with t (after end moves).past) free ∙ ends.past;
+      },
+      subst (λ (r : Reading). ServedIsFresh r.live r.past) (sym (after_more end moves (Asks role))) (λ serves. absurd (asks_not role (asks_role end.asks_size s.start (row_after (loader_row s)) role is) serves)),
+    ))
     (λ e. ends_otherwise end s (moves ++ Stops ∷ []) PortsSpent more (λ f. cc))
 
 -- the file of the transfer that was live is whole
-turn_fits : (end : Reading) (s : SessionLog) (live : Transfer) (from : ℕ) (p : PacketView) (moves : List Move) (more : List ℕ) (turn : Turn) → end.live ≡ Some live → end_answer (end_in live) p ≡ TakesLast more
-    → newest (after end moves).past ≡ with_packet live from p ∷ [] → (after end moves).live ≡ None → file_turn (loader_row s) (buffered_more (buffered (arriving_in end.live)) more) ≡ turn → Fits end (Some s) (turn_decision (end_view end) (kept s end) moves more turn)
-turn_fits end s live from p moves more Goes_on was last one free is = next_fits end s moves more _ refl free
-turn_fits end s live from p moves more (Comes_to outcome) was last one free is = λ e. record {
+turn_fits : (end : Reading) (s : SessionLog) (live : Transfer) (from : ℕ) (p : PacketView) (moves : List Move) (more : List ℕ) (turn : Turn) → end.live ≡ Some live → IsNoError p → end_answer (end_in live) p ≡ TakesLast more
+    → (after end moves).past ≡ with_packet live from p ∷ end.past → (after end moves).live ≡ None → file_turn (loader_row s) (buffered_more (buffered (arriving_in end.live)) more) ≡ turn → Fits end (Some s) (turn_decision (end_view end) (kept s end) moves more turn)
+turn_fits end s live from p moves more Goes_on was no_error last one free is =
+    next_fits end s moves more _ refl free (record { live = live; was_live = was; from = from; packet = p; no_error = no_error; past = one })
+turn_fits end s live from p moves more (Comes_to outcome) was no_error last one free is = λ e. record {
   live = live;
   was_live = was;
   from = from;
   packet = p;
-  is_newest = ap (λ (r : Reading). newest r.past) (after_more end moves Stops) ∙ stopped (after end moves) free one;
+  past = ap (λ (r : Reading). r.past) (after_more end moves Stops) ∙ ap (λ (t : Option Transfer). past_with t (after end moves).past) free ∙ one;
+  free = ap (λ (r : Reading). r.live) (after_more end moves Stops);
   last = last;
   turn = is ∙ ap (λ (x : Outcome). Comes_to x) e;
 }
-  where
-    stopped : (r : Reading) → r.live ≡ None → newest r.past ≡ with_packet live from p ∷ [] → newest (reading_after sides.Loader r Stops).past ≡ with_packet live from p ∷ []
-    stopped r free one = rw free one
+
+-- what ends a transfer otherwise than by an ERROR is none
+abbrev GoesOnBy : Answer → Type 0
+GoesOnBy (TakesLast b) = Unit {0}
+GoesOnBy Completes = Unit {0}
+GoesOnBy answer = ⊥
+
+error_ends : (phase : Phase) (code : ℕ) (answer : Answer) → error_answer phase code ≡ answer → GoesOnBy answer → ⊥
+error_ends Waiting code answer e going = subst GoesOnBy (sym e) going
+error_ends Running code answer e going = subst GoesOnBy (sym e) going
+error_ends Finished code answer e going = subst GoesOnBy (sym e) going
+error_ends (Failed other) code answer e going = subst GoesOnBy (sym e) going
+
+ends_without : (end : LinkEnd) (p : PacketView) (answer : Answer) → end_answer end p ≡ answer → GoesOnBy answer → IsNoError p
+ends_without (Receives r) (Error code m) answer e going = error_ends r.phase code answer e going
+ends_without (Sends s) (Error code m) answer e going = error_ends s.phase code answer e going
+ends_without end (Data k b) answer e going = tt
+ends_without end (Ack k) answer e going = tt
+ends_without end (Oack o) answer e going = tt
+ends_without end (Rrq name o) answer e going = tt
+ends_without end (Wrq name o) answer e going = tt
 
 -- ---- packets of the live transfer
 
@@ -175,14 +255,32 @@ module _ (first_port : ℕ) (past : List Transfer) (ticks : ℕ) (last : Option 
   unchanged_role t None fits = fits
   unchanged_role t (Some port) fits = fits
 
+  unchanged_past : (t : Transfer) (peer : Option ℕ) → (reading_unchanged (with_live (Some t)) t from p peer).past ≡ past
+  unchanged_past t None = refl
+  unchanged_past t (Some port) = refl
+
+  -- a packet more doesn't change a port that is known
+  more_fresh : (t : Transfer) → ServedIsFresh (Some t) past → ServedIsFresh (Some (with_packet t from p)) past
+  more_fresh t fresh = λ serves. by t.peer (fresh serves)
+    where
+      by : (peer : Option ℕ) → IsAboveMark peer past → IsAboveMark (bound_to peer from) past
+      by None above = absurd above
+      by (Some port) above = above
+
+  unchanged_fresh : (t : Transfer) (peer : Option ℕ) → ServedIsFresh (Some t) past → ServedIsFresh (reading_unchanged (with_live (Some t)) t from p peer).live (reading_unchanged (with_live (Some t)) t from p peer).past
+  unchanged_fresh t None fresh = fresh
+  unchanged_fresh t (Some port) fresh = more_fresh t fresh
+
   answered_fits : (t : Transfer) (answer : Answer) → end_answer (end_of t.role t.got) p ≡ answer → Fits (with_live (Some t)) (Some s) (answer_decision (end_view (with_live (Some t))) (kept s (with_live (Some t))) (Hears from p ∷ []) answer)
-  answered_fits t Dropped e = λ fits. rw e (unchanged_role t t.peer fits)
-  answered_fits t Again e = λ fits. rw e (unchanged_role t t.peer fits)
-  answered_fits t (Grants o) e = λ fits. rw e fits
-  answered_fits t (TakesBlock b) e = λ fits. rw e fits
-  answered_fits t Proceeds e = λ fits. rw e fits
-  answered_fits t (TakesLast b) e = turn_fits (with_live (Some t)) s t from p (Hears from p ∷ []) b _ refl e (rw e refl) (rw e refl) refl
-  answered_fits t Completes e = next_fits (with_live (Some t)) s (Hears from p ∷ []) [] _ refl (rw e refl)
+  answered_fits t Dropped e = (λ fits. rw e (unchanged_role t t.peer fits), rw e (unchanged_past t t.peer), λ fresh. rw e (unchanged_fresh t t.peer fresh))
+  answered_fits t Again e = (λ fits. rw e (unchanged_role t t.peer fits), rw e (unchanged_past t t.peer), λ fresh. rw e (unchanged_fresh t t.peer fresh))
+  answered_fits t (Grants o) e = (λ fits. rw e fits, rw e refl, λ fresh. rw e (more_fresh t fresh))
+  answered_fits t (TakesBlock b) e = (λ fits. rw e fits, rw e refl, λ fresh. rw e (more_fresh t fresh))
+  answered_fits t Proceeds e = (λ fits. rw e fits, rw e refl, λ fresh. rw e (more_fresh t fresh))
+  answered_fits t (TakesLast b) e = turn_fits (with_live (Some t)) s t from p (Hears from p ∷ []) b _ refl (ends_without (end_in t) p (TakesLast b) e tt) e (rw e refl) (rw e refl) refl
+  answered_fits t Completes e =
+      next_fits (with_live (Some t)) s (Hears from p ∷ []) [] _ refl (rw e refl)
+      (record { live = t; was_live = refl; from = from; packet = p; no_error = ends_without (end_in t) p Completes e tt; past = rw e refl })
   answered_fits t (Fails code) e = λ f. absurd cc
 
   abbrev recalls : EndView → (to : ℕ) → List Move
@@ -196,37 +294,43 @@ module _ (first_port : ℕ) (past : List Transfer) (ticks : ℕ) (last : Option 
       → Fits (with_live (Some t)) (Some s) (answer_decision (end_view (with_live (Some t))) (kept s (with_live (Some t))) (cond b (Hears from p ∷ []) (recalls (end_view (with_live (Some t))) to)) (cond b (end_answer (end_of t.role t.got) p) Dropped))
   heard_fits t to true = answered_fits t (end_answer (end_of t.role t.got) p) refl
   heard_fits t to false = stays_fits (with_live (Some t)) (Some s) (recalls (end_view (with_live (Some t))) to) (ap (λ (r : Reading). r.live) (recalled (with_live (Some t)) (belongs (end_view (with_live (Some t))).kept from to)))
+      (ap (λ (r : Reading). r.past) (recalled (with_live (Some t)) (belongs (end_view (with_live (Some t))).kept from to)))
 
   transfer_fits : (live : Option Transfer) (to : ℕ)
       → Fits (with_live live) (Some s) (answer_decision (end_view (with_live live)) (kept s (with_live live)) (transfer_moves (end_view (with_live live)) from to p) (heard_answer (end_view (with_live live)) from to p))
   transfer_fits (Some t) to = heard_fits t to (belongs (Some (transfer_view t)) from to)
   transfer_fits None to = stays_fits (with_live None) (Some s) (recalls (end_view (with_live None)) to) (ap (λ (r : Reading). r.live) (recalled (with_live None) (belongs (end_view (with_live None)).kept from to)))
+      (ap (λ (r : Reading). r.past) (recalled (with_live None) (belongs (end_view (with_live None)).kept from to)))
+
+free_if : (end : Reading) (live : Option Transfer) → end.live ≡ live → is_busy (end_view end) ≡ false → end.live ≡ None
+free_if end None e free = e
+free_if end (Some t) e free = absurd (let busy : is_busy (end_view end) ≡ true = rw e refl in let wrong : true ≡ false = sym busy ∙ free in cc)
 
 packet_fits : (media : Media) (end : Reading) (s : SessionLog) (from to : ℕ) (p : PacketView) → Fits end (Some s) (packet_decision media (end_view end) (kept s end) from to p)
 packet_fits media end s from to p =
     fits_if end (Some s) (eqb to 59) _ _
-    (λ e. fits_if end (Some s) (is_busy (end_view end)) _ _ (λ e. stays_fits end (Some s) [] refl) (λ e. request_fits media end s from p))
+    (λ e. fits_if end (Some s) (is_busy (end_view end)) _ _ (λ e. nothing_fits end (Some s)) (λ e. request_fits media end s from p (free_if end end.live refl e)))
     (λ e. transfer_fits end.first_port end.past end.ticks end.last end.asks_size s from p end.live to)
 
 -- ---- events
 
 got_fits : (media : Media) (end : Reading) (live : Option SessionLog) (ended : List EndedSession) (from to : ℕ) (p : Option PacketView)
     → Fits end live (got_decision media (loader_view (record { end = end; live = live; ended = ended })) from to p)
-got_fits media end live ended from to None = stays_fits end live [] refl
+got_fits media end live ended from to None = nothing_fits end live
 got_fits media end None ended from to (Some p) = fits_if end None (eqb to 59) _ _ (λ e. tt) (λ e. tt)
 got_fits media end (Some s) ended from to (Some p) = packet_fits media end s from to p
 
 tick_fits : (end : Reading) (live : Option SessionLog) → Fits end live (tick_decision (end_view end) (session_view end live))
 tick_fits end None = tt
-tick_fits end (Some s) = fits_if end (Some s) (may_repeat (end_view end)) _ _ (λ e. stays_fits end (Some s) (Repeats ∷ []) refl) (λ e. ends_otherwise end s (Stops ∷ []) GaveUp [] (λ f. cc))
+tick_fits end (Some s) = fits_if end (Some s) (may_repeat (end_view end)) _ _ (λ e. stays_fits end (Some s) (Repeats ∷ []) refl refl) (λ e. ends_otherwise end s (Stops ∷ []) GaveUp [] (λ f. cc))
 
 pub loader_decision_fits : (media : Media) (end : Reading) (live : Option SessionLog) (ended : List EndedSession) (e : Event) → Fits end live (loader_decision media (loader_view (record { end = end; live = live; ended = ended })) e)
 loader_decision_fits media end live ended (Starts_info hw pos) =
-    begins_fits end live (record { kind = Info; hw = hw; pos = pos; loads = [] }) (row_request end.asks_size (record { kind = Info; hw = hw; pos = pos; loads = [] }) (first_row Info))
+    begins_fits end live (record { kind = Info; hw = hw; pos = pos; loads = [] }) (row_request end.asks_size (record { kind = Info; hw = hw; pos = pos; loads = [] }) (first_row Info)) refl
 loader_decision_fits media end live ended (Starts_upload hw pos parts) = fits_if end live (nat_lt 32 (length parts)) _ _ (λ e f. cc) (λ e. listed_fits end live hw pos (wanted_of media.loads parts))
 loader_decision_fits media end live ended (Gets from to bytes) = got_fits media end live ended from to (packet_in bytes)
 loader_decision_fits media end live ended Ticks = tick_fits end live
-loader_decision_fits media end live ended (Learns size) = stays_fits end live (Asks_size size ∷ []) refl
+loader_decision_fits media end live ended (Learns size) = stays_fits end live (Asks_size size ∷ []) refl refl
 
 -- ---- the live transfer is of its row
 
@@ -235,13 +339,13 @@ changed_role : (end : Reading) (live : Option SessionLog) (ended : List EndedSes
 changed_role end None ended moves (Continues more) fits ends h = tt
 changed_role end None ended moves Advances fits ends h = tt
 changed_role end None ended moves (Ends outcome more) fits ends h = tt
-changed_role end None ended moves (Begins start) fits ends h = subst (λ (row : LoaderRow). LoaderLiveFits start row (after end moves).live) (sym (row_of_none start.kind)) fits
+changed_role end None ended moves (Begins start) (fits, past, fresh) ends h = (subst (λ (row : LoaderRow). LoaderLiveFits start row (after end moves).live) (sym (row_of_none start.kind)) fits, fresh)
 changed_role end None ended moves (Begins_over kind outcome) fits ends h = tt
-changed_role end (Some s) ended moves (Continues more) fits ends h = fits h
-changed_role end (Some s) ended moves Advances fits (t, one, none) h =
-    subst (λ (row : LoaderRow). LoaderLiveFits s.start row (after end moves).live) (sym (ap (λ (ts : List Transfer). row_of s.start.kind (s.done ++ ts)) one ∙ row_of_more s.start.kind s.done t)) fits
+changed_role end (Some s) ended moves (Continues more) (fits, past, fresh) ends h = (fits h.0, fresh h.1)
+changed_role end (Some s) ended moves Advances (fits, live, fresh) (t, one, none) h =
+    (subst (λ (row : LoaderRow). LoaderLiveFits s.start row (after end moves).live) (sym (ap (λ (ts : List Transfer). row_of s.start.kind (s.done ++ ts)) one ∙ row_of_more s.start.kind s.done t)) fits, fresh)
 changed_role end (Some s) ended moves (Ends outcome more) fits ends h = tt
-changed_role end (Some s) ended moves (Begins start) fits ends h = subst (λ (row : LoaderRow). LoaderLiveFits start row (after end moves).live) (sym (row_of_none start.kind)) fits
+changed_role end (Some s) ended moves (Begins start) (fits, past, fresh) ends h = (subst (λ (row : LoaderRow). LoaderLiveFits start row (after end moves).live) (sym (row_of_none start.kind)) fits, fresh)
 changed_role end (Some s) ended moves (Begins_over kind outcome) fits ends h = tt
 
 pub loader_roles_fit : LoaderRolesFit
@@ -352,14 +456,14 @@ module _ (media : Media) (r : LoaderReading) (e : Event) (session : EndedSession
       let (short, turn) = not_too_long (loader_row s) (buffered_more (buffered (arriving_in r.end.live)) more) h.turn in
       let kind : s.start.kind ≡ Info = ap (λ (x : EndedSession). x.kind) is ∙ info in
       let row : loader_row s ≡ Takes_lcl = completing_row (loader_row s) _ (info_row s.start.kind s.done kind) turn in
-      let takes : TakesFile (file_name s.start.hw s.start.pos kinds.Lcl) h.live.role = subst (λ (x : LoaderRow). LoaderLiveFits s.start x (Some h.live)) row (subst (λ (t : Option Transfer). LoaderLiveFits s.start (loader_row s) t) h.was_live role) in
+      let takes : TakesFile (file_name s.start.hw s.start.pos kinds.Lcl) h.live.role = subst (λ (x : LoaderRow). LoaderLiveFits s.start x (Some h.live)) row (subst (λ (t : Option Transfer). LoaderLiveFits s.start (loader_row s) t) h.was_live role.0) in
       let arriving : arriving_in r.end.live ≡ arrived_of h.live = ap arriving_in h.was_live in
       let bytes : (buffered_more (buffered (arriving_in r.end.live)) more).prefix ≡ arrived_of (with_packet h.live h.from h.packet) =
       whole_prefix (arriving_in r.end.live) more short ∙ ap (λ (x : List ℕ). x ++ more) arriving ∙ sym (arrived_last h.live h.from h.packet more h.last) in
       record {
         start = s.start;
         transfer = with_packet h.live h.from h.packet;
-        is_newest = past ∙ h.is_newest;
+        is_newest = past ∙ ap newest h.past;
         role = takes;
         received = served_received h.live.role h.live.got _ h.packet more takes h.last;
         listed = sym (ap (λ (x : EndedSession). x.listed) is) ∙ ap (λ (k : SessionKind). listed_by k outcome (buffered_more (buffered (arriving_in r.end.live)) more).prefix) kind

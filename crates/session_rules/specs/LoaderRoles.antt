@@ -1,15 +1,16 @@
 -- The transfers of the loader's rows, and how its sessions are completed (docs/EXCHANGE.md, "The loader").
-use Rattle.std.specs.Prelude.{◌≡◌, ℕ, List, [], ◌∷◌, true, Option, Some, None, ⊤}
+use Rattle.std.specs.Prelude.{◌≡◌, ℕ, ◌<◌, List, [], ◌∷◌, true, false, Option, Some, None, ⊤}
 use Rattle.field_grammar.specs.Answers.{answer}
 use Rattle.std.specs.Result.{result_ok}
 use Rattle.load_protocol_files.specs.Lcl.{lcl}
-use Rattle.tftp_packet.specs.Packets.{PacketView}
+use Rattle.tftp_packet.specs.Packets.{Error, PacketView}
 use Rattle.tftp_link.specs.Answers.{TakesLast}
 use Rattle.exchange_trace.specs.declared.trace.Side.TheVariants as sides
 use Rattle.exchange_trace.specs.Logs.{Event}
-use Rattle.transfer_end.specs.Moves.{Move, readings_after}
-use Rattle.transfer_end.specs.Readings.{Reading}
-use Rattle.transfer_end.specs.Transfers.{Role, ServesWrite, Transfer, arriving_in, arrived_of, end_answer, end_in, is_received, with_packet}
+use Rattle.transfer_end.specs.Moves.{Move, past_with, readings_after}
+use Rattle.transfer_end.specs.OtherEnds.{is_asking}
+use Rattle.transfer_end.specs.Readings.{Reading, mark_in}
+use Rattle.transfer_end.specs.Transfers.{Role, ServesWrite, Transfer, Writes, arriving_in, arrived_of, end_answer, end_in, is_received, with_packet}
 use Rattle.session_rules.specs.declared.outcome.FileKind.TheVariants.{Lcl, Lcs, Lus}
 use Rattle.session_rules.specs.declared.outcome.Outcome.TheVariants.{Completed}
 use Rattle.session_rules.specs.declared.outcome.SessionKind.TheVariants.{Info}
@@ -17,19 +18,28 @@ use Rattle.session_rules.specs.Buffers.{buffered, buffered_more}
 use Rattle.session_rules.specs.FileNames.{file_name}
 use Rattle.session_rules.specs.Loader.{Advances, Begins, Begins_over, Continues, EndedSession, Ends, LoaderChange, Start}
 use Rattle.session_rules.specs.LoaderLog.{LoaderReading, SessionLog, loader_extended, loader_reading, newest}
-use Rattle.session_rules.specs.LoaderRows.{Comes_to, LoaderRow, Takes_lcl, Takes_lcs, Takes_lus, file_turn, first_row, row_after, row_of}
+use Rattle.session_rules.specs.LoaderRows.{Comes_to, LoaderRow, Serves_files, Takes_lcl, Takes_lcs, Takes_lus, Writes_lur, file_turn, first_row, row_after, row_of}
 use Rattle.session_rules.specs.MediaFiles.{Media}
+use Rattle.session_rules.specs.Reports.{lur_file}
 
 -- the side took a request to write the file of this name
 abbrev pub TakesFile : List ℕ → Role → Type 0
 TakesFile wanted (ServesWrite name options) = name ≡ wanted
 TakesFile wanted role = ⊥
 
--- in a row in which the loader takes a file of one kind, the transfer is of that file
+-- the side asked to write the request for the loads of a start
+abbrev pub WritesLur : Start → Role → Type 0
+WritesLur start (Writes name options file) = file ≡ lur_file start.loads
+WritesLur start role = ⊥
+
+-- In a row in which the loader takes a file of one kind, or writes its request, the transfer is of that file; where it serves
+-- files, it serves.
 abbrev pub IsOfLoaderRow : Start → LoaderRow → Role → Type 0
 IsOfLoaderRow start Takes_lcs role = TakesFile (file_name start.hw start.pos Lcs) role
 IsOfLoaderRow start Takes_lcl role = TakesFile (file_name start.hw start.pos Lcl) role
 IsOfLoaderRow start Takes_lus role = TakesFile (file_name start.hw start.pos Lus) role
+IsOfLoaderRow start Writes_lur role = WritesLur start role
+IsOfLoaderRow start Serves_files role = is_asking role ≡ false
 IsOfLoaderRow start row role = ⊤
 
 -- so it is of the transfer that is live, if one is
@@ -40,11 +50,22 @@ LoaderLiveFits start row (Some t) = IsOfLoaderRow start row t.role
 abbrev pub loader_row : SessionLog → LoaderRow
 loader_row s = row_of s.start.kind s.done
 
+-- the other end's port, which is known, is above each of these transfers' other ends
+abbrev pub IsAboveMark : Option ℕ → List Transfer → Type 0
+IsAboveMark None past = ⊥
+IsAboveMark (Some peer) past = mark_in past < peer
+
+-- a live transfer that serves has its request from a port above the mark
+abbrev pub ServedIsFresh : Option Transfer → (past : List Transfer) → Type 0
+ServedIsFresh None past = ⊤
+ServedIsFresh (Some t) past = is_asking t.role ≡ false → IsAboveMark t.peer past
+
 abbrev pub LoaderRoleFits : Reading → Option SessionLog → Type 0
 LoaderRoleFits end None = ⊤
-LoaderRoleFits end (Some s) = LoaderLiveFits s.start (loader_row s) end.live
+LoaderRoleFits end (Some s) = LoaderLiveFits s.start (loader_row s) end.live × ServedIsFresh end.live end.past
 
--- At each moment the live transfer of a session of the loader is of its row.
+-- At each moment the live transfer of a session of the loader is of its row, and if it serves, its request came from a port
+-- above the mark.
 abbrev pub LoaderRolesFit : Type 0
 LoaderRolesFit = (media : Media) (log : List Event) → LoaderRoleFits (loader_reading media log).end (loader_reading media log).live
 
@@ -56,17 +77,41 @@ pub record EndsByFile (end : Reading) (s : SessionLog) (moves : List Move) (more
   pub was_live : end.live ≡ Some live
   pub from : ℕ
   pub packet : PacketView
-  pub is_newest : newest (readings_after sides.Loader end moves).past ≡ with_packet live from packet ∷ []
+  pub past : (readings_after sides.Loader end moves).past ≡ with_packet live from packet ∷ end.past
+  pub free : (readings_after sides.Loader end moves).live ≡ None
   pub last : end_answer (end_in live) packet ≡ TakesLast more
   pub turn : file_turn (loader_row s) (buffered_more (buffered (arriving_in end.live)) more) ≡ Comes_to Completed
 
+abbrev pub IsNoError : PacketView → Type 0
+IsNoError (Error code message) = ⊥
+IsNoError packet = ⊤
+
+-- the transfer that was live is over, by a packet that was no ERROR
+pub record EndsLive (end : Reading) (moves : List Move) : Type 0 where
+  pub live : Transfer
+  pub was_live : end.live ≡ Some live
+  pub from : ℕ
+  pub packet : PacketView
+  pub no_error : IsNoError packet
+  pub past : (readings_after sides.Loader end moves).past ≡ with_packet live from packet ∷ end.past
+
+abbrev pub IsFreshAfter : Reading → List Move → Type 0
+IsFreshAfter end moves = ServedIsFresh (readings_after sides.Loader end moves).live (readings_after sides.Loader end moves).past
+
 -- what a change of the session asks of the moves beside it
 abbrev pub FitsLoaderChange : Reading → Option SessionLog → List Move → LoaderChange → Type 0
-FitsLoaderChange end live moves (Begins start) = LoaderLiveFits start (first_row start.kind) (readings_after sides.Loader end moves).live
+FitsLoaderChange end live moves (Begins start) =
+    LoaderLiveFits start (first_row start.kind) (readings_after sides.Loader end moves).live
+    × ((readings_after sides.Loader end moves).past ≡ past_with end.live end.past)
+    × IsFreshAfter end moves
 FitsLoaderChange end live moves (Begins_over kind outcome) = outcome ≡ Completed → ⊥
 FitsLoaderChange end None moves change = ⊤
-FitsLoaderChange end (Some s) moves (Continues more) = LoaderLiveFits s.start (loader_row s) end.live → LoaderLiveFits s.start (loader_row s) (readings_after sides.Loader end moves).live
-FitsLoaderChange end (Some s) moves Advances = LoaderLiveFits s.start (row_after (loader_row s)) (readings_after sides.Loader end moves).live
+FitsLoaderChange end (Some s) moves (Continues more) =
+    (LoaderLiveFits s.start (loader_row s) end.live → LoaderLiveFits s.start (loader_row s) (readings_after sides.Loader end moves).live)
+    × ((readings_after sides.Loader end moves).past ≡ end.past)
+    × (ServedIsFresh end.live end.past → IsFreshAfter end moves)
+FitsLoaderChange end (Some s) moves Advances =
+    LoaderLiveFits s.start (row_after (loader_row s)) (readings_after sides.Loader end moves).live × EndsLive end moves × IsFreshAfter end moves
 FitsLoaderChange end (Some s) moves (Ends outcome more) = outcome ≡ Completed → EndsByFile end s moves more
 
 -- A completed information session lists what the LCL says that arrived whole in the transfer that ended last.

@@ -30,28 +30,24 @@ use Rattle.session_rules.specs.LoaderRoleLaws.{IsInfoRow, info_row}
 use Rattle.session_rules.specs.LoaderRoles.{loader_row}
 use Rattle.session_rules.specs.LoaderRows.{Comes_to, Goes_on, LoaderRow, Reads_lci, Reads_lui, Serves_files, Takes_lcl, Takes_lcs, Takes_lus, Turn, Writes_lur, file_turn, first_row, kind_taken, row_after, serves_files}
 use Rattle.session_rules.specs.MediaFiles.{Media, wanted_of}
+use Rattle.session_rules.specs.OwnSessions.{IsStartedBy}
 use Rattle.session_rules.specs.Reports.{lur_file}
 use Rattle.session_rules.specs.Requests.{AreStarted, LoaderWritesRequests, WritesRequest}
 
 -- ---- what a decision writes and begins
 
 -- the live session writes its request after this row
-abbrev RequestsOf : Option loader.LoaderSession → List ℕ → Type 0
+abbrev pub RequestsOf : Option loader.LoaderSession → List ℕ → Type 0
 RequestsOf None file = ⊥
 RequestsOf (Some s) file = (row_after s.row ≡ Writes_lur) × (file ≡ lur_file s.start.loads)
 
-abbrev WritesOf : Option loader.LoaderSession → Role → Type 0
+abbrev pub WritesOf : Option loader.LoaderSession → Role → Type 0
 WritesOf live (Writes name o file) = RequestsOf live file
 WritesOf live role = Unit {0}
 
 -- a session begins with the loads of its start
-abbrev StartedBy : Media → Event → loader.Start → Type 0
-StartedBy media (Starts_upload hw pos parts) start = (length parts ≤ 32) × (wanted_of media.loads parts ≡ Ok start.loads)
-StartedBy media (Starts_info hw pos) start = start.kind ≡ Info
-StartedBy media e start = ⊥
-
-abbrev BeginsBy : Media → Event → loader.LoaderChange → Type 0
-BeginsBy media e (loader.Begins start) = StartedBy media e start
+abbrev pub BeginsBy : Media → Event → loader.LoaderChange → Type 0
+BeginsBy media e (loader.Begins start) = IsStartedBy media e start
 BeginsBy media e change = Unit {0}
 
 abbrev written_file : Option Role → List ℕ
@@ -59,7 +55,7 @@ written_file (Some (Writes name o file)) = file
 written_file role = []
 
 module _ (media : Media) (v : EndView) (e : Event) (live : Option loader.LoaderSession) where
-  abbrev Fit : loader.LoaderDecision → Type 0
+  abbrev pub Fit : loader.LoaderDecision → Type 0
   Fit d = AllByRecursion (MoveHasRole (WritesOf live)) d.moves × BeginsBy media e d.change
 
   fit_if : (b : Bool) (x y : loader.LoaderDecision) → Fit x → Fit y → Fit (cond b x y)
@@ -76,11 +72,11 @@ module _ (media : Media) (v : EndView) (e : Event) (live : Option loader.LoaderS
   first_reads size s Upload (ServesRead name o file) e = tt
   first_reads size s Upload (ServesWrite name o) e = tt
 
-  begin_fits : (s : loader.Start) (role : Option Role) → loader.row_request v.asks_size s (first_row s.kind) ≡ role → StartedBy media e s → Fit (loader.begin_with v s role)
+  begin_fits : (s : loader.Start) (role : Option Role) → loader.row_request v.asks_size s (first_row s.kind) ≡ role → IsStartedBy media e s → Fit (loader.begin_with v s role)
   begin_fits s None is started = (tt, tt)
   begin_fits s (Some role) is started = fit_if (has_port v) _ _ ((tt, (first_reads v.asks_size s s.kind role is, tt)), started) ((tt, tt), tt)
 
-  start_fits : (s : loader.Start) → StartedBy media e s → Fit (loader.start_decision v s)
+  start_fits : (s : loader.Start) → IsStartedBy media e s → Fit (loader.start_decision v s)
   start_fits s started = begin_fits s (loader.row_request v.asks_size s (first_row s.kind)) refl started
 
   taken_fits : (from : ℕ) (role : Role) → WritesOf live role → Fit (loader.take_request v from role)
@@ -165,7 +161,7 @@ got_fits : (media : Media) (v : loader.LoaderView) (from to : ℕ) (bytes : List
 got_fits media v from to bytes None = (tt, tt)
 got_fits media v from to bytes (Some p) = session_fits media v.end (Gets from to bytes) v.live from to p v.live refl
 
-loader_fits : (media : Media) (v : loader.LoaderView) (e : Event) → Fit media v.end e v.live (loader.loader_decision media v e)
+pub loader_fits : (media : Media) (v : loader.LoaderView) (e : Event) → Fit media v.end e v.live (loader.loader_decision media v e)
 loader_fits media v (Starts_info hw pos) = start_fits media v.end (Starts_info hw pos) v.live (record { kind = Info; hw = hw; pos = pos; loads = [] }) refl
 loader_fits media v (Starts_upload hw pos parts) = by (nat_lt 32 (length parts)) refl
   where
@@ -186,7 +182,7 @@ abbrev LiveIsStarted : Media → List Event → Option SessionLog → Type 0
 LiveIsStarted media log None = Unit {0}
 LiveIsStarted media log (Some s) = s.start.kind ≡ Upload → AreStarted media log s.start.loads
 
-begun_started : (media : Media) (e : Event) (log : List Event) (start : loader.Start) → StartedBy media e start → start.kind ≡ Upload → AreStarted media (e ∷ log) start.loads
+begun_started : (media : Media) (e : Event) (log : List Event) (start : loader.Start) → IsStartedBy media e start → start.kind ≡ Upload → AreStarted media (e ∷ log) start.loads
 begun_started media (Starts_upload hw pos parts) log start by upload = record { hw = hw; pos = pos; parts = parts; among = inl refl; few = by.0; found = by.1 }
 begun_started media (Starts_info hw pos) log start by upload = absurd (let wrong : Info ≡ Upload = sym by ∙ upload in cc)
 begun_started media (Gets from to bytes) log start by upload = absurd by

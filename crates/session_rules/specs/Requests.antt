@@ -1,5 +1,6 @@
 -- Which loads an upload asks for, at both sides (docs/EXCHANGE.md, "Upload").
-use Rattle.std.specs.Prelude.{◌≡◌, ◌≤◌, length, ℕ, List, Bool, true, false, Option, Some, None, Ok, ⊤}
+use Rattle.std.specs.Prelude.{◌≡◌, ◌≤◌, length, ℕ, List, ◌∷◌, ◌++◌, Bool, true, false, Option, Some, None, Ok, ⊤}
+use Rattle.std.specs.List.{AllByRecursion}
 use Rattle.load_header.specs.Header.{HeaderView}
 use Rattle.load_protocol_files.specs.declared.lur.Wanted.{Wanted}
 use Rattle.load_protocol_files.specs.Lur.{LurSpells}
@@ -37,10 +38,14 @@ LoaderWritesRequests = (media : Media) (log : List Event) → HaveRoles (WritesR
 
 -- ---- the target
 
--- a transfer that is over, and that the target served, brought the request for these loads whole
+-- A transfer that is over, and that the target served, brought the request for these loads whole; the target asked for all that
+-- are over since.
 pub record RequestArrived (end : Reading) (loads : List Wanted) : Type 0 where
+  pub since : List Transfer
   pub transfer : Transfer
-  pub past : Among transfer end.past
+  pub before : List Transfer
+  pub past : end.past ≡ since ++ transfer ∷ before
+  pub asks : AllByRecursion (λ (t : Transfer). is_asking t.role ≡ true) since
   pub receives : is_receiving transfer.role ≡ true
   pub serves : is_asking transfer.role ≡ false
   pub received : is_received (end_in transfer) ≡ true

@@ -1,7 +1,7 @@
 -- The transfer that a row asks for (docs/EXCHANGE.md, "Operations").
 use Rattle.std.specs.Prelude.{◌≡◌, ℕ, List, Option, Some, None, ⊤}
-use Rattle.transfer_end.specs.Transfers.{Role, Reads, Transfer}
-use Rattle.session_rules.specs.TargetRows.{Reads_file, RowView, WholeRow, row_view}
+use Rattle.transfer_end.specs.Transfers.{Role, Reads, Transfer, Writes}
+use Rattle.session_rules.specs.TargetRows.{Reads_file, RowView, WholeRow, Writes_progress, row_view}
 use Rattle.session_rules.specs.Uploads.{next_name}
 
 -- the side reads the file of this name
@@ -13,9 +13,16 @@ abbrev pub ReadsNothing : Role → Type 0
 ReadsNothing (Reads name options) = ⊥
 ReadsNothing role = ⊤
 
--- the transfer is the one that the row asks for: a file that is read has the next name, and no other row reads
+-- the side asked to write a file
+abbrev pub WritesFile : Role → Type 0
+WritesFile (Writes name options file) = ⊤
+WritesFile role = ⊥
+
+-- the transfer is the one that the row asks for: a file that is read has the next name, and no other row reads; progress is
+-- written
 abbrev pub IsOfView : RowView → Role → Type 0
 IsOfView (Reads_file u) role = ReadsFile (next_name u) role
+IsOfView (Writes_progress u) role = WritesFile role
 IsOfView row role = ReadsNothing role
 
 abbrev pub IsOfRow : WholeRow → Role → Type 0

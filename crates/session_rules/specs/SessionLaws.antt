@@ -28,7 +28,7 @@ use Rattle.session_rules.specs.ViewLaws.{loaders_follow}
 -- ---- changes
 
 -- the session that begins with a change
-abbrev begun_by : LoaderChange → List SessionKind
+abbrev pub begun_by : LoaderChange → List SessionKind
 begun_by (Begins s) = s.kind ∷ []
 begun_by (Begins_over kind outcome) = kind ∷ []
 begun_by change = []
@@ -55,7 +55,7 @@ changed_kinds end v (Begins_over kind outcome) = ap (λ (kinds : List SessionKin
 -- ---- decisions
 
 -- the session that a decision begins
-abbrev begun_in : LoaderDecision → List SessionKind
+abbrev pub begun_in : LoaderDecision → List SessionKind
 begun_in d = begun_by d.change
 
 begun_if : (kinds : List SessionKind) (b : Bool) (x y : LoaderDecision) → begun_in x ≡ kinds → begun_in y ≡ kinds → begun_in (cond b x y) ≡ kinds
@@ -124,7 +124,7 @@ got_begins : (media : Media) (v : LoaderView) (from to : ℕ) (p : Option Packet
 got_begins media v from to None = refl
 got_begins media v from to (Some p) = session_begins v.end media v.live from to p
 
-decision_begins : (media : Media) (v : LoaderView) (e : Event) → begun_in (loader_decision media v e) ≡ started_by e
+pub decision_begins : (media : Media) (v : LoaderView) (e : Event) → begun_in (loader_decision media v e) ≡ started_by e
 decision_begins media v (Starts_info hw pos) = start_begins v.end Info hw pos []
 decision_begins media v (Starts_upload hw pos parts) = begun_if (Upload ∷ []) (nat_lt 32 (length parts)) _ _ refl (listed_begins v.end hw pos (wanted_of media.loads parts))
 decision_begins media v (Gets from to bytes) = got_begins media v from to (packet_in bytes)

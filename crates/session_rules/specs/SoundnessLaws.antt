@@ -28,7 +28,7 @@ use Rattle.session_rules.specs.Buffers.{Buffer, Sums, buffered, buffer_size, is_
 use Rattle.session_rules.specs.BufferLaws.{SumsJoin}
 use Rattle.session_rules.specs.NewConfigs.{IsAsSaid, IsGoodLoad, IsWanted, file_read, files_in, reads_in}
 use Rattle.session_rules.specs.RowLaws.{bytes_more, file_no_header, header_no_file}
-use Rattle.session_rules.specs.Roles.{IsOfRow, ReadsFile, ReadsNothing}
+use Rattle.session_rules.specs.Roles.{IsOfRow, ReadsFile, ReadsNothing, WritesFile}
 use Rattle.session_rules.specs.Soundness.{AreGoodLoads, IsGoodSoFar, IsNextWanted, IsSoundRow, IsSoundUpload, VerdictIsSound, files_of_open}
 use Rattle.session_rules.specs.TargetRows.{Awaits_lur, Gives_denial, Gives_lci, Gives_lui, Kept_bytes, Kept_sums, Over, Reads_file, WholeRow, Writes_completion, Writes_lcl, Writes_lcs, Writes_progress, Writes_ready, Writes_stop, arriving_of, file_move, header_move, load_of, placed, placed_if, request_move, row_judged, row_move, row_moved, row_view, said_length, with_header}
 use Rattle.session_rules.specs.Uploads.{Accepts_file, Accepts_header, Complete, Judgement, More_files, Next, Next_load, OpenLoad, OpenLoadView, Stops_for, Upload, UploadView, covered, covered_header, entry_name, files_of, header_name, header_reason, judge_file, judge_header, judge_read_header, judged, load_reason, next_entry, next_name, next_number, next_wanted, next_with, open_load_view, or_else, unless, upload_view}
@@ -337,6 +337,12 @@ no_read (Writes name o f) h = refl
 no_read (ServesRead name o f) h = refl
 no_read (ServesWrite name o) h = refl
 
+written_no_read : (role : Role) → WritesFile role → is_reading role ≡ false
+written_no_read (Writes name o f) h = refl
+written_no_read (Reads name o) h = absurd h
+written_no_read (ServesRead name o f) h = absurd h
+written_no_read (ServesWrite name o) h = absurd h
+
 -- ---- row by row
 
 asked_sound : (accepts : HeaderView → Bool) (id : Identity) (reads : List FileView) (bytes : List ℕ) (found : Result (List Wanted) RequestFault) → reads ≡ [] → IsSoundRow accepts id reads (row_moved Awaits_lur bytes (request_move found))
@@ -415,7 +421,7 @@ row_sound joins spells accepts id Writes_lcl done t permits fit of_row s = tt
 row_sound joins spells accepts id Gives_lui done t permits fit of_row s = reads_same done t (no_read t.role of_row) ∙ s
 row_sound joins spells accepts id Gives_denial done t permits fit of_row s = tt
 row_sound joins spells accepts id Writes_ready done t permits fit of_row s = reads_same done t (no_read t.role of_row) ∙ s
-row_sound joins spells accepts id (Writes_progress u) done t permits fit of_row s = subst (λ (x : List FileView). IsSoundUpload accepts id x u) (sym (reads_same done t (no_read t.role of_row))) s
+row_sound joins spells accepts id (Writes_progress u) done t permits fit of_row s = subst (λ (x : List FileView). IsSoundUpload accepts id x u) (sym (reads_same done t (written_no_read t.role of_row))) s
 row_sound joins spells accepts id (Writes_stop e) done t permits fit of_row s = tt
 row_sound joins spells accepts id (Writes_completion e loads) done t permits fit of_row s = tt
 row_sound joins spells accepts id Over done t permits fit of_row s = tt

@@ -20,7 +20,7 @@ use Rattle.exchange_trace.specs.Logs.{Event, Gets, Learns, Starts_info, Starts_u
 use Rattle.transfer_end.specs.Transfers.{LinkEnd, Receives, Role, Sends, ServesWrite, Transfer, arrived_of, arriving_in, end_answer, end_in, end_moved, end_of, error_of, phase_of, with_packet}
 use Rattle.transfer_end.specs.Readings.{Reading}
 use Rattle.transfer_end.specs.Views.{EndView, end_view, transfer_view}
-use Rattle.transfer_end.specs.Moves.{Asks, Asks_size, Hears, Move, Recalls, Refuses, Repeats, Serves, Stops, reading_after, reading_answered, reading_unchanged, readings_after}
+use Rattle.transfer_end.specs.Moves.{Asks, Asks_size, Hears, Move, Recalls, Refuses, Repeats, Serves, Stops, past_with, reading_after, reading_answered, reading_unchanged, readings_after}
 use Rattle.transfer_end.specs.Packets.{belongs, has_port, is_busy, is_fresh, may_repeat, packet_in}
 use Rattle.transfer_end.specs.Laws.{IsLive}
 use Rattle.transfer_end.specs.ArrivalLaws.{arrived_more, arriving_more, nothing_arrived}
@@ -48,6 +48,7 @@ seen_row accepts id s = row_view (row_in accepts id s)
 pub record HasTurned (accepts : HeaderView → Bool) (id : Identity) (end : Reading) (s : TargetSessionLog) (moves : List Move) (move : RowMove) (more : List ℕ) : Type 0 where
   pub ended : Transfer
   pub is_newest : newest (after end moves).past ≡ ended ∷ []
+  pub past : (after end moves).past ≡ ended ∷ end.past
   pub bytes : arriving_in end.live ++ more ≡ arrived_of ended
   pub arrived : with_bytes (arriving_of (seen_row accepts id s) (arriving_in end.live)) more ≡ arriving_of (seen_row accepts id s) (arrived_of ended)
   pub comes_to : move ≡ row_move accepts id (seen_row accepts id s) (record { error = error_of ended; arriving = arriving_of (seen_row accepts id s) (arrived_of ended) })
@@ -65,6 +66,7 @@ FitsChange accepts id end None moves change = Unit {0}
 FitsChange accepts id end (Some s) moves (Continues more) =
     (arriving_in (after end moves).live ≡ arriving_in end.live ++ more)
     × (LiveFits (seen_row accepts id s) end.live → LiveFits (seen_row accepts id s) (after end moves).live)
+    × ((after end moves).past ≡ end.past)
 FitsChange accepts id end (Some s) moves (Turns move more) =
     HasTurned accepts id end s moves move more × (arriving_in (after end moves).live ≡ []) × LiveFits (turned_view accepts id end s move more) (after end moves).live
 FitsChange accepts id end (Some s) moves (Turns_without_port move more) = HasTurned accepts id end s moves move more
@@ -179,7 +181,7 @@ changed_same joins accepts end None active reason moves (Begins kind) v e fits =
     turned_same accepts (after end moves) v (reading end None active reason) (record { first = first_row kind active.sequence; done = [] }) (first_row kind active.sequence) e fits.0
     (ap (λ (x : WholeRow). row_view x) (row_of_none accepts active.identity (first_row kind active.sequence)) ∙ first_same kind active.sequence)
 changed_same joins accepts end None active reason moves (Ends why) v e fits = rw e refl
-changed_same joins accepts end (Some s) active reason moves (Continues more) v e (fits, role) = rw (e, fits, arriving_on joins (row_in accepts active.identity s) (arriving_in end.live) more) refl
+changed_same joins accepts end (Some s) active reason moves (Continues more) v e (fits, role, past) = rw (e, fits, arriving_on joins (row_in accepts active.identity s) (arriving_in end.live) more) refl
 changed_same joins accepts end (Some s) active reason moves (Turns move more) v e (turn, none, role) =
     turned_same accepts (after end moves) v (reading end (Some s) active reason) (with_done s (newest (after end moves).past)) _ e none (turned_row joins accepts active.identity s end moves move more turn)
 changed_same joins accepts end (Some s) active reason moves (Turns_without_port move more) v e turn =
@@ -195,15 +197,15 @@ abbrev viewed : (HeaderView → Bool) → Reading → Option TargetSessionLog �
 viewed accepts end live active reason = target_view accepts (reading end live active reason)
 
 -- nothing changes of the live transfer
-same_fits : (accepts : HeaderView → Bool) (id : Identity) (end : Reading) (live : Option TargetSessionLog) (moves : List Move) → arriving_in (after end moves).live ≡ arriving_in end.live
+same_fits : (accepts : HeaderView → Bool) (id : Identity) (end : Reading) (live : Option TargetSessionLog) (moves : List Move) → arriving_in (after end moves).live ≡ arriving_in end.live → (after end moves).past ≡ end.past
     → ((s : TargetSessionLog) → live ≡ Some s → LiveFits (seen_row accepts id s) end.live → LiveFits (seen_row accepts id s) (after end moves).live) → Fits accepts id end live (doing moves)
-same_fits accepts id end None moves e keeps = tt
-same_fits accepts id end (Some s) moves e keeps = (e ∙ sym (append-nil (arriving_in end.live)), keeps s refl)
+same_fits accepts id end None moves e past keeps = tt
+same_fits accepts id end (Some s) moves e past keeps = (e ∙ sym (append-nil (arriving_in end.live)), keeps s refl, past)
 
 -- the live transfer stays as it is
-stays_fits : (accepts : HeaderView → Bool) (id : Identity) (end : Reading) (live : Option TargetSessionLog) (moves : List Move) → (after end moves).live ≡ end.live → Fits accepts id end live (doing moves)
-stays_fits accepts id end live moves e =
-    same_fits accepts id end live moves (ap arriving_in e) (λ s is h. subst (λ (x : Option Transfer). LiveFits (seen_row accepts id s) x) (sym e) h)
+stays_fits : (accepts : HeaderView → Bool) (id : Identity) (end : Reading) (live : Option TargetSessionLog) (moves : List Move) → (after end moves).live ≡ end.live → (after end moves).past ≡ end.past → Fits accepts id end live (doing moves)
+stays_fits accepts id end live moves e past =
+    same_fits accepts id end live moves (ap arriving_in e) past (λ s is h. subst (λ (x : Option Transfer). LiveFits (seen_row accepts id s) x) (sym e) h)
 
 abbrev row_or : (HeaderView → Bool) → Identity → Option TargetSessionLog → RowView
 row_or accepts id None = Over
@@ -217,7 +219,7 @@ module _ (accepts : HeaderView → Bool) (r : TargetReading) where
   fits_here b x y p q = fits_if accepts r.active.identity r.end r.live b x y p q
 
   nothing_fits : FitsHere (doing [])
-  nothing_fits = stays_fits accepts r.active.identity r.end r.live [] refl
+  nothing_fits = stays_fits accepts r.active.identity r.end r.live [] refl refl
 
   without_port_fits : FitsHere (without_port (session_view accepts r r.live))
   without_port_fits = by_live r.live
@@ -234,12 +236,12 @@ module _ (accepts : HeaderView → Bool) (r : TargetReading) where
   read_fits from name o =
       fits_here (bytes_eq name (own_name (target_view accepts r) Lci)) _ _ (λ e. own_fits from Lci name o)
       (λ e. fits_here (bytes_eq name (own_name (target_view accepts r) Lui)) _ _ (λ e. own_fits from Lui name o)
-      (λ e. fits_here (is_busy (end_view r.end)) _ _ (λ e. nothing_fits) (λ e. stays_fits accepts r.active.identity r.end r.live (Refuses from ∷ []) refl)))
+      (λ e. fits_here (is_busy (end_view r.end)) _ _ (λ e. nothing_fits) (λ e. stays_fits accepts r.active.identity r.end r.live (Refuses from ∷ []) refl refl)))
 
   -- a request to write is taken where the row awaits it
   taken_fits : (from : ℕ) (name : List ℕ) (o : Options) (s : TargetSessionLog) → r.live ≡ Some s → seen_row accepts r.active.identity s ≡ Awaits_lur → r.end.live ≡ None → FitsHere (doing (Serves from (ServesWrite name o) ∷ []))
   taken_fits from name o s is at free =
-      same_fits accepts r.active.identity r.end r.live (Serves from (ServesWrite name o) ∷ []) (nothing_arrived (ServesWrite name o) ∙ sym (ap arriving_in free))
+      same_fits accepts r.active.identity r.end r.live (Serves from (ServesWrite name o) ∷ []) (nothing_arrived (ServesWrite name o) ∙ sym (ap arriving_in free)) (ap (λ (t : Option Transfer). past_with t r.end.past) free)
       (λ t also h. subst (λ (row : RowView). IsOfView row (ServesWrite name o)) (sym (ap (λ (x : Option TargetSessionLog). row_or accepts r.active.identity x) (sym also ∙ is) ∙ at)) tt)
 
   write_in_fits : (from : ℕ) (name : List ℕ) (o : Options) (s : TargetSessionLog) (row : RowView) → r.live ≡ Some s → seen_row accepts r.active.identity s ≡ row → r.end.live ≡ None → FitsHere (write_in (target_view accepts r) from name o row)
@@ -305,17 +307,17 @@ pub record EndsBy (accepts : HeaderView → Bool) (id : Identity) (end : Reading
   pub turned : HasTurned accepts id end s moves move more
   pub free : (after end moves).live ≡ None
 
-newest_asks : (r : Reading) (t : Transfer) (role : Role) → newest r.past ≡ t ∷ [] → r.live ≡ None → newest (reading_after sides.Target r (Asks role)).past ≡ t ∷ []
-newest_asks r t role one free = rw free one
+past_asks : (r : Reading) (ts : List Transfer) (role : Role) → r.past ≡ ts → r.live ≡ None → (reading_after sides.Target r (Asks role)).past ≡ ts
+past_asks r ts role one free = rw free one
 
-newest_stops : (r : Reading) (t : Transfer) → newest r.past ≡ t ∷ [] → r.live ≡ None → newest (reading_after sides.Target r Stops).past ≡ t ∷ []
-newest_stops r t one free = rw free one
+past_stops : (r : Reading) (ts : List Transfer) → r.past ≡ ts → r.live ≡ None → (reading_after sides.Target r Stops).past ≡ ts
+past_stops r ts one free = rw free one
 
 -- one move more that keeps which transfer ended last
 turned_on : (accepts : HeaderView → Bool) (id : Identity) (end : Reading) (s : TargetSessionLog) (moves : List Move) (move : RowMove) (more : List ℕ) (next : Move) → (h : HasTurned accepts id end s moves move more)
-    → newest (reading_after sides.Target (after end moves) next).past ≡ h.ended ∷ [] → HasTurned accepts id end s (moves ++ next ∷ []) move more
+    → (reading_after sides.Target (after end moves) next).past ≡ h.ended ∷ end.past → HasTurned accepts id end s (moves ++ next ∷ []) move more
 turned_on accepts id end s moves move more next h one =
-    record { ended = h.ended; is_newest = ap (λ (r : Reading). newest r.past) (after_more end moves next) ∙ one; bytes = h.bytes; arrived = h.arrived; comes_to = h.comes_to; was_live = h.was_live; over = h.over }
+    record { ended = h.ended; is_newest = ap (λ (r : Reading). newest r.past) (after_more end moves next) ∙ ap newest one; past = ap (λ (r : Reading). r.past) (after_more end moves next) ∙ one; bytes = h.bytes; arrived = h.arrived; comes_to = h.comes_to; was_live = h.was_live; over = h.over }
 
 -- what a row asks for is of the row
 abbrev RoleFits : RowView → Option Role → Type 0
@@ -341,11 +343,11 @@ next_fits : (accepts : HeaderView → Bool) (id : Identity) (end : Reading) (s :
 next_fits accepts id end s moves move more row (Some role) e at asked =
     fits_if accepts id end (Some s) (has_port (end_view end)) _ _
     (λ x. (
-      turned_on accepts id end s moves move more (Asks role) e.turned (newest_asks (after end moves) e.turned.ended role e.turned.is_newest e.free),
+      turned_on accepts id end s moves move more (Asks role) e.turned (past_asks (after end moves) (e.turned.ended ∷ end.past) role e.turned.past e.free),
       ap (λ (r : Reading). arriving_in r.live) (after_more end moves (Asks role)) ∙ nothing_arrived role,
       subst (λ (r : Reading). LiveFits (turned_view accepts id end s move more) r.live) (sym (after_more end moves (Asks role))) (subst (λ (x : RowView). IsOfView x role) (sym at) asked),
     ))
-    (λ x. turned_on accepts id end s moves move more Stops e.turned (newest_stops (after end moves) e.turned.ended e.turned.is_newest e.free))
+    (λ x. turned_on accepts id end s moves move more Stops e.turned (past_stops (after end moves) (e.turned.ended ∷ end.past) e.turned.past e.free))
 next_fits accepts id end s moves move more row None e at asked =
     fits_if accepts id end (Some s) (is_over row) _ _ (λ x. tt)
     (λ x. (e.turned, ap arriving_in e.free, subst (λ (live : Option Transfer). LiveFits (turned_view accepts id end s move more) live) (sym e.free) tt))
@@ -458,7 +460,7 @@ module _ (joins : SumsJoin) (accepts : HeaderView → Bool) (first_port : ℕ) (
 
   -- the packet ends the transfer
   turn_fits : (t : Transfer) (answer : Answer) (bytes : List ℕ) → end_answer (end_of t.role t.got) p ≡ answer → is_live (phase_of (end_in t)) ≡ true → is_live (phase_of (end_in (with_packet t from p))) ≡ false → concat (lent_by answer) ≡ bytes
-      → newest (after (with_live (Some t)) (Hears from p ∷ [])).past ≡ with_packet t from p ∷ [] → (after (with_live (Some t)) (Hears from p ∷ [])).live ≡ None
+      → (after (with_live (Some t)) (Hears from p ∷ [])).past ≡ with_packet t from p ∷ past → (after (with_live (Some t)) (Hears from p ∷ [])).live ≡ None
       → Fits accepts active.identity (with_live (Some t)) (Some s) (turn_decision accepts (viewed accepts (with_live (Some t)) (Some s) active reason) (session (with_live (Some t))) (Hears from p ∷ []) bytes (error_by answer))
   turn_fits t answer bytes e live over lent one free =
       let end = with_live (Some t) in
@@ -470,7 +472,7 @@ module _ (joins : SumsJoin) (accepts : HeaderView → Bool) (first_port : ℕ) (
       (view_moved (row_view row) (with_bytes (arriving_of (row_view row) (arrived_of t)) bytes) (row_move accepts active.identity (row_view row) (transfer_end (error_by answer) (with_bytes (arriving_of (row_view row) (arrived_of t)) bytes))))
       (row_request (viewed accepts end (Some s) active reason) (view_moved (row_view row) (with_bytes (arriving_of (row_view row) (arrived_of t)) bytes) (row_move accepts active.identity (row_view row) (transfer_end (error_by answer) (with_bytes (arriving_of (row_view row) (arrived_of t)) bytes)))))
       (record {
-        turned = record { ended = with_packet t from p; is_newest = one; bytes = arrives_with t p answer bytes e lent from; arrived = all; comes_to = move_same accepts active.identity (row_view row) _ _ _ _ (sym (error_with t p answer e live from)) all; was_live = refl; over = over };
+        turned = record { ended = with_packet t from p; is_newest = ap newest one; past = one; bytes = arrives_with t p answer bytes e lent from; arrived = all; comes_to = move_same accepts active.identity (row_view row) _ _ _ _ (sym (error_with t p answer e live from)) all; was_live = refl; over = over };
         free = free;
       })
       refl (row_request_fits (viewed accepts end (Some s) active reason) _)
@@ -479,6 +481,10 @@ module _ (joins : SumsJoin) (accepts : HeaderView → Bool) (first_port : ℕ) (
   unchanged_keeps : (t : Transfer) (peer : Option ℕ) (row : RowView) → LiveFits row (Some t) → LiveFits row (reading_unchanged (with_live (Some t)) t from p peer).live
   unchanged_keeps t None row h = h
   unchanged_keeps t (Some q) row h = h
+
+  unchanged_past : (t : Transfer) (peer : Option ℕ) → (reading_unchanged (with_live (Some t)) t from p peer).past ≡ past
+  unchanged_past t None = refl
+  unchanged_past t (Some q) = refl
 
   answer_keeps : (t : Transfer) (answer : Answer) → is_ended_by answer ≡ false → (row : RowView) → LiveFits row (Some t) → LiveFits row (reading_answered sides.Target (with_live (Some t)) t from p answer).live
   answer_keeps t Dropped going row h = unchanged_keeps t t.peer row h
@@ -492,11 +498,11 @@ module _ (joins : SumsJoin) (accepts : HeaderView → Bool) (first_port : ℕ) (
 
   answered_fits : (t : Transfer) (answer : Answer) → end_answer (end_of t.role t.got) p ≡ answer → is_live (phase_of (end_in t)) ≡ true
       → Fits accepts active.identity (with_live (Some t)) (Some s) (answer_decision accepts (viewed accepts (with_live (Some t)) (Some s) active reason) (session (with_live (Some t))) (Hears from p ∷ []) answer)
-  answered_fits t Dropped e live = rw e (arriving_more sides.Target (with_live (Some t)) t from p Dropped refl e refl, answer_keeps t Dropped refl (seen_row accepts active.identity s))
-  answered_fits t Again e live = rw e (arriving_more sides.Target (with_live (Some t)) t from p Again refl e refl, answer_keeps t Again refl (seen_row accepts active.identity s))
-  answered_fits t (Grants o) e live = rw e (arriving_more sides.Target (with_live (Some t)) t from p (Grants o) refl e refl, answer_keeps t (Grants o) refl (seen_row accepts active.identity s))
-  answered_fits t (TakesBlock b) e live = rw e (arriving_more sides.Target (with_live (Some t)) t from p (TakesBlock b) refl e refl ∙ ap (λ (x : List ℕ). arrived_of t ++ x) (append-nil b), answer_keeps t (TakesBlock b) refl (seen_row accepts active.identity s))
-  answered_fits t Proceeds e live = rw e (arriving_more sides.Target (with_live (Some t)) t from p Proceeds refl e refl, answer_keeps t Proceeds refl (seen_row accepts active.identity s))
+  answered_fits t Dropped e live = rw e (arriving_more sides.Target (with_live (Some t)) t from p Dropped refl e refl, answer_keeps t Dropped refl (seen_row accepts active.identity s), unchanged_past t t.peer)
+  answered_fits t Again e live = rw e (arriving_more sides.Target (with_live (Some t)) t from p Again refl e refl, answer_keeps t Again refl (seen_row accepts active.identity s), unchanged_past t t.peer)
+  answered_fits t (Grants o) e live = rw e (arriving_more sides.Target (with_live (Some t)) t from p (Grants o) refl e refl, answer_keeps t (Grants o) refl (seen_row accepts active.identity s), refl)
+  answered_fits t (TakesBlock b) e live = rw e (arriving_more sides.Target (with_live (Some t)) t from p (TakesBlock b) refl e refl ∙ ap (λ (x : List ℕ). arrived_of t ++ x) (append-nil b), answer_keeps t (TakesBlock b) refl (seen_row accepts active.identity s), refl)
+  answered_fits t Proceeds e live = rw e (arriving_more sides.Target (with_live (Some t)) t from p Proceeds refl e refl, answer_keeps t Proceeds refl (seen_row accepts active.identity s), refl)
   answered_fits t (TakesLast b) e live = turn_fits t (TakesLast b) b e live (over_with t p (TakesLast b) e refl from) (append-nil b) (rw e refl) (rw e refl)
   answered_fits t Completes e live = turn_fits t Completes [] e live (over_with t p Completes e refl from) refl (rw e refl) (rw e refl)
   answered_fits t (Fails code) e live = turn_fits t (Fails code) [] e live (over_with t p (Fails code) e refl from) refl (rw e refl) (rw e refl)
@@ -509,7 +515,7 @@ module _ (joins : SumsJoin) (accepts : HeaderView → Bool) (first_port : ℕ) (
   recalled end false = refl
 
   recalls_fit : (end : Reading) (to : ℕ) → Fits accepts active.identity end (Some s) (doing (recalls (end_view end) to))
-  recalls_fit end to = stays_fits accepts active.identity end (Some s) (recalls (end_view end) to) (ap (λ (r : Reading). r.live) (recalled end (belongs (end_view end).kept from to)))
+  recalls_fit end to = stays_fits accepts active.identity end (Some s) (recalls (end_view end) to) (ap (λ (r : Reading). r.live) (recalled end (belongs (end_view end).kept from to))) (ap (λ (r : Reading). r.past) (recalled end (belongs (end_view end).kept from to)))
 
   heard_fits : (t : Transfer) (to : ℕ) (b : Bool) → is_live (phase_of (end_in t)) ≡ true
       → Fits accepts active.identity (with_live (Some t)) (Some s)
@@ -535,13 +541,13 @@ got_fits joins accepts r from to (Some p) live =
     fits_here accepts r (eqb to 59) _ _ (λ e. request_fits accepts r from p) (λ e. any_transfer_fits joins accepts r.end r.live r.active r.reason from to p live)
 
 tick_fits : (accepts : HeaderView → Bool) (id : Identity) (end : Reading) (live : Option TargetSessionLog) (session : Option TargetSession) → Fits accepts id end live (tick_decision (end_view end) session)
-tick_fits accepts id end live None = stays_fits accepts id end live [] refl
-tick_fits accepts id end live (Some s) = fits_if accepts id end live (may_repeat (end_view end)) _ _ (λ e. stays_fits accepts id end live (Repeats ∷ []) refl) (λ e. tt)
+tick_fits accepts id end live None = stays_fits accepts id end live [] refl refl
+tick_fits accepts id end live (Some s) = fits_if accepts id end live (may_repeat (end_view end)) _ _ (λ e. stays_fits accepts id end live (Repeats ∷ []) refl refl) (λ e. tt)
 
 pub decision_fits : SumsJoin → (accepts : HeaderView → Bool) (r : TargetReading) (e : Event) → IsLive r.end.live → Fits accepts r.active.identity r.end r.live (target_decision accepts (target_view accepts r) e)
 decision_fits joins accepts r (Gets from to bytes) live = got_fits joins accepts r from to (packet_in bytes) live
 decision_fits joins accepts r Ticks live = tick_fits accepts r.active.identity r.end r.live (session_view accepts r r.live)
-decision_fits joins accepts r (Learns size) live = stays_fits accepts r.active.identity r.end r.live (Asks_size size ∷ []) refl
+decision_fits joins accepts r (Learns size) live = stays_fits accepts r.active.identity r.end r.live (Asks_size size ∷ []) refl refl
 decision_fits joins accepts r (Starts_info hw pos) live = nothing_fits accepts r
 decision_fits joins accepts r (Starts_upload hw pos parts) live = nothing_fits accepts r
 

@@ -10,6 +10,7 @@ ghost use Rattle.session_rules.specs.Laws.{LoaderTakesWhatCame, LogsCountUp, Tar
 ghost use Rattle.session_rules.specs.Laws.{TargetFollows, TargetTakesWhatCame, TwoAtMost};
 ghost use Rattle.session_rules.specs.Lists.{TargetAsksForItsFiles, TargetAsksInTurn};
 ghost use Rattle.session_rules.specs.LoaderRoles.{CompletedListsArrived, LoaderRolesFit};
+ghost use Rattle.session_rules.specs.OwnSessions.{SessionsAreOfNewestStarts};
 ghost use Rattle.session_rules.specs.Requests.{LoaderWritesRequests};
 ghost use Rattle.session_rules.specs.Sessions.{OneSessionAStart};
 ghost use Rattle.session_rules.specs.Soundness.{VerdictIsSound};
@@ -143,4 +144,10 @@ pub fn an_upload_is_completed_by_its_last_status()
 /// parts of an upload that was started, 32 at most.
 pub fn a_loader_writes_requests()
     ensures { LoaderWritesRequests }
+{}
+
+/// The loader's live session is that of the newest start in its log, what is over since then are
+/// its own transfers, and once it serves files it has written the request for its start's loads.
+pub fn a_session_is_of_the_newest_start()
+    ensures { SessionsAreOfNewestStarts }
 {}
