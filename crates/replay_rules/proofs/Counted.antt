@@ -202,7 +202,7 @@ module _ (set : Setting) where
 
 -- ---- a trace
 
-before_of : (set : Setting) (since : List Step) (steps : List Step) → IsUninjected set (since ++ steps) → IsUninjected set steps
+pub before_of : (set : Setting) (since : List Step) (steps : List Step) → IsUninjected set (since ++ steps) → IsUninjected set steps
 before_of set [] steps is = is
 before_of set (s ∷ since) steps is = before_of set since steps (record { due = is.due.1; noted = is.noted.1; honest = is.honest.1; injected = is.injected.1; carries = is.carries.1 })
 

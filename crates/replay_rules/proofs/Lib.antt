@@ -8,6 +8,9 @@ pub mod AskedFor
 pub mod PortsApart
 pub mod Growing
 pub mod AnsweredLater
+pub mod EachBefore
 pub mod InstalledBefore
 pub mod OwnSession
 pub mod Counted
+pub mod ListedBefore
+pub mod OwnList

@@ -1,14 +1,12 @@
 -- Proofs that completed information sessions list what was active.
-use Rattle.std.proofs.Common.{◌≡◌, inl, inr, ℕ, suc, Bool, true, false, cond, List, [], ◌∷◌, ◌++◌, length, ◌⊎◌, ◌↔◌, Option, Some, None, Result, Ok, refl, sym, ap, subst, ◌∙◌, append_assoc, length-append, arith}
+use Rattle.std.proofs.Common.{◌≡◌, inl, inr, ℕ, suc, Bool, true, false, cond, List, [], ◌∷◌, ◌++◌, length, ◌⊎◌, ◌↔◌, Option, Some, None, Ok, refl, sym, ap, subst, ◌∙◌, append_assoc, length-append, arith}
 use Rattle.std.specs.Prelude.{bytes_eq}
 use Rattle.std.specs.List.{AllByRecursion}
 use Rattle.std.proofs.lemmas.List.{append_cancel_left}
-use Rattle.std.specs.Result.{result_ok}
 use Rattle.field_grammar.specs.Answers.{answer}
 use Rattle.field_grammar.specs.ExactLaws.{answer-spelled, spelled_at_start}
 use Rattle.field_grammar.specs.Fields.{number_bytes}
 use Rattle.field_grammar.specs.Grammar.{IsBytes, Spelled}
-use Rattle.load_protocol_files.specs.declared.fault.FileFault.{FileFault}
 use Rattle.load_protocol_files.specs.Lcl.{LclSpells, LclView, lcl}
 use Rattle.load_base.specs.Bytes.{AllGood}
 use Rattle.load_base.specs.Name.{IsName, is_name_byte}
@@ -21,13 +19,13 @@ use Rattle.disk_layout.specs.Holds.{outline_of}
 use Rattle.exchange_trace.specs.declared.trace.Side.TheVariants as sides
 use Rattle.exchange_trace.specs.declared.trace.Side.{Side}
 use Rattle.exchange_trace.specs.Happenings.{Booted, DatagramView, Delivered, Ended, HappeningView, Info_started, Injected, Lost, Power_cut, Size_told, Ticked, Upload_started, is_same_side}
-use Rattle.exchange_trace.specs.Logs.{Event, Learns, event_for, gets, logged, loader_log}
+use Rattle.exchange_trace.specs.Logs.{Event, Learns, event_for, gets}
 use Rattle.exchange_trace.specs.Posts.{posted_in}
 use Rattle.exchange_trace.specs.Steps.{Boot_refused, Came_up, Note, Step, Went_down}
 use Rattle.transfer_end.specs.CameLaws.{all_mapped}
 use Rattle.transfer_end.specs.Moves.{Asks, Asks_size, Hears, Move, Recalls, Refuses, Repeats, Serves, Stops, past_with, readings_after}
-use Rattle.transfer_end.specs.OtherEndLaws.{all_at, among_left, moves_roles}
-use Rattle.transfer_end.specs.OtherEnds.{MovesStayFair, Among, AnswersRequest, BringsFile, ComesFromEnd, HaveRoles, MoveHasRole, TellsLength, all_of, file_sent, is_asking, is_receiving, of_end, of_none, request_taken}
+use Rattle.transfer_end.specs.OtherEndLaws.{all_at, moves_roles}
+use Rattle.transfer_end.specs.OtherEnds.{Among, HaveRoles, MoveHasRole, TellsLength, file_sent, is_asking, is_receiving, request_taken}
 use Rattle.transfer_end.specs.Packets.{packet_in}
 use Rattle.transfer_end.specs.SentPacketLaws.{read_is_spelled}
 use Rattle.transfer_end.specs.Readings.{Reading}
@@ -39,23 +37,19 @@ use Rattle.session_rules.specs.FileNames.{extension, file_name}
 use Rattle.session_rules.specs.ListLaws.{moves_ask}
 use Rattle.session_rules.specs.Lists.{IsAskedRole, ListIsAsked}
 use Rattle.session_rules.specs.Loader.{EndedSession}
-use Rattle.session_rules.specs.LoaderLog.{loader_extended, loader_reading, newest}
-use Rattle.session_rules.specs.LoaderRoleLaws.{completed_lists_arrived}
-use Rattle.session_rules.specs.LoaderRoles.{ListsArrived, TakesFile}
-use Rattle.session_rules.specs.Reports.{lcl_file, lcl_of}
-use Rattle.session_rules.specs.declared.outcome.Outcome.TheVariants.{Completed}
-use Rattle.session_rules.specs.declared.outcome.SessionKind.TheVariants.{Info}
+use Rattle.session_rules.specs.LoaderLog.{newest}
+use Rattle.session_rules.specs.LoaderRoles.{TakesFile}
+use Rattle.session_rules.specs.Reports.{lcl_file}
 use Rattle.session_rules.specs.Target.{Begins, Continues, Ends, TargetChange, Turns, Turns_without_port, target_decision}
 use Rattle.session_rules.specs.TargetLaws.{end_stays, identity_stays}
 use Rattle.session_rules.specs.TargetLog.{TargetReading, TargetSessionLog, log_turned, reading_turned, reading_without_port, target_extended, target_reading_changed, target_view}
-use Rattle.replay_rules.specs.BothEnds.{Is_down, Is_up, Setting, TargetState, come_up, loader_at, gone_down, noted, reached, target_at}
+use Rattle.replay_rules.specs.BothEnds.{Is_down, Is_up, Setting, TargetState, come_up, gone_down, noted, reached, target_at}
 use Rattle.replay_rules.specs.ChangeLaws.{HasTarget, noted_target}
 use Rattle.replay_rules.specs.Histories.{active_at, active_in}
-use Rattle.replay_rules.specs.ListTraces.{AllCanBeListed, AllListActive, CanBeListed, CompletedListsActive, IsWrittenInTime, ListWasDue, OwnFilesAreNamed, TargetWritesInTime}
-use Rattle.replay_rules.proofs.SentTraces.{what_arrives_was_sent}
-use Rattle.replay_rules.specs.OtherEndTraces.{AllArriveAsSent, ArrivesAsSent, former_at, loader_transfers, target_transfers, transfers_of}
+use Rattle.replay_rules.specs.ListTraces.{AllCanBeListed, CanBeListed, IsWrittenInTime, ListWasDue, OwnFilesAreNamed, TargetWritesInTime}
+use Rattle.replay_rules.specs.OtherEndTraces.{former_at, transfers_of}
 use Rattle.replay_rules.specs.PlacedTraceLaws.{all_append}
-use Rattle.replay_rules.specs.Promises.{ListIsDue, ListsActive, SessionWritesList, WritesList}
+use Rattle.replay_rules.specs.Promises.{ListIsDue, SessionWritesList, WritesList}
 use Rattle.replay_rules.specs.TieLaws.{HasLive, target_is_live}
 
 -- ---- the target stays the same
@@ -77,7 +71,7 @@ reached_target set (Some e) (Is_up r) is =
 reached_target set None (Is_down active interrupted) is = is
 reached_target set (Some e) (Is_down active interrupted) is = is
 
-same_target : (set : Setting) (steps : List Step) → HasTarget set (target_at set steps)
+pub same_target : (set : Setting) (steps : List Step) → HasTarget set (target_at set steps)
 same_target set [] = refl
 same_target set (s ∷ earlier) =
     noted_target set s.notes (target_at set earlier) _ (same_target set earlier) (reached_target set (event_for sides.Target (posted_in earlier) s.given) (target_at set earlier) (same_target set earlier))
@@ -121,7 +115,7 @@ abbrev InTime : Setting → List Step → Transfer → Type 0
 InTime set steps t = IsWrittenInTime set steps t.role
 
 -- the list is due once it is asked for
-list_due : (set : Setting) (r : TargetReading) (e : Event) (file : List ℕ) → ListIsAsked set.accepts r e file → ListIsDue set (Is_up (target_extended set.accepts r e))
+pub list_due : (set : Setting) (r : TargetReading) (e : Event) (file : List ℕ) → ListIsAsked set.accepts r e file → ListIsDue set (Is_up (target_extended set.accepts r e))
 list_due set r e file h =
     subst (λ (live : Option TargetSessionLog). SessionWritesList set (target_extended set.accepts r e) live) (sym h.live) (subst WritesList (sym h.row) tt)
 
@@ -262,28 +256,33 @@ ListsAreRead = (v : LclView) (bytes : List ℕ) → LclSpells v bytes → answer
 pub lists_are_read : ((bytes : List ℕ) (v : LclView) → Spelled lcl bytes v ↔ LclSpells v bytes) → ListsAreRead
 lists_are_read spells v bytes is = answer-spelled lcl bytes v (spelled_at_start lcl bytes v ((spells bytes v).1 is))
 
-takes_receives : (wanted : List ℕ) (role : Role) → TakesFile wanted role → (is_receiving role ≡ true) × (is_asking role ≡ false)
+pub takes_receives : (wanted : List ℕ) (role : Role) → TakesFile wanted role → (is_receiving role ≡ true) × (is_asking role ≡ false)
 takes_receives wanted (ServesWrite name o) takes = (refl, refl)
 takes_receives wanted (ServesRead name o file) takes = absurd takes
 takes_receives wanted (Reads name o) takes = absurd takes
 takes_receives wanted (Writes name o file) takes = absurd takes
 
+-- a file that is asked to be written is one of the target's own, and a list is due so
+abbrev pub IsWrittenAs : Setting → (List ℕ → Type 0) → Role → Type 0
+IsWrittenAs set Due (Writes name options file) = (kind : FileKind) × (name ≡ file_name set.start.identity.hw set.start.identity.pos kind) × (kind ≡ kinds.Lcl → Due file)
+IsWrittenAs set Due role = Unit {0}
+
 -- the file that the target wrote was due
-written_list : (set : Setting) (steps : List Step) (one two : List ℕ) (role urole : Role) (file : List ℕ) → OwnFilesAreNamed set → TakesFile (file_name one two kinds.Lcl) role → is_asking urole ≡ true → file_sent urole ≡ Some file
-    → packet_in (packet_bytes (first_packet urole)) ≡ request_taken role → IsBytes (packet_bytes (first_packet urole)) → IsWrittenInTime set steps urole → TellsLength urole × ListWasDue set steps file
-written_list set steps one two (ServesWrite name asked) (Writes uname wanted f) file named takes asks sent request fit (kind, is, due) =
+pub written_list : (set : Setting) (Due : List ℕ → Type 0) (one two : List ℕ) (role urole : Role) (file : List ℕ) → OwnFilesAreNamed set → TakesFile (file_name one two kinds.Lcl) role → is_asking urole ≡ true → file_sent urole ≡ Some file
+    → packet_in (packet_bytes (first_packet urole)) ≡ request_taken role → IsBytes (packet_bytes (first_packet urole)) → IsWrittenAs set Due urole → TellsLength urole × Due file
+written_list set Due one two (ServesWrite name asked) (Writes uname wanted f) file named takes asks sent request fit (kind, is, due) =
     let same : name ≡ uname = written_name_is_read name uname asked _ (subst IsName (sym is) (named kind)) (read_is_spelled (packet_bytes (first_packet (Writes uname wanted f))) (Wrq name asked) fit request) in
     let list : kind ≡ kinds.Lcl = list_named set.start.identity.hw set.start.identity.pos one two kind (sym is ∙ sym same ∙ takes) in
-    (tt, subst (λ (x : List ℕ). ListWasDue set steps x) (some_file f file sent) (due list))
+    (tt, subst Due (some_file f file sent) (due list))
   where
     some_file : (a b : List ℕ) → Some a ≡ Some b → a ≡ b
     some_file a b e = cc
-written_list set steps one two (ServesWrite name asked) (Reads uname o) file named takes asks sent request fit h = absurd cc
-written_list set steps one two (ServesWrite name asked) (ServesRead uname o f) file named takes asks sent request fit h = absurd cc
-written_list set steps one two (ServesWrite name asked) (ServesWrite uname o) file named takes asks sent request fit h = absurd cc
-written_list set steps one two (ServesRead name o f) urole file named takes asks sent request fit h = absurd takes
-written_list set steps one two (Reads name o) urole file named takes asks sent request fit h = absurd takes
-written_list set steps one two (Writes name o f) urole file named takes asks sent request fit h = absurd takes
+written_list set Due one two (ServesWrite name asked) (Reads uname o) file named takes asks sent request fit h = absurd cc
+written_list set Due one two (ServesWrite name asked) (ServesRead uname o f) file named takes asks sent request fit h = absurd cc
+written_list set Due one two (ServesWrite name asked) (ServesWrite uname o) file named takes asks sent request fit h = absurd cc
+written_list set Due one two (ServesRead name o f) urole file named takes asks sent request fit h = absurd takes
+written_list set Due one two (Reads name o) urole file named takes asks sent request fit h = absurd takes
+written_list set Due one two (Writes name o f) urole file named takes asks sent request fit h = absurd takes
 
 -- ---- the step that completes a session
 
@@ -325,60 +324,7 @@ among_past (Some x) [] t e = absurd cc
 among_past None (y ∷ past) t e = let same : y ≡ t = cc in inl same
 among_past (Some x) (y ∷ past) t e = let same : y ≡ t = cc in inr (inl same)
 
-can_be_listed : (set : Setting) (since : List Step) (made : Step) (before : List Step) → AllCanBeListed set (since ++ made ∷ before) → CanBeListed (active_at set before)
+pub can_be_listed : (set : Setting) (since : List Step) (made : Step) (before : List Step) → AllCanBeListed set (since ++ made ∷ before) → CanBeListed (active_at set before)
 can_be_listed set [] made [] (now, all) = all
 can_be_listed set [] made (s ∷ before) (now, all) = all.0
 can_be_listed set (s ∷ since) made before (now, all) = can_be_listed set since made before all
-
-module _ (joins : SumsJoin) (reads : ListsAreRead) (set : Setting) (s : Step) (earlier : List Step) (named : OwnFilesAreNamed set) (listable : AllCanBeListed set (s ∷ earlier)) (sent : ArrivesAsSent set s earlier) (session : EndedSession) where
-  -- what was listed was due
-  lists_due : (file : List ℕ) → ListWasDue set (s ∷ earlier) file → session.listed ≡ result_ok (answer lcl file) → ListsActive set (s ∷ earlier) session.listed
-  lists_due file h is =
-      let o = outline_of (active_at set h.before) in
-      let spelled : LclSpells (lcl_of o) (lcl_file o) = can_be_listed set h.since h.made h.before (subst (λ (steps : List Step). AllCanBeListed set steps) h.split listable) in
-      let listed : session.listed ≡ Some (lcl_of o) = is ∙ ap (λ (bytes : List ℕ). result_ok (answer lcl bytes)) h.lists ∙ ap (λ (x : Result LclView FileFault). result_ok x) (reads (lcl_of o) (lcl_file o) spelled) in
-      subst (λ (x : Option LclView). ListsActive set (s ∷ earlier) x) (sym listed) (h.since, h.made, h.before, h.split, h.due, refl)
-
-  -- the transfer that completed it
-  by_transfer : (e : Event) → event_for sides.Target (posted_in earlier) s.given ≡ None → (h : ListsArrived set.media (loader_at set earlier) e session) → Among h.transfer (loader_transfers set (s ∷ earlier)) → ListsActive set (s ∷ earlier) session.listed
-  by_transfer e alone h a = by (sent.at_loader h.transfer a (takes_receives _ h.transfer.role h.role).0)
-    where
-      by : ComesFromEnd (target_transfers set s earlier) h.transfer → ListsActive set (s ∷ earlier) session.listed
-      by (of_none none not) = absurd (false_is_true (sym not ∙ h.received))
-      by (of_end u b brings) =
-          let same : reached set (event_for sides.Target (posted_in earlier) s.given) (target_at set earlier) ≡ target_at set earlier = ap (λ (x : Option Event). reached set x (target_at set earlier)) alone ∙ reached_none set (target_at set earlier) in
-          let there : Among u (transfers_of (target_at set earlier) ++ former_at set earlier) = subst (λ (state : TargetState). Among u (transfers_of state ++ former_at set earlier)) same b in
-          let written : IsWrittenInTime set (s ∷ earlier) u.role = still_written set s earlier u.role (target_writes_in_time joins set earlier u there) in
-          from_request u brings written brings.ends.request
-        where
-          from_request : (u : Transfer) (brings : BringsFile h.transfer u) → IsWrittenInTime set (s ∷ earlier) u.role → AnswersRequest h.transfer u ⊎ AnswersRequest u h.transfer → ListsActive set (s ∷ earlier) session.listed
-          from_request u brings written (inr request) = absurd (false_is_true (sym (takes_receives _ h.transfer.role h.role).1 ∙ request.asks))
-          from_request u brings written (inl request) =
-              let (tells, due) = written_list set (s ∷ earlier) h.start.hw h.start.pos h.transfer.role u.role brings.file named h.role request.asks brings.sent request.request request.are_bytes written in
-              lists_due brings.file due (h.listed ∙ ap (λ (bytes : List ℕ). result_ok (answer lcl bytes)) (brings.whole tells h.received))
-
-  by_event : (e : Option Event) → event_for sides.Loader (posted_in earlier) s.given ≡ e → (loader_reading set.media (logged e (loader_log earlier))).ended ≡ session ∷ (loader_at set earlier).ended → session.kind ≡ Info → session.outcome ≡ Completed → ListsActive set (s ∷ earlier) session.listed
-  by_event None comes grows info completed = absurd (longer (loader_at set earlier).ended session grows)
-  by_event (Some e) comes grows info completed = by (only_loader (posted_in earlier) s.given e comes)
-    where
-      there : (h : ListsArrived set.media (loader_at set earlier) e session) → Among h.transfer (loader_transfers set (s ∷ earlier))
-      there h =
-          subst (λ (x : Option Event). Among h.transfer (all_of (loader_reading set.media (logged x (loader_log earlier))).end [])) (sym comes)
-          (among_left h.transfer _ [] (among_past (loader_extended set.media (loader_at set earlier) e).end.live (loader_extended set.media (loader_at set earlier) e).end.past h.transfer h.is_newest))
-
-      by : (event_for sides.Target (posted_in earlier) s.given ≡ None) ⊎ ((size : Option ℕ) × (e ≡ Learns size)) → ListsActive set (s ∷ earlier) session.listed
-      by (inl alone) = let h = completed_lists_arrived set.media (loader_log earlier) e session grows info completed in by_transfer e alone h (there h)
-      by (inr (size, learns)) = absurd (longer (loader_at set earlier).ended session (subst (λ (x : Event). (loader_extended set.media (loader_at set earlier) x).ended ≡ session ∷ (loader_at set earlier).ended) learns grows))
-
-  pub lists_where_completed : (loader_at set (s ∷ earlier)).ended ≡ session ∷ (loader_at set earlier).ended → session.kind ≡ Info → session.outcome ≡ Completed → ListsActive set (s ∷ earlier) session.listed
-  lists_where_completed grows info completed = by_event (event_for sides.Loader (posted_in earlier) s.given) refl grows info completed
-
-all_list_active : SumsJoin → ListsAreRead → (set : Setting) (steps : List Step) → OwnFilesAreNamed set → AllCanBeListed set steps → AllArriveAsSent set steps → AllListActive set steps
-all_list_active joins reads set [] named listable sent = tt
-all_list_active joins reads set (s ∷ earlier) named listable (now, sent) = (
-  λ session. lists_where_completed joins reads set s earlier named listable now session,
-  all_list_active joins reads set earlier named listable.1 sent,
-)
-
-pub completed_lists_active : SumsJoin → MovesStayFair → ListsAreRead → CompletedListsActive
-completed_lists_active joins moves reads set steps is named listable = all_list_active joins reads set steps named listable (what_arrives_was_sent joins moves set steps is)

@@ -32,7 +32,7 @@ use Rattle.session_rules.specs.LoaderRoles.{IsAboveMark, IsNoError, IsOfLoaderRo
 use Rattle.session_rules.specs.LoaderRows.{LoaderRow}
 use Rattle.session_rules.specs.MediaFiles.{Media, wanted_of}
 use Rattle.session_rules.specs.OwnSessionLaws.{sessions_are_of_newest_starts}
-use Rattle.session_rules.specs.OwnSessions.{HasWritten, IsOfNewestStart, IsStartedBy, LiveIsOfNewestStart, HasNoStart, RequestWritten}
+use Rattle.session_rules.specs.OwnSessions.{HasComeTo, IsOfNewestStart, IsStartedBy, LiveIsOfNewestStart, HasNoStart, RequestWritten}
 use Rattle.session_rules.specs.ReadFileLaws.{RequestsAreSpelled}
 use Rattle.session_rules.specs.Reports.{lur_file}
 use Rattle.session_rules.specs.Sessions.{started_by}
@@ -48,7 +48,8 @@ use Rattle.replay_rules.specs.OwnSessionTraces.{AllInstalledInSession, Completed
 use Rattle.replay_rules.specs.Promises.{HasCompleted, HasEnded, HasParts}
 use Rattle.replay_rules.proofs.AnsweredLater.{after, answer_rises, answers_rise, loader_grows_over, posted_then, uninjected}
 use Rattle.replay_rules.proofs.AskedFor.{RequestsAreRead, found_fits, given_starts, one_request, started_spells}
-use Rattle.replay_rules.proofs.InstalledBefore.{IsInstalledBefore, IsOver, TellsOver, over_at, target_tells_over}
+use Rattle.replay_rules.proofs.EachBefore.{IsOver, over_at}
+use Rattle.replay_rules.proofs.InstalledBefore.{IsInstalledBefore, TellsOver, target_tells_over}
 use Rattle.replay_rules.proofs.ListedTraces.{false_is_true, longer, only_loader, reached_none}
 use Rattle.replay_rules.proofs.PortsApart.{PeerIsBelow}
 use Rattle.replay_rules.proofs.SentTraces.{TargetIsFair, what_arrives_was_sent}
@@ -56,13 +57,13 @@ use Rattle.replay_rules.proofs.ToldTraces.{StatusesAreSpelled, loader_log_bytes,
 
 -- ---- lists of transfers
 
-some_is : (p q : ℕ) → Some p ≡ Some q → p ≡ q
+pub some_is : (p q : ℕ) → Some p ≡ Some q → p ≡ q
 some_is p q e = cc
 
-asks_not : (A : Type 0) (role : Role) → is_asking role ≡ true → is_asking role ≡ false → A
+pub asks_not : (A : Type 0) (role : Role) → is_asking role ≡ true → is_asking role ≡ false → A
 asks_not A role asks serves = absurd (let wrong : true ≡ false = sym asks ∙ serves in cc)
 
-rise_apart : (xs ys : List Transfer) (x y : Transfer) → OwnPortsRise (xs ++ ys) → Among x xs → Among y ys → y.own < x.own
+pub rise_apart : (xs ys : List Transfer) (x y : Transfer) → OwnPortsRise (xs ++ ys) → Among x xs → Among y ys → y.own < x.own
 rise_apart [] ys x y rise a b = absurd a
 rise_apart (z ∷ xs) ys x y (low, below, rise) (inl same) b =
     subst (λ (t : Transfer). y.own < t.own) same (all_at (λ (t : Transfer). t.own < z.own) (xs ++ ys) y below (among_right y xs ys b))
@@ -77,11 +78,11 @@ older_than xs u ys v rise a less = by (among_either v xs (u ∷ ys) a)
     by (inr (inl same)) = let e : u.own ≡ v.own = ap (λ (t : Transfer). t.own) same in absurd (omega (arith, e, less))
     by (inr (inr b)) = b
 
-rise_after : (xs ys : List Transfer) → OwnPortsRise (xs ++ ys) → OwnPortsRise ys
+pub rise_after : (xs ys : List Transfer) → OwnPortsRise (xs ++ ys) → OwnPortsRise ys
 rise_after [] ys rise = rise
 rise_after (x ∷ xs) ys (low, below, rise) = rise_after xs ys rise
 
-below_mark : (past : List Transfer) (w : Transfer) (port : ℕ) → Among w past → w.peer ≡ Some port → port ≤ mark_in past
+pub below_mark : (past : List Transfer) (w : Transfer) (port : ℕ) → Among w past → w.peer ≡ Some port → port ≤ mark_in past
 below_mark [] w port a e = absurd a
 below_mark (t ∷ past) w port (inl same) e = by t.peer (ap (λ (x : Transfer). x.peer) same ∙ e)
   where
@@ -127,11 +128,11 @@ answered_by me them mine theirs posted w p one other_one a asks heard no_error =
 
 -- ---- steps
 
-abbrev IsNoStartEvent : Option Event → Type 0
+abbrev pub IsNoStartEvent : Option Event → Type 0
 IsNoStartEvent None = Unit {0}
 IsNoStartEvent (Some e) = started_by e ≡ []
 
-no_start_given : (posted : List DatagramView) (h : HappeningView) → IsNoStartEvent (event_for sides.Loader posted h) → IsNoStart h
+pub no_start_given : (posted : List DatagramView) (h : HappeningView) → IsNoStartEvent (event_for sides.Loader posted h) → IsNoStart h
 no_start_given posted (Info_started hw pos) none = absurd cc
 no_start_given posted (Upload_started hw pos parts) none = absurd cc
 no_start_given posted (Delivered to n) none = tt
@@ -210,7 +211,7 @@ pub record UploadStarted (media : Media) (event : Event) (start : Start) : Type 
   pub found : wanted_of media.loads parts ≡ Ok start.loads
 
 upload_started : (media : Media) (event : Event) (start : Start) → IsStartedBy media event start → start.kind ≡ Upload → UploadStarted media event start
-upload_started media (Starts_upload hw pos parts) start (few, found) upload = record { hw = hw; pos = pos; parts = parts; is = refl; few = few; found = found }
+upload_started media (Starts_upload hw pos parts) start (kind, few, found) upload = record { hw = hw; pos = pos; parts = parts; is = refl; few = few; found = found }
 upload_started media (Starts_info hw pos) start info upload = absurd (let wrong : Info ≡ Upload = sym info ∙ upload in cc)
 upload_started media (Gets from to bytes) start h upload = absurd h
 upload_started media Ticks start h upload = absurd h
@@ -269,7 +270,7 @@ module _ (joins : SumsJoin) (moves : MovesStayFair) (spells : HeadersAreSpelled)
     upload = upload_started set.media own.event h.session.start own.started h.upload
 
     written : RequestWritten h.session.start own.mine
-    written = subst (λ (row : LoaderRow). HasWritten h.session.start row own.mine) h.row own.written
+    written = subst (λ (row : LoaderRow). HasComeTo h.session.start row own.mine) h.row own.come_to
 
     abbrev w : Transfer
     w = written.request

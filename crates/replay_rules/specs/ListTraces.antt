@@ -1,8 +1,9 @@
 -- The lists of a run: each that is listed was active when it became due (docs/EXCHANGE.md, "Runs").
-use Rattle.std.specs.Prelude.{◌≡◌, ℕ, List, [], ◌∷◌, ◌++◌, ⊤}
+use Rattle.std.specs.Prelude.{◌≡◌, ℕ, List, [], ◌∷◌, ◌++◌, Some, ⊤}
 use Rattle.load_base.specs.Name.{IsName}
 use Rattle.load_protocol_files.specs.Lcl.{LclSpells}
 use Rattle.disk_layout.specs.Holds.{StandingView, outline_of}
+use Rattle.exchange_trace.specs.Happenings.{Info_started}
 use Rattle.exchange_trace.specs.Steps.{Step}
 use Rattle.transfer_end.specs.OtherEnds.{Among}
 use Rattle.transfer_end.specs.Transfers.{Role, Transfer, Writes}
@@ -16,7 +17,8 @@ use Rattle.session_rules.specs.Reports.{lcl_file, lcl_of}
 use Rattle.replay_rules.specs.BothEnds.{Setting, loader_at, target_at}
 use Rattle.replay_rules.specs.Histories.{active_at}
 use Rattle.replay_rules.specs.OtherEndTraces.{IsUninjected, former_at, transfers_of}
-use Rattle.replay_rules.specs.Promises.{ListIsDue, ListsActive}
+use Rattle.replay_rules.specs.OwnSessionTraces.{NoneStarts}
+use Rattle.replay_rules.specs.Promises.{ListIsDue}
 
 -- ---- what the target writes
 
@@ -53,16 +55,34 @@ AllCanBeListed set (s ∷ earlier) = CanBeListed (active_at set (s ∷ earlier))
 abbrev pub OwnFilesAreNamed : Setting → Type 0
 OwnFilesAreNamed set = (kind : FileKind) → IsName (file_name set.start.identity.hw set.start.identity.pos kind)
 
+-- The newest start is that of an information operation, and the session that ended last is the one that ended since: so it is
+-- that operation's. It lists exactly what was active before a step since its start, after which a session of the target had its
+-- list to write.
+pub record ListsInSession (set : Setting) (steps : List Step) (session : EndedSession) : Type 0 where
+  pub since : List Step
+  pub made : Step
+  pub between : List Step
+  pub start : Step
+  pub before : List Step
+  pub hw : List ℕ
+  pub pos : List ℕ
+  pub split : steps ≡ since ++ made ∷ (between ++ start ∷ before)
+  pub starts : start.given ≡ Info_started hw pos
+  pub newest : NoneStarts (since ++ made ∷ between)
+  pub one : (loader_at set steps).ended ≡ session ∷ (loader_at set (start ∷ before)).ended
+  pub due : ListIsDue set (target_at set (made ∷ (between ++ start ∷ before)))
+  pub listed : session.listed ≡ Some (lcl_of (outline_of (active_at set (between ++ start ∷ before))))
+
 -- a session that ends in the newest step as a completed information session
 abbrev pub ListsWhereCompleted : Setting → Step → List Step → Type 0
 ListsWhereCompleted set s earlier = (session : EndedSession) → (loader_at set (s ∷ earlier)).ended ≡ session ∷ (loader_at set earlier).ended → session.kind ≡ Info → session.outcome ≡ Completed
-    → ListsActive set (s ∷ earlier) session.listed
+    → ListsInSession set (s ∷ earlier) session
 
-abbrev pub AllListActive : Setting → List Step → Type 0
-AllListActive set [] = ⊤
-AllListActive set (s ∷ earlier) = ListsWhereCompleted set s earlier × AllListActive set earlier
+abbrev pub AllListInSession : Setting → List Step → Type 0
+AllListInSession set [] = ⊤
+AllListInSession set (s ∷ earlier) = ListsWhereCompleted set s earlier × AllListInSession set earlier
 
--- Without injection each completed information session lists exactly what was active before a step after which a session of
--- the target had its list to write, through losses, repeats, power losses and boots.
+-- Without injection each completed information session lists exactly what was active before a step of its own session, after
+-- which a session of the target had its list to write, through losses, repeats, other orders, power losses and boots.
 abbrev pub CompletedListsActive : Type 0
-CompletedListsActive = (set : Setting) (steps : List Step) → IsUninjected set steps → OwnFilesAreNamed set → AllCanBeListed set steps → AllListActive set steps
+CompletedListsActive = (set : Setting) (steps : List Step) → IsUninjected set steps → OwnFilesAreNamed set → AllCanBeListed set steps → AllListInSession set steps

@@ -3,9 +3,8 @@
 use Rattle.std.specs.Prelude.{◌≡◌, ◌⊎◌, ℕ, List, [], ◌∷◌, ◌++◌, map, true, Option, Some, None, Contains, ⊤}
 use Rattle.std.specs.List.{AllByRecursion}
 use Rattle.load_base.specs.Config.{LoadView}
-use Rattle.load_protocol_files.specs.Lcl.{LclView}
 use Rattle.disk_model.specs.Image.{Image}
-use Rattle.disk_layout.specs.Holds.{StandingView, HoldsConfig, outline_of}
+use Rattle.disk_layout.specs.Holds.{StandingView, HoldsConfig}
 use Rattle.exchange_trace.specs.Happenings.{HappeningView, Ended}
 use Rattle.exchange_trace.specs.Following.{Turn, goes_on}
 use Rattle.exchange_trace.specs.Lines.{Line, Finish}
@@ -13,7 +12,6 @@ use Rattle.exchange_trace.specs.Steps.{Step}
 use Rattle.session_rules.specs.declared.outcome.Outcome.TheVariants.{Completed}
 use Rattle.session_rules.specs.declared.outcome.SessionKind.{SessionKind}
 use Rattle.session_rules.specs.declared.outcome.SessionKind.TheVariants.{Upload}
-use Rattle.session_rules.specs.Reports.{lcl_of}
 use Rattle.session_rules.specs.Loader.{EndedSession}
 use Rattle.session_rules.specs.NewConfigs.{AreOfMedia}
 use Rattle.session_rules.specs.TargetRows.{WholeRow, Writes_lcl}
@@ -21,7 +19,7 @@ use Rattle.session_rules.specs.TargetLog.{TargetReading, TargetSessionLog, row_i
 use Rattle.replay_rules.specs.BothEnds.{Setting, TargetState, Is_up, Is_down, loader_at, target_at, loader_waits}
 use Rattle.replay_rules.specs.Due.{AllDue, AllNoted}
 use Rattle.replay_rules.specs.FaultFree.{IsFaultFree, NothingInjected}
-use Rattle.replay_rules.specs.Histories.{active_at, may_be_active, brings, history_of, active_by}
+use Rattle.replay_rules.specs.Histories.{may_be_active, brings, history_of, active_by}
 use Rattle.replay_rules.specs.Runs.{Follows, IsQuiet, IsWithinMargin, plan_at, scene_at}
 
 -- ---- the trace is what happened, and each end posts exactly what is due
@@ -51,7 +49,7 @@ abbrev pub AllOfMedia : Setting → List Step → Type 0
 AllOfMedia set [] = ⊤
 AllOfMedia set (s ∷ earlier) = BroughtIsOfMedia set (brings set s earlier) (s ∷ earlier) × AllOfMedia set earlier
 
--- ---- a completed information session lists what was active
+-- ---- a list is due
 
 abbrev pub WritesList : WholeRow → Type 0
 WritesList Writes_lcl = ⊤
@@ -64,13 +62,6 @@ SessionWritesList set r (Some s) = WritesList (row_in set.accepts r.active.ident
 abbrev pub ListIsDue : Setting → TargetState → Type 0
 ListIsDue set (Is_up r) = SessionWritesList set r r.live
 ListIsDue set (Is_down active interrupted) = ⊥
-
--- what is listed was active before one of these steps, after which a session of the target had its list to write. It isn't
--- said that the session is of the start that this list completes.
-abbrev pub ListsActive : Setting → List Step → Option LclView → Type 0
-ListsActive set steps None = ⊥
-ListsActive set steps (Some listed) = (since : List Step) × (made : Step) × (before : List Step) × (steps ≡ since ++ made ∷ before)
-    × ListIsDue set (target_at set (made ∷ before)) × (listed ≡ lcl_of (outline_of (active_at set before)))
 
 -- ---- completed means installed
 

@@ -95,10 +95,10 @@ pub fn what_is_installed_is_of_the_media_set()
     what_comes_was_sent();
 }
 
-/// A completed information session lists exactly what was active before some step after which a
-/// session of the target had its list to write, through losses, repeats, power losses and boots,
-/// where nothing is injected, the target's file names are names, and what is active can be listed.
-/// It isn't said that this session is of the same start.
+/// A completed information session lists exactly what was active before a step since its start,
+/// after which a session of the target had its list to write, through losses, repeats, other
+/// orders, power losses and boots, where nothing is injected, the target's file names are names,
+/// and what is active can be listed.
 pub fn a_completed_session_lists_what_was_active()
     // Whatever comes, a target writes only lists of what was active when they became due.
     ensures written { TargetWritesInTime }

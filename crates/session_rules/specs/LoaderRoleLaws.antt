@@ -44,9 +44,11 @@ use Rattle.session_rules.specs.LoaderRows.{Comes_to, Goes_on, LoaderRow, Reads_l
 use Rattle.session_rules.specs.Loader.{Advances, Begins, Begins_over, Continues, EndedSession, Ends, LoaderChange, ended_as, listed_by, LoaderDecision, LoaderSession, Start, answer_decision, begin_with, doing, got_decision, listed_upload, loader_decision, next_decision, packet_decision, read_decision, request_decision, row_request, take_request, tick_decision, turn_decision, write_decision}
 use Rattle.session_rules.specs.BufferLaws.{buffered_on}
 use Rattle.session_rules.specs.LoaderLaws.{FitsChange, decision_fits, end_stays, row_of_more, row_of_none}
-use Rattle.session_rules.specs.LoaderLog.{LoaderReading, SessionLog, loader_extended, loader_reading, loader_reading_changed, loader_view, newest, session_view}
+use Rattle.session_rules.specs.LoaderLog.{LoaderReading, SessionLog, loader_extended, loader_reading, loader_reading_changed, loader_view, session_view}
 use Rattle.session_rules.specs.LoaderRoles.{CompletedListsArrived, EndsByFile, EndsLive, IsAboveMark, IsNoError, ListsArrived, ServedIsFresh, TakesFile, FitsLoaderChange, IsOfLoaderRow, LoaderLiveFits, LoaderRoleFits, LoaderRolesFit, loader_row}
 use Rattle.session_rules.specs.MediaFiles.{Media, wanted_of}
+use Rattle.session_rules.specs.SessionLaws.{begun_by, decision_begins}
+use Rattle.session_rules.specs.Sessions.{started_by}
 use Rattle.session_rules.specs.Reports.{accepted, denied, in_progress, lur_file, stopped}
 
 abbrev after : Reading → List Move → Reading
@@ -64,9 +66,9 @@ kept s end = record { start = s.start; row = loader_row s; arriving = buffered (
 
 -- ---- starts
 
-first_any : (start : Start) (kind : SessionKind) (role : Role) → IsOfLoaderRow start (first_row kind) role
-first_any start Info role = tt
-first_any start Upload role = tt
+first_asks : (start : Start) (kind : SessionKind) (role : Role) → is_asking role ≡ true → IsOfLoaderRow start (first_row kind) role
+first_asks start Info role asks = asks
+first_asks start Upload role asks = asks
 
 stays_fits : (end : Reading) (live : Option SessionLog) (moves : List Move) → (after end moves).live ≡ end.live → (after end moves).past ≡ end.past → Fits end live (doing moves)
 stays_fits end None moves e f = tt
@@ -105,7 +107,7 @@ begins_fits : (end : Reading) (live : Option SessionLog) (s : Start) (role : Opt
 begins_fits end live s None is = nothing_fits end live
 begins_fits end live s (Some role) is =
     fits_if end live (has_port (end_view end)) _ _
-    (λ e. (first_any s s.kind role, refl, λ serves. absurd (asks_not role (asks_role end.asks_size s (first_row s.kind) role is) serves))) (λ e f. cc)
+    (λ e. (first_asks s s.kind role (asks_role end.asks_size s (first_row s.kind) role is), refl, λ serves. absurd (asks_not role (asks_role end.asks_size s (first_row s.kind) role is) serves))) (λ e f. cc)
 
 listed_fits : (end : Reading) (live : Option SessionLog) (hw pos : List ℕ) (found : Result (List Wanted) (List ℕ)) → Fits end live (listed_upload (end_view end) hw pos found)
 listed_fits end live hw pos (Ok loads) =
@@ -131,10 +133,10 @@ taken_fits end s from role free is =
     above e = subst (λ (mark : ℕ). mark < from) (mark_is end.live end.past) (ltb-true (mark_of end) from e)
 
 serves_any : (start : Start) (row : LoaderRow) (role : Role) → serves_files row ≡ true → is_asking role ≡ false → IsOfLoaderRow start row role
-serves_any start Reads_lci role e serves = tt
+serves_any start Reads_lci role e serves = absurd cc
 serves_any start Takes_lcs role e serves = absurd cc
 serves_any start Takes_lcl role e serves = absurd cc
-serves_any start Reads_lui role e serves = tt
+serves_any start Reads_lui role e serves = absurd cc
 serves_any start Takes_lus role e serves = absurd cc
 serves_any start Writes_lur role e serves = absurd cc
 serves_any start Serves_files role e serves = serves
@@ -147,8 +149,8 @@ takes_named : (start : Start) (row : LoaderRow) (kind : FileKind) (name : List �
 takes_named start Takes_lcs kind name o e named = let same : kinds.Lcs ≡ kind = cc in named ∙ ap (λ (k : FileKind). file_name start.hw start.pos k) (sym same)
 takes_named start Takes_lcl kind name o e named = let same : kinds.Lcl ≡ kind = cc in named ∙ ap (λ (k : FileKind). file_name start.hw start.pos k) (sym same)
 takes_named start Takes_lus kind name o e named = let same : kinds.Lus ≡ kind = cc in named ∙ ap (λ (k : FileKind). file_name start.hw start.pos k) (sym same)
-takes_named start Reads_lci kind name o e named = tt
-takes_named start Reads_lui kind name o e named = tt
+takes_named start Reads_lci kind name o e named = absurd cc
+takes_named start Reads_lui kind name o e named = absurd cc
 takes_named start Writes_lur kind name o e named = absurd cc
 takes_named start Serves_files kind name o e named = refl
 
@@ -174,8 +176,8 @@ after_more end (first ∷ moves) move = after_more (reading_after sides.Loader e
 
 -- what a row asks for is of the row
 asking_row : (size : Option ℕ) (start : Start) (row : LoaderRow) (role : Role) → row_request size start row ≡ Some role → IsOfLoaderRow start row role
-asking_row size start Reads_lci role e = tt
-asking_row size start Reads_lui role e = tt
+asking_row size start Reads_lci role e = asks_role size start Reads_lci role e
+asking_row size start Reads_lui role e = asks_role size start Reads_lui role e
 asking_row size start Writes_lur (Writes name o file) e = let same : lur_file start.loads ≡ file = cc in sym same
 asking_row size start Writes_lur (Reads name o) e = absurd cc
 asking_row size start Writes_lur (ServesRead name o file) e = absurd cc
@@ -450,9 +452,9 @@ module _ (media : Media) (r : LoaderReading) (e : Event) (session : EndedSession
   abbrev moves_now : List Move
   moves_now = (loader_decision media (loader_view r) e).moves
 
-  by_file : (s : SessionLog) (outcome : Outcome) (more : List ℕ) → LoaderRoleFits r.end (Some s) → EndsByFile r.end s moves_now more → newest (loader_extended media r e).end.past ≡ newest (after r.end moves_now).past
+  by_file : (s : SessionLog) (outcome : Outcome) (more : List ℕ) → r.live ≡ Some s → LoaderRoleFits r.end (Some s) → EndsByFile r.end s moves_now more → [] ≡ started_by e → (loader_extended media r e).end ≡ after r.end moves_now
       → ended_as s.start.kind outcome (buffered_more (buffered (arriving_in r.end.live)) more).prefix ≡ session → ListsArrived media r e session
-  by_file s outcome more role h past is =
+  by_file s outcome more was role h none end is =
       let (short, turn) = not_too_long (loader_row s) (buffered_more (buffered (arriving_in r.end.live)) more) h.turn in
       let kind : s.start.kind ≡ Info = ap (λ (x : EndedSession). x.kind) is ∙ info in
       let row : loader_row s ≡ Takes_lcl = completing_row (loader_row s) _ (info_row s.start.kind s.done kind) turn in
@@ -461,9 +463,19 @@ module _ (media : Media) (r : LoaderReading) (e : Event) (session : EndedSession
       let bytes : (buffered_more (buffered (arriving_in r.end.live)) more).prefix ≡ arrived_of (with_packet h.live h.from h.packet) =
       whole_prefix (arriving_in r.end.live) more short ∙ ap (λ (x : List ℕ). x ++ more) arriving ∙ sym (arrived_last h.live h.from h.packet more h.last) in
       record {
-        start = s.start;
+        log = s;
+        was_live = was;
+        info = kind;
+        no_start = sym none;
+        row = row;
+        live = h.live;
+        going = h.was_live;
+        from = h.from;
+        packet = h.packet;
         transfer = with_packet h.live h.from h.packet;
-        is_newest = past ∙ ap newest h.past;
+        is = refl;
+        past = ap (λ (x : Reading). x.past) end ∙ h.past;
+        free = ap (λ (x : Reading). x.live) end ∙ h.free;
         role = takes;
         received = served_received h.live.role h.live.got _ h.packet more takes h.last;
         listed = sym (ap (λ (x : EndedSession). x.listed) is) ∙ ap (λ (k : SessionKind). listed_by k outcome (buffered_more (buffered (arriving_in r.end.live)) more).prefix) kind
@@ -473,21 +485,21 @@ module _ (media : Media) (r : LoaderReading) (e : Event) (session : EndedSession
   not_replaced : (s : SessionLog) (bytes : List ℕ) → ended_as s.start.kind Replaced bytes ≡ session → ⊥
   not_replaced s bytes is = let wrong : Replaced ≡ Completed = ap (λ (x : EndedSession). x.outcome) is ∙ completed in cc
 
-  by_change : (live : Option SessionLog) (change : LoaderChange) → LoaderRoleFits r.end live → FitsLoaderChange r.end live moves_now change → newest (loader_extended media r e).end.past ≡ newest (after r.end moves_now).past
+  by_change : (live : Option SessionLog) (change : LoaderChange) → r.live ≡ live → LoaderRoleFits r.end live → FitsLoaderChange r.end live moves_now change → begun_by change ≡ started_by e → (loader_extended media r e).end ≡ after r.end moves_now
       → (loader_reading_changed (after r.end moves_now) (record { end = r.end; live = live; ended = r.ended }) change).ended ≡ session ∷ r.ended → ListsArrived media r e session
-  by_change live (Continues more) role fits past grows = absurd (longer r.ended session grows)
-  by_change live Advances role fits past grows = absurd (longer r.ended session grows)
-  by_change None (Ends outcome more) role fits past grows = absurd (longer r.ended session grows)
-  by_change (Some s) (Ends outcome more) role fits past grows =
+  by_change live (Continues more) was role fits none end grows = absurd (longer r.ended session grows)
+  by_change live Advances was role fits none end grows = absurd (longer r.ended session grows)
+  by_change None (Ends outcome more) was role fits none end grows = absurd (longer r.ended session grows)
+  by_change (Some s) (Ends outcome more) was role fits none end grows =
       let is : ended_as s.start.kind outcome (buffered_more (buffered (arriving_in r.end.live)) more).prefix ≡ session = head_is r.ended _ session grows in
-      by_file s outcome more role (fits (ap (λ (x : EndedSession). x.outcome) is ∙ completed)) past is
-  by_change None (Begins start) role fits past grows = absurd (longer r.ended session grows)
-  by_change (Some s) (Begins start) role fits past grows = absurd (not_replaced s _ (head_is r.ended _ session grows))
-  by_change None (Begins_over kind outcome) role fits past grows = absurd (fits (ap (λ (x : EndedSession). x.outcome) (head_is r.ended _ session grows) ∙ completed))
-  by_change (Some s) (Begins_over kind outcome) role fits past grows = absurd (longer_two r.ended _ _ session grows)
+      by_file s outcome more was role (fits (ap (λ (x : EndedSession). x.outcome) is ∙ completed)) none end is
+  by_change None (Begins start) was role fits none end grows = absurd (longer r.ended session grows)
+  by_change (Some s) (Begins start) was role fits none end grows = absurd (not_replaced s _ (head_is r.ended _ session grows))
+  by_change None (Begins_over kind outcome) was role fits none end grows = absurd (fits (ap (λ (x : EndedSession). x.outcome) (head_is r.ended _ session grows) ∙ completed))
+  by_change (Some s) (Begins_over kind outcome) was role fits none end grows = absurd (longer_two r.ended _ _ session grows)
 
 pub completed_lists_arrived : CompletedListsArrived
 completed_lists_arrived media log e session grows info completed =
     let r = loader_reading media log in
     let d = loader_decision media (loader_view r) e in
-    by_change media r e session info completed r.live d.change (loader_roles_fit media log) (loader_decision_fits media r.end r.live r.ended e) (ap (λ (x : Reading). newest x.past) (end_stays (after r.end d.moves) r d.change)) grows
+    by_change media r e session info completed r.live d.change refl (loader_roles_fit media log) (loader_decision_fits media r.end r.live r.ended e) (decision_begins media (loader_view r) e) (end_stays (after r.end d.moves) r d.change) grows

@@ -17,10 +17,11 @@ use Rattle.session_rules.specs.declared.outcome.SessionKind.TheVariants.{Info}
 use Rattle.session_rules.specs.Buffers.{buffered, buffered_more}
 use Rattle.session_rules.specs.FileNames.{file_name}
 use Rattle.session_rules.specs.Loader.{Advances, Begins, Begins_over, Continues, EndedSession, Ends, LoaderChange, Start}
-use Rattle.session_rules.specs.LoaderLog.{LoaderReading, SessionLog, loader_extended, loader_reading, newest}
+use Rattle.session_rules.specs.LoaderLog.{LoaderReading, SessionLog, loader_extended, loader_reading}
 use Rattle.session_rules.specs.LoaderRows.{Comes_to, LoaderRow, Serves_files, Takes_lcl, Takes_lcs, Takes_lus, Writes_lur, file_turn, first_row, row_after, row_of}
 use Rattle.session_rules.specs.MediaFiles.{Media}
 use Rattle.session_rules.specs.Reports.{lur_file}
+use Rattle.session_rules.specs.Sessions.{started_by}
 
 -- the side took a request to write the file of this name
 abbrev pub TakesFile : List ℕ → Role → Type 0
@@ -32,15 +33,15 @@ abbrev pub WritesLur : Start → Role → Type 0
 WritesLur start (Writes name options file) = file ≡ lur_file start.loads
 WritesLur start role = ⊥
 
--- In a row in which the loader takes a file of one kind, or writes its request, the transfer is of that file; where it serves
--- files, it serves.
+-- In a row in which the loader takes a file of one kind, or writes its request, the transfer is of that file; where it reads a
+-- file, it asks; where it serves files, it serves.
 abbrev pub IsOfLoaderRow : Start → LoaderRow → Role → Type 0
 IsOfLoaderRow start Takes_lcs role = TakesFile (file_name start.hw start.pos Lcs) role
 IsOfLoaderRow start Takes_lcl role = TakesFile (file_name start.hw start.pos Lcl) role
 IsOfLoaderRow start Takes_lus role = TakesFile (file_name start.hw start.pos Lus) role
 IsOfLoaderRow start Writes_lur role = WritesLur start role
 IsOfLoaderRow start Serves_files role = is_asking role ≡ false
-IsOfLoaderRow start row role = ⊤
+IsOfLoaderRow start row role = is_asking role ≡ true
 
 -- so it is of the transfer that is live, if one is
 abbrev pub LoaderLiveFits : Start → LoaderRow → Option Transfer → Type 0
@@ -114,12 +115,23 @@ FitsLoaderChange end (Some s) moves Advances =
     LoaderLiveFits s.start (row_after (loader_row s)) (readings_after sides.Loader end moves).live × EndsLive end moves × IsFreshAfter end moves
 FitsLoaderChange end (Some s) moves (Ends outcome more) = outcome ≡ Completed → EndsByFile end s moves more
 
--- A completed information session lists what the LCL says that arrived whole in the transfer that ended last.
+-- A completed information session lists what the LCL says that arrived whole in the transfer that was live, which ended with a
+-- packet more.
 pub record ListsArrived (media : Media) (r : LoaderReading) (e : Event) (session : EndedSession) : Type 0 where
-  pub start : Start
+  pub log : SessionLog
+  pub was_live : r.live ≡ Some log
+  pub info : log.start.kind ≡ Info
+  pub no_start : started_by e ≡ []
+  pub row : loader_row log ≡ Takes_lcl
+  pub live : Transfer
+  pub going : r.end.live ≡ Some live
+  pub from : ℕ
+  pub packet : PacketView
   pub transfer : Transfer
-  pub is_newest : newest (loader_extended media r e).end.past ≡ transfer ∷ []
-  pub role : TakesFile (file_name start.hw start.pos Lcl) transfer.role
+  pub is : transfer ≡ with_packet live from packet
+  pub past : (loader_extended media r e).end.past ≡ transfer ∷ r.end.past
+  pub free : (loader_extended media r e).end.live ≡ None
+  pub role : TakesFile (file_name log.start.hw log.start.pos Lcl) transfer.role
   pub received : is_received (end_in transfer) ≡ true
   pub listed : session.listed ≡ result_ok (answer lcl (arrived_of transfer))
 

@@ -1,5 +1,5 @@
 -- Proofs that the loader's live session is that of the newest start.
-use Rattle.std.proofs.Common.{◌≡◌, inl, List, [], ◌∷◌, ◌++◌, Option, Some, None, refl, sym, ap, subst, ◌∙◌}
+use Rattle.std.proofs.Common.{◌≡◌, inl, inr, List, [], ◌∷◌, ◌++◌, Option, Some, None, refl, sym, ap, subst, ◌∙◌}
 use Rattle.tftp_packet.specs.Packets.{PacketView}
 use Rattle.exchange_trace.specs.declared.trace.Side.TheVariants as sides
 use Rattle.exchange_trace.specs.Logs.{Event}
@@ -16,20 +16,20 @@ use Rattle.session_rules.specs.LoaderRoleLaws.{loader_decision_fits, loader_role
 use Rattle.session_rules.specs.LoaderRoles.{EndsLive, FitsLoaderChange, IsNoError, IsOfLoaderRow, LoaderLiveFits, LoaderRoleFits, loader_row}
 use Rattle.session_rules.specs.LoaderRows.{LoaderRow, Reads_lci, Reads_lui, Serves_files, Takes_lcl, Takes_lcs, Takes_lus, Writes_lur, first_row, row_after, row_of}
 use Rattle.session_rules.specs.MediaFiles.{Media}
-use Rattle.session_rules.specs.OwnSessions.{HasWritten, IsOfNewestStart, LiveIsOfNewestStart, SessionsAreOfNewestStarts}
+use Rattle.session_rules.specs.OwnSessions.{HasComeTo, IsOfNewestStart, LiveIsOfNewestStart, SessionsAreOfNewestStarts}
 use Rattle.session_rules.specs.RequestLaws.{BeginsBy, loader_fits}
 use Rattle.session_rules.specs.SessionLaws.{begun_by, decision_begins}
 use Rattle.session_rules.specs.Sessions.{started_by}
 
-first_written : (start : Start) (kind : SessionKind) (mine : List Transfer) → HasWritten start (first_row kind) mine
-first_written start Info mine = tt
-first_written start Upload mine = tt
+first_come_to : (start : Start) (kind : SessionKind) (mine : List Transfer) → HasComeTo start (first_row kind) mine
+first_come_to start Info mine = tt
+first_come_to start Upload mine = tt
 
 -- a transfer of a row is over, by a packet that was no ERROR
-written_then : (start : Start) (row : LoaderRow) (t : Transfer) (from : _) (p : PacketView) (mine : List Transfer) → IsNoError p → IsOfLoaderRow start row t.role → HasWritten start row mine → HasWritten start (row_after row) (with_packet t from p ∷ mine)
-written_then start Writes_lur t from p mine no_error is h =
+come_to_then : (start : Start) (row : LoaderRow) (t : Transfer) (from : _) (p : PacketView) (mine : List Transfer) → IsNoError p → IsOfLoaderRow start row t.role → HasComeTo start row mine → HasComeTo start (row_after row) (with_packet t from p ∷ mine)
+come_to_then start Writes_lur t from p mine no_error is h =
     record { since = []; request = with_packet t from p; before = mine; split = refl; serves = tt; writes = is; packet = p; heard = among_right p t.got (p ∷ []) (inl refl); no_error = no_error }
-written_then start Serves_files t from p mine no_error is h = record {
+come_to_then start Serves_files t from p mine no_error is h = record {
   since = with_packet t from p ∷ h.since;
   request = h.request;
   before = h.before;
@@ -40,11 +40,11 @@ written_then start Serves_files t from p mine no_error is h = record {
   heard = h.heard;
   no_error = h.no_error;
 }
-written_then start Reads_lci t from p mine no_error is h = tt
-written_then start Takes_lcs t from p mine no_error is h = tt
-written_then start Takes_lcl t from p mine no_error is h = tt
-written_then start Reads_lui t from p mine no_error is h = tt
-written_then start Takes_lus t from p mine no_error is h = tt
+come_to_then start Reads_lci t from p mine no_error is h = record { request = with_packet t from p; among = inl refl; asks = is; packet = p; heard = among_right p t.got (p ∷ []) (inl refl); no_error = no_error }
+come_to_then start Takes_lcs t from p mine no_error is h = record { request = h.request; among = inr h.among; asks = h.asks; packet = h.packet; heard = h.heard; no_error = h.no_error }
+come_to_then start Takes_lcl t from p mine no_error is h = record { request = h.request; among = inr h.among; asks = h.asks; packet = h.packet; heard = h.heard; no_error = h.no_error }
+come_to_then start Reads_lui t from p mine no_error is h = tt
+come_to_then start Takes_lus t from p mine no_error is h = tt
 
 module _ (media : Media) (e : Event) (log : List Event) where
   abbrev before_now : LoaderReading
@@ -82,7 +82,7 @@ module _ (media : Media) (e : Event) (log : List Event) where
         ended = is ∙ h.ended;
         mine = t ∷ h.mine;
         past = past_is ∙ ends.past ∙ ap (λ (ts : List Transfer). t ∷ ts) h.past;
-        written = subst (λ (x : LoaderRow). HasWritten s.start x (t ∷ h.mine)) (sym row) (written_then s.start (loader_row s) ends.live ends.from ends.packet h.mine ends.no_error of_row h.written);
+        come_to = subst (λ (x : LoaderRow). HasComeTo s.start x (t ∷ h.mine)) (sym row) (come_to_then s.start (loader_row s) ends.live ends.from ends.packet h.mine ends.no_error of_row h.come_to);
       }
 
   by_change : (live : Option SessionLog) (change : LoaderChange) → FitsLoaderChange before_now.end live moves_now change → BeginsBy media e change → begun_by change ≡ started_by e → LoaderRoleFits before_now.end live → LiveIsOfNewestStart media log live
@@ -101,7 +101,7 @@ module _ (media : Media) (e : Event) (log : List Event) where
     ended = refl;
     mine = [];
     past = past_is ∙ past;
-    written = subst (λ (row : LoaderRow). HasWritten start row []) (sym (row_of_none start.kind)) (first_written start start.kind []);
+    come_to = subst (λ (row : LoaderRow). HasComeTo start row []) (sym (row_of_none start.kind)) (first_come_to start start.kind []);
   }
   by_change (Some s) (Continues more) (role_then, past, fresh) begins none role h is = record {
     since = e ∷ h.since;
@@ -113,7 +113,7 @@ module _ (media : Media) (e : Event) (log : List Event) where
     ended = is ∙ h.ended;
     mine = h.mine;
     past = past_is ∙ past ∙ h.past;
-    written = h.written;
+    come_to = h.come_to;
   }
   by_change (Some s) Advances (role_then, ends, fresh) begins none role h is = advanced s ends none role h is
 

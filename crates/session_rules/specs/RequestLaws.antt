@@ -154,7 +154,7 @@ module _ (media : Media) (v : EndView) (e : Event) (live : Option loader.LoaderS
   tick_fits (Some s) = fit_if (may_repeat v) _ _ ((tt, tt), tt) ((tt, tt), tt)
 
 listed_fits : (media : Media) (v : EndView) (live : Option loader.LoaderSession) (hw pos : List ℕ) (parts : List (List ℕ)) (found : Result (List Wanted) (List ℕ)) → length parts ≤ 32 → wanted_of media.loads parts ≡ found → Fit media v (Starts_upload hw pos parts) live (loader.listed_upload v hw pos found)
-listed_fits media v live hw pos parts (Ok loads) few is = start_fits media v (Starts_upload hw pos parts) live (record { kind = Upload; hw = hw; pos = pos; loads = loads }) (few, is)
+listed_fits media v live hw pos parts (Ok loads) few is = start_fits media v (Starts_upload hw pos parts) live (record { kind = Upload; hw = hw; pos = pos; loads = loads }) (refl, few, is)
 listed_fits media v live hw pos parts (Err part) few is = ((tt, tt), tt)
 
 got_fits : (media : Media) (v : loader.LoaderView) (from to : ℕ) (bytes : List ℕ) (p : Option PacketView) → Fit media v.end (Gets from to bytes) v.live (loader.got_decision media v from to p)
@@ -183,7 +183,7 @@ LiveIsStarted media log None = Unit {0}
 LiveIsStarted media log (Some s) = s.start.kind ≡ Upload → AreStarted media log s.start.loads
 
 begun_started : (media : Media) (e : Event) (log : List Event) (start : loader.Start) → IsStartedBy media e start → start.kind ≡ Upload → AreStarted media (e ∷ log) start.loads
-begun_started media (Starts_upload hw pos parts) log start by upload = record { hw = hw; pos = pos; parts = parts; among = inl refl; few = by.0; found = by.1 }
+begun_started media (Starts_upload hw pos parts) log start by upload = record { hw = hw; pos = pos; parts = parts; among = inl refl; few = by.1; found = by.2 }
 begun_started media (Starts_info hw pos) log start by upload = absurd (let wrong : Info ≡ Upload = sym by ∙ upload in cc)
 begun_started media (Gets from to bytes) log start by upload = absurd by
 begun_started media Ticks log start by upload = absurd by
