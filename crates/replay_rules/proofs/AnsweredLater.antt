@@ -130,18 +130,23 @@ mine_on me them mine theirs later posted then one other_one grows one_then other
 
 -- ---- a trace
 
+-- what is asked of a trace holds of the steps before
+pub one_before : (set : Setting) (s : Step) (earlier : List Step) → IsUninjected set (s ∷ earlier) → IsUninjected set earlier
+one_before set s earlier is = record { due = is.due.1; noted = is.noted.1; honest = is.honest.1; injected = is.injected.1; carries = is.carries.1 }
+
+pub all_before : (set : Setting) (since steps : List Step) → IsUninjected set (since ++ steps) → IsUninjected set steps
+all_before set [] steps is = is
+all_before set (s ∷ since) steps is = all_before set since steps (one_before set s (since ++ steps) is)
+
 -- so it is after the newest step, before the target may go down in it
 abbrev pub AllAnswersRise : Setting → List Step → Type 0
 AllAnswersRise set [] = Unit {0}
 AllAnswersRise set (s ∷ earlier) = AnswersRise (loader_transfers set (s ∷ earlier)) (target_transfers set s earlier) × AllAnswersRise set earlier
 
 module _ (joins : SumsJoin) (moves : MovesStayFair) (set : Setting) where
-  pub uninjected : (s : Step) (earlier : List Step) → IsUninjected set (s ∷ earlier) → IsUninjected set earlier
-  uninjected s earlier is = record { due = is.due.1; noted = is.noted.1; honest = is.honest.1; injected = is.injected.1; carries = is.carries.1 }
-
   module _ (s : Step) (earlier : List Step) (is : IsUninjected set (s ∷ earlier)) where
     abbrev fair_before : TraceIsFair set earlier
-    fair_before = trace_is_fair joins moves set earlier (uninjected s earlier is)
+    fair_before = trace_is_fair joins moves set earlier (one_before set s earlier is)
 
     abbrev pub posted_between : List DatagramView
     posted_between = posted_in earlier ++ due_of_loader set (loader_at set earlier) (event_for sides.Loader (posted_in earlier) s.given)
@@ -183,5 +188,5 @@ module _ (joins : SumsJoin) (moves : MovesStayFair) (set : Setting) where
   pub answers_rise : (steps : List Step) → IsUninjected set steps → AnswersRise (loader_transfers set steps) (transfers_of (target_at set steps) ++ former_at set steps) × AllAnswersRise set steps
   answers_rise [] is = (none_rises, tt)
   answers_rise (s ∷ earlier) is =
-      let before = answers_rise earlier (uninjected s earlier is) in
+      let before = answers_rise earlier (one_before set s earlier is) in
       (noted_rises s earlier is s.notes before.0, (target_rises s earlier is before.0, before.1))

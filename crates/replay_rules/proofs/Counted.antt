@@ -1,5 +1,5 @@
 -- Proofs that what a completed upload installed stays, until a later installation replaces it.
-use Rattle.std.proofs.Common.{◌≡◌, ◌⊎◌, inl, inr, ⊎_elim, ℕ, suc, ◌+◌, Bool, true, false, cond, List, [], ◌∷◌, ◌++◌, Option, Some, None, refl, sym, ap, subst, ◌∙◌, arith}
+use Rattle.std.proofs.Common.{◌≡◌, ◌⊎◌, inl, inr, ℕ, ◌+◌, Bool, true, false, cond, List, [], ◌∷◌, ◌++◌, Option, Some, None, refl, sym, ap, subst, ◌∙◌, arith, append_assoc}
 use Rattle.std.specs.Prelude.{◌==◌}
 use Rattle.std.proofs.lemmas.Bool.{eq-eqb, eqb-true}
 use Rattle.disk_layout.specs.Holds.{StandingView}
@@ -19,8 +19,8 @@ use Rattle.replay_rules.specs.ChangeLaws.{changes_are_new}
 use Rattle.replay_rules.specs.Changes.{AllStayOrAreNew, TargetStaysOrIsNew}
 use Rattle.replay_rules.specs.Due.{AllNoted, goes_down, is_up}
 use Rattle.replay_rules.specs.Histories.{active_at, active_by, active_in, brings, members_of, with_member}
-use Rattle.replay_rules.specs.OtherEndTraces.{IsUninjected}
 use Rattle.replay_rules.specs.OwnSessionTraces.{CompletedStays, IsCountedLast, WasInstalledInSession}
+use Rattle.replay_rules.proofs.AnsweredLater.{all_before}
 use Rattle.replay_rules.proofs.AskedFor.{RequestsAreRead}
 use Rattle.replay_rules.proofs.OwnSession.{completed_in_session, none_brought}
 use Rattle.replay_rules.proofs.SentTraces.{NotedAs, came_up, noted_as, nothing_noted, was_refused, went_down}
@@ -202,17 +202,13 @@ module _ (set : Setting) where
 
 -- ---- a trace
 
-pub before_of : (set : Setting) (since : List Step) (steps : List Step) → IsUninjected set (since ++ steps) → IsUninjected set steps
-before_of set [] steps is = is
-before_of set (s ∷ since) steps is = before_of set since steps (record { due = is.due.1; noted = is.noted.1; honest = is.honest.1; injected = is.injected.1; carries = is.carries.1 })
-
 pub completed_stays : SumsJoin → MovesStayFair → HeadersAreSpelled → PayloadsAreBytes → RequestsAreSpelled → RequestsAreRead → StatusesAreSpelled → CompletedStays
 completed_stays joins moves spells payloads requests reads statuses set since s earlier standing permits entries is ended completed =
-    let h : WasInstalledInSession set (s ∷ earlier) = (completed_in_session joins moves spells payloads requests reads statuses set (s ∷ earlier) permits entries (before_of set since (s ∷ earlier) is)).0 ended completed in
+    let h : WasInstalledInSession set (s ∷ earlier) = (completed_in_session joins moves spells payloads requests reads statuses set (s ∷ earlier) permits entries (all_before set since (s ∷ earlier) is)).0 ended completed in
     record { installed = h; stays = stays h }
   where
     split : (h : WasInstalledInSession set (s ∷ earlier)) → since ++ s ∷ earlier ≡ (since ++ h.since) ++ h.install ∷ (h.between ++ h.start ∷ h.before)
-    split h = ap (λ (x : List Step). since ++ x) h.split ∙ sym (Rattle.std.proofs.Common.append_assoc since h.since (h.install ∷ (h.between ++ h.start ∷ h.before)))
+    split h = ap (λ (x : List Step). since ++ x) h.split ∙ sym (append_assoc since h.since (h.install ∷ (h.between ++ h.start ∷ h.before)))
 
     stays : (h : WasInstalledInSession set (s ∷ earlier)) → IsCountedLast set (since ++ s ∷ earlier) standing h.new
     stays h =

@@ -10,6 +10,7 @@ pub mod Growing
 pub mod AnsweredLater
 pub mod EachBefore
 pub mod InstalledBefore
+pub mod NewestStart
 pub mod OwnSession
 pub mod Counted
 pub mod ListedBefore

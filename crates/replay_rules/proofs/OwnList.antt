@@ -1,5 +1,5 @@
 -- Proofs that completed information sessions list what was active in their own sessions.
-use Rattle.std.proofs.Common.{◌≡◌, ◌⊎◌, inl, inr, ⊎_elim, ℕ, ◌<◌, ◌≤◌, false, true, List, [], ◌∷◌, ◌++◌, Option, Some, None, Result, Ok, refl, sym, ap, subst, ◌∙◌, append-nil, arith}
+use Rattle.std.proofs.Common.{◌≡◌, ◌⊎◌, inl, inr, ⊎_elim, ℕ, ◌<◌, false, true, List, [], ◌∷◌, ◌++◌, Option, Some, None, Result, refl, sym, ap, subst, ◌∙◌, arith, cond, Bool}
 use Rattle.std.specs.Result.{result_ok}
 use Rattle.field_grammar.specs.Answers.{answer}
 use Rattle.load_protocol_files.specs.declared.fault.FileFault.{FileFault}
@@ -10,36 +10,33 @@ use Rattle.exchange_trace.specs.Happenings.{Booted, DatagramView, Delivered, End
 use Rattle.exchange_trace.specs.Logs.{Event, Gets, Learns, Starts_info, Starts_upload, Ticks, event_for, gets, logged, loader_log}
 use Rattle.exchange_trace.specs.Posts.{numbered, posted_in}
 use Rattle.exchange_trace.specs.Steps.{Step}
-use Rattle.transfer_end.specs.Moves.{past_with}
 use Rattle.transfer_end.specs.OtherEndLaws.{among_left, own_not_59}
-use Rattle.transfer_end.specs.OtherEnds.{Among, AnswersRequest, ComesFromEnd, IsAnsweredBy, MovesStayFair, OwnPortsRise, is_asking, of_end, of_none}
-use Rattle.transfer_end.specs.Readings.{mark_in}
-use Rattle.transfer_end.specs.Transfers.{Transfer, arrived_of, bound_to}
+use Rattle.transfer_end.specs.OtherEnds.{Among, AnswersRequest, ComesFromEnd, MovesStayFair, OwnPortsRise, is_asking, of_end, of_none}
+use Rattle.transfer_end.specs.Transfers.{Transfer, arrived_of}
 use Rattle.session_rules.specs.declared.outcome.Outcome.TheVariants.{Completed}
 use Rattle.session_rules.specs.declared.outcome.SessionKind.TheVariants.{Info, Upload}
 use Rattle.session_rules.specs.BufferLaws.{SumsJoin}
 use Rattle.session_rules.specs.Loader.{EndedSession, Start}
-use Rattle.session_rules.specs.LoaderLog.{LoaderReading, SessionLog, loader_extended, loader_reading}
-use Rattle.session_rules.specs.LoaderRoleLaws.{completed_lists_arrived, loader_roles_fit}
-use Rattle.session_rules.specs.LoaderRoles.{IsAboveMark, ListsArrived, LoaderRoleFits, ServedIsFresh}
+use Rattle.session_rules.specs.LoaderLog.{loader_extended, loader_reading}
+use Rattle.session_rules.specs.LoaderRoleLaws.{completed_lists_arrived}
+use Rattle.session_rules.specs.LoaderRoles.{ListsArrived}
 use Rattle.session_rules.specs.LoaderRows.{LoaderRow}
 use Rattle.session_rules.specs.MediaFiles.{Media}
-use Rattle.session_rules.specs.OwnSessionLaws.{sessions_are_of_newest_starts}
-use Rattle.session_rules.specs.OwnSessions.{HasComeTo, IsOfNewestStart, IsStartedBy, LiveIsOfNewestStart, WasAnswered}
+use Rattle.session_rules.specs.OwnSessions.{HasComeTo, IsStartedBy, WasAnswered}
 use Rattle.session_rules.specs.Reports.{lcl_file, lcl_of}
 use Rattle.replay_rules.specs.BothEnds.{Setting, TargetState, loader_at, reached, target_at}
 use Rattle.replay_rules.specs.Histories.{active_at}
 use Rattle.replay_rules.specs.ListTraces.{AllCanBeListed, AllListInSession, CompletedListsActive, ListsInSession, OwnFilesAreNamed}
 use Rattle.replay_rules.specs.OtherEndTraces.{IsUninjected, former_at, loader_transfers, target_transfers, transfers_of}
 use Rattle.replay_rules.specs.OwnSessionTraces.{NoneStarts}
-use Rattle.replay_rules.proofs.AnsweredLater.{TookOne, after, loader_grows_over, posted_then, took_one, uninjected}
-use Rattle.replay_rules.proofs.Counted.{before_of}
+use Rattle.replay_rules.proofs.AnsweredLater.{TookOne, after, loader_grows_over, posted_then, took_one, one_before, all_before}
 use Rattle.replay_rules.proofs.EachBefore.{IsOver, over_at}
 use Rattle.replay_rules.proofs.Growing.{GrowsTo, grows_none}
 use Rattle.replay_rules.proofs.ListedBefore.{ListWasDueAfter, WritesOver, target_lists_over}
 use Rattle.replay_rules.proofs.ListedTraces.{ListsAreRead, can_be_listed, false_is_true, longer, only_loader, reached_none, takes_receives, written_list}
-use Rattle.replay_rules.proofs.OwnSession.{IsNoStartEvent, Order, StartedAt, answered_by, asks_not, below_mark, no_start_given, older_than, one_first, order_of, rise_after, rise_apart, same_step, some_is, started_at, two_first}
+use Rattle.replay_rules.proofs.NewestStart.{AnsweredBelow, EndsNewest, Order, StartedAt, asks_not, ends_newest, older_ones, older_than, one_first, order_of, rise_apart, same_step, some_is, two_first}
 use Rattle.replay_rules.proofs.SentTraces.{TargetIsFair, TraceIsFair, trace_is_fair, what_arrives_was_sent}
+use Rattle.replay_rules.specs.Promises.{ListIsDue}
 
 -- ---- the start of an information session
 
@@ -63,17 +60,17 @@ given_info : (posted : List DatagramView) (h : HappeningView) (hw pos : List ℕ
 given_info posted (Info_started one two) hw pos e = let same : Starts_info one two ≡ Starts_info hw pos = cc in cc
 given_info posted (Delivered to n) hw pos e = absurd (by (is_same_side sides.Loader to) e)
   where
-    by : (b : _) → Rattle.std.proofs.Common.cond b (gets (numbered posted n)) None ≡ Some (Starts_info hw pos) → ⊥
+    by : (b : Bool) → cond b (gets (numbered posted n)) None ≡ Some (Starts_info hw pos) → ⊥
     by true f = gets_not (numbered posted n) hw pos f
     by false f = cc
 given_info posted (Injected d) hw pos e = absurd (by (is_same_side sides.Loader d.side) e)
   where
-    by : (b : _) → Rattle.std.proofs.Common.cond b None (gets (Some d)) ≡ Some (Starts_info hw pos) → ⊥
+    by : (b : Bool) → cond b None (gets (Some d)) ≡ Some (Starts_info hw pos) → ⊥
     by true f = cc
     by false f = cc
 given_info posted (Ticked whose) hw pos e = absurd (by (is_same_side sides.Loader whose) e)
   where
-    by : (b : _) → Rattle.std.proofs.Common.cond b (Some Ticks) None ≡ Some (Starts_info hw pos) → ⊥
+    by : (b : Bool) → cond b (Some Ticks) None ≡ Some (Starts_info hw pos) → ⊥
     by true f = cc
     by false f = cc
 given_info posted (Size_told size) hw pos e = absurd cc
@@ -88,71 +85,39 @@ given_info posted Ended hw pos e = absurd cc
 module _ (joins : SumsJoin) (moves : MovesStayFair) (reads : ListsAreRead) (set : Setting) (named : OwnFilesAreNamed set) where
   module _ (s : Step) (earlier : List Step) (is : IsUninjected set (s ∷ earlier)) (listable : AllCanBeListed set (s ∷ earlier)) (session : EndedSession) (e : Event) (comes : event_for sides.Loader (posted_in earlier) s.given ≡ Some e)
       (alone : event_for sides.Target (posted_in earlier) s.given ≡ None) (grows : (loader_at set (s ∷ earlier)).ended ≡ session ∷ (loader_at set earlier).ended) (h : ListsArrived set.media (loader_at set earlier) e session) where
-    abbrev log : List Event
-    log = loader_log earlier
+    abbrev n : EndsNewest set s earlier h.ends.session h.ends.live h.ends.transfer
+    n = ends_newest joins moves set s earlier is e comes h.ends
+
+    abbrev ended : Transfer
+    ended = h.ends.transfer
 
     -- ---- at the loader
 
-    own : IsOfNewestStart set.media log h.log
-    own = subst (λ (live : Option SessionLog). LiveIsOfNewestStart set.media log live) h.was_live (sessions_are_of_newest_starts set.media log)
+    info : InfoStarted n.own.event
+    info = info_started set.media n.own.event h.ends.session.start n.own.started h.info
 
-    info : InfoStarted own.event
-    info = info_started set.media own.event h.log.start own.started h.info
-
-    asked : WasAnswered own.mine
-    asked = subst (λ (row : LoaderRow). HasComeTo h.log.start row own.mine) h.row own.come_to
+    asked : WasAnswered n.own.mine
+    asked = subst (λ (row : LoaderRow). HasComeTo h.ends.session.start row n.own.mine) h.row n.own.come_to
 
     abbrev request : Transfer
     request = asked.request
 
     -- all that was over before the session
     abbrev older : List Transfer
-    older = past_with (loader_reading set.media own.before).end.live (loader_reading set.media own.before).end.past
+    older = older_ones set.media (loader_log earlier) h.ends.session n.own
 
-    roles : LoaderRoleFits (loader_at set earlier).end (Some h.log)
-    roles = subst (λ (live : Option SessionLog). LoaderRoleFits (loader_at set earlier).end live) h.was_live (loader_roles_fit set.media log)
-
-    live_above : IsAboveMark h.live.peer (loader_at set earlier).end.past
-    live_above = (subst (λ (live : Option Transfer). ServedIsFresh live (loader_at set earlier).end.past) h.going roles.1) (sym (ap (λ (t : Transfer). is_asking t.role) h.is) ∙ (takes_receives _ h.transfer.role h.role).1)
-
-    transfers_are : loader_transfers set (s ∷ earlier) ≡ h.transfer ∷ (own.mine ++ older)
-    transfers_are =
-        append-nil (past_with (loader_at set (s ∷ earlier)).end.live (loader_at set (s ∷ earlier)).end.past)
-        ∙ ap (λ (x : Option Event). past_with (loader_reading set.media (logged x log)).end.live (loader_reading set.media (logged x log)).end.past) comes
-        ∙ ap (λ (live : Option Transfer). past_with live (loader_extended set.media (loader_at set earlier) e).end.past) h.free
-        ∙ h.past ∙ ap (λ (ts : List Transfer). h.transfer ∷ ts) own.past
-
-    in_transfers : (t : Transfer) → Among t (h.transfer ∷ (own.mine ++ older)) → Among t (loader_transfers set (s ∷ earlier))
-    in_transfers t a = subst (λ (ts : List Transfer). Among t ts) (sym transfers_are) a
-
-    request_among : Among request (loader_transfers set (s ∷ earlier))
-    request_among = in_transfers request (inr (among_left request own.mine older asked.among))
+    in_transfers : (t : Transfer) → Among t (ended ∷ (n.own.mine ++ older)) → Among t (loader_transfers set (s ∷ earlier))
+    in_transfers t a = subst (λ (ts : List Transfer). Among t ts) (sym n.transfers) a
 
     fair : TargetIsFair (reached set (event_for sides.Target (posted_in earlier) s.given) (target_at set earlier)) (former_at set earlier) (loader_transfers set (s ∷ earlier)) (posted_then joins moves set s earlier is)
     fair = after joins moves set s earlier is
 
-    mine_rises : OwnPortsRise (own.mine ++ older)
-    mine_rises = rise_after (h.transfer ∷ []) (own.mine ++ older) (subst OwnPortsRise transfers_are fair.other_one.ports)
-
     -- ---- the transfer of the target that answered its request
-    answerer : (f : Transfer) × Among f (target_transfers set s earlier) × IsAnsweredBy request f
-    answerer = answered_by sides.Loader sides.Target (loader_transfers set (s ∷ earlier)) (target_transfers set s earlier) (posted_then joins moves set s earlier is) request asked.packet fair.other_one fair.one request_among asked.asks asked.heard asked.no_error
+    taken : AnsweredBelow set s earlier ended request
+    taken = n.answered request asked.packet asked.among asked.asks asked.heard asked.no_error (sym (ap (λ (t : Transfer). is_asking t.role) h.ends.is) ∙ (takes_receives _ ended.role h.role).1)
 
     abbrev f : Transfer
-    f = answerer.0
-
-    request_past : Among request (loader_at set earlier).end.past
-    request_past = subst (λ (ts : List Transfer). Among request ts) (sym own.past) (among_left request own.mine older asked.among)
-
-    f_below : (q : ℕ) → h.transfer.peer ≡ Some q → f.own < q
-    f_below q x = by h.live.peer live_above (sym (ap (λ (t : Transfer). t.peer) h.is) ∙ x)
-      where
-        by : (peer : Option ℕ) → IsAboveMark peer (loader_at set earlier).end.past → bound_to peer h.from ≡ Some q → f.own < q
-        by None above y = absurd above
-        by (Some p) above y =
-            let same : p ≡ q = some_is p q y in
-            let under : f.own ≤ mark_in (loader_at set earlier).end.past = below_mark (loader_at set earlier).end.past request f.own request_past answerer.2.port in
-            omega (arith, same, above, under)
+    f = taken.answer
 
     -- ---- the list
 
@@ -165,21 +130,21 @@ module _ (joins : SumsJoin) (moves : MovesStayFair) (reads : ListsAreRead) (set 
 
     record Listed : Type 0 where
       u : Transfer
-      port : h.transfer.peer ≡ Some u.own
+      port : ended.peer ≡ Some u.own
       newer : List Transfer
       earlier_ones : List Transfer
       split : target_transfers set s earlier ≡ newer ++ u ∷ earlier_ones
-      due : ListWasDueAfter set earlier earlier_ones (arrived_of h.transfer)
+      due : ListWasDueAfter set earlier earlier_ones (arrived_of ended)
 
     listed : Listed
-    listed = by ((what_arrives_was_sent joins moves set (s ∷ earlier) is).0.at_loader h.transfer (in_transfers h.transfer (inl refl)) (takes_receives _ h.transfer.role h.role).0)
+    listed = by ((what_arrives_was_sent joins moves set (s ∷ earlier) is).0.at_loader ended (in_transfers ended (inl refl)) (takes_receives _ ended.role h.role).0)
       where
-        by : ComesFromEnd (target_transfers set s earlier) h.transfer → Listed
+        by : ComesFromEnd (target_transfers set s earlier) ended → Listed
         by (of_none none not) = absurd (false_is_true (sym not ∙ h.received))
         by (of_end u b brings) =
             let o : IsOver (WritesOver set earlier) before_now u = over_at (WritesOver set earlier) before_now u (target_lists_over joins set earlier) (subst (λ (ts : List Transfer). Among u ts) target_is b) in
-            let request : AnswersRequest h.transfer u = ⊎_elim (λ (x : AnswersRequest h.transfer u). x) (λ (x : AnswersRequest u h.transfer). asks_not _ h.transfer.role x.asks (takes_receives _ h.transfer.role h.role).1) brings.ends.request in
-            let (tells, due) = written_list set (ListWasDueAfter set earlier o.earlier) h.log.start.hw h.log.start.pos h.transfer.role u.role brings.file named h.role request.asks brings.sent request.request request.are_bytes o.over in
+            let request : AnswersRequest ended u = ⊎_elim (λ (x : AnswersRequest ended u). x) (λ (x : AnswersRequest u ended). asks_not _ ended.role x.asks (takes_receives _ ended.role h.role).1) brings.ends.request in
+            let (tells, due) = written_list set (ListWasDueAfter set earlier o.earlier) h.ends.session.start.hw h.ends.session.start.pos ended.role u.role brings.file named h.role request.asks brings.sent request.request request.are_bytes o.over in
             record {
               u = u;
               port = brings.ends.port;
@@ -189,19 +154,19 @@ module _ (joins : SumsJoin) (moves : MovesStayFair) (reads : ListsAreRead) (set 
               due = subst (λ (file : List ℕ). ListWasDueAfter set earlier o.earlier file) (sym (brings.whole tells h.received)) due;
             }
 
-    abbrev due : ListWasDueAfter set earlier listed.earlier_ones (arrived_of h.transfer)
+    abbrev due : ListWasDueAfter set earlier listed.earlier_ones (arrived_of ended)
     due = listed.due
 
     -- the answer began before the list
     f_made : Among f (target_transfers set due.made due.before)
     f_made =
         subst (λ (ts : List Transfer). Among f ts) (sym due.transfers)
-        (inr (older_than listed.newer listed.u listed.earlier_ones f (subst OwnPortsRise listed.split fair.one.ports) (subst (λ (ts : List Transfer). Among f ts) listed.split answerer.1) (f_below listed.u.own listed.port)))
+        (inr (older_than listed.newer listed.u listed.earlier_ones f (subst OwnPortsRise listed.split fair.one.ports) (subst (λ (ts : List Transfer). Among f ts) listed.split taken.among) (taken.below listed.u.own listed.port)))
 
     -- ---- the steps
 
-    start_at : StartedAt earlier own.event own.before
-    start_at = started_at earlier own.since own.event own.before own.split own.newest
+    abbrev start_at : StartedAt earlier n.own.event n.own.before
+    start_at = n.start
 
     comes_at : event_for sides.Loader (posted_in start_at.before) start_at.start.given ≡ Some (Starts_info info.hw info.pos)
     comes_at = start_at.comes ∙ ap (λ (x : Event). Some x) info.is
@@ -211,36 +176,31 @@ module _ (joins : SumsJoin) (moves : MovesStayFair) (reads : ListsAreRead) (set 
     not_from theirs grown took = by took.from
       where
         same : took.peer ≡ request.own
-        same = some_is took.peer request.own (sym took.bound ∙ answerer.2.back)
-
-        is_older : (x : Transfer) → Among x (loader_transfers set start_at.before) → Among x older
-        is_older x a =
-            subst (λ (r : LoaderReading). Among x (past_with r.end.live r.end.past)) (ap (loader_reading set.media) start_at.is)
-            (subst (λ (ts : List Transfer). Among x ts) (append-nil (past_with (loader_at set start_at.before).end.live (loader_at set start_at.before).end.past)) a)
+        same = some_is took.peer request.own (sym took.bound ∙ taken.answers.back)
 
         by : (took.peer ≡ 59) ⊎ ((w : Transfer) × Among w theirs × (w.own ≡ took.peer)) → ⊥
-        by (inl is_59) = own_not_59 (loader_transfers set (s ∷ earlier)) request fair.other_one.ports request_among (sym same ∙ is_59)
+        by (inl is_59) = own_not_59 (ended ∷ (n.own.mine ++ older)) request n.rises (inr (among_left request n.own.mine older asked.among)) (sym same ∙ is_59)
         by (inr (w, b, own_is)) =
             let (z, c, also) = grown.kept w b in
-            let less : z.own < request.own = rise_apart own.mine older request z mine_rises asked.among (is_older z c) in
+            let less : z.own < request.own = rise_apart n.own.mine older request z n.rises.2 asked.among (n.before_start z c) in
             omega (arith, less, also, own_is, same)
 
     before_start : IsUninjected set start_at.before
-    before_start = uninjected joins moves set start_at.start start_at.before (before_of set start_at.since (start_at.start ∷ start_at.before) (subst (λ (x : List Step). IsUninjected set x) start_at.split (uninjected joins moves set s earlier is)))
+    before_start = one_before set start_at.start start_at.before (all_before set start_at.since (start_at.start ∷ start_at.before) (subst (λ (x : List Step). IsUninjected set x) start_at.split (one_before set s earlier is)))
 
     at_made : IsUninjected set (due.made ∷ due.before)
-    at_made = before_of set due.since (due.made ∷ due.before) (subst (λ (x : List Step). IsUninjected set x) due.split (uninjected joins moves set s earlier is))
+    at_made = all_before set due.since (due.made ∷ due.before) (subst (λ (x : List Step). IsUninjected set x) due.split (one_before set s earlier is))
 
     not_before : (between : List Step) → start_at.before ≡ between ++ due.made ∷ due.before → ⊥
     not_before between same =
         not_from (loader_transfers set (due.made ∷ due.before)) (subst (λ (x : List Step). GrowsTo (loader_transfers set (due.made ∷ due.before)) (loader_transfers set x)) (sym same) (loader_grows_over set between (due.made ∷ due.before)))
         (took_one sides.Target sides.Loader (target_transfers set due.made due.before) (loader_transfers set (due.made ∷ due.before)) (posted_then joins moves set due.made due.before at_made) f (after joins moves set due.made due.before at_made).one
-        (after joins moves set due.made due.before at_made).other_one f_made answerer.2.serves)
+        (after joins moves set due.made due.before at_made).other_one f_made taken.answers.serves)
 
     not_at : due.made ≡ start_at.start → due.before ≡ start_at.before → ⊥
     not_at same same_before =
         not_from (loader_transfers set start_at.before) (grows_none (loader_transfers set start_at.before))
-        (took_one sides.Target sides.Loader (transfers_of (target_at set start_at.before) ++ former_at set start_at.before) (loader_transfers set start_at.before) (posted_in start_at.before) f fair_there.target.one fair_there.target.other_one there answerer.2.serves)
+        (took_one sides.Target sides.Loader (transfers_of (target_at set start_at.before) ++ former_at set start_at.before) (loader_transfers set start_at.before) (posted_in start_at.before) f fair_there.target.one fair_there.target.other_one there taken.answers.serves)
       where
         fair_there : TraceIsFair set start_at.before
         fair_there = trace_is_fair joins moves set start_at.before before_start
@@ -254,11 +214,6 @@ module _ (joins : SumsJoin) (moves : MovesStayFair) (reads : ListsAreRead) (set 
             subst (λ (state : TargetState). Among f (transfers_of state ++ former_at set start_at.before)) (reached_none set (target_at set start_at.before))
             (subst (λ (x : Option Event). Among f (transfers_of (reached set x (target_at set start_at.before)) ++ former_at set start_at.before)) (only (only_loader (posted_in start_at.before) start_at.start.given (Starts_info info.hw info.pos) comes_at))
             (subst (λ (x : List Step). Among f (target_transfers set start_at.start x)) same_before (subst (λ (x : Step). Among f (target_transfers set x due.before)) same f_made)))
-
-    ended_is : (loader_at set (start_at.start ∷ start_at.before)).ended ≡ (loader_reading set.media (own.event ∷ own.before)).ended
-    ended_is =
-        ap (λ (x : Option Event). (loader_reading set.media (logged x (loader_log start_at.before))).ended) start_at.comes
-        ∙ ap (λ (x : List Event). (loader_reading set.media (own.event ∷ x)).ended) start_at.is
 
     listed_is : session.listed ≡ Some (lcl_of (outline_of (active_at set due.before)))
     listed_is =
@@ -282,9 +237,9 @@ module _ (joins : SumsJoin) (moves : MovesStayFair) (reads : ListsAreRead) (set 
           pos = info.pos;
           split = ap (λ (z : List Step). s ∷ z) (due.split ∙ ap (λ (z : List Step). due.since ++ due.made ∷ z) x);
           starts = given_info (posted_in start_at.before) start_at.start.given info.hw info.pos comes_at;
-          newest = (no_start_given (posted_in earlier) s.given (subst IsNoStartEvent (sym comes) h.no_start), subst NoneStarts y start_at.newest);
-          one = grows ∙ ap (λ (z : List EndedSession). session ∷ z) (own.ended ∙ sym ended_is);
-          due = subst (λ (z : List Step). Rattle.replay_rules.specs.Promises.ListIsDue set (target_at set (due.made ∷ z))) x due.due;
+          newest = (n.no_start, subst NoneStarts y start_at.newest);
+          one = grows ∙ ap (λ (z : List EndedSession). session ∷ z) (sym n.ended_then);
+          due = subst (λ (z : List Step). ListIsDue set (target_at set (due.made ∷ z))) x due.due;
           listed = subst (λ (z : List Step). session.listed ≡ Some (lcl_of (outline_of (active_at set z)))) x listed_is;
         }
 
@@ -302,7 +257,7 @@ module _ (joins : SumsJoin) (moves : MovesStayFair) (reads : ListsAreRead) (set 
 
   all_list : (steps : List Step) → IsUninjected set steps → AllCanBeListed set steps → AllListInSession set steps
   all_list [] is listable = tt
-  all_list (s ∷ earlier) is listable = (λ session. lists_where_completed s earlier is listable session, all_list earlier (uninjected joins moves set s earlier is) listable.1)
+  all_list (s ∷ earlier) is listable = (λ session. lists_where_completed s earlier is listable session, all_list earlier (one_before set s earlier is) listable.1)
 
 pub completed_lists_active : SumsJoin → MovesStayFair → ListsAreRead → CompletedListsActive
 completed_lists_active joins moves reads set steps is named listable = all_list joins moves reads set named steps is listable

@@ -1,24 +1,19 @@
 -- Proofs that completed uploads were installed in their own sessions.
-use Rattle.std.proofs.Common.{◌≡◌, ◌⊎◌, inl, inr, ⊎_elim, ℕ, ◌<◌, ◌≤◌, Bool, true, false, List, [], ◌∷◌, ◌++◌, length, map, Option, Some, None, Ok, refl, sym, ap, subst, ◌∙◌, append_assoc, append-nil, arith}
+use Rattle.std.proofs.Common.{◌≡◌, ◌⊎◌, inl, inr, ⊎_elim, ℕ, ◌<◌, ◌≤◌, Bool, true, false, List, [], ◌∷◌, ◌++◌, length, map, Option, Some, None, Ok, refl, sym, ap, subst, ◌∙◌, append_assoc, arith, cond}
+use Rattle.std.proofs.lemmas.Bool.{eq-eqb}
 use Rattle.field_grammar.specs.Grammar.{IsBytes}
 use Rattle.load_header.specs.Header.{HeaderView}
 use Rattle.load_protocol_files.specs.declared.lur.Wanted.{Wanted}
 use Rattle.load_protocol_files.specs.Lur.{LurSpells}
 use Rattle.disk_layout.specs.Holds.{StandingView}
-use Rattle.tftp_packet.specs.Packets.{Error, PacketView, packet_bytes}
 use Rattle.exchange_trace.specs.declared.trace.Side.TheVariants as sides
-use Rattle.exchange_trace.specs.Happenings.{Booted, DatagramView, Delivered, Ended, HappeningView, Info_started, Injected, Lost, Power_cut, Size_told, Ticked, Upload_started}
 use Rattle.exchange_trace.specs.Logs.{Event, Gets, Learns, Starts_info, Starts_upload, Ticks, event_for, logged, loader_log}
 use Rattle.exchange_trace.specs.Posts.{posted_in}
 use Rattle.exchange_trace.specs.Steps.{Step}
 use Rattle.accept_rules.specs.Permissions.{Permits}
-use Rattle.transfer_end.specs.Moves.{past_with}
-use Rattle.transfer_end.specs.OtherEndLaws.{all_at, among_either, among_right, own_not_59}
-use Rattle.transfer_end.specs.OtherEnds.{Among, AnswersRequest, Brought, BroughtFrom, ComesFromEnd, HasBegun, IsAnsweredBy, IsFair, IsPostOfSide, MovesStayFair, OwnPortsRise, TellsLength, answered, file_sent, is_asking, of_end, of_none, of_refusal, of_transfer, refused, served, unanswered}
-use Rattle.transfer_end.specs.Packets.{packet_in}
-use Rattle.transfer_end.specs.Readings.{mark_in, raised_by}
-use Rattle.transfer_end.specs.SentPacketLaws.{written_is_read}
-use Rattle.transfer_end.specs.Transfers.{Reads, Role, ServesRead, ServesWrite, Transfer, Writes, arrived_of, bound_to}
+use Rattle.transfer_end.specs.OtherEndLaws.{all_at, among_either, among_right}
+use Rattle.transfer_end.specs.OtherEnds.{Among, AnswersRequest, ComesFromEnd, MovesStayFair, OwnPortsRise, TellsLength, file_sent, is_asking, of_end, of_none}
+use Rattle.transfer_end.specs.Transfers.{Reads, Role, ServesRead, ServesWrite, Transfer, Writes, arrived_of}
 use Rattle.session_rules.specs.declared.outcome.Outcome.TheVariants.{Completed}
 use Rattle.session_rules.specs.declared.outcome.SessionKind.TheVariants.{Info, Upload}
 use Rattle.session_rules.specs.BufferLaws.{SumsJoin}
@@ -26,179 +21,32 @@ use Rattle.session_rules.specs.CompletionLaws.{completed_upload_arrived}
 use Rattle.session_rules.specs.Completions.{CompletionArrived, SaysCompleted}
 use Rattle.session_rules.specs.HeardLaws.{loader_takes_what_came}
 use Rattle.session_rules.specs.Loader.{EndedSession, Start}
-use Rattle.session_rules.specs.LoaderLog.{LoaderReading, SessionLog, loader_extended, loader_reading, newest}
-use Rattle.session_rules.specs.LoaderRoleLaws.{loader_roles_fit}
-use Rattle.session_rules.specs.LoaderRoles.{IsAboveMark, IsNoError, IsOfLoaderRow, LoaderLiveFits, LoaderRoleFits, WritesLur, loader_row}
+use Rattle.session_rules.specs.LoaderLog.{loader_extended, loader_reading, newest}
+use Rattle.session_rules.specs.LoaderRoles.{IsOfLoaderRow, LoaderLiveFits, WritesLur, loader_row}
 use Rattle.session_rules.specs.LoaderRows.{LoaderRow}
 use Rattle.session_rules.specs.MediaFiles.{Media, wanted_of}
-use Rattle.session_rules.specs.OwnSessionLaws.{sessions_are_of_newest_starts}
-use Rattle.session_rules.specs.OwnSessions.{HasComeTo, IsOfNewestStart, IsStartedBy, LiveIsOfNewestStart, HasNoStart, RequestWritten}
+use Rattle.session_rules.specs.OwnSessions.{HasComeTo, IsStartedBy, RequestWritten}
 use Rattle.session_rules.specs.ReadFileLaws.{RequestsAreSpelled}
 use Rattle.session_rules.specs.Reports.{lur_file}
-use Rattle.session_rules.specs.Sessions.{started_by}
 use Rattle.session_rules.specs.SoundLogLaws.{PayloadsAreBytes, newest_bytes}
 use Rattle.session_rules.specs.SoundLogs.{LogIsBytes}
 use Rattle.session_rules.specs.SoundnessLaws.{HeadersAreSpelled}
 use Rattle.replay_rules.specs.AskedTraces.{EntriesFit}
 use Rattle.replay_rules.specs.BothEnds.{Is_down, Is_up, Setting, TargetState, changed, loader_at, reached, target_at}
-use Rattle.replay_rules.specs.FaultFree.{IsNoStart}
+use Rattle.replay_rules.specs.CompletedTraces.{IsToldInTime}
 use Rattle.replay_rules.specs.Histories.{active_in, brings}
 use Rattle.replay_rules.specs.OtherEndTraces.{AllArriveAsSent, ArrivesAsSent, IsUninjected, former_at, loader_transfers, target_transfers, transfers_of}
 use Rattle.replay_rules.specs.OwnSessionTraces.{AllInstalledInSession, CompletedInSession, NoneStarts, WasInstalledInSession}
 use Rattle.replay_rules.specs.Promises.{HasCompleted, HasEnded, HasParts}
-use Rattle.replay_rules.proofs.AnsweredLater.{after, answer_rises, answers_rise, loader_grows_over, posted_then, uninjected}
+use Rattle.replay_rules.proofs.AnsweredLater.{after, answer_rises, answers_rise, loader_grows_over, posted_then, one_before}
 use Rattle.replay_rules.proofs.AskedFor.{RequestsAreRead, found_fits, given_starts, one_request, started_spells}
 use Rattle.replay_rules.proofs.EachBefore.{IsOver, over_at}
 use Rattle.replay_rules.proofs.InstalledBefore.{IsInstalledBefore, TellsOver, target_tells_over}
 use Rattle.replay_rules.proofs.ListedTraces.{false_is_true, longer, only_loader, reached_none}
+use Rattle.replay_rules.proofs.NewestStart.{AnsweredBelow, EndsNewest, Order, StartedAt, asks_not, ends_newest, older_ones, older_than, one_first, order_of, rise_after, same_step, some_is, two_first}
 use Rattle.replay_rules.proofs.PortsApart.{PeerIsBelow}
 use Rattle.replay_rules.proofs.SentTraces.{TargetIsFair, what_arrives_was_sent}
 use Rattle.replay_rules.proofs.ToldTraces.{StatusesAreSpelled, loader_log_bytes, target_tells_in_time}
-
--- ---- lists of transfers
-
-pub some_is : (p q : ℕ) → Some p ≡ Some q → p ≡ q
-some_is p q e = cc
-
-pub asks_not : (A : Type 0) (role : Role) → is_asking role ≡ true → is_asking role ≡ false → A
-asks_not A role asks serves = absurd (let wrong : true ≡ false = sym asks ∙ serves in cc)
-
-pub rise_apart : (xs ys : List Transfer) (x y : Transfer) → OwnPortsRise (xs ++ ys) → Among x xs → Among y ys → y.own < x.own
-rise_apart [] ys x y rise a b = absurd a
-rise_apart (z ∷ xs) ys x y (low, below, rise) (inl same) b =
-    subst (λ (t : Transfer). y.own < t.own) same (all_at (λ (t : Transfer). t.own < z.own) (xs ++ ys) y below (among_right y xs ys b))
-rise_apart (z ∷ xs) ys x y (low, below, rise) (inr a) b = rise_apart xs ys x y rise a b
-
--- what is older than a member comes after it in the list
-pub older_than : (xs : List Transfer) (u : Transfer) (ys : List Transfer) (v : Transfer) → OwnPortsRise (xs ++ u ∷ ys) → Among v (xs ++ u ∷ ys) → v.own < u.own → Among v ys
-older_than xs u ys v rise a less = by (among_either v xs (u ∷ ys) a)
-  where
-    by : Among v xs ⊎ Among v (u ∷ ys) → Among v ys
-    by (inl b) = let above = rise_apart xs (u ∷ ys) v u rise b (inl refl) in absurd (omega (arith, above, less))
-    by (inr (inl same)) = let e : u.own ≡ v.own = ap (λ (t : Transfer). t.own) same in absurd (omega (arith, e, less))
-    by (inr (inr b)) = b
-
-pub rise_after : (xs ys : List Transfer) → OwnPortsRise (xs ++ ys) → OwnPortsRise ys
-rise_after [] ys rise = rise
-rise_after (x ∷ xs) ys (low, below, rise) = rise_after xs ys rise
-
-pub below_mark : (past : List Transfer) (w : Transfer) (port : ℕ) → Among w past → w.peer ≡ Some port → port ≤ mark_in past
-below_mark [] w port a e = absurd a
-below_mark (t ∷ past) w port (inl same) e = by t.peer (ap (λ (x : Transfer). x.peer) same ∙ e)
-  where
-    by : (peer : Option ℕ) → peer ≡ Some port → port ≤ raised_by (mark_in past) peer
-    by None f = absurd cc
-    by (Some p) f = let is : p ≡ port = some_is p port f in omega (arith, is)
-below_mark (t ∷ past) w port (inr a) e = by t.peer (below_mark past w port a e)
-  where
-    by : (peer : Option ℕ) → port ≤ mark_in past → port ≤ raised_by (mark_in past) peer
-    by None h = h
-    by (Some p) h = omega (arith, h)
-
--- ---- which transfer answered a request
-
-no_bytes : IsBytes []
-no_bytes i = omega arith
-
-error_is_read : packet_in (packet_bytes (Error 1 [])) ≡ Some (Error 1 [])
-error_is_read = written_is_read (Error 1 []) (omega arith, no_bytes) refl
-
--- the other end of a transfer that got a packet that is no ERROR
-pub answered_by : (me them : _) (mine theirs : List Transfer) (posted : List DatagramView) (w : Transfer) (p : PacketView) → IsFair me them mine theirs posted → IsFair them me theirs mine posted → Among w mine → is_asking w.role ≡ true → Among p w.got → IsNoError p
-    → (v : Transfer) × Among v theirs × IsAnsweredBy w v
-answered_by me them mine theirs posted w p one other_one a asks heard no_error = by (one.begun w a)
-  where
-    error_not : (x : PacketView) → Some (Error 1 []) ≡ Some x → IsNoError x → ⊥
-    error_not x e none = let same : Error 1 [] ≡ x = cc in subst IsNoError (sym same) none
-
-    of_post : (h : Brought posted them 59 w.own p) → IsPostOfSide theirs (record { side = them; from = 59; to = w.own; bytes = h.bytes }) → ⊥
-    of_post h (of_transfer u b post) = own_not_59 theirs u other_one.ports b (sym post.port)
-    of_post h (of_refusal port bytes) = error_not p (sym error_is_read ∙ ap packet_in (sym bytes) ∙ h.spells) no_error
-
-    not_refused : w.peer ≡ Some 59 → ⊥
-    not_refused is_59 =
-        let h : Brought posted them 59 w.own p = subst (λ (peer : Option ℕ). BroughtFrom posted them w.own peer p) is_59 (all_at (BroughtFrom posted them w.own w.peer) w.got p (one.got w a) heard) in
-        of_post h (other_one.posts (record { side = them; from = 59; to = w.own; bytes = h.bytes }) h.among refl)
-
-    by : HasBegun posted them theirs w → (v : Transfer) × Among v theirs × IsAnsweredBy w v
-    by (served serves took) = asks_not _ w.role asks serves
-    by (unanswered also none got) = absurd (subst (λ (ps : List PacketView). Among p ps) got heard)
-    by (refused also is_59) = absurd (not_refused is_59)
-    by (answered also v b is) = (v, b, is)
-
--- ---- steps
-
-abbrev pub IsNoStartEvent : Option Event → Type 0
-IsNoStartEvent None = Unit {0}
-IsNoStartEvent (Some e) = started_by e ≡ []
-
-pub no_start_given : (posted : List DatagramView) (h : HappeningView) → IsNoStartEvent (event_for sides.Loader posted h) → IsNoStart h
-no_start_given posted (Info_started hw pos) none = absurd cc
-no_start_given posted (Upload_started hw pos parts) none = absurd cc
-no_start_given posted (Delivered to n) none = tt
-no_start_given posted (Lost n) none = tt
-no_start_given posted (Injected d) none = tt
-no_start_given posted (Ticked whose) none = tt
-no_start_given posted (Size_told size) none = tt
-no_start_given posted (Power_cut calls pick) none = tt
-no_start_given posted Booted none = tt
-no_start_given posted Ended none = tt
-
--- the step of an event of the loader's log after which nothing was started
-pub record StartedAt (steps : List Step) (event : Event) (log : List Event) : Type 0 where
-  pub since : List Step
-  pub start : Step
-  pub before : List Step
-  pub split : steps ≡ since ++ start ∷ before
-  pub newest : NoneStarts since
-  pub comes : event_for sides.Loader (posted_in before) start.given ≡ Some event
-  pub is : loader_log before ≡ log
-
-pub started_at : (steps : List Step) (since : List Event) (event : Event) (log : List Event) → loader_log steps ≡ since ++ event ∷ log → HasNoStart since → StartedAt steps event log
-started_at [] [] event log e none = absurd cc
-started_at [] (x ∷ since) event log e none = absurd cc
-started_at (s ∷ earlier) since event log e none = by (event_for sides.Loader (posted_in earlier) s.given) (λ before f none_then. started_at earlier before event log f none_then) refl since e none
-  where
-    later : IsNoStart s.given → StartedAt earlier event log → StartedAt (s ∷ earlier) event log
-    later no_start h = record { since = s ∷ h.since; start = h.start; before = h.before; split = ap (λ (x : List Step). s ∷ x) h.split; newest = (no_start, h.newest); comes = h.comes; is = h.is }
-
-    given : (x : Option Event) → event_for sides.Loader (posted_in earlier) s.given ≡ x → IsNoStartEvent x → IsNoStart s.given
-    given x comes h = no_start_given (posted_in earlier) s.given (subst IsNoStartEvent (sym comes) h)
-
-    head_is : (x y : Event) (xs ys : List Event) → x ∷ xs ≡ y ∷ ys → (x ≡ y) × (xs ≡ ys)
-    head_is x y xs ys f = (cc, cc)
-
-    by : (x : Option Event) → ((before : List Event) → loader_log earlier ≡ before ++ event ∷ log → HasNoStart before → StartedAt earlier event log) → event_for sides.Loader (posted_in earlier) s.given ≡ x → (since : List Event) → logged x (loader_log earlier) ≡ since ++ event ∷ log
-        → HasNoStart since → StartedAt (s ∷ earlier) event log
-    by None rest comes since e none = later (given None comes tt) (rest since e none)
-    by (Some x) rest comes [] e none =
-        let (head, tail) = head_is x event (loader_log earlier) log e in
-        record { since = []; start = s; before = earlier; split = refl; newest = tt; comes = comes ∙ ap (λ (y : Event). Some y) head; is = tail }
-    by (Some x) rest comes (y ∷ since) e (first, none) =
-        let (head, tail) = head_is x y (loader_log earlier) (since ++ event ∷ log) e in later (given (Some x) comes (ap started_by head ∙ first)) (rest since tail none)
-
--- of two steps of a trace, which is the earlier one
-pub data Order (one two : Step) (since before since_two before_two : List Step) : Type 0 where
-  one_first : (between : List Step) → before_two ≡ between ++ one ∷ before → Order one two since before since_two before_two
-  same_step : one ≡ two → before ≡ before_two → Order one two since before since_two before_two
-  two_first : (between : List Step) → before ≡ between ++ two ∷ before_two → since_two ≡ since ++ one ∷ between → Order one two since before since_two before_two
-
-step_is : (x y : Step) (xs ys : List Step) → x ∷ xs ≡ y ∷ ys → (x ≡ y) × (xs ≡ ys)
-step_is x y xs ys f = (cc, cc)
-
-pub order_of : (since since_two : List Step) (one two : Step) (before before_two : List Step) → since ++ one ∷ before ≡ since_two ++ two ∷ before_two → Order one two since before since_two before_two
-order_of [] [] one two before before_two e = let (head, tail) = step_is one two before before_two e in same_step head tail
-order_of [] (y ∷ ys) one two before before_two e =
-    let (head, tail) = step_is one y before (ys ++ two ∷ before_two) e in two_first ys tail (ap (λ (z : Step). z ∷ ys) (sym head))
-order_of (x ∷ xs) [] one two before before_two e =
-    let (head, tail) = step_is x two (xs ++ one ∷ before) before_two e in one_first xs (sym tail)
-order_of (x ∷ xs) (y ∷ ys) one two before before_two e =
-    let (head, tail) = step_is x y (xs ++ one ∷ before) (ys ++ two ∷ before_two) e in later (order_of xs ys one two before before_two tail) head
-  where
-    later : Order one two xs before ys before_two → x ≡ y → Order one two (x ∷ xs) before (y ∷ ys) before_two
-    later (one_first between f) head = one_first between f
-    later (same_step f g) head = same_step f g
-    later (two_first between f g) head = two_first between f (ap (λ (zs : List Step). y ∷ zs) g ∙ ap (λ (z : Step). z ∷ (xs ++ one ∷ between)) (sym head))
 
 -- ---- the start of an upload
 
@@ -231,7 +79,7 @@ request_file start (ServesRead name o f) file arrived is sent whole = absurd is
 request_file start (ServesWrite name o) file arrived is sent whole = absurd is
 
 -- a file that says that all is installed is one that the target asked to write
-over_told : (set : Setting) (steps : List Step) (role : Role) (file : List ℕ) (earlier : List Transfer) → file_sent role ≡ Some file → (TellsLength role → SaysCompleted file) → Rattle.replay_rules.specs.CompletedTraces.IsToldInTime set steps role → TellsOver set steps role earlier → IsInstalledBefore set steps earlier
+over_told : (set : Setting) (steps : List Step) (role : Role) (file : List ℕ) (earlier : List Transfer) → file_sent role ≡ Some file → (TellsLength role → SaysCompleted file) → IsToldInTime set steps role → TellsOver set steps role earlier → IsInstalledBefore set steps earlier
 over_told set steps (Writes name o f) file earlier sent says told over = let same : file ≡ f = cc in over (subst SaysCompleted same (says tt))
 over_told set steps (ServesRead name o f) file earlier sent says (size, told) over = let same : file ≡ f = cc in absurd (told (subst SaysCompleted same (says size)))
 over_told set steps (Reads name o) file earlier sent says told over = absurd cc
@@ -246,7 +94,7 @@ pub none_brought : (set : Setting) (s : Step) (before : List Step) (new : Standi
 none_brought set s before new none e = by (target_at set before) (sym (ap (λ (x : Option Event). changed (active_in (target_at set before)) (active_in (reached set x (target_at set before)))) none) ∙ e)
   where
     same_not : (active : StandingView) → changed active active ≡ Some new → ⊥
-    same_not active f = let none_there : changed active active ≡ None = ap (λ (b : Bool). Rattle.std.proofs.Common.cond b None (Some active)) (Rattle.std.proofs.lemmas.Bool.eq-eqb active.sequence active.sequence refl) in cc
+    same_not active f = let none_there : changed active active ≡ None = ap (λ (b : Bool). cond b None (Some active)) (eq-eqb active.sequence active.sequence refl) in cc
 
     by : (state : TargetState) → changed (active_in state) (active_in (reached set None state)) ≡ Some new → ⊥
     by (Is_up r) f = same_not r.active f
@@ -258,52 +106,39 @@ module _ (joins : SumsJoin) (moves : MovesStayFair) (spells : HeadersAreSpelled)
     (permits : (h : HeaderView) → set.accepts h ≡ true → Permits h) (entries : EntriesFit set.media) where
   module _ (s : Step) (earlier : List Step) (is : IsUninjected set (s ∷ earlier)) (session : EndedSession) (e : Event) (comes : event_for sides.Loader (posted_in earlier) s.given ≡ Some e) (alone : event_for sides.Target (posted_in earlier) s.given ≡ None)
       (grows : (loader_at set (s ∷ earlier)).ended ≡ session ∷ (loader_at set earlier).ended) (h : CompletionArrived set.media (loader_at set earlier) e) where
-    abbrev log : List Event
-    log = loader_log earlier
+    abbrev n : EndsNewest set s earlier h.ends.session h.ends.live h.ends.transfer
+    n = ends_newest joins moves set s earlier is e comes h.ends
+
+    abbrev ended : Transfer
+    ended = h.ends.transfer
 
     -- ---- at the loader
 
-    own : IsOfNewestStart set.media log h.session
-    own = subst (λ (live : Option SessionLog). LiveIsOfNewestStart set.media log live) h.was_live (sessions_are_of_newest_starts set.media log)
+    upload : UploadStarted set.media n.own.event h.ends.session.start
+    upload = upload_started set.media n.own.event h.ends.session.start n.own.started h.upload
 
-    upload : UploadStarted set.media own.event h.session.start
-    upload = upload_started set.media own.event h.session.start own.started h.upload
-
-    written : RequestWritten h.session.start own.mine
-    written = subst (λ (row : LoaderRow). HasComeTo h.session.start row own.mine) h.row own.come_to
+    written : RequestWritten h.ends.session.start n.own.mine
+    written = subst (λ (row : LoaderRow). HasComeTo h.ends.session.start row n.own.mine) h.row n.own.come_to
 
     abbrev w : Transfer
     w = written.request
 
-    roles : LoaderRoleFits (loader_at set earlier).end (Some h.session)
-    roles = subst (λ (live : Option SessionLog). LoaderRoleFits (loader_at set earlier).end live) h.was_live (loader_roles_fit set.media log)
-
-    live_serves : is_asking h.live.role ≡ false
+    live_serves : is_asking h.ends.live.role ≡ false
     live_serves =
-        subst (λ (row : LoaderRow). IsOfLoaderRow h.session.start row h.live.role) h.row
-        (subst (λ (live : Option Transfer). LoaderLiveFits h.session.start (loader_row h.session) live) h.going roles.0)
+        subst (λ (row : LoaderRow). IsOfLoaderRow h.ends.session.start row h.ends.live.role) h.row
+        (subst (λ (live : Option Transfer). LoaderLiveFits h.ends.session.start (loader_row h.ends.session) live) h.ends.going n.roles.0)
 
-    live_above : IsAboveMark h.live.peer (loader_at set earlier).end.past
-    live_above = (subst (λ (live : Option Transfer). Rattle.session_rules.specs.LoaderRoles.ServedIsFresh live (loader_at set earlier).end.past) h.going roles.1) live_serves
-
-    -- all that was over before
+    -- all that was over before the request
     abbrev older : List Transfer
-    older = written.before ++ past_with (loader_reading set.media own.before).end.live (loader_reading set.media own.before).end.past
+    older = written.before ++ older_ones set.media (loader_log earlier) h.ends.session n.own
 
-    past_is : (loader_at set earlier).end.past ≡ written.since ++ w ∷ older
-    past_is = own.past ∙ ap (λ (ts : List Transfer). ts ++ past_with (loader_reading set.media own.before).end.live (loader_reading set.media own.before).end.past) written.split ∙ append_assoc written.since (w ∷ written.before) _
+    mine_is : n.own.mine ++ older_ones set.media (loader_log earlier) h.ends.session n.own ≡ written.since ++ w ∷ older
+    mine_is = ap (λ (ts : List Transfer). ts ++ older_ones set.media (loader_log earlier) h.ends.session n.own) written.split ∙ append_assoc written.since (w ∷ written.before) _
 
-    now_is : loader_at set (s ∷ earlier) ≡ loader_extended set.media (loader_at set earlier) e
-    now_is = ap (λ (x : Option Event). loader_reading set.media (logged x log)) comes
+    transfers_are : loader_transfers set (s ∷ earlier) ≡ ended ∷ (written.since ++ w ∷ older)
+    transfers_are = n.transfers ∙ ap (λ (ts : List Transfer). ended ∷ ts) mine_is
 
-    transfers_are : loader_transfers set (s ∷ earlier) ≡ h.transfer ∷ (written.since ++ w ∷ older)
-    transfers_are =
-        append-nil (past_with (loader_at set (s ∷ earlier)).end.live (loader_at set (s ∷ earlier)).end.past)
-        ∙ ap (λ (r : LoaderReading). past_with r.end.live r.end.past) now_is
-        ∙ ap (λ (live : Option Transfer). past_with live (loader_extended set.media (loader_at set earlier) e).end.past) h.free
-        ∙ h.past ∙ ap (λ (ts : List Transfer). h.transfer ∷ ts) past_is
-
-    in_transfers : (t : Transfer) → Among t (h.transfer ∷ (written.since ++ w ∷ older)) → Among t (loader_transfers set (s ∷ earlier))
+    in_transfers : (t : Transfer) → Among t (ended ∷ (written.since ++ w ∷ older)) → Among t (loader_transfers set (s ∷ earlier))
     in_transfers t a = subst (λ (ts : List Transfer). Among t ts) (sym transfers_are) a
 
     w_among : Among w (loader_transfers set (s ∷ earlier))
@@ -313,25 +148,11 @@ module _ (joins : SumsJoin) (moves : MovesStayFair) (spells : HeadersAreSpelled)
     fair = after joins moves set s earlier is
 
     -- ---- the transfer of the target that took the request
-    answerer : (v : Transfer) × Among v (target_transfers set s earlier) × IsAnsweredBy w v
-    answerer = answered_by sides.Loader sides.Target (loader_transfers set (s ∷ earlier)) (target_transfers set s earlier) (posted_then joins moves set s earlier is) w written.packet fair.other_one fair.one w_among (writes_asks h.session.start w.role written.writes) written.heard written.no_error
+    taken : AnsweredBelow set s earlier ended w
+    taken = n.answered w written.packet (subst (λ (ts : List Transfer). Among w ts) (sym written.split) (among_right w written.since (w ∷ written.before) (inl refl))) (writes_asks h.ends.session.start w.role written.writes) written.heard written.no_error live_serves
 
     abbrev v : Transfer
-    v = answerer.0
-
-    w_past : Among w (loader_at set earlier).end.past
-    w_past = subst (λ (ts : List Transfer). Among w ts) (sym past_is) (among_right w written.since (w ∷ older) (inl refl))
-
-    -- the port of the target's transfer that completed the session is above it
-    v_below : (q : ℕ) → h.transfer.peer ≡ Some q → v.own < q
-    v_below q e = by h.live.peer live_above (sym (ap (λ (t : Transfer). t.peer) h.is) ∙ e)
-      where
-        by : (peer : Option ℕ) → IsAboveMark peer (loader_at set earlier).end.past → bound_to peer h.from ≡ Some q → v.own < q
-        by None above f = absurd above
-        by (Some p) above f =
-            let same : p ≡ q = some_is p q f in
-            let under : v.own ≤ mark_in (loader_at set earlier).end.past = below_mark (loader_at set earlier).end.past w v.own w_past answerer.2.port in
-            omega (arith, same, above, under)
+    v = taken.answer
 
     -- ---- the transfer of the target that told the completion
 
@@ -350,27 +171,27 @@ module _ (joins : SumsJoin) (moves : MovesStayFair) (spells : HeadersAreSpelled)
     -- what a transfer says that is over, and all before it
     record Told : Type 0 where
       u : Transfer
-      port : h.transfer.peer ≡ Some u.own
+      port : ended.peer ≡ Some u.own
       newer : List Transfer
       earlier_ones : List Transfer
       split : target_transfers set s earlier ≡ newer ++ u ∷ earlier_ones
       installed : IsInstalledBefore set earlier earlier_ones
 
-    file_fits : IsBytes (arrived_of h.transfer)
+    file_fits : IsBytes (arrived_of ended)
     file_fits =
-        newest_bytes payloads (e ∷ log) (loader_extended set.media (loader_at set earlier) e).end h.transfer (subst (λ (x : Option Event). LogIsBytes (logged x log)) comes (loader_log_bytes (s ∷ earlier) is.carries))
-        (loader_takes_what_came set.media (e ∷ log)).0 (ap newest h.past)
+        newest_bytes payloads (e ∷ loader_log earlier) (loader_extended set.media (loader_at set earlier) e).end ended (subst (λ (x : Option Event). LogIsBytes (logged x (loader_log earlier))) comes (loader_log_bytes (s ∷ earlier) is.carries))
+        (loader_takes_what_came set.media (e ∷ loader_log earlier)).0 (ap newest h.ends.past)
 
     told : Told
-    told = by (sent.0.at_loader h.transfer (in_transfers h.transfer (inl refl)) h.receives)
+    told = by (sent.0.at_loader ended (in_transfers ended (inl refl)) h.receives)
       where
-        by : ComesFromEnd (target_transfers set s earlier) h.transfer → Told
+        by : ComesFromEnd (target_transfers set s earlier) ended → Told
         by (of_none none not) = absurd (false_is_true (sym not ∙ h.received))
         by (of_end u b brings) =
             let there : Among u before_now = subst (λ (ts : List Transfer). Among u ts) target_is b in
             let o : IsOver (TellsOver set earlier) before_now u = over_at (TellsOver set earlier) before_now u (target_tells_over joins spells payloads requests set permits earlier is.carries.1) there in
             let (lus, read, completed) = h.says in
-            let said : SaysCompleted (arrived_of h.transfer) = (lus, statuses lus (arrived_of h.transfer) file_fits read, completed) in
+            let said : SaysCompleted (arrived_of ended) = (lus, statuses lus (arrived_of ended) file_fits read, completed) in
             record {
               u = u;
               port = brings.ends.port;
@@ -399,10 +220,10 @@ module _ (joins : SumsJoin) (moves : MovesStayFair) (spells : HeadersAreSpelled)
         there : Among v (installed.asked ++ lur ∷ installed.older)
         there =
             older_than told.newer told.u (installed.asked ++ lur ∷ installed.older) v target_rises
-            (subst (λ (ts : List Transfer). Among v ts) (told.split ∙ ap (λ (ts : List Transfer). told.newer ++ told.u ∷ ts) installed.over) answerer.1) (v_below told.u.own told.port)
+            (subst (λ (ts : List Transfer). Among v ts) (told.split ∙ ap (λ (ts : List Transfer). told.newer ++ told.u ∷ ts) installed.over) taken.among) (taken.below told.u.own told.port)
 
         by : Among v installed.asked ⊎ Among v (lur ∷ installed.older) → (v.own < lur.own) ⊎ (lur ≡ v)
-        by (inl a) = asks_not _ v.role (all_at (λ (t : Transfer). is_asking t.role ≡ true) installed.asked v installed.asks a) answerer.2.serves
+        by (inl a) = asks_not _ v.role (all_at (λ (t : Transfer). is_asking t.role ≡ true) installed.asked v installed.asks a) taken.answers.serves
         by (inr (inl same)) = inr same
         by (inr (inr a)) = inl (all_at (λ (t : Transfer). t.own < lur.own) installed.older v lur_rises.1 a)
 
@@ -410,13 +231,13 @@ module _ (joins : SumsJoin) (moves : MovesStayFair) (spells : HeadersAreSpelled)
 
     record Asked : Type 0 where
       port : lur.peer ≡ Some w.own
-      file : arrived_of lur ≡ lur_file h.session.start.loads
+      file : arrived_of lur ≡ lur_file h.ends.session.start.loads
 
-    loader_rises : OwnPortsRise ((h.transfer ∷ written.since) ++ w ∷ older)
+    loader_rises : OwnPortsRise ((ended ∷ written.since) ++ w ∷ older)
     loader_rises = subst OwnPortsRise transfers_are fair.other_one.ports
 
     w_rises : OwnPortsRise (w ∷ older)
-    w_rises = rise_after (h.transfer ∷ written.since) (w ∷ older) loader_rises
+    w_rises = rise_after (ended ∷ written.since) (w ∷ older) loader_rises
 
     lur_among : Among lur (target_transfers set s earlier)
     lur_among =
@@ -429,14 +250,14 @@ module _ (joins : SumsJoin) (moves : MovesStayFair) (spells : HeadersAreSpelled)
         let less : x.own < w.own = all_at (λ (t : Transfer). t.own < w.own) older x w_rises.1 a in
         let rises = answer_rises (loader_transfers set (s ∷ earlier)) (target_transfers set s earlier) (answers_rise joins moves set (s ∷ earlier) is).1.0 in
         let below : lur.own < v.own = subst (λ (peer : Option ℕ). PeerIsBelow v.own peer) back
-        (rises v answerer.1 answerer.2.serves w w_among answerer.2.back x (in_transfers x (inr (among_right x written.since (w ∷ older) (inr a)))) less) in
+        (rises v taken.among taken.answers.serves w w_among taken.answers.back x (in_transfers x (inr (among_right x written.since (w ∷ older) (inr a)))) less) in
         ⊎_elim (λ (f : v.own < lur.own). omega (arith, f, below)) (λ (f : lur ≡ v). let same : lur.own ≡ v.own = ap (λ (t : Transfer). t.own) f in omega (arith, same, below)) v_place
 
     asked : Asked
     asked = by (sent.0.at_target lur lur_among installed.receives)
       where
-        found : (x : Transfer) → is_asking x.role ≡ true → x.peer ≡ Some lur.own → Among x (h.transfer ∷ (written.since ++ w ∷ older)) → w ≡ x
-        found x asks back (inl same) = asks_not _ x.role asks (sym (ap (λ (t : Transfer). is_asking t.role) (sym h.is ∙ same)) ∙ live_serves)
+        found : (x : Transfer) → is_asking x.role ≡ true → x.peer ≡ Some lur.own → Among x (ended ∷ (written.since ++ w ∷ older)) → w ≡ x
+        found x asks back (inl same) = asks_not _ x.role asks (sym (ap (λ (t : Transfer). is_asking t.role) (sym h.ends.is ∙ same)) ∙ live_serves)
         found x asks back (inr a) = in_past (among_either x written.since (w ∷ older) a)
           where
             in_past : Among x written.since ⊎ Among x (w ∷ older) → w ≡ x
@@ -451,21 +272,21 @@ module _ (joins : SumsJoin) (moves : MovesStayFair) (spells : HeadersAreSpelled)
             let same : w ≡ x = found x asks brings.ends.back (subst (λ (ts : List Transfer). Among x ts) transfers_are b) in
             record {
               port = brings.ends.port ∙ ap (λ (t : Transfer). Some t.own) (sym same);
-              file = request_file h.session.start x.role brings.file (arrived_of lur) (subst (λ (t : Transfer). WritesLur h.session.start t.role) same written.writes) brings.sent (λ tells. brings.whole tells installed.received);
+              file = request_file h.ends.session.start x.role brings.file (arrived_of lur) (subst (λ (t : Transfer). WritesLur h.ends.session.start t.role) same written.writes) brings.sent (λ tells. brings.whole tells installed.received);
             }
 
-    request_is : installed.request ≡ h.session.start.loads
+    request_is : installed.request ≡ h.ends.session.start.loads
     request_is =
-        one_request reads installed.request h.session.start.loads (lur_file h.session.start.loads) (subst (λ (bytes : List ℕ). LurSpells (record { loads = installed.request }) bytes) asked.file installed.spells)
-        (started_spells set.media upload.parts h.session.start.loads entries upload.few upload.found)
+        one_request reads installed.request h.ends.session.start.loads (lur_file h.ends.session.start.loads) (subst (λ (bytes : List ℕ). LurSpells (record { loads = installed.request }) bytes) asked.file installed.spells)
+        (started_spells set.media upload.parts h.ends.session.start.loads entries upload.few upload.found)
 
     parts_are : HasParts upload.parts installed.new.loads
-    parts_are = installed.parts ∙ ap (map (λ (x : Wanted). x.part)) request_is ∙ (found_fits set.media.loads upload.parts h.session.start.loads entries upload.found).1
+    parts_are = installed.parts ∙ ap (map (λ (x : Wanted). x.part)) request_is ∙ (found_fits set.media.loads upload.parts h.ends.session.start.loads entries upload.found).1
 
     -- ---- the steps
 
-    start_at : StartedAt earlier own.event own.before
-    start_at = started_at earlier own.since own.event own.before own.split own.newest
+    abbrev start_at : StartedAt earlier n.own.event n.own.before
+    start_at = n.start
 
     comes_at : event_for sides.Loader (posted_in start_at.before) start_at.start.given ≡ Some (Starts_upload upload.hw upload.pos upload.parts)
     comes_at = start_at.comes ∙ ap (λ (x : Event). Some x) upload.is
@@ -477,17 +298,11 @@ module _ (joins : SumsJoin) (moves : MovesStayFair) (spells : HeadersAreSpelled)
         there : ArrivesAsSent set installed.install installed.before
         there = arrives_at set installed.since installed.install installed.before (subst (λ (x : List Step). AllArriveAsSent set x) installed.split sent.1)
 
-        is_older : (x : Transfer) → Among x (loader_transfers set start_at.before) → Among x older
-        is_older x a =
-            among_right x written.before _
-            (subst (λ (r : LoaderReading). Among x (past_with r.end.live r.end.past)) (ap (loader_reading set.media) start_at.is)
-            (subst (λ (ts : List Transfer). Among x ts) (append-nil (past_with (loader_at set start_at.before).end.live (loader_at set start_at.before).end.past)) a))
-
         by : ComesFromEnd (loader_transfers set (installed.install ∷ installed.before)) lur → ⊥
         by (of_none none not) = false_is_true (sym not ∙ installed.received)
         by (of_end x b brings) =
             let (z, c, own_is) = (loader_grows_over set between (installed.install ∷ installed.before)).kept x b in
-            let z_older : Among z older = is_older z (subst (λ (x : List Step). Among z (loader_transfers set x)) (sym f) c) in
+            let z_older : Among z older = among_right z written.before _ (n.before_start z (subst (λ (x : List Step). Among z (loader_transfers set x)) (sym f) c)) in
             let less : z.own < w.own = all_at (λ (t : Transfer). t.own < w.own) older z w_rises.1 z_older in
             let same : x.own ≡ w.own = some_is x.own w.own (sym brings.ends.port ∙ asked.port) in
             omega (arith, less, same, own_is)
@@ -500,11 +315,6 @@ module _ (joins : SumsJoin) (moves : MovesStayFair) (spells : HeadersAreSpelled)
         only : (event_for sides.Target (posted_in start_at.before) start_at.start.given ≡ None) ⊎ ((size : Option ℕ) × (Starts_upload upload.hw upload.pos upload.parts ≡ Learns size)) → event_for sides.Target (posted_in start_at.before) start_at.start.given ≡ None
         only (inl none) = none
         only (inr (size, learns)) = absurd cc
-
-    ended_is : (loader_at set (start_at.start ∷ start_at.before)).ended ≡ (loader_reading set.media (own.event ∷ own.before)).ended
-    ended_is =
-        ap (λ (x : Option Event). (loader_reading set.media (logged x (loader_log start_at.before))).ended) start_at.comes
-        ∙ ap (λ (x : List Event). (loader_reading set.media (own.event ∷ x)).ended) start_at.is
 
     pub installed_in_session : WasInstalledInSession set (s ∷ earlier)
     installed_in_session = by (order_of installed.since start_at.since installed.install start_at.start installed.before start_at.before (sym installed.split ∙ start_at.split))
@@ -525,8 +335,8 @@ module _ (joins : SumsJoin) (moves : MovesStayFair) (spells : HeadersAreSpelled)
           new = installed.new;
           split = ap (λ (x : List Step). s ∷ x) (installed.split ∙ ap (λ (x : List Step). installed.since ++ installed.install ∷ x) f);
           starts = given_starts (posted_in start_at.before) start_at.start.given upload.hw upload.pos upload.parts comes_at;
-          newest = (no_start_given (posted_in earlier) s.given (subst IsNoStartEvent (sym comes) h.no_start), subst NoneStarts g start_at.newest);
-          one = grows ∙ ap (λ (x : List EndedSession). session ∷ x) (own.ended ∙ sym ended_is);
+          newest = (n.no_start, subst NoneStarts g start_at.newest);
+          one = grows ∙ ap (λ (x : List EndedSession). session ∷ x) (sym n.ended_then);
           brought = subst (λ (x : List Step). brings set installed.install x ≡ Some installed.new) f installed.brought;
           asked = parts_are;
           stays_up = installed.stays_up;
@@ -545,7 +355,7 @@ module _ (joins : SumsJoin) (moves : MovesStayFair) (spells : HeadersAreSpelled)
 
   all_in_session : (steps : List Step) → IsUninjected set steps → AllInstalledInSession set steps
   all_in_session [] is = tt
-  all_in_session (s ∷ earlier) is = (λ ended completed. installed_where_completed s earlier is ended completed, all_in_session earlier (uninjected joins moves set s earlier is))
+  all_in_session (s ∷ earlier) is = (λ ended completed. installed_where_completed s earlier is ended completed, all_in_session earlier (one_before set s earlier is))
 
 pub completed_in_session : SumsJoin → MovesStayFair → HeadersAreSpelled → PayloadsAreBytes → RequestsAreSpelled → RequestsAreRead → StatusesAreSpelled → CompletedInSession
 completed_in_session joins moves spells payloads requests reads statuses set steps permits entries is = all_in_session joins moves spells payloads requests reads statuses set permits entries steps is

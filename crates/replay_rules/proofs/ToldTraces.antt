@@ -175,26 +175,26 @@ told_file set steps (ServesWrite name o) file sent says told = absurd cc
 
 module _ (joins : SumsJoin) (payloads : PayloadsAreBytes) (spells : StatusesAreSpelled) (set : Setting) (s : Step) (earlier : List Step) (carries : AllCarryBytes (s ∷ earlier)) (sent : ArrivesAsSent set s earlier) (session : EndedSession) where
   -- the transfer that completed it
-  by_transfer : (e : Event) → event_for sides.Target (posted_in earlier) s.given ≡ None → (h : CompletionArrived set.media (loader_at set earlier) e) → IsBytes (arrived_of h.transfer) → Among h.transfer (loader_transfers set (s ∷ earlier)) → WasBrought set (s ∷ earlier)
-  by_transfer e alone h fit a = by (sent.at_loader h.transfer a h.receives)
+  by_transfer : (e : Event) → event_for sides.Target (posted_in earlier) s.given ≡ None → (h : CompletionArrived set.media (loader_at set earlier) e) → IsBytes (arrived_of h.ends.transfer) → Among h.ends.transfer (loader_transfers set (s ∷ earlier)) → WasBrought set (s ∷ earlier)
+  by_transfer e alone h fit a = by (sent.at_loader h.ends.transfer a h.receives)
     where
-      by : ComesFromEnd (target_transfers set s earlier) h.transfer → WasBrought set (s ∷ earlier)
+      by : ComesFromEnd (target_transfers set s earlier) h.ends.transfer → WasBrought set (s ∷ earlier)
       by (of_none none not) = absurd (false_is_true (sym not ∙ h.received))
       by (of_end u b brings) =
           let same : reached set (event_for sides.Target (posted_in earlier) s.given) (target_at set earlier) ≡ target_at set earlier = ap (λ (x : Option Event). reached set x (target_at set earlier)) alone ∙ reached_none set (target_at set earlier) in
           let there : Among u (transfers_of (target_at set earlier) ++ former_at set earlier) = subst (λ (state : TargetState). Among u (transfers_of state ++ former_at set earlier)) same b in
           let (v, read, is) = h.says in
-          let said : SaysCompleted (arrived_of h.transfer) = (v, spells v (arrived_of h.transfer) fit read, is) in
+          let said : SaysCompleted (arrived_of h.ends.transfer) = (v, spells v (arrived_of h.ends.transfer) fit read, is) in
           still_brought set s earlier (told_file set earlier u.role brings.file brings.sent (λ tells. subst SaysCompleted (brings.whole tells h.received) said) (target_tells_in_time joins set earlier u there))
 
   by_event : (e : Option Event) → event_for sides.Loader (posted_in earlier) s.given ≡ e → (loader_reading set.media (logged e (loader_log earlier))).ended ≡ session ∷ (loader_at set earlier).ended → session.kind ≡ Upload → session.outcome ≡ Completed → WasBrought set (s ∷ earlier)
   by_event None comes grows upload over = absurd (longer (loader_at set earlier).ended session grows)
   by_event (Some e) comes grows upload over = by (only_loader (posted_in earlier) s.given e comes)
     where
-      there : (h : CompletionArrived set.media (loader_at set earlier) e) → Among h.transfer (loader_transfers set (s ∷ earlier))
+      there : (h : CompletionArrived set.media (loader_at set earlier) e) → Among h.ends.transfer (loader_transfers set (s ∷ earlier))
       there h =
-          subst (λ (x : Option Event). Among h.transfer (all_of (loader_reading set.media (logged x (loader_log earlier))).end [])) (sym comes)
-          (among_left h.transfer _ [] (among_past (loader_extended set.media (loader_at set earlier) e).end.live (loader_extended set.media (loader_at set earlier) e).end.past h.transfer (ap newest h.past)))
+          subst (λ (x : Option Event). Among h.ends.transfer (all_of (loader_reading set.media (logged x (loader_log earlier))).end [])) (sym comes)
+          (among_left h.ends.transfer _ [] (among_past (loader_extended set.media (loader_at set earlier) e).end.live (loader_extended set.media (loader_at set earlier) e).end.past h.ends.transfer (ap newest h.ends.past)))
 
       fit : LogIsBytes (e ∷ loader_log earlier)
       fit = subst (λ (x : Option Event). LogIsBytes (logged x (loader_log earlier))) comes (loader_log_bytes (s ∷ earlier) carries)
@@ -202,7 +202,7 @@ module _ (joins : SumsJoin) (payloads : PayloadsAreBytes) (spells : StatusesAreS
       by : (event_for sides.Target (posted_in earlier) s.given ≡ None) ⊎ ((size : Option ℕ) × (e ≡ Learns size)) → WasBrought set (s ∷ earlier)
       by (inl alone) =
           let h = completed_upload_arrived set.media (loader_log earlier) e session grows upload over in
-          by_transfer e alone h (newest_bytes payloads (e ∷ loader_log earlier) (loader_extended set.media (loader_at set earlier) e).end h.transfer fit (loader_takes_what_came set.media (e ∷ loader_log earlier)).0 (ap newest h.past)) (there h)
+          by_transfer e alone h (newest_bytes payloads (e ∷ loader_log earlier) (loader_extended set.media (loader_at set earlier) e).end h.ends.transfer fit (loader_takes_what_came set.media (e ∷ loader_log earlier)).0 (ap newest h.ends.past)) (there h)
       by (inr (size, learns)) = absurd (longer (loader_at set earlier).ended session (subst (λ (x : Event). (loader_extended set.media (loader_at set earlier) x).ended ≡ session ∷ (loader_at set earlier).ended) learns grows))
 
   pub brought_where_completed : (loader_at set (s ∷ earlier)).ended ≡ session ∷ (loader_at set earlier).ended → session.kind ≡ Upload → session.outcome ≡ Completed → WasBrought set (s ∷ earlier)

@@ -50,7 +50,7 @@ use Rattle.session_rules.specs.Lists.{AskedInTurn, RowAsks}
 use Rattle.session_rules.specs.Loader.{Advances, Begins, Begins_over, Continues, EndedSession, Ends, LoaderChange, ended_as, loader_decision}
 use Rattle.session_rules.specs.LoaderLaws.{end_stays as loader_end_stays}
 use Rattle.session_rules.specs.LoaderLog.{LoaderReading, SessionLog, loader_extended, loader_reading, loader_reading_changed, loader_view, newest}
-use Rattle.session_rules.specs.LoaderRoleLaws.{arrived_last, head_is, loader_decision_fits, longer, longer_two, not_too_long, whole_prefix}
+use Rattle.session_rules.specs.LoaderRoleLaws.{arrived_last, ends_with, head_is, loader_decision_fits, longer, longer_two, not_too_long, whole_prefix}
 use Rattle.session_rules.specs.LoaderRoles.{EndsByFile, FitsLoaderChange, loader_row}
 use Rattle.session_rules.specs.LoaderRows.{Comes_to, Goes_on, LoaderRow, Reads_lci, Reads_lui, Serves_files, Takes_lcl, Takes_lcs, Takes_lus, Turn, Writes_lur, bad_file, bytes_turn, first_lus_turn, later_lus_turn, lui_turn, row_after, row_of}
 use Rattle.session_rules.specs.MediaFiles.{Media}
@@ -260,19 +260,9 @@ module _ (media : Media) (r : LoaderReading) (e : Event) (session : EndedSession
       let (receives, received) = last_received h.live.role h.live.got h.packet more h.last in
       let (row, says) = completing_says (loader_row s) _ (upload_row s.start.kind s.done kind) turn in
       record {
-        session = s;
-        was_live = was;
+        ends = ends_with media r e s more was h none end;
         upload = kind;
-        no_start = sym none;
         row = row;
-        live = h.live;
-        going = h.was_live;
-        from = h.from;
-        packet = h.packet;
-        transfer = with_packet h.live h.from h.packet;
-        is = refl;
-        past = ap (λ (x : Reading). x.past) end ∙ h.past;
-        free = ap (λ (x : Reading). x.live) end ∙ h.free;
         receives = receives;
         received = received;
         says = subst Reads bytes says;

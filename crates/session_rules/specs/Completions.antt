@@ -1,24 +1,22 @@
 -- How an upload is completed, at both sides (docs/EXCHANGE.md, "Upload").
-use Rattle.std.specs.Prelude.{◌≤◌, length, ◌≡◌, ℕ, List, [], ◌∷◌, Bool, true, Some, None, Ok, ⊤}
+use Rattle.std.specs.Prelude.{◌≤◌, length, ◌≡◌, ℕ, List, ◌∷◌, Bool, true, Ok, ⊤}
 use Rattle.std.specs.List.{AllByRecursion}
 use Rattle.field_grammar.specs.Answers.{answer}
 use Rattle.load_base.specs.Config.{LoadView}
 use Rattle.load_header.specs.Header.{HeaderView}
 use Rattle.load_protocol_files.specs.Lus.{LusSpells, LusView, lus}
-use Rattle.tftp_packet.specs.Packets.{PacketView}
 use Rattle.exchange_trace.specs.Logs.{Event}
 use Rattle.transfer_end.specs.Laws.{IsLive}
 use Rattle.transfer_end.specs.OtherEnds.{MoveHasRole, is_receiving}
-use Rattle.transfer_end.specs.Transfers.{Role, ServesRead, Transfer, Writes, arrived_of, end_in, is_received, with_packet}
+use Rattle.transfer_end.specs.Transfers.{Role, ServesRead, Writes, arrived_of, end_in, is_received}
 use Rattle.session_rules.specs.declared.outcome.Outcome.TheVariants.{Completed}
 use Rattle.session_rules.specs.declared.outcome.SessionKind.TheVariants.{Upload}
 use Rattle.session_rules.specs.Loader.{EndedSession}
-use Rattle.session_rules.specs.LoaderLog.{LoaderReading, SessionLog, loader_extended, loader_reading}
-use Rattle.session_rules.specs.LoaderRoles.{loader_row}
+use Rattle.session_rules.specs.LoaderLog.{LoaderReading, loader_reading}
+use Rattle.session_rules.specs.LoaderRoles.{EndsWithLive, loader_row}
 use Rattle.session_rules.specs.LoaderRows.{Serves_files}
 use Rattle.session_rules.specs.MediaFiles.{Media}
 use Rattle.session_rules.specs.Reports.{completed}
-use Rattle.session_rules.specs.Sessions.{started_by}
 use Rattle.session_rules.specs.Target.{target_decision}
 use Rattle.session_rules.specs.TargetLog.{TargetReading, standing_after, target_extended, target_view}
 
@@ -28,25 +26,15 @@ SaysCompleted file = (v : LusView) × LusSpells v file × (v.status ≡ complete
 
 -- ---- the loader
 
--- An upload was completed: in the row in which it serves files, the transfer that was live ended with a packet more and took
--- a file whole, which reads as an LUS that says so.
+-- An upload was completed: it ended in the row in which it serves files, with its live transfer, which took a file whole that
+-- reads as an LUS which says so.
 pub record CompletionArrived (media : Media) (r : LoaderReading) (e : Event) : Type 0 where
-  pub session : SessionLog
-  pub was_live : r.live ≡ Some session
-  pub upload : session.start.kind ≡ Upload
-  pub no_start : started_by e ≡ []
-  pub row : loader_row session ≡ Serves_files
-  pub live : Transfer
-  pub going : r.end.live ≡ Some live
-  pub from : ℕ
-  pub packet : PacketView
-  pub transfer : Transfer
-  pub is : transfer ≡ with_packet live from packet
-  pub past : (loader_extended media r e).end.past ≡ transfer ∷ r.end.past
-  pub free : (loader_extended media r e).end.live ≡ None
-  pub receives : is_receiving transfer.role ≡ true
-  pub received : is_received (end_in transfer) ≡ true
-  pub says : (v : LusView) × (answer lus (arrived_of transfer) ≡ Ok v) × (v.status ≡ completed)
+  pub ends : EndsWithLive media r e
+  pub upload : ends.session.start.kind ≡ Upload
+  pub row : loader_row ends.session ≡ Serves_files
+  pub receives : is_receiving ends.transfer.role ≡ true
+  pub received : is_received (end_in ends.transfer) ≡ true
+  pub says : (v : LusView) × (answer lus (arrived_of ends.transfer) ≡ Ok v) × (v.status ≡ completed)
 
 -- So it is in each log of the loader, with each event that completes an upload.
 abbrev pub CompletedUploadArrived : Type 0

@@ -45,7 +45,7 @@ use Rattle.session_rules.specs.Loader.{Advances, Begins, Begins_over, Continues,
 use Rattle.session_rules.specs.BufferLaws.{buffered_on}
 use Rattle.session_rules.specs.LoaderLaws.{FitsChange, decision_fits, end_stays, row_of_more, row_of_none}
 use Rattle.session_rules.specs.LoaderLog.{LoaderReading, SessionLog, loader_extended, loader_reading, loader_reading_changed, loader_view, session_view}
-use Rattle.session_rules.specs.LoaderRoles.{CompletedListsArrived, EndsByFile, EndsLive, IsAboveMark, IsNoError, ListsArrived, ServedIsFresh, TakesFile, FitsLoaderChange, IsOfLoaderRow, LoaderLiveFits, LoaderRoleFits, LoaderRolesFit, loader_row}
+use Rattle.session_rules.specs.LoaderRoles.{CompletedListsArrived, EndsByFile, EndsLive, EndsWithLive, IsAboveMark, IsNoError, ListsArrived, ServedIsFresh, TakesFile, FitsLoaderChange, IsOfLoaderRow, LoaderLiveFits, LoaderRoleFits, LoaderRolesFit, loader_row}
 use Rattle.session_rules.specs.MediaFiles.{Media, wanted_of}
 use Rattle.session_rules.specs.SessionLaws.{begun_by, decision_begins}
 use Rattle.session_rules.specs.Sessions.{started_by}
@@ -419,6 +419,22 @@ completing_row Serves_files bytes info e = absurd info
 
 -- ---- the file that completes it
 
+abbrev pub ends_with : (media : Media) (r : LoaderReading) (e : Event) (s : SessionLog) (more : List ℕ) → r.live ≡ Some s → EndsByFile r.end s (loader_decision media (loader_view r) e).moves more → [] ≡ started_by e
+    → (loader_extended media r e).end ≡ after r.end (loader_decision media (loader_view r) e).moves → EndsWithLive media r e
+ends_with media r e s more was h none end = record {
+  session = s;
+  was_live = was;
+  no_start = sym none;
+  live = h.live;
+  going = h.was_live;
+  from = h.from;
+  packet = h.packet;
+  transfer = with_packet h.live h.from h.packet;
+  is = refl;
+  past = ap (λ (x : Reading). x.past) end ∙ h.past;
+  free = ap (λ (x : Reading). x.live) end ∙ h.free;
+}
+
 pub arrived_last : (live : Transfer) (from : ℕ) (p : PacketView) (more : List ℕ) → end_answer (end_in live) p ≡ TakesLast more → arrived_of (with_packet live from p) ≡ arrived_of live ++ more
 arrived_last live from p more e =
     arrived_more live.role live.got p ∙ ap (λ (answer : Answer). arrived_of live ++ concat (lent_by answer)) e ∙ ap (λ (bytes : List ℕ). arrived_of live ++ bytes) (append-nil more)
@@ -463,19 +479,9 @@ module _ (media : Media) (r : LoaderReading) (e : Event) (session : EndedSession
       let bytes : (buffered_more (buffered (arriving_in r.end.live)) more).prefix ≡ arrived_of (with_packet h.live h.from h.packet) =
       whole_prefix (arriving_in r.end.live) more short ∙ ap (λ (x : List ℕ). x ++ more) arriving ∙ sym (arrived_last h.live h.from h.packet more h.last) in
       record {
-        log = s;
-        was_live = was;
+        ends = ends_with media r e s more was h none end;
         info = kind;
-        no_start = sym none;
         row = row;
-        live = h.live;
-        going = h.was_live;
-        from = h.from;
-        packet = h.packet;
-        transfer = with_packet h.live h.from h.packet;
-        is = refl;
-        past = ap (λ (x : Reading). x.past) end ∙ h.past;
-        free = ap (λ (x : Reading). x.live) end ∙ h.free;
         role = takes;
         received = served_received h.live.role h.live.got _ h.packet more takes h.last;
         listed = sym (ap (λ (x : EndedSession). x.listed) is) ∙ ap (λ (k : SessionKind). listed_by k outcome (buffered_more (buffered (arriving_in r.end.live)) more).prefix) kind

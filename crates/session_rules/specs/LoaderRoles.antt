@@ -115,14 +115,11 @@ FitsLoaderChange end (Some s) moves Advances =
     LoaderLiveFits s.start (row_after (loader_row s)) (readings_after sides.Loader end moves).live × EndsLive end moves × IsFreshAfter end moves
 FitsLoaderChange end (Some s) moves (Ends outcome more) = outcome ≡ Completed → EndsByFile end s moves more
 
--- A completed information session lists what the LCL says that arrived whole in the transfer that was live, which ended with a
--- packet more.
-pub record ListsArrived (media : Media) (r : LoaderReading) (e : Event) (session : EndedSession) : Type 0 where
-  pub log : SessionLog
-  pub was_live : r.live ≡ Some log
-  pub info : log.start.kind ≡ Info
+-- An event that starts nothing ends the live session with its live transfer, which gets a packet more.
+pub record EndsWithLive (media : Media) (r : LoaderReading) (e : Event) : Type 0 where
+  pub session : SessionLog
+  pub was_live : r.live ≡ Some session
   pub no_start : started_by e ≡ []
-  pub row : loader_row log ≡ Takes_lcl
   pub live : Transfer
   pub going : r.end.live ≡ Some live
   pub from : ℕ
@@ -131,9 +128,15 @@ pub record ListsArrived (media : Media) (r : LoaderReading) (e : Event) (session
   pub is : transfer ≡ with_packet live from packet
   pub past : (loader_extended media r e).end.past ≡ transfer ∷ r.end.past
   pub free : (loader_extended media r e).end.live ≡ None
-  pub role : TakesFile (file_name log.start.hw log.start.pos Lcl) transfer.role
-  pub received : is_received (end_in transfer) ≡ true
-  pub listed : session.listed ≡ result_ok (answer lcl (arrived_of transfer))
+
+-- A completed information session ends so in its last row, and lists what the LCL says that arrived whole.
+pub record ListsArrived (media : Media) (r : LoaderReading) (e : Event) (listing : EndedSession) : Type 0 where
+  pub ends : EndsWithLive media r e
+  pub info : ends.session.start.kind ≡ Info
+  pub row : loader_row ends.session ≡ Takes_lcl
+  pub role : TakesFile (file_name ends.session.start.hw ends.session.start.pos Lcl) ends.transfer.role
+  pub received : is_received (end_in ends.transfer) ≡ true
+  pub listed : listing.listed ≡ result_ok (answer lcl (arrived_of ends.transfer))
 
 -- So it is in each log of the loader, with each event that completes one.
 abbrev pub CompletedListsArrived : Type 0
