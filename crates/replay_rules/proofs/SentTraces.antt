@@ -246,7 +246,7 @@ module _ (joins : SumsJoin) (moves : MovesStayFair) (set : Setting) (s : Step) (
   abbrev pub target_posts_now : List DatagramView
   target_posts_now = due_of_target set (target_at set earlier) to_target
 
-  pub loader_now : AreFair sides.Loader sides.Target (loader_transfers set (s ∷ earlier)) (transfers_of (target_at set earlier) ++ former_at set earlier) (loader_at set (s ∷ earlier)).end.last (posted_in earlier ++ loader_posts_now)
+  loader_now : AreFair sides.Loader sides.Target (loader_transfers set (s ∷ earlier)) (transfers_of (target_at set earlier) ++ former_at set earlier) (loader_at set (s ∷ earlier)).end.last (posted_in earlier ++ loader_posts_now)
   loader_now =
       loader_fair set moves (loader_log earlier) to_loader (transfers_of (target_at set earlier) ++ former_at set earlier) (posted_in earlier) (event_was_posted sides.Loader (posted_in earlier) s.given bytes honest none)
       (record { one = h.target.other_one; other = h.target.one; last_is = h.last })

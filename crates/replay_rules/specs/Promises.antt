@@ -1,6 +1,6 @@
 -- What is to be promised of a run, part by part (docs/PROMISES.md). These are statements; a promise is kept once a public
 -- call has it as a clause.
-use Rattle.std.specs.Prelude.{◌≡◌, ◌⊎◌, ℕ, List, [], ◌∷◌, ◌++◌, map, true, Option, Some, None, Contains, ⊤}
+use Rattle.std.specs.Prelude.{◌≡◌, ◌⊎◌, ℕ, List, [], ◌∷◌, ◌++◌, map, true, Option, Some, None, ⊤}
 use Rattle.std.specs.List.{AllByRecursion}
 use Rattle.load_base.specs.Config.{LoadView}
 use Rattle.disk_model.specs.Image.{Image}
@@ -19,7 +19,7 @@ use Rattle.session_rules.specs.TargetLog.{TargetReading, TargetSessionLog, row_i
 use Rattle.replay_rules.specs.BothEnds.{Setting, TargetState, Is_up, Is_down, loader_at, target_at, loader_waits}
 use Rattle.replay_rules.specs.Due.{AllDue, AllNoted}
 use Rattle.replay_rules.specs.FaultFree.{IsFaultFree, NothingInjected}
-use Rattle.replay_rules.specs.Histories.{may_be_active, brings, history_of, active_by}
+use Rattle.replay_rules.specs.Histories.{may_be_active, brings, active_by}
 use Rattle.replay_rules.specs.Runs.{Follows, IsQuiet, IsWithinMargin, plan_at, scene_at}
 
 -- ---- the trace is what happened, and each end posts exactly what is due
@@ -95,12 +95,6 @@ AllMoments between set end (clock ∷ clocks) (s ∷ earlier) =
     ((image : Image) → between clock end image → HoldsOneOf (may_be_active (target_at set earlier) ++ may_be_active (target_at set (s ∷ earlier))) image)
     × ((image : Image) → between end end image → HoldsOneOf (may_be_active (target_at set (s ∷ earlier))) image)
     × AllMoments between set clock clocks earlier
-
--- ---- a reported completion is true
-
--- what was brought is in the history of the run
-abbrev pub IsCounted : Setting → List Step → Option StandingView → StandingView → Type 0
-IsCounted set steps standing new = Contains (history_of set steps standing) new
 
 -- ---- a fault-free run completes
 
