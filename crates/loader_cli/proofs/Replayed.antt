@@ -40,7 +40,7 @@ counts_power steps standing old new before after none stops is arms =
     }
 
 pub ran_to : (told : Telling) (set : SetView) (script : List Line) (old new : DiskState) (run : Drive) (status : ℕ) (text : List ℕ)
-    → RunsScript set script old (run_seen run) → HoldsStanding run.standing new → CountsStops (steps_of run.trace.items) run.standing old new
+    → RunsScript set script old new (run_seen run) → HoldsStanding run.standing new → CountsStops (steps_of run.trace.items) run.standing old new
     → CountsPower (steps_of run.trace.items) old new → Tells told (run_seen run) (option_map standing_view run.standing) status text
     → RunsTo told set script old new (Some (run_seen run)) status text
 ran_to told set script old new run status text runs holds stops counts tells = by run.standing refl holds stops.unknown tells

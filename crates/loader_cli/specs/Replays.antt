@@ -4,7 +4,7 @@ use Rattle.std.specs.Option.{ForSome}
 use Rattle.load_base.specs.Counts.{Rose}
 use Rattle.load_base.specs.Host.{Files, longest_file}
 use Rattle.disk_model.specs.Image.{Image}
-use Rattle.disk_model.specs.State.{DiskState, KeepsPower}
+use Rattle.disk_model.specs.State.{DiskState, IsSettled, KeepsPower}
 use Rattle.disk_layout.specs.DiskReads.{IsOfDisk}
 use Rattle.disk_layout.specs.Holds.{HoldsConfig, StandingView, standing_view}
 use Rattle.disk_layout.specs.declared.fault.RecoverFault.{RecoverFault}
@@ -35,6 +35,7 @@ use Rattle.replay_rules.specs.BothEnds.{Setting}
 use Rattle.upload_replay.specs.declared.outcome.Drive.{Drive}
 use Rattle.upload_replay.specs.Drives.{IsRun, NeverBoots}
 use Rattle.upload_replay.specs.Endings.{HoldsNone}
+use Rattle.upload_replay.specs.Moments.{HoldsThroughout}
 use Rattle.upload_replay.specs.Powers.{RoseBy, armed_after, armings_after, disk_stops}
 use Rattle.upload_replay.specs.Texts.{report, wire}
 use Rattle.loader_cli.specs.HostFiles.{Has, HasTooMany}
@@ -61,12 +62,14 @@ pub record RunSeen : Type 0 where
 abbrev pub run_seen : Drive → RunSeen
 run_seen drive = record { trace = drive.trace.items; sessions = map session_view drive.sessions.items; standing = option_map standing_view drive.standing }
 
--- The trace and the sessions are those of a run of this script on this media set, where the disk tells its content and no boot
--- came.
-abbrev pub RunsScript : SetView → List Line → DiskState → RunSeen → Type 0
-RunsScript set script disk run =
-    (start : StandingView) (image : Image) → disk.reads ≡ Some image → HoldsConfig image start → NeverBoots (steps_of run.trace)
-    → (ended : LinkState) × IsRun (setting_of set start) (link_of script) ended (steps_of run.trace) run.sessions
+-- On a disk that tells its content, and of which a power loss could leave nothing else at first, the trace and the sessions are
+-- those of a run of this script on this media set, and each image that a power loss might have left since holds what was active
+-- at its moment. Where no boot came, the trace and the sessions are that also where a power loss could have left more.
+abbrev pub RunsScript : SetView → List Line → (old new : DiskState) → RunSeen → Type 0
+RunsScript set script old new run =
+    (start : StandingView) (image : Image) → old.reads ≡ Some image → HoldsConfig image start
+    → (NeverBoots (steps_of run.trace) ⊎ IsSettled old → (ended : LinkState) × IsRun (setting_of set start) (link_of script) ended (steps_of run.trace) run.sessions)
+    × (IsSettled old → HoldsThroughout (setting_of set start) (steps_of run.trace) run.standing old new)
 
 -- The disk failed at least as often as the trace says that it stopped, and was armed once for each loss of power in it, with
 -- its numbers, and not else.
@@ -96,11 +99,11 @@ Tells told run (Some standing) status text = StatusOfRun run.sessions status × 
 -- The status, the text, the run that is handed out, and what they say of the disk, for this media set and script.
 pub data RunsTo (told : Telling) (set : SetView) (script : List Line) (old new : DiskState) (handed : Option RunSeen) (status : ℕ) (text : List ℕ) : Type 0 where
   -- 0 or 1: the run came to its end, and the disk holds this configuration then
-  ended : (run : RunSeen) (standing : StandingView) → handed ≡ Some run → run.standing ≡ Some standing → RunsScript set script old run
+  ended : (run : RunSeen) (standing : StandingView) → handed ≡ Some run → run.standing ≡ Some standing → RunsScript set script old new run
       → ForSome new.reads (λ image. HoldsConfig image standing) → CountsPower (steps_of run.trace) old new → StatusOfRun run.sessions status
       → text ≡ told_as told run.sessions run.trace standing → RunsTo told set script old new handed status text
   -- 5: the run came to its end, but the disk failed once more as it was recovered
-  unknown : (run : RunSeen) → handed ≡ Some run → run.standing ≡ None → RunsScript set script old run → CountsPower (steps_of run.trace) old new
+  unknown : (run : RunSeen) → handed ≡ Some run → run.standing ≡ None → RunsScript set script old new run → CountsPower (steps_of run.trace) old new
       → RoseBy (disk_stops (steps_of run.trace) + 1) old.faults new.faults → new.stopped ≡ true → status ≡ 5 → text ≡ disk_fault
       → RunsTo told set script old new handed status text
   -- 5: the disk failed before anything happened, and nothing was written

@@ -1,5 +1,9 @@
 pub mod Begins
+pub mod Booting
 pub mod Counted
 pub mod Ended
+pub mod Held
 pub mod Recorded
+pub mod Stepping
+pub mod Throughout
 pub mod Turning

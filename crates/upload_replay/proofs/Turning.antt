@@ -1,5 +1,5 @@
 -- A turn keeps what holds of a run.
-use Rattle.std.proofs.Common.{◌≡◌, false, Bool, cond, List, [], ◌∷◌, ◌++◌, Option, Some, None, refl, sym, ap, subst, ◌∙◌, ℕ}
+use Rattle.std.proofs.Common.{◌≡◌, inl, inr, Result, Ok, Err, IfOk, OnOk, false, Bool, cond, List, [], ◌∷◌, ◌++◌, Option, Some, None, refl, sym, ap, subst, ◌∙◌, ℕ}
 use Rattle.std.specs.Prelude.{is_some}
 use Rattle.std.proofs.lemmas.List.{append-nil}
 use Rattle.exchange_trace.specs.declared.trace.Side.TheVariants as sides
@@ -25,6 +25,9 @@ use Rattle.accept_rules.specs.Interlocks.{Follows}
 use Rattle.load_header.specs.declared.header.LoadHeader.{LoadHeader}
 use Rattle.load_header.specs.Header.{HeaderView}
 use Rattle.replay_rules.specs.Promises.{IsNoEnd}
+use Rattle.disk_model.specs.State.{DiskState}
+use Rattle.upload_replay.specs.Moments.{HeldSoFar, HoldsRun, RunsOnDisk}
+use Rattle.upload_replay.specs.declared.outcome.DriveFault.{DriveFault}
 use Rattle.upload_replay.specs.Turns.{LoaderTakes, TargetTakes, link_with, target_kept}
 
 -- ---- what a side keeps tells whether it waits, and is up
@@ -159,14 +162,33 @@ same_media None before after sent takes = ap (λ (l : LoaderState). l.set) takes
 same_media (Some e) before after sent takes = takes.set
 
 -- where a turn is recorded, a run goes on
-pub gone_on : {R : Type 0} → StepKeepsTie → (set : Setting) (began : LinkState) (ended : Bool) (steps steps_then : List Step) (loader loader_then : LoaderState)
+pub gone_on : {R : Type 0} (knows : Type 0) → StepKeepsTie → (set : Setting) (began : LinkState) (ended : Bool) (steps steps_then : List Step) (loader loader_then : LoaderState)
     (target target_then : Option (machine.TargetState R)) (link link_then : LinkState)
-    → HasTurned set ended steps steps_then loader loader_then target target_then link link_then
+    → HasTurned knows set ended steps steps_then loader loader_then target target_then link link_then
     → KeepsGoing set began steps steps_then loader loader_then target target_then link link_then
-gone_on keeps set began ended steps steps_then loader loader_then target target_then link link_then t before all =
+gone_on knows keeps set began ended steps steps_then loader loader_then target target_then link link_then t before all =
     let here : NeverBoots (t.step ∷ steps) = subst (λ (list : List Step). NeverBoots list) t.recorded all in
     subst (λ (list : List Step). GoesOn set began list loader_then.view (target_kept target_then) link_then) (sym t.recorded)
-    (turn_goes_on set began steps t.step loader.view loader_then.view (target_kept target) (target_kept target_then) link link_then keeps (before here.1) (t.turns here.0))
+    (turn_goes_on set began steps t.step loader.view loader_then.view (target_kept target) (target_kept target_then) link link_then keeps (before here.1) (t.turns (inl here.0)))
+
+-- and so does its disk
+pub ran_on : {R : Type 0} → StepKeepsTie → (set : Setting) (began : LinkState) (since : ℕ) (ended : Bool) (steps steps_then : List Step) (loader loader_then : LoaderState)
+    (target target_then : Option (machine.TargetState R)) (link link_then : LinkState) (old new : DiskState)
+    → HasTurned (HoldsRun set (target_at set steps) target old) set ended steps steps_then loader loader_then target target_then link link_then → HeldSoFar set since steps_then target_then new
+    → RunsOnDisk set began since steps loader target link old → RunsOnDisk set began since steps_then loader_then target_then link_then new
+ran_on keeps set began since ended steps steps_then loader loader_then target target_then link link_then old new t held runs = record {
+  goes_on = subst (λ (list : List Step). GoesOn set began list loader_then.view (target_kept target_then) link_then) (sym t.recorded)
+      (turn_goes_on set began steps t.step loader.view loader_then.view (target_kept target) (target_kept target_then) link link_then keeps runs.goes_on (t.turns (inr runs.held.holds)));
+  held = held;
+}
+
+pub ran_on_ok : {R : Type 0} → StepKeepsTie → (set : Setting) (began : LinkState) (since : ℕ) (result : Result Bool DriveFault) (steps steps_then : List Step) (loader loader_then : LoaderState)
+    (target target_then : Option (machine.TargetState R)) (link link_then : LinkState) (old new : DiskState)
+    → IfOk result (λ ended. HasTurned (HoldsRun set (target_at set steps) target old) set ended steps steps_then loader loader_then target target_then link link_then) → OnOk result (HeldSoFar set since steps_then target_then new)
+    → RunsOnDisk set began since steps loader target link old → OnOk result (RunsOnDisk set began since steps_then loader_then target_then link_then new)
+ran_on_ok keeps set began since (Ok ended) steps steps_then loader loader_then target target_then link link_then old new t held runs =
+    ran_on keeps set began since ended steps steps_then loader loader_then target target_then link link_then old new t held runs
+ran_on_ok keeps set began since (Err fault) steps steps_then loader loader_then target target_then link link_then old new t held runs = tt
 
 -- a target that nothing reaches
 pub quiet_turn : (set : Setting) (state : TargetState) (kept : Option TargetView) → TargetTurns set None state kept kept [] []

@@ -1,6 +1,11 @@
 -- What holds of a run as it goes on, and once it came to its end (docs/EXCHANGE.md, "Runs").
-use Rattle.std.specs.Prelude.{◌≡◌, List, [], ◌∷◌, ◌++◌, Bool, true, false, is_some, Option, Some, None, ⊤}
+use Rattle.std.specs.Prelude.{◌≡◌, ◌⊎◌, List, [], ◌∷◌, ◌++◌, Bool, true, false, is_some, Option, Some, None, ⊤}
 use Rattle.std.specs.List.{AllByRecursion}
+use Rattle.accept_rules.specs.Interlocks.{Follows}
+use Rattle.load_header.specs.declared.header.LoadHeader.{LoadHeader}
+use Rattle.disk_layout.specs.Holds.{HoldsConfig}
+use Rattle.disk_model.specs.Image.{Image}
+use Rattle.media_check.specs.Sets.{SetView}
 use Rattle.exchange_trace.specs.declared.trace.Side.TheVariants as sides
 use Rattle.exchange_trace.specs.Happenings.{DatagramView, HappeningView, Booted, Ended}
 use Rattle.exchange_trace.specs.Lines.{Line}
@@ -12,7 +17,7 @@ use Rattle.link_net.specs.Links.{Gives, LinkState, scene_of}
 use Rattle.session_rules.specs.Loader.{EndedSession, LoaderView}
 use Rattle.session_rules.specs.LoaderLog.{loader_view}
 use Rattle.session_rules.specs.Target.{TargetView}
-use Rattle.loader_machine.specs.Machine.{LoaderState, all_sessions}
+use Rattle.loader_machine.specs.Machine.{LoaderState, all_sessions, media_of}
 use Rattle.replay_rules.specs.BothEnds.{Setting, TargetState, come_up, gone_down, loader_at, reached, target_at, waiting}
 use Rattle.replay_rules.specs.Due.{AllNoted, MayBeNoted}
 use Rattle.replay_rules.specs.Promises.{IsTrace}
@@ -70,12 +75,12 @@ pub record Turns (set : Setting) (steps : List Step) (s : Step) (loader loader_t
   pub noted : MayBeNoted (is_some target) (first_port_after steps) s.given s.notes
   pub linked : link_then ≡ link_with given s.posts
 
--- A turn is recorded as the newest step, and `ended` says whether the end came in it. What both ends keep after a boot isn't
--- said yet.
-pub record HasTurned {R : Type 0} (set : Setting) (ended : Bool) (steps steps_then : List Step) (loader loader_then : LoaderState) (target target_then : Option (machine.TargetState R)) (link link_then : LinkState) : Type 0 where
+-- A turn is recorded as the newest step, and `ended` says whether the end came in it. At a boot both ends keep what the trace
+-- says where `knows` says that the disk holds it.
+pub record HasTurned {R : Type 0} (knows : Type 0) (set : Setting) (ended : Bool) (steps steps_then : List Step) (loader loader_then : LoaderState) (target target_then : Option (machine.TargetState R)) (link link_then : LinkState) : Type 0 where
   pub step : Step
   pub recorded : steps_then ≡ step ∷ steps
-  pub turns : IsNoBoot step.given → Turns set steps step loader.view loader_then.view (target_kept target) (target_kept target_then) link link_then
+  pub turns : IsNoBoot step.given ⊎ knows → Turns set steps step loader.view loader_then.view (target_kept target) (target_kept target_then) link link_then
   pub end : ended ≡ is_end step.given
   pub media : loader_then.set ≡ loader.set
 
@@ -97,6 +102,12 @@ KeepsGoing set began steps steps_then loader loader_then target target_then link
     → NeverBoots steps_then → GoesOn set began steps_then loader_then.view (target_kept target_then) link_then
 
 -- ---- a whole run
+
+-- A run stands on this media set, on this interlock, and on what this image of the disk holds.
+pub record IsSet {R : Type 0} (may_say : R → LoadHeader → Bool → Type 0) (set : Setting) (interlock : R) (shown : SetView) (image : Image) : Type 0 where
+  pub media : set.media ≡ media_of shown
+  pub accepts : Follows may_say interlock set.accepts
+  pub start : HoldsConfig image set.start
 
 -- A run came to its end: its trace has the end last and once, exactly what was due was posted, and only that was noted of the
 -- target which may be; the link was posted and gave exactly what the trace has; the loader has one session for each start.

@@ -5,3 +5,4 @@ pub mod Powers
 pub mod Recordings
 pub mod Texts
 pub mod Turns
+pub mod Moments

@@ -49,14 +49,6 @@ abbrev pub RunsWhileUp : {R : Type 0} → Option (TargetState R) → DiskState �
 RunsWhileUp None disk = ⊤
 RunsWhileUp (Some t) disk = IsRunning disk
 
--- The disk's count of faults hasn't fallen, and it wasn't armed; it runs on unless the target goes down, and its failure has
--- its cause.
-pub record DiskRuns {T : Type 0} (old new : DiskState) (result : Result T Down) : Type 0 where
-  pub faults : old.faults ≤ new.faults
-  pub power : KeepsPower old new
-  pub running : OnOk result (new.stopped ≡ false)
-  pub cause : HasDiskCause downs.DiskFailed old new result
-
 -- what is noted of it
 abbrev pub notes_of : Option PowerNote → List Note
 notes_of None = []

@@ -1,20 +1,21 @@
 //! A whole run.
-ghost use Rattle.std.specs.Prelude.{◌≡◌, ◌≤◌, ◌++◌, ℕ, [], Some, map, true};
-ghost use Rattle.std.specs.Prelude.{IfOk, IfErr};
+ghost use Rattle.std.specs.Prelude.{◌≡◌, ◌⊎◌, ◌≤◌, ◌++◌, ℕ, [], None, Some, map, option_map};
+ghost use Rattle.std.specs.Prelude.{false, true, IfOk, IfErr, OnOk};
 ghost use Rattle.accept_rules.specs.Interlocks.{Follows};
 ghost use Rattle.bank_store.specs.DiskWrites.{IsRunning};
-ghost use Rattle.disk_layout.specs.Holds.{HoldsConfig};
+ghost use Rattle.disk_layout.specs.Holds.{standing_view};
 ghost use Rattle.disk_model.specs.Image.{Image};
-ghost use Rattle.disk_model.specs.State.{KeepsPower};
+ghost use Rattle.disk_model.specs.State.{IsSettled, KeepsPower, OnlyReads};
 ghost use Rattle.exchange_trace.specs.Posts.{happenings_of};
 ghost use Rattle.exchange_trace.specs.Steps.{steps_of};
-ghost use Rattle.loader_machine.specs.Machine.{media_of, session_view};
+ghost use Rattle.loader_machine.specs.Machine.{session_view};
 ghost use Rattle.media_check.specs.Sets.{set_view};
 ghost use Rattle.replay_rules.specs.BothEnds.{Setting};
-ghost use Rattle.upload_replay.specs.Drives.{NeverBoots, IsRun};
+ghost use Rattle.upload_replay.specs.Drives.{NeverBoots, IsRun, IsSet};
 ghost use Rattle.upload_replay.specs.Endings.{CountsStops, FailedIfUnknown, FailsAtFirst};
 ghost use Rattle.upload_replay.specs.Endings.{HoldsStanding, IsLastFault, IsNoConfig};
 ghost use Rattle.upload_replay.specs.Endings.{first_fault_of, last_refusal_of};
+ghost use Rattle.upload_replay.specs.Moments.{HoldsThroughout, LeavesNoMore};
 ghost use Rattle.upload_replay.specs.Powers.{ArmsAsGiven, RoseBy};
 ghost use Rattle.upload_replay.specs.Turns.{HasDriveCause};
 
@@ -43,12 +44,17 @@ pub fn drive<L: Link, K: Power, R: Rule>(
 ) -> Result<Drive, DriveFault>
     requires nothing_posted { (L.state link.old).posted ≡ [] }
     requires running { IsRunning (K.state disk.old) }
-    // With Ok; on a disk that tells its content, where no boot came.
-    ensures run { (set : Setting) (image : Image) → set.media ≡ media_of (set_view media.now)
-        → Follows R.may_say interlock.now set.accepts → (K.state disk.old).reads ≡ Some image
-        → HoldsConfig image set.start → IfOk result (λ drive.
-        NeverBoots (steps_of drive.trace.items) → IsRun set (L.state link.old) (L.state link.new)
+    // With Ok, on a disk that tells its content.
+    ensures run { (set : Setting) (image : Image) → IsSet R.may_say set interlock.now
+        (set_view media.now) image → (K.state disk.old).reads ≡ Some image → IfOk result
+        (λ drive. NeverBoots (steps_of drive.trace.items) ⊎ IsSettled (K.state disk.old)
+        → IsRun set (L.state link.old) (L.state link.new)
         (steps_of drive.trace.items) (map session_view drive.sessions.items)) }
+    ensures moments { (set : Setting) (image : Image) → IsSet R.may_say set interlock.now
+        (set_view media.now) image → (K.state disk.old).reads ≡ Some image
+        → IsSettled (K.state disk.old) → IfOk result (λ drive. HoldsThroughout set
+        (steps_of drive.trace.items) (option_map standing_view drive.standing)
+        (K.state disk.old) (K.state disk.new)) }
     ensures standing { IfOk result (λ drive. HoldsStanding drive.standing (K.state disk.new)) }
     ensures given { IfOk result (λ drive. (L.state link.new).given
         ≡ happenings_of (steps_of drive.trace.items) ++ (L.state link.old).given) }
@@ -64,6 +70,7 @@ pub fn drive<L: Link, K: Power, R: Rule>(
     ensures arms { ArmsAsGiven (L.state link.old).given (L.state link.new).given
         (K.state disk.old) (K.state disk.new) }
 {
+    // For the proof: does nothing.
     an_image_holds_one_configuration();
     let target = match Target::boot(alloc, disk, interlock, 1024) {
         Ok(target) => target,
@@ -108,6 +115,9 @@ fn standing_at_end<K: Disk>(
     ensures standing { IfOk result (λ standing. HoldsStanding standing (K.state disk.new)) }
     ensures refused { IfErr result (λ fault. IsLastFault fault (K.state disk.new)) }
     ensures power { KeepsPower (K.state disk.old) (K.state disk.new) }
+    ensures leaves { LeavesNoMore (K.state disk.old) (K.state disk.new) }
+    ensures settled { up ≡ false → OnOk result (IsSettled (K.state disk.new))
+        ⊎ IfOk result (λ standing. standing ≡ None) }
 {
     if !up {
         match disk.restart() {
@@ -128,6 +138,9 @@ fn recovered<K: Disk>(alloc: Global, disk: &mut K) -> Result<Option<Standing>, D
     ensures standing { IfOk result (λ standing. HoldsStanding standing (K.state disk.new)) }
     ensures refused { IfErr result (λ fault. IsLastFault fault (K.state disk.new)) }
     ensures power { KeepsPower (K.state disk.old) (K.state disk.new) }
+    ensures reads { OnlyReads (K.state disk.old) (K.state disk.new) }
+    ensures same { OnOk result ((K.state disk.new).reads ≡ (K.state disk.old).reads)
+        ⊎ IfOk result (λ standing. standing ≡ None) }
 {
     match recover(alloc, disk) {
         Ok(standing) => Ok(Some(standing)),

@@ -1,20 +1,25 @@
 //! What becomes of the target's power.
-ghost use Rattle.std.specs.Prelude.{◌≡◌, ℕ, [], Bool, None, Some, is_some, IfErr, IfOk, OnOk};
+ghost use Rattle.std.specs.Prelude.{◌≡◌, ℕ, [], Bool, None, Option, Some, is_some};
+ghost use Rattle.std.specs.Prelude.{IfErr, IfOk, Ok, OnOk};
 ghost use Rattle.accept_rules.specs.Interlocks.{Follows};
 ghost use Rattle.bank_store.specs.DiskWrites.{IsRunning};
-ghost use Rattle.disk_model.specs.State.{KeepsPower};
+ghost use Rattle.disk_layout.specs.Holds.{StandingView};
+ghost use Rattle.disk_model.specs.State.{IsSettled, KeepsPower, OnlyReads};
 ghost use Rattle.exchange_trace.specs.Happenings.{Power_cut};
 ghost use Rattle.load_header.specs.Header.{HeaderView};
-ghost use Rattle.replay_rules.specs.BothEnds.{Setting, TargetState};
+ghost use Rattle.replay_rules.specs.BothEnds.{Is_down, Setting, TargetState, noted};
 ghost use Rattle.replay_rules.specs.Due.{IsBooted, MayBeNoted};
 ghost use Rattle.upload_replay.specs.Drives.{TargetTurns};
+ghost use Rattle.upload_replay.specs.Moments.{BeginsStep, HoldsRun, StepsOn};
 ghost use Rattle.upload_replay.specs.Powers.{ArmsBy, RoseBy, stops_in, stops_noted};
 ghost use Rattle.upload_replay.specs.Turns.{RuleFollows, RunsWhileUp, notes_of, target_kept};
+ghost use Rattle.upload_replay.specs.declared.outcome.DriveFault.{DriveFault};
 ghost use Rattle.upload_replay.specs.declared.outcome.DriveFault.TheVariants.{Memory};
 
 use crate::outcome::DriveFault;
 use accept_rules::{Interlock, Rule};
-use disk_layout::RecoverFault;
+use bank_store::a_store_goes_on_fitting;
+use disk_layout::{RecoverFault, an_image_holds_one_configuration};
 use disk_model::{DiskFault, Power};
 use std::alloc::Global;
 use target_machine::{BootFault, Target};
@@ -49,7 +54,12 @@ pub(crate) fn cut_power<K: Power, R: Rule>(
     ensures stops { RoseBy (stops_in (Power_cut calls pick) (notes_of result))
         (K.state disk.old).faults (K.state disk.new).faults }
     ensures arms { ArmsBy (Power_cut calls pick) (K.state disk.old) (K.state disk.new) }
+    ensures steps { (set : Setting) (state : TargetState)
+        → BeginsStep R.may_say set state slot.old (K.state disk.old)
+        → StepsOn {E = DriveFault} set None state slot.new notes_of (K.state disk.old)
+        (K.state disk.new) (Ok result) }
 {
+    a_store_goes_on_fitting::<K>();
     disk.arm(calls, pick);
     if calls > 0 || slot.is_none() {
         return None;
@@ -75,6 +85,10 @@ pub(crate) fn boot_again<'i, K: Power, R: Rule>(
     ensures stops { IfOk result (λ note. RoseBy (stops_noted (notes_of (Some note)))
         (K.state disk.old).faults (K.state disk.new).faults) }
     ensures power { KeepsPower (K.state disk.old) (K.state disk.new) }
+    ensures steps { (set : Setting) (state : TargetState)
+        → BeginsStep R.may_say set state slot.old (K.state disk.old)
+        → StepsOn set None state slot.new (λ note. notes_of (Some note)) (K.state disk.old)
+        (K.state disk.new) result }
 {
     drop(slot.take());
     match disk.restart() {
@@ -102,7 +116,15 @@ fn come_up<'i, K: Power, R: Rule>(
     ensures stops { IfOk result (λ note. RoseBy (stops_noted (notes_of (Some note)))
         (K.state disk.old).faults (K.state disk.new).faults) }
     ensures power { KeepsPower (K.state disk.old) (K.state disk.new) }
+    ensures reads { OnlyReads (K.state disk.old) (K.state disk.new) }
+    ensures holds { (set : Setting) (active : StandingView) (interrupted : Option StandingView)
+        → IsSettled (K.state disk.old)
+        → HoldsRun set (Is_down active interrupted) slot.old (K.state disk.old)
+        → IfOk result (λ note. HoldsRun set (noted (notes_of (Some note))
+        (Is_down active interrupted) (Is_down active interrupted)) slot.new
+        (K.state disk.new)) }
 {
+    an_image_holds_one_configuration();
     match Target::boot(alloc, disk, interlock, first_port) {
         Ok(target) => {
             let sequence = target.sequence();

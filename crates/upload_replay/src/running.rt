@@ -9,6 +9,7 @@ ghost use Rattle.loader_machine.specs.Machine.{media_of};
 ghost use Rattle.replay_rules.specs.BothEnds.{Setting};
 ghost use Rattle.replay_rules.specs.Promises.{EndsOnce};
 ghost use Rattle.upload_replay.specs.Drives.{IsNewStep, KeepsGoing};
+ghost use Rattle.upload_replay.specs.Moments.{RunsOnDisk};
 ghost use Rattle.upload_replay.specs.Powers.{ArmsAsGiven, RoseBy, disk_stops};
 ghost use Rattle.upload_replay.specs.Turns.{HasDriveCause, IsOfRun, RuleFollows, RunsWhileUp};
 
@@ -34,6 +35,12 @@ pub(crate) fn run_to_end<'r, L: Link, K: Power, R: Rule>(
         → set.media ≡ media_of run.old.loader.set → Follows R.may_say interlock.now set.accepts
         → RuleFollows R.may_say set.accepts run.old.target → OnOk result (KeepsGoing set began run.old.recording run.new.recording run.old.loader
         run.new.loader run.old.target run.new.target (L.state link.old) (L.state link.new)) }
+    ensures held { (set : Setting) (began : LinkState) (since : ℕ)
+        → set.media ≡ media_of run.old.loader.set → Follows R.may_say interlock.now set.accepts
+        → RuleFollows R.may_say set.accepts run.old.target
+        → RunsOnDisk set began since run.old.recording run.old.loader run.old.target
+        (L.state link.old) (K.state disk.old) → OnOk result (RunsOnDisk set began since
+        run.new.recording run.new.loader run.new.target (L.state link.new) (K.state disk.new)) }
     ensures ends { OnOk result (EndsOnce run.new.recording) }
     ensures running { OnOk result (RunsWhileUp run.new.target (K.state disk.new)) }
     ensures stops { (began : ℕ) → RoseBy (disk_stops run.old.recording) began
@@ -70,6 +77,11 @@ fn go_on<'r, L: Link, K: Power, R: Rule>(
         → set.media ≡ media_of run.old.loader.set → RuleFollows R.may_say set.accepts run.old.target
         → OnOk result (KeepsGoing set began run.old.recording run.new.recording run.old.loader
         run.new.loader run.old.target run.new.target (L.state link.old) (L.state link.new)) }
+    ensures held { (set : Setting) (began : LinkState) (since : ℕ)
+        → set.media ≡ media_of run.old.loader.set → RuleFollows R.may_say set.accepts run.old.target
+        → RunsOnDisk set began since run.old.recording run.old.loader run.old.target
+        (L.state link.old) (K.state disk.old) → OnOk result (RunsOnDisk set began since
+        run.new.recording run.new.loader run.new.target (L.state link.new) (K.state disk.new)) }
     ensures step { IfOk result (λ ended. IsNewStep ended run.old.recording run.new.recording) }
     ensures media { OnOk result (run.new.loader.set ≡ run.old.loader.set) }
     ensures rule { (accepts : HeaderView → Bool) → Follows R.may_say interlock.now accepts

@@ -1,5 +1,5 @@
 //! A turn of a run.
-ghost use Rattle.std.specs.Prelude.{◌≡◌, ◌++◌, ℕ, Bool, List, is_some, IfErr, IfOk, OnOk};
+ghost use Rattle.std.specs.Prelude.{◌≡◌, ◌⊎◌, ◌++◌, ℕ, Bool, List, is_some, IfErr, IfOk, OnOk};
 ghost use Rattle.accept_rules.specs.Interlocks.{Follows};
 ghost use Rattle.bank_store.specs.DiskWrites.{IsRunning};
 ghost use Rattle.exchange_trace.specs.declared.trace.Side.TheVariants as sides;
@@ -8,7 +8,10 @@ ghost use Rattle.exchange_trace.specs.Logs.{Gets, event_for};
 ghost use Rattle.exchange_trace.specs.Posts.{first_port_after, happenings_of, posted_in};
 ghost use Rattle.load_header.specs.Header.{HeaderView};
 ghost use Rattle.loader_machine.specs.Machine.{media_of};
-ghost use Rattle.replay_rules.specs.BothEnds.{Setting, TargetState};
+ghost use Rattle.load_intake.specs.Stores.{Writes};
+ghost use Rattle.session_rules.specs.Contents.{TargetContents, contents_after};
+ghost use Rattle.target_machine.specs.Disks.{KeepsDisk};
+ghost use Rattle.replay_rules.specs.BothEnds.{Setting, TargetState, target_at};
 ghost use Rattle.replay_rules.specs.Due.{MayBeNoted};
 ghost use Rattle.target_machine.specs.Decisions.{Takes};
 ghost use Rattle.transfer_end.specs.Calls.{posts_view};
@@ -17,7 +20,9 @@ ghost use Rattle.upload_replay.specs.Drives.{has_session};
 ghost use Rattle.upload_replay.specs.Drives.{is_end as is_end_of};
 ghost use Rattle.upload_replay.specs.Powers.{ArmsAsGiven, ArmsBy, LeavesPower, RoseBy};
 ghost use Rattle.upload_replay.specs.Powers.{disk_stops, stops_in};
-ghost use Rattle.upload_replay.specs.Turns.{DiskRuns, HasDriveCause, IsOfRun, IsStep};
+ghost use Rattle.upload_replay.specs.Moments.{AddsAtHappening, BeginsStep, HasContents};
+ghost use Rattle.upload_replay.specs.Moments.{HeldSoFar, HoldsRun, StepsOn, contents_then};
+ghost use Rattle.upload_replay.specs.Turns.{HasDriveCause, IsOfRun, IsStep};
 ghost use Rattle.upload_replay.specs.Turns.{RuleFollows, RunsWhileUp, TargetTakes, link_with};
 ghost use Rattle.upload_replay.specs.Turns.{noted_with, notes_of, target_kept};
 ghost use Rattle.upload_replay.specs.declared.outcome.DriveFault.TheVariants.{Memory};
@@ -28,10 +33,12 @@ use crate::powering::{PowerNote, boot_again, cut_power};
 use crate::reaching::loader_takes;
 use crate::recording::Recording;
 use accept_rules::{Interlock, Rule};
+use disk_layout::an_image_holds_one_configuration;
 use disk_model::{Disk, Power};
 use exchange_trace::{Datagram, Happening, Side};
 use link_net::Link;
 use loader_machine::{Loader, Posts};
+use replay_rules::laws::contents_follow_their_trace;
 use std::alloc::Global;
 use target_machine::{Down, Target};
 
@@ -55,9 +62,13 @@ pub(crate) fn turn<'r, L: Link, K: Power, R: Rule>(
     requires { RunsWhileUp run.old.target (K.state disk.old) }
     // With Ok.
     ensures turns { (set : Setting) → set.media ≡ media_of run.old.loader.set
-        → RuleFollows R.may_say set.accepts run.old.target → IfOk result (λ ended. HasTurned set
+        → RuleFollows R.may_say set.accepts run.old.target → IfOk result (λ ended. HasTurned
+        (HoldsRun set (target_at set run.old.recording) run.old.target (K.state disk.old)) set
         ended run.old.recording run.new.recording run.old.loader run.new.loader run.old.target
         run.new.target (L.state link.old) (L.state link.new)) }
+    ensures held { (set : Setting) (since : ℕ) → RuleFollows R.may_say set.accepts run.old.target
+        → HeldSoFar set since run.old.recording run.old.target (K.state disk.old)
+        → OnOk result (HeldSoFar set since run.new.recording run.new.target (K.state disk.new)) }
     ensures step { IfOk result (λ ended. IsNewStep ended run.old.recording run.new.recording) }
     ensures media { OnOk result (run.new.loader.set ≡ run.old.loader.set) }
     ensures rule { (accepts : HeaderView → Bool) → Follows R.may_say interlock.now accepts
@@ -75,7 +86,13 @@ pub(crate) fn turn<'r, L: Link, K: Power, R: Rule>(
     ensures cause { HasDriveCause (L.faults link.old) (L.faults link.new) result }
     ensures arms { ArmsAsGiven (L.state link.old).given (L.state link.new).given
         (K.state disk.old) (K.state disk.new) }
+    ensures adds { (set : Setting) → RuleFollows R.may_say set.accepts run.old.target
+        → HoldsRun set (target_at set run.old.recording) run.old.target (K.state disk.old)
+        → AddsAtHappening set run.old.recording (K.state disk.old) (K.state disk.new) }
 {
+    // For the proof: these do nothing.
+    an_image_holds_one_configuration();
+    contents_follow_their_trace();
     let happening = link.next(run.loader.waits(), waits(&run.target))?;
     let ended = is_end(&happening);
     // The target first: a loss of power is armed whatever else may fail.
@@ -129,6 +146,7 @@ pub(crate) fn target_turn<'i, K: Power, R: Rule>(
     // With Ok.
     ensures turns { (set : Setting) (state : TargetState)
         → RuleFollows R.may_say set.accepts slot.old → IsNoBoot (happening_view happening.now)
+        ⊎ BeginsStep R.may_say set state slot.old (K.state disk.old)
         → IfOk result (λ reply. TargetTurns set
         (event_for sides.Target (posted_in recording.now) (happening_view happening.now)) state
         (target_kept slot.old) (target_kept slot.new) (posts_view reply.posts)
@@ -145,6 +163,11 @@ pub(crate) fn target_turn<'i, K: Power, R: Rule>(
     // Whatever it answers.
     ensures memory { IfErr result (λ fault. fault ≡ Memory) }
     ensures arms { ArmsBy (happening_view happening.now) (K.state disk.old) (K.state disk.new) }
+    ensures steps { (set : Setting) (state : TargetState)
+        → BeginsStep R.may_say set state slot.old (K.state disk.old)
+        → StepsOn set (event_for sides.Target (posted_in recording.now)
+        (happening_view happening.now)) state slot.new (λ reply. notes_of reply.note)
+        (K.state disk.old) (K.state disk.new) result }
 {
     match happening {
         Happening::Power { calls, pick } => Ok(Reply {
@@ -195,6 +218,11 @@ fn reach_target<K: Disk, R: Rule>(
         (K.state disk.old).faults (K.state disk.new).faults) }
     ensures memory { IfErr result (λ fault. fault ≡ Memory) }
     ensures arms { ArmsBy (happening_view happening.now) (K.state disk.old) (K.state disk.new) }
+    ensures steps { (set : Setting) (state : TargetState)
+        → BeginsStep R.may_say set state slot.old (K.state disk.old)
+        → StepsOn set (event_for sides.Target (posted_in recording.now)
+        (happening_view happening.now)) state slot.new (λ reply. notes_of reply.note)
+        (K.state disk.old) (K.state disk.new) result }
 {
     let Some(mut target) = slot.take() else {
         return Ok(Reply {
@@ -227,7 +255,12 @@ fn target_takes<K: Disk, R: Rule>(
         → IfOk result (λ posts. TargetTakes accepts
         (event_for sides.Target (posted_in recording.now) (happening_view happening.now))
         target.old target.new (posts_view posts)) }
-    ensures disk { DiskRuns (K.state disk.old) (K.state disk.new) result }
+    ensures keeps { (accepts : HeaderView → Bool) → Follows R.may_say target.old.rule accepts
+        → (c : TargetContents) → HasContents target.old (K.state disk.old) c
+        → KeepsDisk (K.state disk.old) target.new.store (K.state disk.new) c
+        (contents_then accepts target.old.view (event_for sides.Target (posted_in recording.now)
+        (happening_view happening.now)) c) result }
+    ensures writes { Writes (K.state disk.old) (K.state disk.new) result }
 {
     match happening {
         Happening::ToTarget(number) => match recording.datagram(*number) {
@@ -259,7 +292,12 @@ fn target_gets<K: Disk, R: Rule>(
         → IfOk result (λ posts. Takes accepts
         (Gets datagram.now.from datagram.now.to datagram.now.bytes.items)
         target.old target.new (posts_view posts)) }
-    ensures disk { DiskRuns (K.state disk.old) (K.state disk.new) result }
+    ensures keeps { (accepts : HeaderView → Bool) → Follows R.may_say target.old.rule accepts
+        → (c : TargetContents) → HasContents target.old (K.state disk.old) c
+        → KeepsDisk (K.state disk.old) target.new.store (K.state disk.new) c
+        (contents_after accepts target.old.view
+        (Gets datagram.now.from datagram.now.to datagram.now.bytes.items) c) result }
+    ensures writes { Writes (K.state disk.old) (K.state disk.new) result }
 {
     target.on_datagram(disk, datagram.from, datagram.to, datagram.bytes.as_slice())
 }

@@ -21,10 +21,13 @@ returns-in-Ok g c =
     let run = c.in-Ok.run' in
     let old = g.K.Disk.state c.args.disk.now in
     let new = g.K.Disk.state c.drive.new.disk in
-    let runs : RunsScript set c.args.script old (run_seen run) = λ start image told holds keeps. (
-      c.drive.new.link,
-      subst (λ (began : LinkState). IsRun (setting_of set start) began c.drive.new.link (steps_of run.trace.items) (run_seen run).sessions) c.new-link.ensures
-          (c.in-Ok.ensures.run (setting_of set start) image refl (λ fields answer said. said.says ∙ ap permits said.same) told holds keeps),
+    let runs : RunsScript set c.args.script old new (run_seen run) = λ start image told holds. (
+      λ all. (
+        c.drive.new.link,
+        subst (λ (began : LinkState). IsRun (setting_of set start) began c.drive.new.link (steps_of run.trace.items) (run_seen run).sessions) c.new-link.ensures
+            (c.in-Ok.ensures.run (setting_of set start) image (record { media = refl; accepts = λ fields answer said. said.says ∙ ap permits said.same; start = holds }) told all),
+      ),
+      λ settled. c.in-Ok.ensures.moments (setting_of set start) image (record { media = refl; accepts = λ fields answer said. said.says ∙ ap permits said.same; start = holds }) told settled,
     ) in
     let began : c.new-link.result.given ≡ [] = ap (λ (l : LinkState). l.given) c.new-link.ensures in
     let counts = counts_power (steps_of run.trace.items) run.standing old new _ _ began c.in-Ok.ensures.stops c.in-Ok.ensures.given c.drive.ensures.arms in

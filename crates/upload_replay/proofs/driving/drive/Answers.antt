@@ -1,5 +1,6 @@
-use Rattle.std.proofs.Common.{◌≡◌, List, [], ◌++◌, Some, sym, ap, subst, ◌∙◌}
-use Rattle.std.specs.Prelude.{map}
+use Rattle.std.proofs.Common.{◌≡◌, inl, inr, List, [], ◌++◌, Some, sym, ap, subst, ◌∙◌}
+use Rattle.std.specs.Prelude.{is_some, map, option_map}
+use Rattle.disk_layout.specs.Holds.{standing_view}
 use Rattle.exchange_trace.specs.Posts.{happenings_of}
 use Rattle.exchange_trace.specs.Steps.{Step, steps_of}
 use Rattle.session_rules.specs.Loader.{LoaderView, new_loader}
@@ -8,6 +9,8 @@ use Rattle.accept_rules.specs.Interlocks.{Follows}
 use Rattle.upload_replay.specs.Drives.{NeverBoots, GoesOn, IsRun}
 use Rattle.upload_replay.specs.Turns.{target_kept}
 use Rattle.upload_replay.specs.Powers.{RoseBy, disk_stops}
+use Rattle.upload_replay.specs.Moments.{HoldsThroughout}
+use Rattle.upload_replay.proofs.Throughout.{first_held, settled_if, throughout}
 use Rattle.upload_replay.proofs.Begins.{begins, comes_up_with, is_run}
 use Rattle.upload_replay.proofs.Counted.{rose_not, rose_on}
 use Rattle.upload_replay.proofs.Ended.{first_refusal, of_last, of_run, refused_so}
@@ -28,23 +31,54 @@ returns-in_err-standing-clause-no_config g c =
 
 pub returns-clause-run : goal.returns-clause-run
 returns-clause-run g c =
-    λ set image media follows told holds.
+    λ set image is told.
     λ all.
     let began = g.L.Link.state c.args.link.now in
     let target = c.in-Ok.target in
+    let one = c.an_image_holds_one_configuration.ensures.one_standing in
     let start : GoesOn set began [] new_loader (Some target.view) began =
     begins set began target.view c.requires.nothing_posted
-    (comes_up_with c.args.interlock.now target (g.K.Disk.state c.args.disk.now) image set.start c.in-Ok.ensures.comes_up told holds (c.an_image_holds_one_configuration.ensures.one_standing image)) in
+    (comes_up_with c.args.interlock.now target (g.K.Disk.state c.args.disk.now) image set.start c.in-Ok.ensures.comes_up told is.start (one image)) in
     let loader : GoesOn set began [] c.new-2.result.view (Some target.view) began =
     subst (λ (v : LoaderView). GoesOn set began [] v (Some target.view) began) (sym (ap (λ (l : LoaderState). l.view) c.new-2.ensures)) start in
     let ready : GoesOn set began c.new.result c.new-2.result.view (Some target.view) began =
     subst (λ (steps : List Step). GoesOn set began steps c.new-2.result.view (Some target.view) began) (sym c.new.ensures) loader in
-    let all_of_run = subst (λ (steps : List Step). NeverBoots steps) c.into_trace.ensures all in
-    let rule = subst (λ rule. Follows g.R.Rule.may_say rule set.accepts) (sym c.in-Ok.ensures.comes_up.rule_is) follows in
-    let on = c.in_ok-run_to_end.ensures.goes_on set began (media ∙ ap (λ (l : LoaderState). media_of l.set) (sym c.new-2.ensures)) follows rule (λ none. ready) all_of_run in
+    let media = is.media ∙ ap (λ (l : LoaderState). media_of l.set) (sym c.new-2.ensures) in
+    let rule = subst (λ rule. Follows g.R.Rule.may_say rule set.accepts) (sym c.in-Ok.ensures.comes_up.rule_is) is.accepts in
+    let on : GoesOn set began c.run_to_end.new.run.recording c.run_to_end.new.run.loader.view (target_kept c.run_to_end.new.run.target) (g.L.Link.state c.run_to_end.new.link) = elim all [
+      | inl none_boots ↦ c.in_ok-run_to_end.ensures.goes_on set began media is.accepts rule (λ none. ready) (subst (λ (steps : List Step). NeverBoots steps) c.into_trace.ensures none_boots)
+      | inr settled ↦ (c.in_ok-run_to_end.ensures.held set began (g.K.Disk.state c.args.disk.now).clock media is.accepts rule (record {
+        goes_on = ready;
+        held = first_held one set c.args.interlock.now target (g.K.Disk.state c.args.disk.now) (g.K.Disk.state c.boot.new.disk) image c.new.result settled told (g.met.K.Disk.reads_now c.args.disk.now image told) is.start
+            (c.in-Ok.ensures.starts settled image told) c.in-Ok.ensures.reads_disk.only_reads c.in-Ok.ensures.comes_up c.new.ensures;
+      })).goes_on
+    ] in
     subst (λ (steps : List Step). IsRun set began (g.L.Link.state c.run_to_end.new.link) steps (map session_view c.into_sessions.result.items)) (sym c.into_trace.ensures)
     (is_run set began (g.L.Link.state c.run_to_end.new.link) c.run_to_end.new.run.recording c.run_to_end.new.run.loader.view (target_kept c.run_to_end.new.run.target)
     (map session_view c.into_sessions.result.items) on c.in_ok-run_to_end.ensures.ends c.into_sessions.ensures)
+
+pub returns-clause-moments : goal.returns-clause-moments
+returns-clause-moments g c =
+    λ set image is told settled.
+    let began = g.L.Link.state c.args.link.now in
+    let first = g.K.Disk.state c.args.disk.now in
+    let last = g.K.Disk.state c.run_to_end.new.disk in
+    let target = c.in-Ok.target in
+    let one = c.an_image_holds_one_configuration.ensures.one_standing in
+    let ready : GoesOn set began c.new.result c.new-2.result.view (Some target.view) began =
+    rw (c.new.ensures, c.new-2.ensures) (begins set began target.view c.requires.nothing_posted
+    (comes_up_with c.args.interlock.now target first image set.start c.in-Ok.ensures.comes_up told is.start (one image))) in
+    let media = is.media ∙ ap (λ (l : LoaderState). media_of l.set) (sym c.new-2.ensures) in
+    let rule = subst (λ rule. Follows g.R.Rule.may_say rule set.accepts) (sym c.in-Ok.ensures.comes_up.rule_is) is.accepts in
+    let held = (c.in_ok-run_to_end.ensures.held set began first.clock media is.accepts rule (record {
+      goes_on = ready;
+      held = first_held one set c.args.interlock.now target first (g.K.Disk.state c.boot.new.disk) image c.new.result settled told (g.met.K.Disk.reads_now c.args.disk.now image told) is.start
+          (c.in-Ok.ensures.starts settled image told) c.in-Ok.ensures.reads_disk.only_reads c.in-Ok.ensures.comes_up c.new.ensures;
+    })).held in
+    subst (λ (steps : List Step). HoldsThroughout set steps (option_map standing_view c.in_ok-standing.standing) first (g.K.Disk.state c.standing_at_end.new.disk)) (sym c.into_trace.ensures)
+    (throughout one set c.run_to_end.new.run.recording c.run_to_end.new.run.target first last (g.K.Disk.state c.standing_at_end.new.disk) c.in_ok-standing.standing
+    (g.met.K.Disk.counts_now c.run_to_end.new.disk) (g.met.K.Disk.only_now c.run_to_end.new.disk) (g.met.K.Disk.reads_now c.standing_at_end.new.disk) held c.standing_at_end.ensures.leaves c.in_ok-standing.ensures.standing
+    (settled_if (is_some c.run_to_end.new.run.target) (g.K.Disk.state c.standing_at_end.new.disk) c.in_ok-standing.standing (λ down. c.in_ok-standing.ensures.settled (c.is_some.ensures ∙ down))))
 
 pub returns-clause-given : goal.returns-clause-given
 returns-clause-given g c =

@@ -1,5 +1,5 @@
 use Rattle.std.proofs.lemmas.Result.{IfOk-weaker}
-use Rattle.upload_replay.proofs.Turning.{gone_on}
+use Rattle.upload_replay.proofs.Turning.{gone_on, ran_on_ok}
 use Rattle.upload_replay.proofs.running.go_on.Goals as goal
 
 pub returns-clause-goes_on : goal.returns-clause-goes_on
@@ -7,6 +7,12 @@ returns-clause-goes_on g c =
     λ set began media follows.
     IfOk-weaker c.turn.result _ _
     (λ ended turned.
-    gone_on c.a_step_keeps_the_tie.ensures set began ended c.args.run.now.recording c.turn.new.run.recording c.args.run.now.loader c.turn.new.run.loader c.args.run.now.target
+    gone_on _ c.a_step_keeps_the_tie.ensures set began ended c.args.run.now.recording c.turn.new.run.recording c.args.run.now.loader c.turn.new.run.loader c.args.run.now.target
     c.turn.new.run.target (g.L.Link.state c.args.link.now) (g.L.Link.state c.turn.new.link) turned)
     (c.turn.ensures.turns set media follows)
+
+pub returns-clause-held : goal.returns-clause-held
+returns-clause-held g c =
+    λ set began since media follows runs.
+    ran_on_ok c.a_step_keeps_the_tie.ensures set began since c.turn.result c.args.run.now.recording c.turn.new.run.recording c.args.run.now.loader c.turn.new.run.loader c.args.run.now.target c.turn.new.run.target
+    (g.L.Link.state c.args.link.now) (g.L.Link.state c.turn.new.link) (g.K.Disk.state c.args.disk.now) (g.K.Disk.state c.turn.new.disk) (c.turn.ensures.turns set media follows) (c.turn.ensures.held set since follows runs.held) runs

@@ -23,6 +23,9 @@ turns-preserved g c = record {
       c.in_ok-go_on.ensures.goes_on set began (media ∙ ap media_of (sym c.turns.invariant.media))
       (c.turns.invariant.rule set.accepts says follows)
       (c.turns.invariant.goes_on set began media says follows before);
+  held = λ set began since media says follows before.
+      c.in_ok-go_on.ensures.held set began since (media ∙ ap media_of (sym c.turns.invariant.media)) (c.turns.invariant.rule set.accepts says follows)
+      (c.turns.invariant.held set began since media says follows before);
   no_end = subst (λ (steps : List Step). AllByRecursion (λ (s : Step). IsNoEnd s.given) steps) (sym c.in_ok-go_on.ensures.step.recorded)
       (no_end_of c.in_ok-go_on.ensures.step.step.given (sym c.in_ok-go_on.ensures.step.end ∙ c.if-branch.false), c.turns.invariant.no_end);
   media = c.in_ok-go_on.ensures.media ∙ c.turns.invariant.media;
@@ -42,3 +45,9 @@ returns-then-branch-clause-arms g c = arms_on _ _ _ _ _ _ c.turns.invariant.arms
 
 pub returns-then-branch-clause-happened : goal.returns-then-branch-clause-happened
 returns-then-branch-clause-happened g c = λ began first. c.in_ok-go_on.ensures.happened began (c.turns.invariant.happened began first)
+
+pub returns-then-branch-clause-held : goal.returns-then-branch-clause-held
+returns-then-branch-clause-held g c =
+    λ set began since media says follows before.
+    c.in_ok-go_on.ensures.held set began since (media ∙ ap media_of (sym c.turns.invariant.media)) (c.turns.invariant.rule set.accepts says follows)
+    (c.turns.invariant.held set began since media says follows before)

@@ -10,6 +10,7 @@ use Rattle.loader_machine.specs.Machine.{media_of}
 use Rattle.replay_rules.specs.BothEnds.{Setting}
 use Rattle.replay_rules.specs.Promises.{IsNoEnd}
 use Rattle.upload_replay.specs.Drives.{KeepsGoing}
+use Rattle.upload_replay.specs.Moments.{RunsOnDisk}
 use Rattle.upload_replay.specs.Powers.{ArmsAsGiven, RoseBy, disk_stops}
 use Rattle.upload_replay.specs.Turns.{RuleFollows, RunsWhileUp}
 use Rattle.upload_replay.proofs.running.run_to_end.Given as goal
@@ -19,6 +20,9 @@ invariant-turns g l =
     record {
       goes_on : (set : Setting) (began : LinkState) → set.media ≡ media_of l.fn.run.loader.set → Follows g.R.Rule.may_say l.fn.interlock set.accepts → RuleFollows g.R.Rule.may_say set.accepts l.fn.run.target
           → KeepsGoing set began l.fn.run.recording l.run.recording l.fn.run.loader l.run.loader l.fn.run.target l.run.target (g.L.Link.state l.fn.link) (g.L.Link.state l.link);
+      held : (set : Setting) (began : LinkState) (since : ℕ) → set.media ≡ media_of l.fn.run.loader.set → Follows g.R.Rule.may_say l.fn.interlock set.accepts → RuleFollows g.R.Rule.may_say set.accepts l.fn.run.target
+          → RunsOnDisk set began since l.fn.run.recording l.fn.run.loader l.fn.run.target (g.L.Link.state l.fn.link) (g.K.Disk.state l.fn.disk)
+          → RunsOnDisk set began since l.run.recording l.run.loader l.run.target (g.L.Link.state l.link) (g.K.Disk.state l.disk);
       no_end : AllByRecursion (λ (s : Step). IsNoEnd s.given) l.run.recording;
       media : l.run.loader.set ≡ l.fn.run.loader.set;
       rule : (accepts : HeaderView → Bool) → Follows g.R.Rule.may_say l.fn.interlock accepts → RuleFollows g.R.Rule.may_say accepts l.fn.run.target → RuleFollows g.R.Rule.may_say accepts l.run.target;

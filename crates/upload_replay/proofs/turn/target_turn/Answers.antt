@@ -1,4 +1,7 @@
+use Rattle.std.proofs.Common.{refl}
 use Rattle.exchange_trace.specs.Posts.{first_port_after}
+use Rattle.upload_replay.specs.Turns.{notes_of}
+use Rattle.upload_replay.proofs.Stepping.{booted_turns, steps_as}
 use Rattle.upload_replay.proofs.turn.target_turn.Goals as goal
 
 pub returns-in-Power-clause-turns : goal.returns-in-Power-clause-turns
@@ -9,3 +12,6 @@ returns-in-Power-clause-noted g c = rw c.in-Power.is (c.cut_power.ensures.noted 
 
 pub returns-in-Power-clause-rule : goal.returns-in-Power-clause-rule
 returns-in-Power-clause-rule g c = λ accepts says follows. c.cut_power.ensures.rule accepts follows
+
+pub returns-in-Power-clause-steps : goal.returns-in-Power-clause-steps
+returns-in-Power-clause-steps g c = λ set state begins. rw c.in-Power.is (steps_as set _ state c.cut_power.new.slot (g.K.Disk.state c.args.disk.now) (g.K.Disk.state c.cut_power.new.disk) notes_of (λ reply. notes_of reply.note) c.cut_power.result _ refl (c.cut_power.ensures.steps set state begins))

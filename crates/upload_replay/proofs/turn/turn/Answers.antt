@@ -1,4 +1,4 @@
-use Rattle.std.proofs.Common.{◌≡◌, Bool, List, ◌∷◌, ◌++◌, sym, ap, subst, ◌∙◌}
+use Rattle.std.proofs.Common.{◌≡◌, inl, inr, Bool, List, ◌∷◌, ◌++◌, sym, ap, subst, ◌∙◌}
 use Rattle.exchange_trace.specs.Happenings.{HappeningView, happening_view}
 use Rattle.exchange_trace.specs.Posts.{first_port_after, happenings_of}
 use Rattle.exchange_trace.specs.Steps.{Step}
@@ -8,6 +8,9 @@ use Rattle.transfer_end.specs.Calls.{posts_view}
 use Rattle.upload_replay.specs.Turns.{notes_of, target_kept}
 use Rattle.upload_replay.proofs.Counted.{arms_one}
 use Rattle.upload_replay.proofs.Turning.{is_up_kept, same_media, turned}
+use Rattle.exchange_trace.specs.Happenings.{Ended}
+use Rattle.upload_replay.specs.Moments.{BeginsStep, HeldSoFar}
+use Rattle.upload_replay.proofs.Held.{adds_nothing, held_on}
 use Rattle.upload_replay.proofs.turn.turn.Goals as goal
 
 pub returns-clause-turns : goal.returns-clause-turns
@@ -21,10 +24,11 @@ returns-clause-turns g c =
     record {
       step = record { given = h; posts = first ++ second; notes = notes };
       recorded = c.in_ok-put_turn.ensures.step;
-      turns = λ no_boot.
+      turns = λ may.
           turned set run.recording h run.loader c.loader_takes.new.loader (target_kept run.target) (target_kept c.target_turn.new.slot) (g.L.Link.state c.args.link.now)
           (g.L.Link.state c.next.new.self) (g.L.Link.state c.put_turn.new.link) first second notes c.waits.result c.waits-2.result c.waits.ensures c.waits-2.ensures
-          c.in_ok-happening.ensures.ok media c.in_ok-first.ensures (c.in_ok-second.ensures.turns set (target_at set run.recording) follows no_boot)
+          c.in_ok-happening.ensures.ok media c.in_ok-first.ensures (c.in_ok-second.ensures.turns set (target_at set run.recording) follows
+          (elim may [ inl no_boot ↦ inl no_boot | inr holds ↦ inr (record { rule = follows; follow = c.contents_follow_their_trace.ensures set run.recording; holds = holds }) ]))
           (subst (λ (up : Bool). MayBeNoted up (first_port_after run.recording) h notes) (sym (is_up_kept run.target)) c.in_ok-second.ensures.noted)
           c.in_ok-put_turn.ensures.link;
       end = c.is_end-ended.ensures;
@@ -69,3 +73,43 @@ returns-clause-happened g c =
     let h = happening_view c.in_ok-happening.happening in
     subst (λ (steps : List Step). (g.L.Link.state c.put_turn.new.link).given ≡ happenings_of steps ++ began) (sym c.in_ok-put_turn.ensures.step)
     (c.put_turn.ensures.given ∙ (c.in_ok-happening.ensures.ok.given ∙ ap (λ (rest : List HappeningView). h ∷ rest) is))
+
+pub returns-clause-held : goal.returns-clause-held
+returns-clause-held g c =
+    λ set since rule so_far.
+    let run = c.args.run.now in
+    let old = g.K.Disk.state c.args.disk.now in
+    let new = g.K.Disk.state c.target_turn.new.disk in
+    let first = posts_view c.in_ok-first.first in
+    let second = posts_view c.in_ok-second.second.posts in
+    let step : Step = record { given = happening_view c.in_ok-happening.happening; posts = first ++ second; notes = notes_of c.in_ok-second.second.note } in
+    let follow = c.contents_follow_their_trace.ensures set run.recording in
+    let begins : BeginsStep g.R.Rule.may_say set (target_at set run.recording) run.target old = record { rule = rule; follow = follow; holds = so_far.holds } in
+    let steps = c.in_ok-second.ensures.steps set (target_at set run.recording) begins in
+    subst (λ (list : List Step). HeldSoFar set since list c.target_turn.new.slot new) (sym c.in_ok-put_turn.ensures.step)
+    (held_on set old new c.an_image_holds_one_configuration.ensures.one_standing (g.met.K.Disk.counts_now c.args.disk.now) (g.met.K.Disk.only_now c.args.disk.now) (g.met.K.Disk.only_now c.target_turn.new.disk)
+    since run.recording step run.target c.target_turn.new.slot (target_kept run.target) (target_kept c.target_turn.new.slot) second follow
+    (c.in_ok-second.ensures.turns set (target_at set run.recording) rule (inr begins)) steps.adds steps.holds so_far)
+
+pub returns-in_err-happening-clause-adds : goal.returns-in_err-happening-clause-adds
+returns-in_err-happening-clause-adds g c = λ set rule holds. record { happening = Ended; adds = adds_nothing set (target_at set c.args.run.now.recording) c.args.run.now.target (g.K.Disk.state c.args.disk.now) holds }
+
+pub returns-in_err-second-clause-adds : goal.returns-in_err-second-clause-adds
+returns-in_err-second-clause-adds g c = λ set rule holds.
+    let steps = c.target_turn.ensures.steps set (target_at set c.args.run.now.recording) (record { rule = rule; follow = c.contents_follow_their_trace.ensures set c.args.run.now.recording; holds = holds }) in
+    record { happening = happening_view c.in_ok-happening.happening; adds = steps.adds }
+
+pub returns-in_err-first-clause-adds : goal.returns-in_err-first-clause-adds
+returns-in_err-first-clause-adds g c = λ set rule holds.
+    let steps = c.target_turn.ensures.steps set (target_at set c.args.run.now.recording) (record { rule = rule; follow = c.contents_follow_their_trace.ensures set c.args.run.now.recording; holds = holds }) in
+    record { happening = happening_view c.in_ok-happening.happening; adds = steps.adds }
+
+pub returns-in_err-put_turn-clause-adds : goal.returns-in_err-put_turn-clause-adds
+returns-in_err-put_turn-clause-adds g c = λ set rule holds.
+    let steps = c.target_turn.ensures.steps set (target_at set c.args.run.now.recording) (record { rule = rule; follow = c.contents_follow_their_trace.ensures set c.args.run.now.recording; holds = holds }) in
+    record { happening = happening_view c.in_ok-happening.happening; adds = steps.adds }
+
+pub returns-clause-adds : goal.returns-clause-adds
+returns-clause-adds g c = λ set rule holds.
+    let steps = c.target_turn.ensures.steps set (target_at set c.args.run.now.recording) (record { rule = rule; follow = c.contents_follow_their_trace.ensures set c.args.run.now.recording; holds = holds }) in
+    record { happening = happening_view c.in_ok-happening.happening; adds = steps.adds }

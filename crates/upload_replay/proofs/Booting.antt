@@ -1,0 +1,100 @@
+-- What the disk of a run holds once the target was switched off and on, and at its end.
+use Rattle.std.proofs.Common.{◌≡◌, ◌⊎◌, inl, inr, ℕ, ◌≤◌, cond, List, [], ◌∷◌, ◌++◌, Bool, true, false, Option, Some, None, Result, refl, sym, ap, subst, ◌∙◌, arith}
+use Rattle.std.specs.Prelude.{◌==◌, is_some}
+use Rattle.std.proofs.lemmas.Bool.Decides.{nat_tests}
+use Rattle.disk_model.specs.Image.{Image}
+use Rattle.disk_model.specs.State.{DiskState, Elapses, IsSettled, OnlyReads}
+use Rattle.disk_model.specs.declared.disk.DiskFault.{DiskFault}
+use Rattle.disk_layout.specs.Holds.{HoldsConfig, StandingView, outline_of}
+use Rattle.bank_store.specs.declared.store.Store.{Store}
+use Rattle.session_rules.specs.Target.{TargetView, new_target}
+use Rattle.session_rules.specs.TargetLog.{new_target_reading, target_view}
+use Rattle.replay_rules.specs.BothEnds.{Is_down, Is_up, Setting, TargetState, come_up, gone_down, noted, reached, settled}
+use Rattle.replay_rules.specs.ContentTraces.{ContentsFollowAt}
+use Rattle.replay_rules.specs.Histories.{active_by, may_be_active}
+use Rattle.replay_rules.specs.Promises.{HoldsOneOf}
+use Rattle.replay_rules.specs.Ties.{kept_by}
+use Rattle.target_machine.specs.Boots.{ComesUp}
+use Rattle.target_machine.specs.Decisions as machine
+use Rattle.target_machine.specs.Disks.{HoldsContents, StartsOn}
+use Rattle.upload_replay.specs.declared.powering.PowerNote.{PowerNote}
+use Rattle.upload_replay.specs.declared.powering.PowerNote.TheVariants as power
+use Rattle.upload_replay.specs.Moments.{AreApart, HoldsRun, LeftAtEnd}
+use Rattle.upload_replay.specs.Turns.{notes_of, target_kept}
+use Rattle.upload_replay.proofs.Held.{OneStanding, gone_holds, one_left}
+
+-- ---- which configuration is settled
+
+settles : OneStanding → (image : Image) (s active : StandingView) (interrupted : Option StandingView) → AreApart (Is_down active interrupted) → HoldsConfig image s
+    → HoldsOneOf (may_be_active (Is_down active interrupted)) image → settled s.sequence active interrupted ≡ s
+settles one image s active None apart held (inl is) = one image active s is held
+settles one image s active None apart held (inr none) = absurd none
+settles one image s active (Some new) apart held (inl is) =
+    subst (λ (x : StandingView). cond (x.sequence == new.sequence) new active ≡ x) (one image active s is held) (rw apart refl)
+settles one image s active (Some new) apart held (inr (inl is)) =
+    let same : (new.sequence == new.sequence) ≡ true = grind (arith, nat_tests) in
+    subst (λ (x : StandingView). cond (x.sequence == new.sequence) new active ≡ x) (one image new s is held) (rw same refl)
+settles one image s active (Some new) apart held (inr (inr none)) = absurd none
+
+-- ---- the target comes up
+
+pub comes_up : {R : Type 0} → OneStanding → (set : Setting) (down : TargetState) (rule : R) (target : machine.TargetState R) (old new : DiskState) (image : Image) (first_port sequence : ℕ) → HoldsRun {R = R} set down None old
+    → IsSettled old → old.reads ≡ Some image → old.now image → StartsOn target.view target.store image new → OnlyReads old new → ComesUp rule first_port target old → sequence ≡ target.view.active.sequence
+    → HoldsRun set (come_up first_port sequence down) (Some target) new
+comes_up one set (Is_up r) rule target old new image first_port sequence holds settled_ told now starts reads up is = absurd (let wrong : None ≡ Some (target_view set.accepts r) = holds.kept in cc)
+comes_up {R} one set (Is_down active interrupted) rule target old new image first_port sequence holds settled_ told now starts reads up is =
+    let s = starts.active in
+    let at : sequence ≡ s.sequence = is ∙ ap (λ o. o.sequence) starts.kept.active in
+    let which : settled sequence active interrupted ≡ s = rw at (settles one image s active interrupted holds.apart starts.held (holds.leaves image now)) in
+    let view : target.view ≡ new_target first_port (outline_of s) = up.view_is ∙ ap (new_target first_port) starts.kept.active in
+    let same : (left : Image) → old.now left → image ≡ left = λ left may. (let e : Some image ≡ Some left = sym told ∙ settled_.only left may in cc) in
+    subst (λ (x : StandingView). HoldsRun set (Is_up (new_target_reading first_port x)) (Some target) new) (sym which) (record {
+      kept = ap (λ (v : TargetView). Some v) view;
+      tells = reads.tells ∙ holds.tells;
+      leaves = λ left may. inl (subst (λ (i : Image). HoldsConfig i s) (same left (reads.now left may)) starts.held);
+      works = starts.holds;
+      apart = tt;
+    })
+
+-- ---- the target was switched off
+
+-- it is down then
+pub record IsDownAs (set : Setting) (state : TargetState) : Type 0 where
+  pub active : StandingView
+  pub interrupted : Option StandingView
+  pub is : gone_down state (reached set None state) ≡ Is_down active interrupted
+
+pub down_as : (set : Setting) (state : TargetState) → IsDownAs set state
+down_as set (Is_up r) = record { active = _; interrupted = _; is = refl }
+down_as set (Is_down active interrupted) = record { active = active; interrupted = interrupted; is = refl }
+
+pub noted_down : (set : Setting) (state : TargetState) (note : PowerNote) (down : IsDownAs set state)
+    → noted (notes_of (Some note)) (Is_down down.active down.interrupted) (Is_down down.active down.interrupted) ≡ noted (notes_of (Some note)) state (reached set None state)
+noted_down set state power.Down down = sym down.is
+noted_down set state (power.Up first_port sequence) down = ap (come_up first_port sequence) (sym down.is)
+noted_down set state (power.Refused fault) down = sym down.is
+
+-- the disk was restarted, or failed to
+pub down_holds : {R T : Type 0} (set : Setting) (state : TargetState) (target : Option (machine.TargetState R)) (old there : DiskState) (result : Result T DiskFault) → ContentsFollowAt set state → HoldsRun set state target old
+    → Elapses old there old.now result → HoldsRun {R = R} set (gone_down state (reached set None state)) None there
+down_holds set state target old there result follow holds elapses =
+    gone_holds set None state there follow holds.apart (elapses.tells ∙ holds.tells) (λ image may. one_left image (may_be_active state) (may_be_active (reached set None state)) (holds.leaves image (elapses.now image may)))
+
+-- it stays down
+pub stays_down : {R : Type 0} (set : Setting) (state : TargetState) (old new : DiskState) → HoldsRun {R = R} set state None old → OnlyReads old new → HoldsRun {R = R} set state None new
+stays_down set (Is_up r) old new holds reads = absurd (let wrong : None ≡ Some (target_view set.accepts r) = holds.kept in cc)
+stays_down set (Is_down active interrupted) old new holds reads = record {
+  kept = holds.kept;
+  tells = reads.tells ∙ holds.tells;
+  leaves = λ image may. holds.leaves image (reads.now image may);
+  works = tt;
+  apart = holds.apart;
+}
+
+-- ---- the end
+
+-- what was recovered
+pub ends_as : OneStanding → (image : Image) (s : StandingView) (state : TargetState) → AreApart state → HoldsConfig image s → HoldsOneOf (may_be_active state) image → active_by state (Some s) ≡ s
+ends_as one image s (Is_up r) apart held (inl is) = one image r.active s is held
+ends_as one image s (Is_up r) apart held (inr none) = absurd none
+ends_as one image s (Is_down active interrupted) apart held is = settles one image s active interrupted apart held is
