@@ -3,4 +3,5 @@ pub mod Fates
 pub mod Gives
 pub mod Parts
 pub mod Readings
+pub mod Sides
 pub mod Turns

@@ -1,7 +1,9 @@
 -- The datagrams that a link was posted, and what became of them.
-use Rattle.std.specs.Prelude.{◌≡◌, ℕ, ◌+◌, ◌-◌, ◌<◌, ◌≤◌, List, ◌∷◌, length, false, slice_set, Bool, if◌then◌else◌, ⊤}
+use Rattle.std.specs.Prelude.{◌≡◌, ℕ, ◌+◌, ◌-◌, ◌<◌, ◌≤◌, List, ◌∷◌, length, map, false, slice_set, Bool, if◌then◌else◌, ⊤}
 use Rattle.std.specs.List.{slice_index_or}
-use Rattle.exchange_trace.specs.Happenings.{DatagramView, HappeningView}
+use Rattle.exchange_trace.specs.declared.trace.Datagram.{Datagram}
+use Rattle.exchange_trace.specs.declared.trace.Side.{Side}
+use Rattle.exchange_trace.specs.Happenings.{DatagramView, HappeningView, datagram_view}
 use Rattle.exchange_trace.specs.Posts.{is_undelivered, was_delivered, was_lost}
 use Rattle.exchange_trace.specs.Following.{Scene}
 use Rattle.link_net.specs.declared.given.Given.{Given}
@@ -33,6 +35,15 @@ pub record IsKept (count : ℕ) (fates : List Fate) (least : ℕ) (given : List 
   pub within : least ≤ count
   pub before : (k : ℕ) → k < least → is_undelivered given (k + 1) ≡ false
   pub found : slice_index_or fates least Undelivered ≡ Undelivered
+
+-- the datagrams of a log that proofs alone read
+abbrev pub logged : List (Datagram × Unit {0}) → List DatagramView
+logged log = map (λ entry. datagram_view entry.0) log
+
+-- The side of each datagram is kept, its fate, and which is the first undelivered one.
+pub record KeepsMail (log : List (Datagram × Unit {0})) (sides : List Side) (fates : List Fate) (least : ℕ) (given : List HappeningView) : Type 0 where
+  pub each_side : sides ≡ map (λ entry. entry.0.from_side) log
+  pub each_fate : IsKept (length sides) fates least given
 
 -- what is given names a datagram that was posted, if it names one
 abbrev pub NamesPosted : (count : ℕ) → Given → Type 0

@@ -1,6 +1,6 @@
 //! The datagrams that a link was posted, and what became of them.
 ghost use Rattle.std.specs.Prelude.{◌≡◌, ◌≢◌, ◌↔◌, ◌+◌, ◌<◌, ◌≤◌, ◌∷◌, ◌++◌, [], ℕ, length, Bool};
-ghost use Rattle.std.specs.Prelude.{IsTrue, option_map, IfSome, OnSome, OnOk, OnErr};
+ghost use Rattle.std.specs.Prelude.{IsTrue, option_map, slice_get, IfSome, OnSome, OnOk, OnErr};
 ghost use Rattle.std.specs.List.{slice_index_or};
 ghost use Rattle.exchange_trace.specs.Happenings.{datagram_view, other as other_side};
 ghost use Rattle.exchange_trace.specs.Following.{delivery as delivery_of, least_delivery};
@@ -9,11 +9,12 @@ ghost use Rattle.exchange_trace.specs.Posts.{numbered};
 ghost use Rattle.link_net.specs.declared.mail.Fate.TheVariants.{Undelivered};
 ghost use Rattle.link_net.specs.Givens.{given_view};
 ghost use Rattle.link_net.specs.Mail.{NamesKnown, NamesPosted, after_loss, fates_after, scene_in};
-ghost use Rattle.link_net.specs.Mail.{with_given};
+ghost use Rattle.link_net.specs.Mail.{fate_of, with_given};
 
 use crate::given::Given;
 use crate::line::Line;
 use exchange_trace::{Datagram, Side};
+use http_server::Log;
 use load_base::{List, NoMemory};
 use std::alloc::Global;
 use std::marker::Model;
@@ -29,33 +30,36 @@ pub enum Fate {
 }
 
 /// The datagrams that were posted, with what became of each, and all that was given by a script
-/// with these lines. The least undelivered one is found without a search.
+/// with these lines. The least undelivered one is found without a search. Of a datagram its side
+/// alone is kept: what it carries is kept by who posted it.
 #[derive(Drop)]
 pub struct Mail {
     lines: List<Line>,
-    datagrams: List<Datagram>,
+    /// The side that posted each datagram.
+    sides: List<Side>,
     fates: Vec<Fate>,
     /// The index of the first undelivered datagram, or how many there are.
     least: usize,
     given: List<Given>,
+    /// The datagrams, for proofs alone: it takes no memory.
+    posted: Log<Datagram, ()>,
 }
 
 impl Model for Mail {
-    ghost use Rattle.std.specs.Prelude.{length, map, reverse};
-    ghost use Rattle.exchange_trace.specs.Happenings.{datagram_view};
+    ghost use Rattle.std.specs.Prelude.{map, reverse};
     ghost use Rattle.link_net.specs.Givens.{given_view};
-    ghost use Rattle.link_net.specs.Mail.{IsKept, MailView};
+    ghost use Rattle.link_net.specs.Mail.{KeepsMail, MailView, logged};
 
     ghost Value = { MailView };
 
     ghost view = { λ mail. record {
       lines = mail.lines.items;
-      posted = map datagram_view mail.datagrams.items;
+      posted = logged mail.posted.items;
       given = reverse (map (given_view mail.lines.items) mail.given.items);
     } };
 
-    ghost invariant = { λ mail. IsKept (length mail.datagrams.items) mail.fates.items mail.least
-        (reverse (map (given_view mail.lines.items) mail.given.items)) };
+    ghost invariant = { λ mail. KeepsMail mail.posted.items mail.sides.items mail.fates.items
+        mail.least (reverse (map (given_view mail.lines.items) mail.given.items)) };
 }
 
 impl Mail {
@@ -65,10 +69,11 @@ impl Mail {
     {
         Mail {
             lines,
-            datagrams: List::new(alloc),
+            sides: List::new(alloc),
             fates: Vec::new(alloc),
             least: 0,
             given: List::new(alloc),
+            posted: Log::new(),
         }
     }
 
@@ -89,8 +94,9 @@ impl Mail {
         ensures err { OnErr result (self.new ≡ self.old) }
     {
         self.fates.reserve(1)?;
-        self.datagrams.push(datagram)?;
+        self.sides.push(datagram.from_side)?;
         self.fates.push_reserved(Fate::Undelivered);
+        self.posted = self.posted.and(&datagram, &());
         Ok(())
     }
 
@@ -111,7 +117,7 @@ impl Mail {
         ensures named { IfSome result (λ given. NamesKnown self.now given) }
     {
         self.side_of(number)?;
-        match self.fates[number as usize - 1] {
+        match self.fate(number) {
             Fate::Delivered => None,
             Fate::Undelivered | Fate::Lost => Some(Given::Lost(number)),
         }
@@ -142,17 +148,29 @@ impl Mail {
         self.given.push(given)
     }
 
+    // What became of the datagram of this number.
+    fn fate(&self, number: u64) -> Fate
+        requires { (1 ≤ number) × (number ≤ length self.now.posted) }
+        ensures { result ≡ fate_of self.now.given number }
+    {
+        self.fates[number as usize - 1]
+    }
+
     // The side that posted the datagram of this number.
     fn side_of(&self, number: u64) -> Option<Side>
         ensures side { result ≡ option_map (λ d. d.side) (numbered self.now.posted number) }
         ensures within { OnSome result ((1 ≤ number) × (number ≤ length self.now.posted)) }
     {
         let index = (number as usize).checked_sub(1)?;
-        match self.datagrams.as_slice().get(index) {
-            Some(datagram) => Some(datagram.from_side),
-            None => None,
-        }
+        side_at(self.sides.as_slice(), index)
     }
+}
+
+// The side that posted the datagram of this index.
+fn side_at(sides: &[Side], index: usize) -> Option<Side>
+    ensures { result ≡ slice_get sides.now index }
+{
+    sides.get(index).copied()
 }
 
 // The fates after what is given.

@@ -1,9 +1,9 @@
 use Rattle.std.proofs.Common.{◌≡◌, ◌∷◌, [], ◌++◌, Result, Ok, Err, IsOk, OnOk, length, map, reverse, sym, ap, subst, ◌∙◌}
-use Rattle.std.proofs.lemmas.List.{map-append, reverse-append, length-map}
-use Rattle.exchange_trace.specs.Happenings.{datagram_view}
+use Rattle.std.proofs.lemmas.List.{map-append, reverse-append}
 use Rattle.link_net.specs.Givens.{given_view}
-use Rattle.link_net.specs.Mail.{MailView, NamesPosted, fates_after}
+use Rattle.link_net.specs.Mail.{MailView, NamesPosted, fates_after, logged}
 use Rattle.link_net.proofs.Fates.{next_of}
+use Rattle.link_net.proofs.Sides.{counts}
 use Rattle.link_net.proofs.mail.Mail.give.Goals as goal
 
 from_ok : {T E : Type 0} (r : Result T E) (P : Type 0) → IsOk r → OnOk r P → P
@@ -18,11 +18,15 @@ invariant_of-self-2 c =
     let items : c.push.new.self.items ≡ before.given.items ++ c.args.given ∷ [] = cc in
     let given : reverse (map view c.push.new.self.items) ≡ view c.args.given ∷ reverse (map view before.given.items) =
     ap (λ xs. reverse (map view xs)) items ∙ (ap reverse (map-append view before.given.items (c.args.given ∷ [])) ∙ reverse-append (map view before.given.items) (view c.args.given ∷ [])) in
-    let named : NamesPosted (length (map datagram_view before.datagrams.items)) c.args.given =
+    let named : NamesPosted (length (logged before.posted.items)) c.args.given =
     subst (λ (m : MailView). NamesPosted (length m.posted) c.args.given) (sym c.self.view_is) c.requires.datagram in
-    let posted : NamesPosted (length before.datagrams.items) c.args.given = subst (λ n. NamesPosted n c.args.given) (length-map before.datagrams.items datagram_view) named in
+    let count = counts before.posted.items before.sides.items c.self.invariant.each_side in
+    let posted : NamesPosted (length before.sides.items) c.args.given = subst (λ n. NamesPosted n c.args.given) (sym count) named in
     let looked = c.next_undelivered-self-inside.ensures in
     let slice : c.as_slice.result.now ≡ fates_after before.fates.items c.args.given = c.as_slice.ensures.value ∙ c.mark.ensures in
-    rw (given, c.mark.ensures)
-    (next_of before.lines.items (length before.datagrams.items) before.fates.items c.as_slice.result.now before.least c.next_undelivered-self-inside.result (reverse (map view before.given.items)) c.args.given c.self.invariant
-    posted slice looked.within looked.passed looked.found)
+    record {
+      each_side = c.self.invariant.each_side;
+      each_fate = rw (given, c.mark.ensures)
+          (next_of before.lines.items (length before.sides.items) before.fates.items c.as_slice.result.now before.least c.next_undelivered-self-inside.result (reverse (map view before.given.items)) c.args.given c.self.invariant.each_fate
+          posted slice looked.within looked.passed looked.found);
+    }
