@@ -1,5 +1,7 @@
 //! Scripts as they are read.
-ghost use Rattle.std.specs.Prelude.{◌≡◌, ◌⊎◌, ◌≤◌, length, Ok, Err, IsOk, IsErr, IfOk, IfErr, OnOk};
+ghost use Rattle.std.specs.Prelude.{◌≡◌, ◌⊎◌, ◌≤◌, ◌∷◌, [], length, Ok, Err, IsOk, IsErr, IfOk};
+ghost use Rattle.std.specs.Prelude.{IfErr, OnOk};
+ghost use Rattle.exchange_trace.specs.Lines.{Finish, Upload};
 ghost use Rattle.exchange_trace.specs.declared.fault.ScriptFault.TheVariants.{Memory};
 ghost use Rattle.exchange_trace.specs.Scripts.{script_said, lines_said, written_lines};
 ghost use Rattle.link_net.specs.Lines.{line_views};
@@ -8,7 +10,7 @@ ghost use Rattle.link_net.specs.Reading.{Said, and_later, and_said};
 use crate::line::{Line, is_passed_over, read_line};
 use crate::words::cut;
 use exchange_trace::ScriptFault;
-use load_base::List;
+use load_base::{Ident, List, NoMemory, PartText};
 use std::alloc::Global;
 use std::marker::Model;
 
@@ -54,6 +56,22 @@ impl Script {
             Ok(lines) => Ok(Script { lines }),
             Err(fault) => Err(fault),
         }
+    }
+
+    /// The script of one upload that is left to finish: the lines `upload HW POS PART ..` and
+    /// `finish`.
+    pub fn of_upload(
+        alloc: Global,
+        hw: Ident,
+        pos: Ident,
+        parts: List<PartText>,
+    ) -> Result<Script, NoMemory>
+        ensures { IfOk result (λ script. script ≡ Upload hw pos parts.items ∷ Finish ∷ []) }
+    {
+        let mut lines = List::new(alloc);
+        lines.push(Line::Upload { hw, pos, parts })?;
+        lines.push(Line::Finish)?;
+        Ok(Script { lines })
     }
 }
 

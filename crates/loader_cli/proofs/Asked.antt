@@ -5,9 +5,9 @@ use Rattle.std.specs.Prelude.{codes}
 use Rattle.std.proofs.lemmas.Fmt.{decimal_injective}
 use Rattle.loader_cli.specs.Builds.{Builds, Makes}
 use Rattle.loader_cli.specs.Commands.{CommandView, IsCommand}
-use Rattle.loader_cli.specs.Commands.CommandView.{list, format, show, check, build, make, replay, wire}
+use Rattle.loader_cli.specs.Commands.CommandView.{list, format, show, check, build, make, replay, wire, trial}
 use Rattle.loader_cli.specs.Runs.{Work, host_work, Says, Checks}
-use Rattle.loader_cli.specs.Runs.Says.{refused, lists, formats, shows, checks, builds, makes, replays, traces}
+use Rattle.loader_cli.specs.Runs.Says.{refused, lists, formats, shows, checks, builds, makes, replays, traces, tries}
 
 -- ---- the first argument
 
@@ -20,6 +20,7 @@ verb (build recipe folder) = codes "build"
 verb (make number folder) = codes "make"
 verb (replay folder script) = codes "replay"
 verb (wire folder script) = codes "wire"
+verb (trial number) = codes "trial"
 
 first : List (List ℕ) → List ℕ
 first [] = []
@@ -35,6 +36,7 @@ begins words (build recipe folder) is = ap first is.0
 begins words (make number folder) is = ap first is.0
 begins words (replay folder script) is = ap first is.0
 begins words (wire folder script) is = ap first is.0
+begins words (trial number) is = ap first is.0
 
 -- arguments aren't two commands with other first arguments
 same_verb : (words : List (List ℕ)) (one other : CommandView) → IsCommand words one → IsCommand words other → verb one ≡ verb other
@@ -65,12 +67,16 @@ same_head a b first second same = cc
 not_wire : codes "make" ≡ codes "wire" → ⊥
 not_wire same = let head : 109 ≡ 119 = same_head 109 119 (codes "ake") (codes "ire") same in absurd (omega (arith, head))
 
+not_trial : codes "check" ≡ codes "trial" → ⊥
+not_trial same = let head : 99 ≡ 116 = same_head 99 116 (codes "heck") (codes "rial") same in absurd (omega (arith, head))
+
 pub says_of_check : (work : Work) (folder : List ℕ) (status : ℕ) (text : List ℕ) → IsCommand work.words (check folder) → Says work status text
     → Checks folder work.files work.host_faults work.host_faults_after status text
 unfolding verb
 says_of_check work folder status text asked (refused none _ _) = absurd (none (check folder) asked tt)
 says_of_check work folder status text asked (replays other script is _) = let no = same_verb work.words (check folder) (replay other script) asked is in absurd cc
 says_of_check work folder status text asked (traces other script is _) = let no = same_verb work.words (check folder) (wire other script) asked is in absurd cc
+says_of_check work folder status text asked (tries number is _) = absurd (not_trial (same_verb work.words (check folder) (trial number) asked is))
 says_of_check work folder status text asked (lists is _) = let no = same_verb work.words (check folder) list asked is in absurd cc
 says_of_check work folder status text asked (formats id is _) = let no = same_verb work.words (check folder) (format id) asked is in absurd cc
 says_of_check work folder status text asked (shows kind file is _) = let no = same_verb work.words (check folder) (show kind file) asked is in absurd cc
@@ -85,6 +91,7 @@ unfolding verb
 says_of_build work recipe folder status text asked (refused none _ _) = absurd (none (build recipe folder) asked tt)
 says_of_build work recipe folder status text asked (replays other script is _) = let no = same_verb work.words (build recipe folder) (replay other script) asked is in absurd cc
 says_of_build work recipe folder status text asked (traces other script is _) = let no = same_verb work.words (build recipe folder) (wire other script) asked is in absurd cc
+says_of_build work recipe folder status text asked (tries number is _) = let no = same_verb work.words (build recipe folder) (trial number) asked is in absurd cc
 says_of_build work recipe folder status text asked (lists is _) = let no = same_verb work.words (build recipe folder) list asked is in absurd cc
 says_of_build work recipe folder status text asked (formats id is _) = let no = same_verb work.words (build recipe folder) (format id) asked is in absurd cc
 says_of_build work recipe folder status text asked (shows kind file is _) = let no = same_verb work.words (build recipe folder) (show kind file) asked is in absurd cc
@@ -100,6 +107,7 @@ unfolding verb
 says_of_make work number folder status text asked (refused none _ _) = absurd (none (make number folder) asked tt)
 says_of_make work number folder status text asked (replays other script is _) = let no = same_verb work.words (make number folder) (replay other script) asked is in absurd cc
 says_of_make work number folder status text asked (traces other script is _) = absurd (not_wire (same_verb work.words (make number folder) (wire other script) asked is))
+says_of_make work number folder status text asked (tries other is _) = let no = same_verb work.words (make number folder) (trial other) asked is in absurd cc
 says_of_make work number folder status text asked (lists is _) = let no = same_verb work.words (make number folder) list asked is in absurd cc
 says_of_make work number folder status text asked (formats id is _) = let no = same_verb work.words (make number folder) (format id) asked is in absurd cc
 says_of_make work number folder status text asked (shows kind file is _) = let no = same_verb work.words (make number folder) (show kind file) asked is in absurd cc

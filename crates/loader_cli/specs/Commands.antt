@@ -31,6 +31,8 @@ pub data CommandView : Type 0 where
   replay : (folder script : List ℕ) → CommandView
   -- `wire FOLDER SCRIPT`
   wire : (folder script : List ℕ) → CommandView
+  -- `trial NUMBER`
+  trial : (number : ℕ) → CommandView
 
 -- 1 to 150 bytes 0x21 to 0x7E
 abbrev pub IsWord : List ℕ → Type 0
@@ -54,6 +56,7 @@ IsCommand words (build recipe folder) = (words ≡ codes "build" ∷ recipe ∷ 
 IsCommand words (make number folder) = (words ≡ codes "make" ∷ decimal number ∷ folder ∷ []) × (number < 2 ^ 32) × IsWord folder
 IsCommand words (replay folder script) = (words ≡ codes "replay" ∷ folder ∷ script ∷ []) × IsWord folder × IsWord script
 IsCommand words (wire folder script) = (words ≡ codes "wire" ∷ folder ∷ script ∷ []) × IsWord folder × IsWord script
+IsCommand words (trial number) = (words ≡ codes "trial" ∷ decimal number ∷ []) × (number < 2 ^ 32)
 
 -- the arguments are no command of this sort
 abbrev pub IsNo : (CommandView → Type 0) → List (List ℕ) → Type 0
@@ -72,6 +75,7 @@ UsesDisk (build recipe folder) = ⊥
 UsesDisk (make number folder) = ⊥
 UsesDisk (replay folder script) = Unit {0}
 UsesDisk (wire folder script) = Unit {0}
+UsesDisk (trial number) = Unit {0}
 
 -- it writes to the disk
 abbrev pub WritesDisk : CommandView → Type 0
@@ -83,6 +87,7 @@ WritesDisk (build recipe folder) = ⊥
 WritesDisk (make number folder) = ⊥
 WritesDisk (replay folder script) = Unit {0}
 WritesDisk (wire folder script) = Unit {0}
+WritesDisk (trial number) = Unit {0}
 
 -- it reads or writes files of the host
 abbrev pub UsesHost : CommandView → Type 0
@@ -94,6 +99,7 @@ UsesHost (build recipe folder) = Unit {0}
 UsesHost (make number folder) = Unit {0}
 UsesHost (replay folder script) = Unit {0}
 UsesHost (wire folder script) = Unit {0}
+UsesHost (trial number) = ⊥
 
 -- it writes files of the host
 abbrev pub WritesHost : CommandView → Type 0
@@ -105,11 +111,13 @@ WritesHost (build recipe folder) = Unit {0}
 WritesHost (make number folder) = Unit {0}
 WritesHost (replay folder script) = ⊥
 WritesHost (wire folder script) = ⊥
+WritesHost (trial number) = ⊥
 
 -- it runs a script
 abbrev pub UsesScript : CommandView → Type 0
 UsesScript (replay folder script) = Unit {0}
 UsesScript (wire folder script) = Unit {0}
+UsesScript (trial number) = Unit {0}
 UsesScript command = ⊥
 
 abbrev pub command_view : Command → CommandView
@@ -121,3 +129,4 @@ command_view (commands.Build recipe folder) = build recipe.now folder.now
 command_view (commands.Make number folder) = make number folder.now
 command_view (commands.Replay folder script) = replay folder.now script.now
 command_view (commands.Wire folder script) = wire folder.now script.now
+command_view (commands.Trial number) = trial number

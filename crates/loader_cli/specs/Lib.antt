@@ -6,3 +6,4 @@ pub mod Inputs
 pub mod Replays
 pub mod Runs
 pub mod Texts
+pub mod Trials

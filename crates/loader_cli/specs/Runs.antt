@@ -26,9 +26,10 @@ use Rattle.disk_layout.specs.Holds.{StandingView, HoldsConfig, HasDiskFault}
 use Rattle.disk_layout.specs.declared.fault.RecoverFault.{RecoverFault}
 use Rattle.listing.specs.Listing.{listing}
 use Rattle.loader_cli.specs.Commands.{IsCommand, IsNo, IsAny}
-use Rattle.loader_cli.specs.Commands.CommandView.{list, format, show, check, build, make, replay, wire}
+use Rattle.loader_cli.specs.Commands.CommandView.{list, format, show, check, build, make, replay, wire, trial}
 use Rattle.loader_cli.specs.Builds.{Builds, Makes, IsNameBuilt, IsNameMade}
 use Rattle.loader_cli.specs.Replays.{Replays, RunSeen}
+use Rattle.loader_cli.specs.Trials.{Trials}
 use Rattle.loader_cli.specs.declared.replay.Telling.TheVariants.{Report, Trace}
 use Rattle.loader_cli.specs.HostFiles.{Has, HasTooMany, HostWork}
 use Rattle.loader_cli.specs.Texts.{formatted_line, built_line, findings_text, refused_words, refused_input, disk_fault, host_fault, no_configuration}
@@ -149,6 +150,7 @@ pub data Says (work : Work) (status : ℕ) (text : List ℕ) : Type 0 where
       → Replays Report folder script work.files work.host_faults work.host_faults_after work.disk work.disk_after work.handed status text → Says work status text
   traces : (folder script : List ℕ) → IsCommand work.words (wire folder script)
       → Replays Trace folder script work.files work.host_faults work.host_faults_after work.disk work.disk_after work.handed status text → Says work status text
+  tries : (number : ℕ) → IsCommand work.words (trial number) → Trials number work.disk work.disk_after work.handed status text → Says work status text
 
 -- how a run ends
 pub data Ends (run : Run) (ended : Ended) : Type 0 where

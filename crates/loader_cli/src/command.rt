@@ -5,6 +5,7 @@ ghost use Rattle.disk_layout.specs.Offsets.{IsBankSize};
 ghost use Rattle.disk_layout.specs.declared.identity.Identity.{Identity};
 ghost use Rattle.shown_files.specs.Kinds.{IsNameOf};
 ghost use Rattle.loader_cli.specs.Commands.CommandView.{show, check, build, make, replay, wire};
+ghost use Rattle.loader_cli.specs.Commands.CommandView.{trial};
 ghost use Rattle.loader_cli.specs.Commands.{IsAny, IsCommand, IsNo, IsWord, NamesTarget};
 ghost use Rattle.loader_cli.specs.Commands.{command_view, texts_of};
 
@@ -33,6 +34,8 @@ pub(crate) enum Command<'w> {
     Replay { folder: &'w str, script: &'w str },
     /// `wire FOLDER SCRIPT`: run the same sessions, and print the trace.
     Wire { folder: &'w str, script: &'w str },
+    /// `trial NUMBER`: upload the generated set of a number in one session, and print the report.
+    Trial { number: u32 },
 }
 
 impl<'w> Command<'w> {
@@ -64,6 +67,7 @@ impl<'w> Command<'w> {
             [word, folder, script] if is_text(word.as_str(), "wire") => {
                 wire_of(folder.as_str(), script.as_str())
             }
+            [word, number] if is_text(word.as_str(), "trial") => trial_of(number.as_str()),
             _ => None,
         }
     }
@@ -150,6 +154,16 @@ fn wire_of<'w>(folder: &'w str, script: &'w str) -> Option<Command<'w>>
     } else {
         None
     }
+}
+
+// The command `trial` for this number.
+fn trial_of<'w>(digits: &str) -> Option<Command<'w>>
+    ensures some { IfSome result (λ command. (n : ℕ) × (command_view command ≡ trial n)
+        × (digits.now ≡ decimal n) × (n < 2 ^ 32)) }
+    ensures none { IfNone result ((n : ℕ) → n < 2 ^ 32 → digits.now ≢ decimal n) }
+{
+    let number = number(digits)?;
+    Some(Command::Trial { number })
 }
 
 // The target that these arguments name.

@@ -14,6 +14,7 @@ mod replay;
 mod show;
 mod text;
 mod top_call;
+mod trial;
 
 pub use bank_store;
 pub use listing::listing_text;
@@ -30,5 +31,7 @@ mod replay_tests;
 mod set_vectors;
 #[cfg(test)]
 mod tests;
+#[cfg(test)]
+mod trial_tests;
 #[cfg(test)]
 mod upload_tests;

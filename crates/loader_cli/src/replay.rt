@@ -50,8 +50,8 @@ pub(crate) fn replay<'w, H: Host, K: Power>(
     }
 }
 
-// The same for this media set and script.
-fn run_script<'w, K: Power>(
+/// Runs a script on a media set and the target of this disk.
+pub(crate) fn run_script<'w, K: Power>(
     alloc: Global,
     disk: &mut K,
     set: &MediaSet,

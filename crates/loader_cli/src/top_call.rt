@@ -20,6 +20,7 @@ use crate::command::Command;
 use crate::replay::{Telling, replay};
 use crate::show::show;
 use crate::text::formatted_text;
+use crate::trial::trial;
 use bank_store::{StoreFault, an_unformatted_disk_is_as_it_was, format};
 use disk_layout::Identity;
 use disk_model::{Disk, Power};
@@ -39,7 +40,7 @@ const OUTPUT_FAILED: u8 = 7;
 /// | status | when |
 /// |---|---|
 /// | 0 | what was asked for was printed |
-/// | 1 | `check` found something, or a session of `replay` or `wire` wasn't completed |
+/// | 1 | `check` found something, or a session of `replay`, `wire` or `trial` wasn't completed |
 /// | 2 | the arguments are no command |
 /// | 3 | an input is absent, too long or not in its grammar, or a media set is too large |
 /// | 4 | the host failed |
@@ -50,21 +51,22 @@ const OUTPUT_FAILED: u8 = 7;
 #[derive(Drop)]
 pub struct Ended {
     pub status: u8,
-    /// What happened in a run of `replay` or `wire` that came to its end, its sessions, and what
-    /// the disk held then. None for other commands, and where memory ran out.
+    /// What happened in a run of `replay`, `wire` or `trial` that came to its end, its sessions, and
+    /// what the disk held then. None for other commands, and where memory ran out.
     pub drive: Option<Drive>,
 }
 
 /// Runs the program on its arguments: `list`, `format HW POS SERIAL BANK`, `show FILE` with the
 /// name of a file of one of the kinds of [`shown_files::ShownKind`], `check FOLDER`,
-/// `build RECIPE FOLDER`, `make NUMBER FOLDER`, `replay FOLDER SCRIPT` or `wire FOLDER SCRIPT`. The
-/// output goes out in one piece at the end.
+/// `build RECIPE FOLDER`, `make NUMBER FOLDER`, `replay FOLDER SCRIPT`, `wire FOLDER SCRIPT` or
+/// `trial NUMBER`. The output goes out in one piece at the end.
 ///
 /// Only `build` and `make` write files of the host: those of the set, under their names. Where the
 /// host fails, those before it were written.
 ///
-/// Only `list`, `format`, `replay` and `wire` use the disk, and `list` only reads it. While `format`
-/// writes, a power loss leaves the old configuration whole, or a disk that holds nothing, or the formatted one.
+/// Only `list`, `format`, `replay`, `wire` and `trial` use the disk, and `list` only reads it. While
+/// `format` writes, a power loss leaves the old configuration whole, or a disk that holds nothing, or
+/// the formatted one. `list`, `format` and `trial` don't use the host.
 pub fn run<H: Host, O: Sink, K: Power>(
     alloc: Global,
     words: &[String],
@@ -186,6 +188,7 @@ fn answer<'w, H: Host, K: Power>(
         Some(Command::Wire { folder, script }) => {
             replay(alloc, host, disk, folder, script, Telling::Trace)
         }
+        Some(Command::Trial { number }) => trial(alloc, disk, number),
     }
 }
 

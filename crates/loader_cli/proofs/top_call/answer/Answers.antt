@@ -6,7 +6,7 @@ use Rattle.loader_cli.specs.Builds.{IsNameBuilt, IsNameMade}
 use Rattle.loader_cli.specs.Commands.{texts_of}
 use Rattle.loader_cli.specs.Runs.{IsWritten}
 use Rattle.loader_cli.specs.Runs.IsWritten.{built, made}
-use Rattle.loader_cli.specs.Runs.Says.{lists, formats, shows, checks, builds, makes, replays, traces}
+use Rattle.loader_cli.specs.Runs.Says.{lists, formats, shows, checks, builds, makes, replays, traces, tries}
 use Rattle.loader_cli.proofs.OtherFiles.{sets_more}
 use Rattle.loader_cli.proofs.Replayed.{alone_so}
 use Rattle.loader_cli.proofs.Targets.{one_target}
@@ -73,3 +73,8 @@ pub returns-in-Some-Wire-clause-says : goal.returns-in-Some-Wire-clause-says
 returns-in-Some-Wire-clause-says g c =
     let command = rw c.in-Some-Wire.field-0-is at c.in-Some-Wire.ensures.some in
     IfOk-weaker c.replay-in-Some-Wire.result _ _ (λ answer says. traces c.in-Some-Wire.folder.now c.in-Some-Wire.script.now command says) c.replay-in-Some-Wire.ensures.replays
+
+pub returns-in-Some-Trial-clause-says : goal.returns-in-Some-Trial-clause-says
+returns-in-Some-Trial-clause-says g c =
+    let command = rw c.in-Some-Trial.field-0-is at c.in-Some-Trial.ensures.some in
+    IfOk-weaker c.trial.result _ _ (λ answer says. tries c.in-Some-Trial.number command says) c.trial.ensures

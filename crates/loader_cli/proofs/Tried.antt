@@ -1,0 +1,62 @@
+-- A run after a survey of its disk.
+use Rattle.std.proofs.Common.{◌≡◌, ℕ, ◌+◌, ◌≤◌, ◌⊎◌, inl, inr, List, Option, ap, ◌∙◌, arith}
+use Rattle.std.specs.Prelude.{◌-◌, ◌^◌, min}
+use Rattle.std.specs.Option.{ForSome}
+use Rattle.load_base.specs.Counts.{Rose}
+use Rattle.disk_model.specs.Image.{Image}
+use Rattle.disk_model.specs.State.{DiskState, KeepsPower, OnlyReads}
+use Rattle.disk_layout.specs.Identity.{HasIdentity}
+use Rattle.disk_layout.specs.declared.fault.RecoverFault.{RecoverFault}
+use Rattle.exchange_trace.specs.Lines.{Line}
+use Rattle.exchange_trace.specs.Posts.{happenings_of}
+use Rattle.exchange_trace.specs.Steps.{Step, steps_of}
+use Rattle.media_check.specs.Sets.{SetView}
+use Rattle.recovery.specs.Surveys.{IsSurveyed}
+use Rattle.recovery.specs.declared.surveying.Surveyed.{Surveyed}
+use Rattle.upload_replay.specs.Endings.{HoldsNone}
+use Rattle.upload_replay.specs.Powers.{RoseBy, armed_after, armings_after, disk_stops}
+use Rattle.loader_cli.specs.Replays.{CountsPower, RunSeen, RunsScript, RunsTo}
+use Rattle.loader_cli.specs.Replays.RunsTo.{ended, unknown, disk_failed, no_config}
+use Rattle.loader_cli.specs.declared.replay.Telling.{Telling}
+
+-- the target that a survey found is the one that the disk names
+pub names_target : (reads : Option Image) (surveyed : Surveyed) → ForSome reads (λ image. IsSurveyed image surveyed) → ForSome reads (λ image. HasIdentity image surveyed.identity)
+names_target reads surveyed found image is = (found image is).outline.has_active.identity
+
+-- ---- counts
+
+rose_since : (n before between now : ℕ) → before ≤ between → RoseBy n between now → RoseBy n before now
+rose_since n before between now later rose = grind (arith, later, rose)
+
+joined_power : (old mid new : DiskState) → KeepsPower old mid → KeepsPower mid new → KeepsPower old new
+joined_power old mid new first second = record {
+  steady = second.steady ∙ first.steady;
+  armings = second.armings ∙ first.armings;
+  armed = second.armed ∙ first.armed;
+}
+
+counts_since : (steps : List Step) (old mid new : DiskState) → OnlyReads old mid → CountsPower steps mid new → CountsPower steps old new
+counts_since steps old mid new read counts = record {
+  stops = rose_since (disk_stops steps) old.faults mid.faults new.faults read.faults counts.stops;
+  armings = counts.armings ∙ ap (armings_after (happenings_of steps)) read.power.armings;
+  armed = counts.armed ∙ ap (armed_after (happenings_of steps)) read.power.armed;
+}
+
+-- ---- the run
+
+none_since : (fault : RecoverFault) (old mid new : DiskState) → mid.reads ≡ old.reads → HoldsNone fault mid ⊎ HoldsNone fault new → HoldsNone fault old ⊎ HoldsNone fault new
+none_since fault old mid new same (inl holds) = inl (λ image is. holds image (same ∙ is))
+none_since fault old mid new same (inr holds) = inr holds
+
+-- a run on a disk that was only read comes to the same of the disk as it was before
+pub run_since : (told : Telling) (set : SetView) (script : List Line) (old mid new : DiskState) (handed : Option RunSeen) (status : ℕ) (text : List ℕ)
+    → OnlyReads old mid → mid.reads ≡ old.reads → RunsTo told set script mid new handed status text → RunsTo told set script old new handed status text
+run_since told set script old mid new handed status text read same (ended run standing is stands runs holds counts said tells) =
+    ended run standing is stands (λ start image reads. runs start image (same ∙ reads)) holds (counts_since (steps_of run.trace) old mid new read counts) said tells
+run_since told set script old mid new handed status text read same (unknown run is stands runs counts failed stopped said tells) =
+    unknown run is stands (λ start image reads. runs start image (same ∙ reads)) (counts_since (steps_of run.trace) old mid new read counts)
+    (rose_since (disk_stops (steps_of run.trace) + 1) old.faults mid.faults new.faults read.faults failed) stopped said tells
+run_since told set script old mid new handed status text read same (disk_failed is failed stopped clock power said tells) =
+    disk_failed is (rose_since 1 old.faults mid.faults new.faults read.faults failed) stopped (clock ∙ read.clock) (joined_power old mid new read.power power) said tells
+run_since told set script old mid new handed status text read same (no_config fault is other holds said tells) =
+    no_config fault is other (none_since fault old mid new same holds) said tells

@@ -1,0 +1,31 @@
+use Rattle.std.proofs.Common.{◌≡◌, List, None, refl, sym, subst}
+use Rattle.std.proofs.lemmas.Result.{IfOk-weaker}
+use Rattle.disk_layout.specs.declared.fault.RecoverFault.{RecoverFault}
+use Rattle.exchange_trace.specs.Lines.{Line}
+use Rattle.media_check.specs.Sets.{set_view}
+use Rattle.loader_cli.specs.Answers.{status_of, text_of}
+use Rattle.loader_cli.specs.Replays.{RunsTo, run_seen}
+use Rattle.loader_cli.specs.Trials.Trials.{tried, no_target}
+use Rattle.loader_cli.specs.declared.replay.Telling.TheVariants.{Report}
+use Rattle.loader_cli.proofs.Outputs.{names_the_condition, not_of_disk}
+use Rattle.loader_cli.proofs.Tried.{names_target, run_since}
+use Rattle.loader_cli.proofs.trial.trial.Goals as goal
+
+pub returns-in_ok-script-in-Ok : goal.returns-in_ok-script-in-Ok
+returns-in_ok-script-in-Ok g c =
+    let old = g.K.Disk.state c.args.disk.now in
+    let mid = g.K.Disk.state c.survey.new.disk in
+    let new = g.K.Disk.state c.run_script.new.disk in
+    let id = c.in-Ok.surveyed.identity in
+    let set = set_view c.in_ok-set-in-Ok.set in
+    let read = c.in-Ok.ensures.reads_disk in
+    IfOk-weaker c.run_script.result _ _
+    (λ said runs. tried id set (names_target old.reads c.in-Ok.surveyed c.in-Ok.ensures.found) c.in_ok-set-in-Ok.ensures
+    (run_since Report set _ old mid new _ _ _ read.only_reads read.ok.reads (rw c.in_ok-script-in-Ok.ensures at runs))) c.run_script.ensures
+
+pub returns-in_default : goal.returns-in_default
+returns-in_default g c =
+    let fault = c.in-Err.fault in
+    let other = not_of_disk fault c.in_default.not-DiskFailed c.in_default.not-Memory in
+    rw (c.of-in_default.ensures.answer, c.of-in_default.ensures.drive)
+    (no_target fault c.in-Err.ensures.reads_disk.only_reads other (λ image told. names_the_condition image fault other (c.in-Err.ensures.refused image told)) refl refl refl)
