@@ -1,10 +1,12 @@
 -- A run after a survey of its disk.
-use Rattle.std.proofs.Common.{◌≡◌, ℕ, ◌+◌, ◌≤◌, ◌⊎◌, inl, inr, List, Option, ap, ◌∙◌, arith}
+use Rattle.std.proofs.Common.{◌≡◌, ℕ, ◌+◌, ◌≤◌, ◌⊎◌, inl, inr, List, Option, ap, subst, ◌∙◌, arith}
 use Rattle.std.specs.Prelude.{◌-◌, ◌^◌, min}
 use Rattle.std.specs.Option.{ForSome}
 use Rattle.load_base.specs.Counts.{Rose}
 use Rattle.disk_model.specs.Image.{Image}
+use Rattle.disk_model.specs.MomentLaws.{settled_stays}
 use Rattle.disk_model.specs.State.{DiskState, KeepsPower, OnlyReads}
+use Rattle.disk_layout.specs.Holds.{StandingView}
 use Rattle.disk_layout.specs.Identity.{HasIdentity}
 use Rattle.disk_layout.specs.declared.fault.RecoverFault.{RecoverFault}
 use Rattle.exchange_trace.specs.Lines.{Line}
@@ -14,8 +16,10 @@ use Rattle.media_check.specs.Sets.{SetView}
 use Rattle.recovery.specs.Surveys.{IsSurveyed}
 use Rattle.recovery.specs.declared.surveying.Surveyed.{Surveyed}
 use Rattle.upload_replay.specs.Endings.{HoldsNone}
+use Rattle.replay_rules.specs.BothEnds.{Setting}
+use Rattle.upload_replay.specs.Moments.{AreClocks, HoldsThroughout}
 use Rattle.upload_replay.specs.Powers.{RoseBy, armed_after, armings_after, disk_stops}
-use Rattle.loader_cli.specs.Replays.{CountsPower, RunSeen, RunsScript, RunsTo}
+use Rattle.loader_cli.specs.Replays.{CountsPower, RunSeen, RunsScript, RunsTo, setting_of}
 use Rattle.loader_cli.specs.Replays.RunsTo.{ended, unknown, disk_failed, no_config}
 use Rattle.loader_cli.specs.declared.replay.Telling.{Telling}
 
@@ -48,13 +52,32 @@ none_since : (fault : RecoverFault) (old mid new : DiskState) → mid.reads ≡ 
 none_since fault old mid new same (inl holds) = inl (λ image is. holds image (same ∙ is))
 none_since fault old mid new same (inr holds) = inr holds
 
+-- each moment since a survey is one since its start
+throughout_since : (set : Setting) (steps : List Step) (standing : Option StandingView) (old mid new : DiskState) → OnlyReads old mid → HoldsThroughout set steps standing mid new → HoldsThroughout set steps standing old new
+throughout_since set steps standing old mid new read holds = record {
+  clocks = holds.clocks;
+  end = holds.end;
+  timed = subst (λ (since : ℕ). AreClocks since holds.end holds.clocks steps) read.clock holds.timed;
+  moments = holds.moments;
+  after = holds.after;
+  left = holds.left;
+  active = holds.active;
+}
+
+runs_since : (set : SetView) (script : List Line) (old mid new : DiskState) (run : RunSeen) → OnlyReads old mid → mid.reads ≡ old.reads → RunsScript set script mid new run → RunsScript set script old new run
+runs_since set script old mid new run read same runs = λ start image told holds.
+    let both = runs start image (same ∙ told) holds in (
+      λ all. both.0 (elim all [ inl none ↦ inl none | inr settled ↦ inr (settled_stays old mid settled read same) ]),
+      λ settled. throughout_since (setting_of set start) (steps_of run.trace) run.standing old mid new read (both.1 (settled_stays old mid settled read same)),
+    )
+
 -- a run on a disk that was only read comes to the same of the disk as it was before
 pub run_since : (told : Telling) (set : SetView) (script : List Line) (old mid new : DiskState) (handed : Option RunSeen) (status : ℕ) (text : List ℕ)
     → OnlyReads old mid → mid.reads ≡ old.reads → RunsTo told set script mid new handed status text → RunsTo told set script old new handed status text
 run_since told set script old mid new handed status text read same (ended run standing is stands runs holds counts said tells) =
-    ended run standing is stands (λ start image reads. runs start image (same ∙ reads)) holds (counts_since (steps_of run.trace) old mid new read counts) said tells
+    ended run standing is stands (runs_since set script old mid new run read same runs) holds (counts_since (steps_of run.trace) old mid new read counts) said tells
 run_since told set script old mid new handed status text read same (unknown run is stands runs counts failed stopped said tells) =
-    unknown run is stands (λ start image reads. runs start image (same ∙ reads)) (counts_since (steps_of run.trace) old mid new read counts)
+    unknown run is stands (runs_since set script old mid new run read same runs) (counts_since (steps_of run.trace) old mid new read counts)
     (rose_since (disk_stops (steps_of run.trace) + 1) old.faults mid.faults new.faults read.faults failed) stopped said tells
 run_since told set script old mid new handed status text read same (disk_failed is failed stopped clock power said tells) =
     disk_failed is (rose_since 1 old.faults mid.faults new.faults read.faults failed) stopped (clock ∙ read.clock) (joined_power old mid new read.power power) said tells
