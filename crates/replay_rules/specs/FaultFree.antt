@@ -6,10 +6,16 @@ use Rattle.disk_layout.specs.Contents.{entries_of}
 use Rattle.load_base.specs.Config.{LoadView}
 use Rattle.load_header.specs.Header.{HeaderView}
 use Rattle.load_protocol_files.specs.declared.lur.Wanted.{Wanted}
+use Rattle.tftp_packet.specs.Packets.{PacketView}
+use Rattle.tftp_link.specs.Answers.{Completes}
+use Rattle.exchange_trace.specs.declared.trace.Side.TheVariants as sides
 use Rattle.exchange_trace.specs.Happenings.{HappeningView, Delivered, Injected, Power_cut, Booted, Info_started, Upload_started}
+use Rattle.exchange_trace.specs.Logs.{Event, Gets, event_for}
 use Rattle.exchange_trace.specs.Posts.{posted_in}
 use Rattle.exchange_trace.specs.Steps.{Step}
+use Rattle.transfer_end.specs.Packets.{heard_answer, packet_in}
 use Rattle.transfer_end.specs.Readings.{Reading, next_port_of}
+use Rattle.transfer_end.specs.Views.{end_view}
 use Rattle.session_rules.specs.declared.outcome.Outcome.TheVariants.{Completed}
 use Rattle.session_rules.specs.Loader.{EndedSession}
 use Rattle.session_rules.specs.MediaFiles.{wanted_of}
@@ -57,20 +63,28 @@ abbrev pub IsInstalled : WholeRow → Type 0
 IsInstalled (Writes_completion e loads) = ⊤
 IsInstalled row = ⊥
 
--- a session of the target goes on, or ends with the acknowledgement of its last LUS, once all is installed
-abbrev pub EndsInstalled : Setting → TargetReading → (before after : Option TargetSessionLog) → Type 0
-EndsInstalled set r None after = ⊤
-EndsInstalled set r (Some s) (Some next) = ⊤
-EndsInstalled set r (Some s) None = IsInstalled (row_in set.accepts r.active.identity s)
+-- what reaches the target is the acknowledgement of the last block of the file that it sends
+abbrev pub IsLastAcknowledgement : TargetReading → Option Event → Type 0
+IsLastAcknowledgement r (Some (Gets from to bytes)) = (packet : PacketView) × (packet_in bytes ≡ Some packet) × (heard_answer (end_view r.end) from to packet ≡ Completes)
+IsLastAcknowledgement r e = ⊥
 
-abbrev pub EndsWell : Setting → (before after : TargetState) → Type 0
-EndsWell set (Is_up r) (Is_up after) = EndsInstalled set r r.live after.live
-EndsWell set before after = ⊥
+-- a session of the target goes on, or ends with the acknowledgement of its last LUS, once all is installed
+abbrev pub EndsInstalled : Setting → TargetReading → Option Event → (before after : Option TargetSessionLog) → Type 0
+EndsInstalled set r e None after = ⊤
+EndsInstalled set r e (Some s) (Some next) = ⊤
+EndsInstalled set r e (Some s) None = IsInstalled (row_in set.accepts r.active.identity s) × IsLastAcknowledgement r e
+
+-- so it is where this reaches the target
+abbrev pub EndsWell : Setting → (before : TargetState) → Option Event → (after : TargetState) → Type 0
+EndsWell set (Is_up r) e (Is_up after) = EndsInstalled set r e r.live after.live
+EndsWell set before e after = ⊥
 
 -- so it is in each of these steps, which follow others
 abbrev pub AllEndWell : Setting → (since before : List Step) → Type 0
 AllEndWell set [] before = ⊤
-AllEndWell set (s ∷ since) before = EndsWell set (target_at set (since ++ before)) (target_at set (s ∷ since ++ before)) × AllEndWell set since before
+AllEndWell set (s ∷ since) before =
+    EndsWell set (target_at set (since ++ before)) (event_for sides.Target (posted_in (since ++ before)) s.given) (target_at set (s ∷ since ++ before))
+    × AllEndWell set since before
 
 -- ---- what is asked for
 

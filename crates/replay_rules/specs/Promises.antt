@@ -1,6 +1,6 @@
 -- What is to be promised of a run, part by part (docs/PROMISES.md). These are statements; a promise is kept once a public
 -- call has it as a clause.
-use Rattle.std.specs.Prelude.{◌≡◌, ◌⊎◌, ℕ, List, [], ◌∷◌, ◌++◌, map, true, Option, Some, None, ⊤}
+use Rattle.std.specs.Prelude.{◌≡◌, ◌⊎◌, ℕ, List, [], ◌∷◌, ◌++◌, map, Option, Some, None, ⊤}
 use Rattle.std.specs.List.{AllByRecursion}
 use Rattle.load_base.specs.Config.{LoadView}
 use Rattle.disk_model.specs.Image.{Image}
@@ -11,16 +11,15 @@ use Rattle.exchange_trace.specs.Lines.{Line, Finish}
 use Rattle.exchange_trace.specs.Steps.{Step}
 use Rattle.session_rules.specs.declared.outcome.Outcome.TheVariants.{Completed}
 use Rattle.session_rules.specs.declared.outcome.SessionKind.{SessionKind}
-use Rattle.session_rules.specs.declared.outcome.SessionKind.TheVariants.{Upload}
 use Rattle.session_rules.specs.Loader.{EndedSession}
 use Rattle.session_rules.specs.NewConfigs.{AreOfMedia}
 use Rattle.session_rules.specs.TargetRows.{WholeRow, Writes_lcl}
 use Rattle.session_rules.specs.TargetLog.{TargetReading, TargetSessionLog, row_in}
-use Rattle.replay_rules.specs.BothEnds.{Setting, TargetState, Is_up, Is_down, loader_at, target_at, loader_waits}
+use Rattle.replay_rules.specs.BothEnds.{Setting, TargetState, Is_up, Is_down, loader_at, target_at}
 use Rattle.replay_rules.specs.Due.{AllDue, AllNoted}
-use Rattle.replay_rules.specs.FaultFree.{IsFaultFree, NothingInjected}
-use Rattle.replay_rules.specs.Histories.{may_be_active, brings, active_by}
-use Rattle.replay_rules.specs.Runs.{Follows, IsQuiet, IsWithinMargin, plan_at, scene_at}
+use Rattle.replay_rules.specs.FaultFree.{NothingInjected}
+use Rattle.replay_rules.specs.Histories.{may_be_active, brings}
+use Rattle.replay_rules.specs.Runs.{plan_at, scene_at}
 
 -- ---- the trace is what happened, and each end posts exactly what is due
 
@@ -96,30 +95,13 @@ AllMoments between set end (clock ∷ clocks) (s ∷ earlier) =
     × ((image : Image) → between end end image → HoldsOneOf (may_be_active (target_at set (s ∷ earlier))) image)
     × AllMoments between set clock clocks earlier
 
--- ---- a fault-free run completes
+-- ---- a run that is left to `finish`
 
 abbrev pub NoneGoesDown : List Step → Type 0
 NoneGoesDown steps = AllByRecursion (λ (s : Step). s.notes ≡ []) steps
-
--- an upload is live at the loader, or the newest session that ended is a completed one
-abbrev pub IsOnItsWay : Setting → List Step → Type 0
-IsOnItsWay set steps = (loader_waits set steps ≡ true) ⊎ HasCompleted Upload (loader_at set steps).ended
 
 -- only the line `finish` is left of the script
 abbrev pub OnlyFinishIsLeft : Setting → List Line → List Step → Type 0
 OnlyFinishIsLeft set script steps =
     ((plan_at set script steps).lines ≡ Finish ∷ [])
     × (◌≡◌ {A = Option Turn} (goes_on (scene_at set steps) (plan_at set script steps).rest (plan_at set script steps).lines) None)
-
--- the upload is completed, all is quiet, and the standing has the loads that were asked for, with the media set's files
-pub record IsComplete (set : Setting) (steps : List Step) (free : IsFaultFree set steps) (last : List Step) (standing : StandingView) : Type 0 where
-  pub outcome : HasCompleted Upload (loader_at set last).ended
-  pub quiet : IsQuiet set last
-  pub loads : standing.loads ≡ free.loads
-
--- A fault-free run within the margin, of which only a last `finish` is left to follow, completes.
-abbrev pub FinishCompletes : Type 0
-FinishCompletes = (set : Setting) (script : List Line) (steps more : List Step) (standing : StandingView) (free : IsFaultFree set steps)
-    → IsTrace set (more ++ steps) → Follows set script (more ++ steps) → IsWithinMargin set steps → IsOnItsWay set steps → OnlyFinishIsLeft set script steps
-    → NoneGoesDown more → standing ≡ active_by (target_at set (more ++ steps)) (Some standing)
-    → IsComplete set steps free (more ++ steps) standing
