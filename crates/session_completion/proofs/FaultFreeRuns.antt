@@ -22,6 +22,7 @@ use Rattle.session_completion.specs.Worlds.{World, at_loader, at_target, deliver
 use Rattle.load_header.specs.Header.{HeaderView}
 use Rattle.transfer_end.specs.Readings.{Reading}
 use Rattle.replay_rules.specs.Runs.{retries_in}
+use Rattle.session_completion.proofs.GivenUp.{fault_free_gives_none_up}
 use Rattle.session_completion.proofs.Queues.{numbered_is}
 use Rattle.replay_rules.specs.OtherEndTraces.{IsUninjected}
 
@@ -234,7 +235,7 @@ due_before set [] base due = due
 due_before set (s ∷ since) base due = due_before set since base due.1
 
 pub fault_free_runs_lead : StepKeepsTie → FaultFreeRunsLead
-fault_free_runs_lead keeps set steps free due honest up =
+fault_free_runs_lead keeps set steps free due honest =
     let (r, is_up) = up_is (target_at set free.before) (ports_for free.loads) free.target_ready in
     let due_so : AllDue set (free.since ++ free.start ∷ free.before) = subst (λ (ss : List Step). AllDue set ss) free.split due in
     let found : World = record { loader = loader_view (loader_at set free.before); target = target_view set.accepts r; posts = [] } in
@@ -246,7 +247,7 @@ fault_free_runs_lead keeps set steps free due honest up =
     let first = step_tied keeps set free.before (posted_in free.before) found free.start was free.stays_up from_start in
     let led = since_leads keeps set free.since (free.start ∷ free.before) (posted_in free.before) (started set free.parts found)
     (record { w = started set free.parts found; is = subst (λ (x : World). IsWorldOf set (free.start ∷ free.before) (posted_in free.before) x) is_start first; leads = begins }) due_so
-    (subst (λ (ss : List Step). AllHonest ss) free.split honest) (subst (λ (ss : List Step). NothingInjected ss) free.split free.injected) free.smooth up in
+    (subst (λ (ss : List Step). AllHonest ss) free.split honest) (subst (λ (ss : List Step). NothingInjected ss) free.split free.injected) free.smooth (fault_free_gives_none_up set steps free) in
     record {
       found = found;
       none_posted = refl;
@@ -257,8 +258,8 @@ fault_free_runs_lead keeps set steps free due honest up =
     }
 
 pub fault_free_runs_complete : StepKeepsTie → QuietIsIdle → GoodUploadsComplete → FaultFreeRunsComplete
-fault_free_runs_complete keeps quiet complete set steps free is permits up named margin =
-    let run = fault_free_runs_lead keeps set steps free is.due is.honest up in
+fault_free_runs_complete keeps quiet complete set steps free is permits named margin =
+    let run = fault_free_runs_lead keeps set steps free is.due is.honest in
     let loader : retries_at run.now sides.Loader ≤ 2 = subst (λ (n : ℕ). n ≤ 2) (sym (ap (λ (v : LoaderView). v.end.retries) run.is.loader_is)) margin.loader in
     let target : retries_at run.now sides.Target ≤ 2 = subst (λ (n : ℕ). n ≤ 2) (sym (target_so set (target_at set steps) run.now.target run.is.target_is).1) margin.target in
     let idle = quiet set free.before (ports_for free.loads) run.found (uninjected_before set (free.since ++ free.start ∷ []) free.before (subst (λ (ss : List Step). IsUninjected set ss) (free.split ∙ sym (append_assoc free.since (free.start ∷ []) free.before)) is)) permits free.quiet free.loader_ports free.target_ready run.none_posted run.was in (

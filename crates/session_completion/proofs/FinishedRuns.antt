@@ -4,7 +4,7 @@ use Rattle.std.specs.Prelude.{is_some, slice_get, filter, option_map, if◌then�
 use Rattle.std.specs.List.{AllByRecursion, AllZip, range_with_len}
 use Rattle.exchange_trace.specs.declared.trace.Side.{Side}
 use Rattle.exchange_trace.specs.declared.trace.Side.TheVariants as sides
-use Rattle.exchange_trace.specs.Following.{Deliveries, Finishing, Nothing_left, Plan, Rest, Scene, Turn, begins, delivered_next, delivery, delivery_of_first, finishing, finishing_tick, from_lines, goes_on, least_delivery, loss, next_turn, once, or_else, ticked_side, turn}
+use Rattle.exchange_trace.specs.Following.{Deliveries, Finishing, Nothing_left, Plan, Rest, Scene, Turn, begins, delivered_next, delivery, delivery_of_first, finishing, finishing_tick, from_lines, goes_on, least_delivery, loss, next_turn, once, or_else, ticked_side}
 use Rattle.exchange_trace.specs.FollowingLaws.{end_is_last, following_is_honest}
 use Rattle.exchange_trace.specs.Happenings.{Booted, DatagramView, Delivered, Ended, HappeningView, Info_started, Injected, Lost, Power_cut, Size_told, Ticked, Upload_started, other}
 use Rattle.exchange_trace.specs.Lines.{Blksize, Boot, Finish, Give, Info, Inject, Line, Lose, Next, Power, Tick, Upload as Starts}
@@ -13,21 +13,33 @@ use Rattle.exchange_trace.specs.Steps.{Step}
 use Rattle.session_rules.specs.declared.outcome.SessionKind.TheVariants.{Upload}
 use Rattle.session_rules.specs.Loader.{LoaderView}
 use Rattle.replay_rules.specs.BothEnds.{Setting, loader_at, target_at, waiting, Is_down, Is_up, TargetState}
-use Rattle.replay_rules.specs.Due.{AllNoted}
-use Rattle.replay_rules.specs.FaultFree.{IsFaultFree}
-use Rattle.replay_rules.specs.Promises.{EndsOnce, HasCompleted}
-use Rattle.replay_rules.specs.Runs.{Follows, plan_at, scene_at}
+use Rattle.replay_rules.specs.Changes.{AllBroughtAreGood, AllCarryBytes, AllStayOrAreNew, ChangesAreNew, InstallsAreGood}
+use Rattle.replay_rules.specs.Due.{AllNoted, is_up}
+use Rattle.replay_rules.specs.FaultFree.{HasPorts, IsFaultFree, IsGranted, IsSmooth, NothingInjected, ports_for}
+use Rattle.replay_rules.specs.Histories.{active_at, active_by, active_in}
+use Rattle.replay_rules.specs.MediaTraces.{InstallsAreOfMedia}
+use Rattle.replay_rules.specs.OtherEndTraces.{IsUninjected}
+use Rattle.replay_rules.specs.OwnSessionTraces.{AllInstalledInSession, CompletedInSession, NoneStarts}
+use Rattle.replay_rules.specs.Promises.{AllOfMedia, EndsOnce, HasCompleted, NoneGoesDown}
+use Rattle.replay_rules.specs.Runs.{Follows, IsQuiet, IsWithinMargin, plan_at, scene_at}
 use Rattle.transfer_completion.specs.BlockLaws.{eq_false}
-use Rattle.session_completion.proofs.Followed.{Names, named_at, named_within, At, Gives, LeftAt, NoEnds, due_of_before, finish_is, follows_before}
+use Rattle.session_completion.proofs.Followed.{Names, named_at, named_within, At, LeftAt, NoEnds, due_of_before, finish_is, follows_before}
+use Rattle.accept_rules.specs.Permissions.{Permits}
 use Rattle.disk_layout.specs.Contents.{entries_of}
+use Rattle.disk_layout.specs.Holds.{StandingView}
+use Rattle.load_header.specs.Header.{HeaderView}
+use Rattle.transfer_end.specs.Readings.{next_port_of}
 use Rattle.session_rules.specs.Target.{TargetView}
-use Rattle.session_rules.specs.TargetLog.{target_view}
+use Rattle.session_rules.specs.TargetLog.{TargetReading, target_view}
 use Rattle.replay_rules.specs.Ties.{StepKeepsTie, kept_by}
 use Rattle.session_completion.specs.Clean.{AreAmong}
-use Rattle.session_completion.specs.FaultFreeRuns.{FaultFreeRunsComplete}
-use Rattle.session_completion.specs.FinishedRuns.{IsCompleted, LeftToFinishCompletes}
+use Rattle.session_completion.specs.FaultFreeRuns.{FaultFreeRunsComplete, IsNamed}
+use Rattle.session_completion.specs.FinishedRuns.{FinishCompletes, IsLeftToFinish}
 use Rattle.session_completion.specs.Worlds.{World, waits}
+use Rattle.session_completion.proofs.Brought.{AreServedAs, KnowsBrought, active_is_served, begun_at}
+use Rattle.session_completion.proofs.Contents.{loads_same}
 use Rattle.session_completion.proofs.FaultFreeRuns.{live_so, posted_since, target_so}
+use Rattle.session_completion.proofs.Finishing.{IsQuietly, all_quietly, begins_finish}
 
 -- ---- what a script names was posted
 
@@ -236,11 +248,19 @@ no_end set script [] (s ∷ earlier) ends follows left =
     let wrong : [] ≡ Finish ∷ [] = sym none ∙ left in cc)
 no_end set script (s ∷ more) steps ends follows left = ends_before more steps ends.1
 
+-- the upload is completed, all is quiet, and the target is up with the entries of the loads that were asked for
+record HasEntries (set : Setting) (steps : List Step) (free : IsFaultFree set steps) (last : List Step) : Type 0 where
+  outcome : HasCompleted Upload (loader_at set last).ended
+  quiet : IsQuiet set last
+  target : TargetReading
+  up : target_at set last ≡ Is_up target
+  active : entries_of target.active.loads ≡ entries_of free.loads
+
 comes_to : (set : Setting) (steps last : List Step) (free : IsFaultFree set steps) (before : List DatagramView) (w : World) → LeftAt set before last w → waits w sides.Loader ≡ false → waits w sides.Target ≡ false
-    → HasCompleted Upload w.loader.ended → w.target.active.loads ≡ entries_of free.loads → IsCompleted set steps free last
+    → HasCompleted Upload w.loader.ended → w.target.active.loads ≡ entries_of free.loads → HasEntries set steps free last
 comes_to set steps last free before w left loader target completed active = by (target_at set last) refl
   where
-    by : (state : TargetState) → target_at set last ≡ state → IsCompleted set steps free last
+    by : (state : TargetState) → target_at set last ≡ state → HasEntries set steps free last
     by (Is_down old interrupted) e = absurd (let wrong : Some w.target ≡ None = left.tied.target_is ∙ ap (λ (x : TargetState). kept_by set x) e in cc)
     by (Is_up r) e =
         let kept : Some w.target ≡ Some (target_view set.accepts r) = left.tied.target_is ∙ ap (λ (x : TargetState). kept_by set x) e in
@@ -257,22 +277,84 @@ comes_to set steps last free before w left loader target completed active = by (
           active = sym (ap (λ (v : TargetView). v.active.loads) view) ∙ active;
         }
 
-pub left_to_finish_completes : StepKeepsTie → FaultFreeRunsComplete → LeftToFinishCompletes
-left_to_finish_completes keeps complete set script steps more free carries permits up named margin trace follows only stays =
-    let honest = following_is_honest (waiting set) script steps (follows_before set script more steps follows) in
-    let (now, tied, finished) = complete set steps free (record { due = due_of_before set more steps trace.due; noted = noted_before set more steps trace.noted; honest = honest; injected = free.injected; carries = carries }) permits up named margin in
-    let posted : posted_in steps ≡ posted_in free.before ++ now.posts = sym tied.posted_is in
-    let q = queue_of (posted_in free.before) now.posts (undelivered_after steps) (all_since set steps free (posted_in free.before ++ now.posts) posted) in
-    let it = finished q.queue sides.Loader q.among in
-    let s = scene_at set steps in
-    let goes : Gives set script steps (or_else (goes_on s (Finishing sides.Loader) []) (turn Ended Nothing_left []))
-    = ap (λ (o : Option Turn). or_else o (from_lines s (plan_at set script steps).lines)) only.1 ∙ ap (λ (lines : List Line). from_lines s lines) only.0 in
-    let at : At set script (posted_in free.before) steps now q.queue sides.Loader = record {
-      tied = tied;
-      goes = goes;
-      named = names_only set script steps (follows_before set script more steps follows);
-      zips = subst (λ (ds : List DatagramView). AllZip (Names ds) (undelivered_after steps) q.queue) (sym posted) q.zips;
-    } in
-    let left = finish_is keeps set script (posted_in free.before) now it.last q.queue sides.Loader it.finishes more steps at (no_end set script more steps trace.ends follows only.0)
-    (record { ends = trace.ends; due = trace.due; follows = follows; up = stays }) in
-    comes_to set steps (more ++ steps) free (posted_in free.before) it.last left it.loader it.target it.completed it.active
+-- ---- the whole run
+
+all_carry_before : (more base : List Step) → AllCarryBytes (more ++ base) → AllCarryBytes base
+all_carry_before [] base carries = carries
+all_carry_before (s ∷ more) base carries = all_carry_before more base carries.1
+
+none_injected : (more steps : List Step) → AllByRecursion (λ (s : Step). IsQuietly s.given) more → NothingInjected steps → NothingInjected (more ++ steps)
+none_injected [] steps quietly none = none
+none_injected (s ∷ more) steps quietly none = (quietly.0.injects, none_injected more steps quietly.1 none)
+
+none_start : (more since : List Step) (posted : ℕ) → AllByRecursion (λ (s : Step). IsQuietly s.given) more → AllByRecursion (IsSmooth posted) since → NoneStarts (more ++ since)
+none_start [] [] posted quietly smooth = tt
+none_start [] (s ∷ since) posted quietly smooth = (smooth.0.no_start, none_start [] since posted tt smooth.1)
+none_start (s ∷ more) since posted quietly smooth = (quietly.0.starts, none_start more since posted quietly.1 smooth)
+
+none_down : (more since : List Step) (posted : ℕ) → NoneGoesDown more → AllByRecursion (IsSmooth posted) since → NoneGoesDown (more ++ since)
+none_down [] [] posted up smooth = tt
+none_down [] (s ∷ since) posted up smooth = (smooth.0.stays_up, none_down [] since posted tt smooth.1)
+none_down (s ∷ more) since posted up smooth = (up.0, none_down more since posted up.1 smooth)
+
+module _ (set : Setting) (script : List Line) (steps more : List Step) (free : IsFaultFree set steps) (left : IsLeftToFinish set script steps more) where
+  quietly : AllByRecursion (λ (s : Step). IsQuietly s.given) more
+  quietly = all_quietly set script steps left.left more left.follows
+
+  whole_is_uninjected : IsUninjected set (more ++ steps)
+  whole_is_uninjected = record {
+    due = left.trace.due;
+    noted = left.trace.noted;
+    honest = following_is_honest (waiting set) script (more ++ steps) left.follows;
+    injected = none_injected more steps quietly free.injected;
+    carries = left.carries;
+  }
+
+  has_entries : StepKeepsTie → FaultFreeRunsComplete → ((h : HeaderView) → set.accepts h ≡ true → Permits h) → IsNamed set steps free → IsWithinMargin set steps → HasEntries set steps free (more ++ steps)
+  has_entries keeps complete permits named margin =
+      let follows = follows_before set script more steps left.follows in
+      let (now, tied, finished) = complete set steps free
+      (record { due = due_of_before set more steps left.trace.due; noted = noted_before set more steps left.trace.noted; honest = following_is_honest (waiting set) script steps follows; injected = free.injected; carries = all_carry_before more steps left.carries })
+      permits named margin in
+      let posted : posted_in steps ≡ posted_in free.before ++ now.posts = sym tied.posted_is in
+      let q = queue_of (posted_in free.before) now.posts (undelivered_after steps) (all_since set steps free (posted_in free.before ++ now.posts) posted) in
+      let it = finished q.queue sides.Loader q.among in
+      let at : At set script (posted_in free.before) steps now q.queue sides.Loader = record {
+        tied = tied;
+        goes = begins_finish set script steps left.left;
+        named = names_only set script steps follows;
+        zips = subst (λ (ds : List DatagramView). AllZip (Names ds) (undelivered_after steps) q.queue) (sym posted) q.zips;
+      } in
+      let end = finish_is keeps set script (posted_in free.before) now it.last q.queue sides.Loader it.finishes more steps at (no_end set script more steps left.trace.ends left.follows left.left.0)
+      (record { ends = left.trace.ends; due = left.trace.due; follows = left.follows; up = left.stays_up }) in
+      comes_to set steps (more ++ steps) free (posted_in free.before) it.last end it.loader it.target it.completed it.active
+
+  -- the upload is live after its start
+  live_so_far : is_some (loader_at set (free.start ∷ free.before)).live ≡ true
+  live_so_far = begun_at set free.start free.before set.start.identity.hw set.start.identity.pos free.parts free.wanted free.starts free.few free.on_media (enough (ports_for free.loads) (omega arith) free.loader_ports)
+    where
+      enough : (ports : ℕ) → 3 ≤ ports → HasPorts (loader_at set free.before).end ports → next_port_of (loader_at set free.before).end < 65536
+      enough ports some has = omega (arith, some, has)
+
+  active_served : HasEntries set steps free (more ++ steps) → AllInstalledInSession set (more ++ steps) → AllBroughtAreGood set (more ++ steps) → AllOfMedia set (more ++ steps) → AllStayOrAreNew set (more ++ steps)
+      → AreServedAs set (active_at set (more ++ steps)).loads
+  active_served h installed good media stays =
+      let base = free.start ∷ free.before in
+      let is : more ++ steps ≡ (more ++ free.since) ++ base = ap (λ (xs : List Step). more ++ xs) free.split ∙ sym (append_assoc more free.since base) in
+      let knows : KnowsBrought set (more ++ steps) = record { good = good; media = media; stays = stays; injected = whole_is_uninjected.injected } in
+      subst (λ (xs : List Step). AreServedAs set (active_at set xs).loads) (sym is)
+      (active_is_served set (more ++ free.since) free.start free.before set.start.identity.hw set.start.identity.pos free.parts free.starts (none_start more free.since (length (posted_in free.before)) quietly free.smooth)
+      (none_down more free.since (length (posted_in free.before)) left.stays_up free.smooth) live_so_far (subst (λ (xs : List Step). is_some (loader_at set xs).live ≡ false) is h.quiet.loader)
+      (subst (λ (xs : List Step). HasCompleted Upload (loader_at set xs).ended) is h.outcome) (subst (λ (xs : List Step). AllInstalledInSession set xs) is installed) (subst (λ (xs : List Step). KnowsBrought set xs) is knows))
+
+pub finish_completes : StepKeepsTie → InstallsAreOfMedia → CompletedInSession → ChangesAreNew → InstallsAreGood → FaultFreeRunsComplete → FinishCompletes
+finish_completes keeps media sessions changes goods complete set script steps more free standing permits lengths named margin left recovered =
+    let is = whole_is_uninjected set script steps more free left in
+    let h = has_entries set script steps more free left keeps complete permits named margin in
+    let served = active_served set script steps more free left h (sessions set (more ++ steps) permits named.entries is) (goods set (more ++ steps) permits left.carries) (media set (more ++ steps) permits lengths is) (changes set (more ++ steps) permits left.carries) in
+    let active : active_at set (more ++ steps) ≡ h.target.active = ap (λ (x : TargetState). active_in x) h.up in
+    let found : standing ≡ h.target.active = recovered ∙ ap (λ (x : TargetState). active_by x (Some standing)) h.up in
+    let now : AreServedAs set h.target.active.loads = subst (λ (x : StandingView). AreServedAs set x.loads) active served in
+    let loads : h.target.active.loads ≡ free.loads
+    = loads_same set.media (λ (x : HeaderView). set.accepts x ≡ true) (IsGranted set) set.start.identity h.target.active.loads free.loads h.active now.media free.served.media now.good free.served.good in
+    record { outcome = h.outcome; quiet = h.quiet; up = ap (λ (x : TargetState). is_up x) h.up; loads = ap (λ (x : StandingView). x.loads) found ∙ loads }

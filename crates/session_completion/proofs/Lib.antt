@@ -20,8 +20,12 @@ pub mod Whole
 pub mod Courses
 pub mod Written
 pub mod GoodUploads
+pub mod GivenUp
 pub mod FaultFreeRuns
 pub mod Frees
 pub mod Idle
 pub mod Followed
+pub mod Finishing
+pub mod Contents
+pub mod Brought
 pub mod FinishedRuns

@@ -50,9 +50,13 @@ pub record RunLeads (set : Setting) (steps : List Step) (free : IsFaultFree set 
   pub is : IsWorldOf set steps (posted_in free.before) now
   pub leads : Leads set (started set free.parts found) now
 
--- A fault-free run in which neither end gives up leads from world to world.
+-- In a fault-free run neither end gives up.
+abbrev pub FaultFreeGivesNoneUp : Type 0
+FaultFreeGivesNoneUp = (set : Setting) (steps : List Step) (free : IsFaultFree set steps) → NoneGivesUp set free.since (free.start ∷ free.before)
+
+-- So it leads from world to world.
 abbrev pub FaultFreeRunsLead : Type 0
-FaultFreeRunsLead = (set : Setting) (steps : List Step) (free : IsFaultFree set steps) → AllDue set steps → AllHonest steps → NoneGivesUp set free.since (free.start ∷ free.before) → RunLeads set steps free
+FaultFreeRunsLead = (set : Setting) (steps : List Step) (free : IsFaultFree set steps) → AllDue set steps → AllHonest steps → RunLeads set steps free
 
 -- what is said of a fault-free run beside that
 pub record IsNamed (set : Setting) (steps : List Step) (free : IsFaultFree set steps) : Type 0 where
@@ -67,6 +71,6 @@ QuietIsIdle = (set : Setting) (steps : List Step) (ports : ℕ) (w : World) → 
 
 -- A fault-free run within the margin is completed by a `finish` of its world.
 abbrev pub FaultFreeRunsComplete : Type 0
-FaultFreeRunsComplete = (set : Setting) (steps : List Step) (free : IsFaultFree set steps) → IsUninjected set steps → ((h : HeaderView) → set.accepts h ≡ true → Permits h) → NoneGivesUp set free.since (free.start ∷ free.before)
+FaultFreeRunsComplete = (set : Setting) (steps : List Step) (free : IsFaultFree set steps) → IsUninjected set steps → ((h : HeaderView) → set.accepts h ≡ true → Permits h)
     → IsNamed set steps free → IsWithinMargin set steps → (now : World) × IsWorldOf set steps (posted_in free.before) now
     × ((queue : List DatagramView) (first : Side) → AreAmong now.posts queue → IsFinished set free.loads now queue first)

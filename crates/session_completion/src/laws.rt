@@ -1,9 +1,9 @@
 //! What holds of uploads in which nothing is lost, and of runs that stand where these stand. These
 //! functions do nothing; their clauses are the law.
-ghost use Rattle.session_completion.specs.FaultFreeRuns.{FaultFreeRunsComplete, FaultFreeRunsLead};
-ghost use Rattle.session_completion.specs.FaultFreeRuns.{QuietIsIdle};
+ghost use Rattle.session_completion.specs.FaultFreeRuns.{FaultFreeGivesNoneUp, FaultFreeRunsComplete};
+ghost use Rattle.session_completion.specs.FaultFreeRuns.{FaultFreeRunsLead, QuietIsIdle};
 ghost use Rattle.session_completion.specs.Finish.{FinishEnds};
-ghost use Rattle.session_completion.specs.FinishedRuns.{LeftToFinishCompletes};
+ghost use Rattle.session_completion.specs.FinishedRuns.{FinishCompletes};
 ghost use Rattle.session_completion.specs.GoodRequests.{GoodLoadsLeadOn, RequestsAreRead};
 ghost use Rattle.session_completion.specs.GoodUploads.{GoodUploadsComplete};
 ghost use Rattle.session_completion.specs.Laws.{AllComeOut, FewAreAhead, LastIsDone};
@@ -16,7 +16,8 @@ use crc_fields::check_sum_laws;
 use load_header::header_laws;
 use load_protocol_files::protocol_file_laws;
 use replay_rules::laws::{
-    a_step_keeps_the_tie, ports_stay_apart, the_configuration_changes_by_good_verdicts,
+    a_completed_upload_is_installed, a_step_keeps_the_tie, ports_stay_apart,
+    the_configuration_changes_by_good_verdicts, what_is_installed_is_of_the_media_set,
 };
 
 /// But for ticks, both ends do and post the same whatever their retries are.
@@ -87,9 +88,10 @@ pub fn good_uploads_complete()
     finish_comes_to_an_end();
 }
 
-/// A fault-free run in which neither end gives up is such an upload, step by step, and within the
-/// margin a `finish` of both ends and of what was posted completes it.
+/// A fault-free run is such an upload, step by step, and within the margin a `finish` of both ends
+/// and of what was posted completes it.
 pub fn fault_free_runs_complete()
+    ensures none_given_up { FaultFreeGivesNoneUp }
     // From the world that its last start found to that of its last step.
     ensures lead { FaultFreeRunsLead }
     // A quiet run leaves both ends idle.
@@ -104,10 +106,15 @@ pub fn fault_free_runs_complete()
 }
 
 /// So a fault-free run completes of which a script's last `finish` alone is left to follow: what a
-/// `finish` gives is that of both ends and of what was posted.
+/// `finish` gives is that of both ends and of what was posted. The upload is completed, the run is
+/// quiet, and on the target are the loads that were asked for, with the bytes of the media set's
+/// files.
 pub fn a_run_left_to_finish_completes()
-    ensures { LeftToFinishCompletes }
+    ensures { FinishCompletes }
 {
     a_step_keeps_the_tie();
+    what_is_installed_is_of_the_media_set();
+    a_completed_upload_is_installed();
+    the_configuration_changes_by_good_verdicts();
     fault_free_runs_complete();
 }

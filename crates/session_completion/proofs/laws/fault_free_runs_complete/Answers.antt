@@ -1,6 +1,10 @@
 use Rattle.session_completion.proofs.FaultFreeRuns.{fault_free_runs_complete, fault_free_runs_lead}
+use Rattle.session_completion.proofs.GivenUp.{fault_free_gives_none_up}
 use Rattle.session_completion.proofs.Idle.{quiet_is_idle}
 use Rattle.session_completion.proofs.laws.fault_free_runs_complete.Goals as goal
+
+pub returns-clause-none_given_up : goal.returns-clause-none_given_up
+returns-clause-none_given_up c = fault_free_gives_none_up
 
 pub returns-clause-lead : goal.returns-clause-lead
 returns-clause-lead c = fault_free_runs_lead c.a_step_keeps_the_tie.ensures
