@@ -1,5 +1,5 @@
 -- What a file that is accepted brings, with all contents.
-use Rattle.std.proofs.Common.{◌≡◌, ℕ, ◌+◌, ◌<◌, ◌≤◌, List, [], ◌∷◌, ◌++◌, length, map, take, Bool, true, false, Option, Some, None, Result, Ok, Err, refl, sym, ap, subst, ◌∙◌, arith, append-nil, length-append}
+use Rattle.std.proofs.Common.{◌≡◌, ℕ, ◌+◌, ◌<◌, List, [], ◌∷◌, ◌++◌, length, take, Bool, false, Option, Some, None, Result, Ok, refl, sym, ap, subst, ◌∙◌, arith, length-append}
 use Rattle.std.specs.Prelude.{slice_get}
 use Rattle.std.proofs.lemmas.Bool.{ltb-false}
 use Rattle.std.proofs.lemmas.List.{length-map, take_all}
@@ -13,18 +13,18 @@ use Rattle.load_header.specs.Header.{HeaderView, header}
 use Rattle.load_protocol_files.specs.declared.lur.Wanted.{Wanted}
 use Rattle.field_grammar.specs.Answers.{answer}
 use Rattle.bank_store.specs.declared.store.Store.{Store}
-use Rattle.bank_store.specs.Given.{Given, with_bytes, with_file, with_load}
+use Rattle.bank_store.specs.Given.{with_bytes, with_file, with_load}
 use Rattle.session_rules.specs.declared.reason.Reason.{Reason}
 use Rattle.session_rules.specs.Buffers.{Buffer, Sums, buffer_size, buffered, is_too_long, summed}
-use Rattle.session_rules.specs.TargetRows.{Arriving, Judges, Kept_bytes, Kept_sums, Over, Reads_file, RowMove, UploadEnd, WholeRow, Writes_stop, arriving_load, done_move, placed, placed_if, row_judged, row_moved, said_length, view_judged, with_header}
+use Rattle.session_rules.specs.TargetRows.{Judges, Kept_bytes, Kept_sums, Reads_file, RowMove, UploadEnd, WholeRow, Writes_stop, arriving_load, done_move, placed, placed_if, row_judged, row_moved, said_length, view_judged, with_header}
 use Rattle.session_rules.specs.Uploads.{Accepts_file, Accepts_header, Judgement, Next, OpenLoad, OpenLoadView, Upload, UploadView, covered_header, current_view, file_reason, files_of, judge_file, judge_header, judge_spelled_header, load_reason, entry_name, next_entry, next_name, next_number, next_wanted, next_with, open_load_view, or_else, planned_load, need_of, upload_view}
 use Rattle.load_intake.specs.declared.down.Down.{Down}
 use Rattle.load_intake.specs.Contents.{BringsRow, GoesTo, IsOf, given_of}
 use Rattle.load_intake.specs.Judging.{header_row, refused_for, whole_buffer, whole_header_row, whole_judged}
-use Rattle.load_intake.specs.Kept.{IsIntake, intake_at}
+use Rattle.load_intake.specs.Kept.{intake_at}
 use Rattle.load_intake.specs.States.{WholeView, upload_of}
 use Rattle.load_intake.proofs.Files.{count_right}
-use Rattle.load_intake.proofs.Moving.{IsWholeIn, file_open, given_file, given_header, header_open, judged_stops, next_brings, whole_in, with_open}
+use Rattle.load_intake.proofs.Moving.{file_open, given_file, given_header, header_open, judged_stops, next_brings, whole_in, with_open}
 
 -- ---- data and support files
 

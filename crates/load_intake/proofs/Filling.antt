@@ -1,5 +1,5 @@
 -- What the store's calls give and leave of an upload.
-use Rattle.std.proofs.Common.{◌≡◌, ◌⊎◌, inl, inr, true, false, ℕ, ◌+◌, ◌-◌, ◌<◌, ◌≤◌, arith, List, [], ◌∷◌, ◌++◌, Result, Ok, Err, IsErr, Option, Some, None, OnOk, length, map, take, refl, sym, ap, subst, ◌∙◌}
+use Rattle.std.proofs.Common.{◌≡◌, true, false, ℕ, ◌-◌, ◌<◌, ◌≤◌, arith, List, [], ◌++◌, Result, Ok, Err, IsErr, Option, Some, None, length, map, take, refl, sym, ap, subst, ◌∙◌}
 use Rattle.std.proofs.lemmas.List.Elements.{All-nil}
 use Rattle.disk_layout.specs.Contents.{HeaderIsFirst, HeadersAreFirst}
 use Rattle.load_protocol_files.specs.declared.lur.Wanted.{Wanted}
@@ -10,12 +10,11 @@ use Rattle.load_base.specs.Config.{LoadView}
 use Rattle.disk_model.specs.Image.{Image}
 use Rattle.disk_model.specs.State.{DiskState}
 use Rattle.disk_layout.specs.Holds.{HoldsConfig, StandingView}
-use Rattle.bank_store.specs.declared.fault.StoreFault.{StoreFault}
 use Rattle.bank_store.specs.declared.store.Store.{Store}
 use Rattle.bank_store.specs.DiskWrites.{AddsOnly, TimeGoesOn}
 use Rattle.bank_store.specs.Fits.{CanActivate, InstallsBeside}
-use Rattle.bank_store.specs.Given.{Given, GivenLoad, HasGiven, configured, loads_of, nothing_given, with_bytes, with_file, with_load}
-use Rattle.bank_store.specs.Keeps.{Activates, Appends, Begins, Continues, FitsOn, IsOldOrNew, Keeps, LeavesActive, Seals}
+use Rattle.bank_store.specs.Given.{Given, GivenLoad, HasGiven, configured, loads_of, nothing_given, with_bytes}
+use Rattle.bank_store.specs.Keeps.{Activates, Appends, Begins, Continues, FitsOn, IsOldOrNew, LeavesActive, Seals}
 use Rattle.bank_store.specs.Store.{with_gate_open, with_gate_shut, with_manifest, with_piece, with_slot, manifest_length}
 use Rattle.session_rules.specs.TargetRows.{Kept_bytes, Kept_sums, Over, Reads_file, WholeRow, arriving_load, new_upload, said_length}
 use Rattle.load_intake.specs.declared.down.Down.{Down}

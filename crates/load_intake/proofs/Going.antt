@@ -83,3 +83,7 @@ ends_after r a b c d e f first ends = IfOk-weaker r (λ x. Ends x b c e f) (λ x
 
 pub stops_there : (end : UploadEnd) (before after : Store) (disk : DiskState) → Continues before after → IsPrepared after → IsRunning disk → Ends (finished.Stopped end) before after disk disk
 stops_there end before after disk c prepared running = record { begins = tt; leaves = gives_up before after disk c prepared running }
+
+-- or after a call that went on
+pub stops_after : (end : UploadEnd) (before mid after : Store) (old new : DiskState) → GoesOn before mid old new → Continues mid after → IsPrepared after → Ends (finished.Stopped end) before after old new
+stops_after end before mid after old new first c prepared = record { begins = tt; leaves = leaves_after (finished.Stopped end) before mid after old new new first (gives_up mid after new c prepared first.running) }

@@ -69,6 +69,16 @@ pub header_next : (w new : WholeView) (h : HeaderView) (need crc size : ℕ) (wa
     → next ≡ next_with (upload_of new None) l.header (length l.files)
 header_next w new h need crc size wanted l next made there e = rw (made, there) e
 
+-- ---- the tests in their order
+
+-- the first that fails decides
+pub fails_first : (first later : Option Reason) (reason : Reason) → Some reason ≡ first → Some reason ≡ or_else first later
+fails_first first later reason is = rw (sym is) refl
+
+-- and a later one where none before it fails
+pub passes_first : (first later found : Option Reason) → None ≡ first → found ≡ later → found ≡ or_else first later
+passes_first first later found none is = rw (sym none) is
+
 -- ---- the row after it
 
 module _ (accepts : HeaderView → Bool) (id : Identity) (w : WholeView) (wanted : Wanted) (h : HeaderView) (bytes : List ℕ) where

@@ -1,24 +1,24 @@
 -- What the end of a file leaves of an upload with all contents.
-use Rattle.std.proofs.Common.{◌≡◌, ◌≢◌, ◌⊎◌, inl, inr, ℕ, ◌+◌, ◌<◌, ◌≤◌, List, [], ◌∷◌, ◌++◌, Bool, true, false, nat_lt, length, map, take, Option, Some, None, Result, Ok, Err, OnOk, refl, sym, ap, subst, ◌∙◌, arith, append-nil, if◌then◌else◌}
+use Rattle.std.proofs.Common.{◌≡◌, ℕ, ◌+◌, ◌≤◌, List, [], ◌∷◌, ◌++◌, Bool, true, false, nat_lt, length, map, take, Option, Some, None, Result, Ok, Err, OnOk, refl, sym, ap, subst, ◌∙◌, arith, append-nil, if◌then◌else◌}
 use Rattle.std.proofs.lemmas.Bool.{ltb-false}
-use Rattle.std.proofs.lemmas.List.{map-append, take_all}
+use Rattle.std.proofs.lemmas.List.{map-append}
 use Rattle.std.proofs.lemmas.List.Elements.{All-append, All-cons, All-head, All-nil, All-tail}
 use Rattle.std.proofs.Math.Seq.{take-nil}
 use Rattle.load_base.specs.Config.{FileView, LoadView}
 use Rattle.disk_model.specs.State.{DiskState}
-use Rattle.disk_layout.specs.Contents.{HeaderIsFirst, HeadersAreFirst, first_name}
+use Rattle.disk_layout.specs.Contents.{HeaderIsFirst, HeadersAreFirst}
 use Rattle.disk_layout.specs.Holds.{StandingView}
 use Rattle.load_header.specs.Header.{HeaderView}
 use Rattle.load_protocol_files.specs.declared.lur.Wanted.{Wanted}
 use Rattle.bank_store.specs.declared.store.Store.{Store}
 use Rattle.bank_store.specs.Given.{Given, GivenLoad, HasGiven, configured, file_to_last, loads_of, with_bytes, with_file, with_load}
 use Rattle.bank_store.specs.Given as Given
-use Rattle.bank_store.specs.Keeps.{Continues, IsOldOrNew}
-use Rattle.session_rules.specs.TargetLog.{standing_after, standing_in}
-use Rattle.session_rules.specs.TargetRows.{Arriving, Kept_bytes, Kept_sums, Over, Reads_file, RowMove, RowView, WholeRow, Writes_completion, Writes_progress, Writes_stop, Passes, Requests, Refuses_request, Judges, Breaks_off, UploadEnd, load_of, placed, placed_view, placed_view_if, row_judged, row_moved, said_length, view_judged, view_moved, with_file_view, with_header_view}
-use Rattle.session_rules.specs.Uploads.{Accepts_file, Accepts_header, Complete, Judgement, More_files, Next, Next_load, OpenLoad, OpenLoadView, Stops_for, Upload, UploadView, files_of, next_entry, next_name, next_wanted, next_with, open_load_view, upload_view}
+use Rattle.bank_store.specs.Keeps.{Continues}
+use Rattle.session_rules.specs.TargetLog.{standing_after}
+use Rattle.session_rules.specs.TargetRows.{Arriving, Over, Reads_file, RowMove, WholeRow, Writes_stop, Passes, Requests, Refuses_request, Judges, Breaks_off, UploadEnd, load_of, placed, placed_view, placed_view_if, row_judged, row_moved, said_length, view_judged, view_moved, with_file_view, with_header_view}
+use Rattle.session_rules.specs.Uploads.{Accepts_file, Accepts_header, Complete, Judgement, More_files, Next, Next_load, OpenLoad, OpenLoadView, Stops_for, Upload, UploadView, files_of, next_entry, next_name, next_wanted, next_with, open_load_view}
 use Rattle.load_intake.specs.declared.down.Down.{Down}
-use Rattle.load_intake.specs.Contents.{BringsRow, BringsTo, Gives, GoesTo, HoldsUpload, InstallsRow, IsGiven, active_next, given_current, given_load, given_of, given_open}
+use Rattle.load_intake.specs.Contents.{BringsRow, BringsTo, Gives, GoesTo, InstallsRow, IsGiven, active_next, given_load, given_of, given_open}
 use Rattle.load_intake.specs.ContentLaws.{adds_nothing, adds_old, beside_continued, both_add}
 
 -- ---- a file is refused
@@ -48,6 +48,11 @@ stops u v arrived arriving Breaks_off e is = absurd cc
 pub brings_stop : {T : Type 0} (before after : Store) (disk : DiskState) (s : StandingView) (u : Upload) (arrived : List ℕ) (row : WholeRow) (f : T) → (x : UploadEnd) × (row ≡ Writes_stop x) → Continues before after → InstallsRow before disk s (Reads_file u) arrived
     → BringsRow {E = Down} disk after disk s row (Ok f)
 brings_stop before after disk s u arrived row f (x, is) c installs = rw is (record { adds = adds_nothing disk _ _; ok = record { beside = beside_continued before after disk s c installs.beside; holds = tt } })
+
+-- or only after a call that was answered
+pub brings_stop_after : {S T : Type 0} (old : DiskState) (mid after : Store) (new : DiskState) (s : StandingView) (g : Given) (row : WholeRow) (x : S) (f : T) → (e : UploadEnd) × (row ≡ Writes_stop e) → Gives {E = Down} old mid new s g (Ok x) → Continues mid after
+    → BringsRow {E = Down} old after new s row (Ok f)
+brings_stop_after old mid after new s g row x f (e, is) gives c = rw is (record { adds = adds_old old new s s gives.adds; ok = record { beside = beside_continued mid after new s c gives.ok.beside; holds = tt } })
 
 -- or memory failed before a call of the disk
 pub brings_nothing : {T : Type 0} (after : Store) (disk : DiskState) (s : StandingView) (row : WholeRow) (e : Down) → BringsRow {T = T} disk after disk s row (Err e)

@@ -1,5 +1,5 @@
 -- What calls add to what a power loss may leave, and beside what a store works.
-use Rattle.std.specs.Prelude.{◌≡◌, ◌⊎◌, ℕ, ◌<◌, ◌≤◌, Some}
+use Rattle.std.specs.Prelude.{ℕ, ◌<◌, ◌≤◌}
 use Rattle.std.proofs.Common.{inl, inr, arith}
 use Rattle.disk_model.specs.Image.{Image}
 use Rattle.disk_model.specs.State.{DiskState}
@@ -8,7 +8,7 @@ use Rattle.bank_store.specs.declared.store.Store.{Store}
 use Rattle.bank_store.specs.DiskWrites.{AddsOnly}
 use Rattle.bank_store.specs.Fits.{InstallsBeside}
 use Rattle.bank_store.specs.Keeps.{Continues, IsOldOrNew}
-use Rattle.load_intake.specs.Contents.{AddsAtFirst, AddsAtMost, AddsOldOrNew}
+use Rattle.load_intake.specs.Contents.{AddsAtMost, AddsOldOrNew}
 
 -- ---- images that calls add
 

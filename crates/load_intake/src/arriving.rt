@@ -18,13 +18,11 @@ ghost use Rattle.session_rules.specs.TargetRows.{stopped_upload, view_moved};
 ghost use Rattle.session_rules.specs.declared.reason.Reason.TheVariants.{HeaderRefused};
 ghost use Rattle.session_rules.specs.Uploads.{Complete, More_files, Next_load, covered_header};
 ghost use Rattle.session_rules.specs.Uploads.{Upload, files_of, next_with, upload_view};
-ghost use Rattle.session_rules.specs.Uploads.{load_reason as load_fault, or_else};
 ghost use Rattle.load_intake.specs.Contents.{BringsRow, BringsTo, GoesTo, InstallsRow};
 ghost use Rattle.load_intake.specs.Contents.{IsGiven, IsOf};
 ghost use Rattle.load_intake.specs.Intakes.{BeginsNext, end_view, row_seen};
 ghost use Rattle.load_intake.specs.Kept.{IsAccepted, intake_at};
-ghost use Rattle.load_intake.specs.Judging.{Passes, header_row, refused_for, whole_buffer};
-ghost use Rattle.load_intake.specs.Judging.{whole_header_row};
+ghost use Rattle.load_intake.specs.Judging.{header_row, whole_buffer, whole_header_row};
 ghost use Rattle.load_intake.specs.Places.{next_seen};
 ghost use Rattle.load_intake.specs.States.{upload_of};
 ghost use Rattle.load_intake.specs.Stores.{Arrived, Ends, GoesOnInStep, HasAccepted, Writes};
@@ -46,7 +44,6 @@ use crc_fields::Crc32;
 use disk_model::Disk;
 use load_base::NoMemory;
 use load_header::{HeaderFault, LoadHeader, header_laws};
-use load_protocol_files::Wanted;
 use session_files::FileBuffer;
 use session_rules::Reason;
 
@@ -139,14 +136,18 @@ fn header_read<K: Disk, R: Rule>(
     let size = bytes.len() as u32;
     let need = whole.need_with(&wanted, &header, size);
     let next = whole.next_after(&header, 0);
-    let sum = header_sum(bytes);
-    let crc = sum.value();
-    let refused = header_verdict(interlock, identity, &wanted, &header, need, next, crc);
-    if let Some(reason) = refused {
+    if let Some(reason) = header_reason(interlock, identity, &wanted, &header, need) {
         let arrived = whole.arrived_before(next);
         return Ok(Finished::Stopped(whole.stop(store, arrived, reason)));
     }
     storing::write_header(&whole, &wanted, &header, bytes, store, disk)?;
+    let sum = header_sum(bytes);
+    let crc = sum.value();
+    // The header of a load without other files is its last file.
+    if let Some(reason) = load_reason(&header, next, crc) {
+        let arrived = whole.arrived_before(next);
+        return Ok(Finished::Stopped(whole.stop(store, arrived, reason)));
+    }
     let whole = whole.with_need(need as u32);
     let load = OpenLoad::new(whole.alloc(), wanted, header, size, crc);
     go_on(whole, load, sum, next, store, disk)
@@ -161,27 +162,6 @@ fn header_sum(bytes: &[u8]) -> Crc32
     let mut sum = Crc32::new();
     sum.update(&bytes[..bytes.len() - 4]);
     sum
-}
-
-/// Why a header that was read, or its load, is refused, if it is.
-fn header_verdict<R: Rule>(
-    interlock: &Interlock<R>,
-    identity: &Identity,
-    wanted: &Wanted,
-    header: &LoadHeader,
-    need: u64,
-    next: Next,
-    crc: u32,
-) -> Option<Reason>
-    ensures is { (accepts : HeaderView → Bool) → Follows R.may_say interlock.now accepts → result
-        ≡ or_else (refused_for accepts identity.now wanted.now (header_view header.now) need)
-        (load_fault (header_view header.now) (next_seen next) crc) }
-    ensures passed { result ≡ None → Passes identity.now wanted.now (header_view header.now) need }
-{
-    match header_reason(interlock, identity, wanted, header, need) {
-        Some(reason) => Some(reason),
-        None => load_reason(header, next, crc),
-    }
 }
 
 /// A data or support file is whole.

@@ -1,4 +1,4 @@
-use Rattle.std.proofs.Common.{ap, sym, ◌∙◌}
+use Rattle.std.proofs.Common.{ap, ◌∙◌}
 use Rattle.load_intake.specs.Places.{arriving_at, open_load}
 use Rattle.load_intake.proofs.Filling.{file_brings_more, header_brings_more}
 use Rattle.load_intake.proofs.place.Place.take.Goals as goal
