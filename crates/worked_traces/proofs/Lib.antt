@@ -1,5 +1,6 @@
 pub mod InformationRun
 pub mod UploadRun
+pub mod FaultFreeRun
 pub mod LossesRun
 pub mod RepeatsRun
 pub mod InjectedErrorRun

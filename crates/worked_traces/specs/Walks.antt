@@ -1,5 +1,5 @@
 -- A trace gone through once, from its start (docs/EXCHANGE.md, "Runs").
-use Rattle.std.specs.Prelude.{◌≡◌, ℕ, List, [], ◌∷◌, ◌++◌, map, is_some, Option, Some, None, if◌then◌else◌, ⊤}
+use Rattle.std.specs.Prelude.{◌≡◌, ℕ, List, [], ◌∷◌, ◌++◌, map, take, is_some, Option, Some, None, if◌then◌else◌, ⊤}
 use Rattle.exchange_trace.specs.declared.trace.Side.TheVariants as sides
 use Rattle.exchange_trace.specs.Happenings.{DatagramView, HappeningView}
 use Rattle.exchange_trace.specs.Following.{Plan, Scene, next_turn, plan_after}
@@ -72,6 +72,10 @@ pub record WorkedRun : Type 0 where
 
 abbrev pub steps_in : WorkedRun → List Step
 steps_in run = onto run.trace []
+
+-- only its first steps, so many
+abbrev pub first_steps : ℕ → WorkedRun → List Step
+first_steps count run = onto (take count run.trace) []
 
 -- The definitions agree with a run, which ends with these numbers undelivered, these outcomes, the newest first, and this
 -- sequence number active.

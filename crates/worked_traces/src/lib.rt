@@ -15,10 +15,15 @@ ghost use Rattle.worked_traces.specs.Options.{run as options_run};
 ghost use Rattle.worked_traces.specs.GivesUp.{run as gives_up_run};
 ghost use Rattle.worked_traces.specs.Boots.{run as boots_run};
 ghost use Rattle.worked_traces.specs.OtherHardware.{run as other_hardware_run};
-ghost use Rattle.worked_traces.specs.Walks.{IsWorked};
+ghost use Rattle.worked_traces.specs.Walks.{first_steps, IsWorked, steps_in};
+ghost use Rattle.replay_rules.specs.FaultFree.{IsFaultFree};
+ghost use Rattle.replay_rules.specs.Promises.{OnlyFinishIsLeft};
+ghost use Rattle.replay_rules.specs.Runs.{IsWithinMargin};
 ghost use Rattle.session_rules.specs.declared.outcome.Outcome.TheVariants.{Completed, GaveUp};
 ghost use Rattle.session_rules.specs.declared.outcome.Outcome.TheVariants.{PeerError, Replaced};
 ghost use Rattle.session_rules.specs.declared.outcome.Outcome.TheVariants.{TargetStopped};
+
+use load_header::header_laws;
 
 /// An information session.
 pub fn information()
@@ -30,10 +35,28 @@ pub fn upload()
     ensures { IsWorked upload_run [] (Completed ∷ []) 2 }
 {}
 
+/// It is a fault-free run: its load is good, and the target's session ends by the acknowledgement
+/// of its last LUS.
+pub fn upload_is_fault_free()
+    ensures { IsFaultFree upload_run.setting (steps_in upload_run) }
+{
+    header_laws();
+}
+
 /// An upload in which datagrams are lost and come late.
 pub fn losses()
     ensures { IsWorked losses_run [] (Completed ∷ []) 2 }
 {}
+
+/// Before its last line `finish`, that run is fault-free too, and within the margin.
+pub fn losses_are_fault_free()
+    ensures free { IsFaultFree losses_run.setting (first_steps 21 losses_run) }
+    ensures margin { IsWithinMargin losses_run.setting (first_steps 21 losses_run) }
+    ensures left { OnlyFinishIsLeft losses_run.setting losses_run.script (first_steps 21
+        losses_run) }
+{
+    header_laws();
+}
 
 /// An upload in which datagrams come again, of the live and of the kept transfer, and requests when
 /// no transfer is live.
