@@ -4,6 +4,7 @@ Nothing here is run by the gate.
 """
 import os
 import resource
+import shutil
 import statistics
 import struct
 import subprocess
@@ -64,10 +65,44 @@ def median_milliseconds(command, folder, runs):
     return statistics.median(times) * 1000
 
 
-def resident_kib(command, folder):
-    """The greatest resident memory of a command, in KiB. It needs Debian's package time."""
-    run = subprocess.run(["/usr/bin/time", "-f", "%M", *command], cwd=folder, capture_output=True, text=True, check=True)
+def resident_kib(command, folder, statuses=(0,)):
+    """The greatest resident memory of a command, in KiB. It needs Debian's package time.
+
+    What the system tells of a child of this script is at least what the script itself has.
+    """
+    run = subprocess.run(["/usr/bin/time", "-q", "-f", "%M", *command], cwd=folder, capture_output=True, text=True)
+    if run.returncode not in statuses:
+        sys.exit(f"{command[0]} ends with status {run.returncode}: {run.stdout[:200]!r}")
     return int(run.stderr.strip())
+
+
+def replay_beside(name, programs, folder, words, runs, begins, statuses=(0,)):
+    """Runs two programs in turn, each on a copy of the disk `formatted`, and prints the medians of their times, on the
+    processor and by the clock, and the most memory of each. Both have to print the same, which begins with `begins`.
+    """
+    disk, formatted = os.path.join(folder, "target.disk"), os.path.join(folder, "formatted")
+    processor, clock, memory = [[], []], [[], []], []
+    for _ in range(runs):
+        texts = []
+        for at, program in enumerate(programs):
+            shutil.copy(formatted, disk)
+            begin = time.perf_counter()
+            child = subprocess.Popen([program, *words], cwd=folder, stdout=subprocess.PIPE)
+            texts.append(child.stdout.read())
+            _, status, usage = os.wait4(child.pid, 0)
+            clock[at].append(time.perf_counter() - begin)
+            processor[at].append(usage.ru_utime + usage.ru_stime)
+            if os.waitstatus_to_exitcode(status) not in statuses:
+                sys.exit(f"{name}: {program} says {texts[-1][:200]!r}")
+        if texts[0] != texts[1] or not texts[0].startswith(begins):
+            sys.exit(f"{name}: {texts[0][:200]!r}, the other {texts[1][:200]!r}")
+    for program in programs:
+        shutil.copy(formatted, disk)
+        memory.append(resident_kib([program, *words], folder, statuses) * 1024)
+    (ours, other), (clocked, other_clocked) = ([statistics.median(each) for each in times] for times in (processor, clock))
+    print(f"{name}: {ours * 1000:.0f} ms on the processor, {ours / other:.2f} times the other's {other * 1000:.0f} ms; "
+          f"{clocked * 1000:.0f} ms by the clock, {clocked / other_clocked:.2f} times; "
+          f"{memory[0] / 1e6:.1f} MB, {memory[0] / memory[1]:.2f} times the other's {memory[1] / 1e6:.1f} MB", flush=True)
 
 
 def coding_speed(program, kind, file, times, runs):
