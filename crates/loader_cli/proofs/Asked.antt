@@ -4,9 +4,12 @@ use Rattle.std.specs.Fmt.{decimal}
 use Rattle.std.specs.Prelude.{codes}
 use Rattle.std.proofs.lemmas.Fmt.{decimal_injective}
 use Rattle.loader_cli.specs.Builds.{Builds, Makes}
-use Rattle.loader_cli.specs.Commands.{CommandView, IsCommand}
+use Rattle.loader_cli.specs.Commands.{CommandView, FormatsDisk, IsCommand, IsNo}
 use Rattle.loader_cli.specs.Commands.CommandView.{list, format, show, check, build, make, replay, wire, trial}
+use Rattle.loader_cli.specs.Replays.{Replays, run_command}
 use Rattle.loader_cli.specs.Runs.{Work, host_work, Says, Checks}
+use Rattle.loader_cli.specs.declared.replay.Telling.{Telling}
+use Rattle.loader_cli.specs.declared.replay.Telling.TheVariants.{Report, Trace}
 use Rattle.loader_cli.specs.Runs.Says.{refused, lists, formats, shows, checks, builds, makes, replays, traces, tries}
 
 -- ---- the first argument
@@ -116,3 +119,76 @@ says_of_make work number folder status text asked (builds recipe other is _) = l
 says_of_make work number folder status text asked (makes number_2 folder_2 is found) =
     let same = one_make work.words number number_2 folder folder_2 asked is in
     subst (λ (n : ℕ). Makes n folder (host_work work) status text) same.0 (subst (λ (f : List ℕ). Makes number_2 f (host_work work) status text) same.1 found)
+
+-- what is said of a run of a script
+one_replay : (words : List (List ℕ)) (folder script folder_2 script_2 : List ℕ) → IsCommand words (replay folder script) → IsCommand words (replay folder_2 script_2) → (folder_2 ≡ folder) × (script_2 ≡ script)
+one_replay words folder script folder_2 script_2 one two =
+    let same : codes "replay" ∷ folder_2 ∷ script_2 ∷ [] ≡ codes "replay" ∷ folder ∷ script ∷ [] = sym two.0 ∙ one.0 in (cc, cc)
+
+one_wire : (words : List (List ℕ)) (folder script folder_2 script_2 : List ℕ) → IsCommand words (wire folder script) → IsCommand words (wire folder_2 script_2) → (folder_2 ≡ folder) × (script_2 ≡ script)
+one_wire words folder script folder_2 script_2 one two =
+    let same : codes "wire" ∷ folder_2 ∷ script_2 ∷ [] ≡ codes "wire" ∷ folder ∷ script ∷ [] = sym two.0 ∙ one.0 in (cc, cc)
+
+not_make : codes "wire" ≡ codes "make" → ⊥
+not_make same = let head : 119 ≡ 109 = same_head 119 109 (codes "ire") (codes "ake") same in absurd (omega (arith, head))
+
+not_list : codes "wire" ≡ codes "list" → ⊥
+not_list same = let head : 119 ≡ 108 = same_head 119 108 (codes "ire") (codes "ist") same in absurd (omega (arith, head))
+
+not_show : codes "wire" ≡ codes "show" → ⊥
+not_show same = let head : 119 ≡ 115 = same_head 119 115 (codes "ire") (codes "how") same in absurd (omega (arith, head))
+
+not_format : codes "replay" ≡ codes "format" → ⊥
+not_format same = let head : 114 ≡ 102 = same_head 114 102 (codes "eplay") (codes "ormat") same in absurd (omega (arith, head))
+
+abbrev ReplaysIt : Work → Telling → (folder script : List ℕ) (status : ℕ) (text : List ℕ) → Type 0
+ReplaysIt work telling folder script status text = Replays telling folder script work.files work.host_faults work.host_faults_after work.disk work.disk_after work.handed status text
+
+says_of_replay : (work : Work) (folder script : List ℕ) (status : ℕ) (text : List ℕ) → IsCommand work.words (replay folder script) → Says work status text → ReplaysIt work Report folder script status text
+unfolding verb
+says_of_replay work folder script status text asked (refused none _ _) = absurd (none (replay folder script) asked tt)
+says_of_replay work folder script status text asked (lists is _) = let no = same_verb work.words (replay folder script) list asked is in absurd cc
+says_of_replay work folder script status text asked (formats id is _) = absurd (not_format (same_verb work.words (replay folder script) (format id) asked is))
+says_of_replay work folder script status text asked (shows kind file is _) = let no = same_verb work.words (replay folder script) (show kind file) asked is in absurd cc
+says_of_replay work folder script status text asked (checks other is _) = let no = same_verb work.words (replay folder script) (check other) asked is in absurd cc
+says_of_replay work folder script status text asked (builds recipe other is _) = let no = same_verb work.words (replay folder script) (build recipe other) asked is in absurd cc
+says_of_replay work folder script status text asked (makes number other is _) = let no = same_verb work.words (replay folder script) (make number other) asked is in absurd cc
+says_of_replay work folder script status text asked (traces other script_2 is _) = let no = same_verb work.words (replay folder script) (wire other script_2) asked is in absurd cc
+says_of_replay work folder script status text asked (tries number is _) = let no = same_verb work.words (replay folder script) (trial number) asked is in absurd cc
+says_of_replay work folder script status text asked (replays folder_2 script_2 is found) =
+    let same = one_replay work.words folder script folder_2 script_2 asked is in
+    subst (λ (f : List ℕ). ReplaysIt work Report f script status text) same.0 (subst (λ (s : List ℕ). ReplaysIt work Report folder_2 s status text) same.1 found)
+
+says_of_wire : (work : Work) (folder script : List ℕ) (status : ℕ) (text : List ℕ) → IsCommand work.words (wire folder script) → Says work status text → ReplaysIt work Trace folder script status text
+unfolding verb
+says_of_wire work folder script status text asked (refused none _ _) = absurd (none (wire folder script) asked tt)
+says_of_wire work folder script status text asked (lists is _) = absurd (not_list (same_verb work.words (wire folder script) list asked is))
+says_of_wire work folder script status text asked (formats id is _) = let no = same_verb work.words (wire folder script) (format id) asked is in absurd cc
+says_of_wire work folder script status text asked (shows kind file is _) = absurd (not_show (same_verb work.words (wire folder script) (show kind file) asked is))
+says_of_wire work folder script status text asked (checks other is _) = let no = same_verb work.words (wire folder script) (check other) asked is in absurd cc
+says_of_wire work folder script status text asked (builds recipe other is _) = let no = same_verb work.words (wire folder script) (build recipe other) asked is in absurd cc
+says_of_wire work folder script status text asked (makes number other is _) = absurd (not_make (same_verb work.words (wire folder script) (make number other) asked is))
+says_of_wire work folder script status text asked (replays other script_2 is _) = let no = same_verb work.words (wire folder script) (replay other script_2) asked is in absurd cc
+says_of_wire work folder script status text asked (tries number is _) = let no = same_verb work.words (wire folder script) (trial number) asked is in absurd cc
+says_of_wire work folder script status text asked (traces folder_2 script_2 is found) =
+    let same = one_wire work.words folder script folder_2 script_2 asked is in
+    subst (λ (f : List ℕ). ReplaysIt work Trace f script status text) same.0 (subst (λ (s : List ℕ). ReplaysIt work Trace folder_2 s status text) same.1 found)
+
+pub says_of_run : (telling : Telling) (work : Work) (folder script : List ℕ) (status : ℕ) (text : List ℕ) → IsCommand work.words (run_command telling folder script) → Says work status text
+    → ReplaysIt work telling folder script status text
+says_of_run Report work folder script status text asked says = says_of_replay work folder script status text asked says
+says_of_run Trace work folder script status text asked says = says_of_wire work folder script status text asked says
+
+-- and such a run formats no disk
+pub formats_none : (telling : Telling) (words : List (List ℕ)) (folder script : List ℕ) → IsCommand words (run_command telling folder script) → IsNo FormatsDisk words
+unfolding verb
+formats_none Report words folder script asked (format id) is writes = not_format (same_verb words (replay folder script) (format id) asked is)
+formats_none Trace words folder script asked (format id) is writes = let no = same_verb words (wire folder script) (format id) asked is in absurd cc
+formats_none telling words folder script asked list is writes = writes
+formats_none telling words folder script asked (show kind file) is writes = writes
+formats_none telling words folder script asked (check other) is writes = writes
+formats_none telling words folder script asked (build recipe other) is writes = writes
+formats_none telling words folder script asked (make number other) is writes = writes
+formats_none telling words folder script asked (replay other name) is writes = writes
+formats_none telling words folder script asked (wire other name) is writes = writes
+formats_none telling words folder script asked (trial number) is writes = writes

@@ -4,7 +4,7 @@ use Rattle.std.specs.Prelude.{All, IfOk, Result, Ok, Err, map, option_map}
 use Rattle.std.proofs.lemmas.List.{append-nil}
 use Rattle.std.proofs.lemmas.List.{get_or-map, length-map}
 use Rattle.disk_model.specs.State.{DiskState}
-use Rattle.disk_layout.specs.Holds.{standing_view}
+use Rattle.disk_layout.specs.Holds.{StandingView, standing_view}
 use Rattle.disk_layout.specs.declared.fault.RecoverFault.{RecoverFault}
 use Rattle.disk_layout.specs.declared.standing.Standing.{Standing}
 use Rattle.exchange_trace.specs.Lines.{Line}
@@ -12,7 +12,11 @@ use Rattle.exchange_trace.specs.Happenings.{HappeningView}
 use Rattle.exchange_trace.specs.Posts.{happenings_of}
 use Rattle.exchange_trace.specs.Steps.{Step, steps_of}
 use Rattle.media_check.specs.Sets.{SetView}
-use Rattle.upload_replay.specs.Endings.{CountsStops, FailedIfUnknown, HoldsStanding, IsNoConfig}
+use Rattle.link_net.specs.Links.{LinkState}
+use Rattle.run_promises.specs.Listing.{StandingFits}
+use Rattle.upload_replay.specs.Drives.{IsRun}
+use Rattle.upload_replay.specs.Moments.{HoldsThroughout}
+use Rattle.upload_replay.specs.Endings.{CountsStops, FailedIfUnknown, HoldsSome, HoldsStanding, IsNoConfig}
 use Rattle.upload_replay.specs.Powers.{ArmsAsGiven, armed_after, armings_after, disk_stops}
 use Rattle.upload_replay.specs.declared.outcome.Drive.{Drive}
 use Rattle.upload_replay.specs.declared.outcome.DriveFault.TheVariants.{NoConfig}
@@ -20,10 +24,11 @@ use Rattle.load_base.specs.declared.list.NoMemory.{NoMemory}
 use Rattle.loader_cli.specs.Answers.{answered_of}
 use Rattle.loader_cli.specs.declared.answer.Answer.{Answer}
 use Rattle.loader_cli.specs.declared.answer.Answered.{Answered}
-use Rattle.loader_cli.specs.Replays.{CountsPower, RunsScript, RunsTo, Tells, run_seen}
+use Rattle.loader_cli.specs.Replays.{CountsPower, HoldsScriptRun, IsScriptRun, RunSeen, RunsScript, RunsTo, Tells, link_of, run_seen, setting_of}
 use Rattle.loader_cli.specs.Replays.RunsTo.{ended, unknown, no_config}
 use Rattle.loader_cli.specs.Texts.{no_configuration}
 use Rattle.loader_cli.specs.declared.replay.Telling.{Telling}
+use Rattle.loader_cli.proofs.Left.{accepts_permitted}
 
 alone : (one other none : List HappeningView) → none ≡ [] → one ++ none ≡ other ++ none → one ≡ other
 alone one other none is same = sym (append-nil one) ∙ (ap (λ (rest : List HappeningView). one ++ rest) (sym is) ∙ (same ∙ (ap (λ (rest : List HappeningView). other ++ rest) is ∙ append-nil other)))
@@ -39,16 +44,36 @@ counts_power steps standing old new before after none stops is arms =
       armed = arms.armed ∙ ap (λ (list : List HappeningView). armed_after list old.armed) same;
     }
 
-pub ran_to : (told : Telling) (set : SetView) (script : List Line) (old new : DiskState) (run : Drive) (status : ℕ) (text : List ℕ)
+-- a run of a link that followed a script
+pub script_run : (set : SetView) (script : List Line) (start : StandingView) (run : RunSeen) (link : LinkState) → StandingFits start → IsRun (setting_of set start) (link_of script) link (steps_of run.trace) run.sessions run.standing
+    → IsScriptRun set script start run
+script_run set script start run link fits is = record {
+  ended = link;
+  is = is;
+  good = is.keeps.good accepts_permitted;
+  tells = λ can none. is.keeps.tells accepts_permitted can fits none;
+  bounded = is.keeps.bounded script (is.follows script (record { posted = refl; given = refl; plan = refl; follows = tt })).follows;
+}
+
+-- on a disk that holds it throughout
+pub held_run : (set : SetView) (script : List Line) (start : StandingView) (old new : DiskState) (run : RunSeen) → StandingFits start → IsScriptRun set script start run → HoldsThroughout (setting_of set start) (steps_of run.trace) run.standing old new
+    → HoldsScriptRun set script start old new run
+held_run set script start old new run fits is moments = record {
+  moments = moments;
+  completes = λ can left last stands.
+      is.is.keeps.completes accepts_permitted can fits script (is.is.follows script (record { posted = refl; given = refl; plan = refl; follows = tt })).follows left last stands (sym (moments.active last stands));
+}
+
+pub ran_to : (told : Telling) (set : SetView) (script : List Line) (old new : DiskState) (run : Drive) (status : ℕ) (text : List ℕ) → HoldsSome old
     → RunsScript set script old new (run_seen run) → HoldsStanding run.standing new → CountsStops (steps_of run.trace.items) run.standing old new
     → CountsPower (steps_of run.trace.items) old new → Tells told (run_seen run) (option_map standing_view run.standing) status text
     → RunsTo told set script old new (Some (run_seen run)) status text
-ran_to told set script old new run status text runs holds stops counts tells = by run.standing refl holds stops.unknown tells
+ran_to told set script old new run status text held runs holds stops counts tells = by run.standing refl holds stops.unknown tells
   where
     by : (standing : Option Standing) → run.standing ≡ standing → HoldsStanding standing new → FailedIfUnknown standing old.faults (disk_stops (steps_of run.trace.items)) new
         → Tells told (run_seen run) (option_map standing_view standing) status text → RunsTo told set script old new (Some (run_seen run)) status text
-    by None is holds failed tells = unknown (run_seen run) refl (ap (option_map standing_view) is) runs counts failed.0 failed.1 tells.0 tells.1
-    by (Some standing) is holds failed tells = ended (run_seen run) (standing_view standing) refl (ap (option_map standing_view) is) runs holds counts tells.0 tells.1
+    by None is holds failed tells = unknown (run_seen run) held refl (ap (option_map standing_view) is) runs counts failed.0 failed.1 tells.0 tells.1
+    by (Some standing) is holds failed tells = ended (run_seen run) (standing_view standing) held refl (ap (option_map standing_view) is) runs holds counts tells.0 tells.1
 
 pub refused_to : (told : Telling) (set : SetView) (script : List Line) (old new : DiskState) (fault : RecoverFault) → IsNoConfig (NoConfig fault) old new
     → RunsTo told set script old new None 8 (no_configuration fault)

@@ -15,7 +15,7 @@ use Rattle.exchange_trace.specs.Steps.{Step, steps_of}
 use Rattle.media_check.specs.Sets.{SetView}
 use Rattle.recovery.specs.Surveys.{IsSurveyed}
 use Rattle.recovery.specs.declared.surveying.Surveyed.{Surveyed}
-use Rattle.upload_replay.specs.Endings.{HoldsNone}
+use Rattle.upload_replay.specs.Endings.{HoldsNone, HoldsSome}
 use Rattle.replay_rules.specs.BothEnds.{Setting}
 use Rattle.upload_replay.specs.Moments.{AreClocks, HoldsThroughout}
 use Rattle.upload_replay.specs.Powers.{RoseBy, armed_after, armings_after, disk_stops}
@@ -52,12 +52,16 @@ none_since : (fault : RecoverFault) (old mid new : DiskState) → mid.reads ≡ 
 none_since fault old mid new same (inl holds) = inl (λ image is. holds image (same ∙ is))
 none_since fault old mid new same (inr holds) = inr holds
 
+held_since : (old mid : DiskState) → mid.reads ≡ old.reads → HoldsSome mid → HoldsSome old
+held_since old mid same held image is = held image (same ∙ is)
+
 -- each moment since a survey is one since its start
 throughout_since : (set : Setting) (steps : List Step) (standing : Option StandingView) (old mid new : DiskState) → OnlyReads old mid → HoldsThroughout set steps standing mid new → HoldsThroughout set steps standing old new
 throughout_since set steps standing old mid new read holds = record {
   clocks = holds.clocks;
   end = holds.end;
   timed = subst (λ (since : ℕ). AreClocks since holds.end holds.clocks steps) read.clock holds.timed;
+  boots = holds.boots;
   moments = holds.moments;
   after = holds.after;
   left = holds.left;
@@ -68,16 +72,18 @@ runs_since : (set : SetView) (script : List Line) (old mid new : DiskState) (run
 runs_since set script old mid new run read same runs = λ start image told holds.
     let both = runs start image (same ∙ told) holds in (
       λ all. both.0 (elim all [ inl none ↦ inl none | inr settled ↦ inr (settled_stays old mid settled read same) ]),
-      λ settled. throughout_since (setting_of set start) (steps_of run.trace) run.standing old mid new read (both.1 (settled_stays old mid settled read same)),
+      λ settled.
+          let held = both.1 (settled_stays old mid settled read same) in
+          record { moments = throughout_since (setting_of set start) (steps_of run.trace) run.standing old mid new read held.moments; completes = held.completes },
     )
 
 -- a run on a disk that was only read comes to the same of the disk as it was before
 pub run_since : (told : Telling) (set : SetView) (script : List Line) (old mid new : DiskState) (handed : Option RunSeen) (status : ℕ) (text : List ℕ)
     → OnlyReads old mid → mid.reads ≡ old.reads → RunsTo told set script mid new handed status text → RunsTo told set script old new handed status text
-run_since told set script old mid new handed status text read same (ended run standing is stands runs holds counts said tells) =
-    ended run standing is stands (runs_since set script old mid new run read same runs) holds (counts_since (steps_of run.trace) old mid new read counts) said tells
-run_since told set script old mid new handed status text read same (unknown run is stands runs counts failed stopped said tells) =
-    unknown run is stands (runs_since set script old mid new run read same runs) (counts_since (steps_of run.trace) old mid new read counts)
+run_since told set script old mid new handed status text read same (ended run standing held is stands runs holds counts said tells) =
+    ended run standing (held_since old mid same held) is stands (runs_since set script old mid new run read same runs) holds (counts_since (steps_of run.trace) old mid new read counts) said tells
+run_since told set script old mid new handed status text read same (unknown run held is stands runs counts failed stopped said tells) =
+    unknown run (held_since old mid same held) is stands (runs_since set script old mid new run read same runs) (counts_since (steps_of run.trace) old mid new read counts)
     (rose_since (disk_stops (steps_of run.trace) + 1) old.faults mid.faults new.faults read.faults failed) stopped said tells
 run_since told set script old mid new handed status text read same (disk_failed is failed stopped clock power said tells) =
     disk_failed is (rose_since 1 old.faults mid.faults new.faults read.faults failed) stopped (clock ∙ read.clock) (joined_power old mid new read.power power) said tells

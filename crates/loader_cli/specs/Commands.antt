@@ -89,6 +89,11 @@ WritesDisk (replay folder script) = Unit {0}
 WritesDisk (wire folder script) = Unit {0}
 WritesDisk (trial number) = Unit {0}
 
+-- it formats the disk
+abbrev pub FormatsDisk : CommandView → Type 0
+FormatsDisk (format id) = Unit {0}
+FormatsDisk command = ⊥
+
 -- it reads or writes files of the host
 abbrev pub UsesHost : CommandView → Type 0
 UsesHost list = ⊥

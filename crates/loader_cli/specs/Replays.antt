@@ -32,12 +32,18 @@ use Rattle.session_rules.specs.Loader.{EndedSession}
 use Rattle.session_rules.specs.declared.outcome.Outcome.TheVariants.{Completed}
 use Rattle.loader_machine.specs.Machine.{media_of, session_view}
 use Rattle.replay_rules.specs.BothEnds.{Setting}
+use Rattle.replay_rules.specs.FaultFree.{NothingInjected}
+use Rattle.finish_ends.specs.Scripts.{most_of_lines}
+use Rattle.session_completion.specs.FinishedRuns.{IsComplete}
+use Rattle.run_promises.specs.Promises.{CanBeTold, ChangesByGoodLoads, IsLeftToLastFinish, TellsTrue}
 use Rattle.upload_replay.specs.declared.outcome.Drive.{Drive}
 use Rattle.upload_replay.specs.Drives.{IsRun, NeverBoots}
-use Rattle.upload_replay.specs.Endings.{HoldsNone}
-use Rattle.upload_replay.specs.Moments.{HoldsThroughout}
+use Rattle.upload_replay.specs.Endings.{HoldsNone, HoldsSome}
+use Rattle.upload_replay.specs.Moments.{HoldsThroughout, LeavesGood}
 use Rattle.upload_replay.specs.Powers.{RoseBy, armed_after, armings_after, disk_stops}
 use Rattle.upload_replay.specs.Texts.{report, wire}
+use Rattle.loader_cli.specs.Commands.{CommandView}
+use Rattle.loader_cli.specs.Commands.CommandView.{replay as replay_command, wire as wire_command}
 use Rattle.loader_cli.specs.HostFiles.{Has, HasTooMany}
 use Rattle.loader_cli.specs.Texts.{disk_fault, host_fault, no_configuration, refused_input}
 use Rattle.loader_cli.specs.declared.replay.Telling.{Telling}
@@ -62,14 +68,38 @@ pub record RunSeen : Type 0 where
 abbrev pub run_seen : Drive → RunSeen
 run_seen drive = record { trace = drive.trace.items; sessions = map session_view drive.sessions.items; standing = option_map standing_view drive.standing }
 
--- On a disk that tells its content, and of which a power loss could leave nothing else at first, the trace and the sessions are
--- those of a run of this script on this media set, and each image that a power loss might have left since holds what was active
--- at its moment. Where no boot came, the trace and the sessions are that also where a power loss could have left more.
+-- The trace and the sessions are those of a run of this script on this media set. What is promised of it is said again without
+-- the premises that this target and this disk meet: what becomes active is good; where nothing was injected, what is told is
+-- true; and the trace is no longer than the script allows.
+pub record IsScriptRun (set : SetView) (script : List Line) (start : StandingView) (run : RunSeen) : Type 0 where
+  pub ended : LinkState
+  pub is : IsRun (setting_of set start) (link_of script) ended (steps_of run.trace) run.sessions run.standing
+  pub good : ChangesByGoodLoads (setting_of set start) (steps_of run.trace)
+  pub tells : CanBeTold (media_of set) → NothingInjected (steps_of run.trace) → TellsTrue (setting_of set start) (steps_of run.trace) run.sessions run.standing
+  pub bounded : length (steps_of run.trace) ≤ most_of_lines 0 script + 1
+
+-- Each image that a power loss might have left since holds what was active at its moment; and a fault-free run that was left to
+-- the script's last `finish` is complete.
+pub record HoldsScriptRun (set : SetView) (script : List Line) (start : StandingView) (old new : DiskState) (run : RunSeen) : Type 0 where
+  pub moments : HoldsThroughout (setting_of set start) (steps_of run.trace) run.standing old new
+  pub completes : CanBeTold (media_of set) → (left : IsLeftToLastFinish (setting_of set start) script (steps_of run.trace)) (last : StandingView) → run.standing ≡ Some last
+      → IsComplete (setting_of set start) left.before left.free (steps_of run.trace) last
+
+-- On a disk that tells its content, and of which a power loss could leave nothing else at first, it is a run of this script on
+-- this media set, which its disk holds moment by moment. Where no boot came, it is such a run also where a power loss could
+-- have left more.
 abbrev pub RunsScript : SetView → List Line → (old new : DiskState) → RunSeen → Type 0
 RunsScript set script old new run =
     (start : StandingView) (image : Image) → old.reads ≡ Some image → HoldsConfig image start
-    → (NeverBoots (steps_of run.trace) ⊎ IsSettled old → (ended : LinkState) × IsRun (setting_of set start) (link_of script) ended (steps_of run.trace) run.sessions)
-    × (IsSettled old → HoldsThroughout (setting_of set start) (steps_of run.trace) run.standing old new)
+    → (NeverBoots (steps_of run.trace) ⊎ IsSettled old → IsScriptRun set script start run)
+    × (IsSettled old → HoldsScriptRun set script start old new run)
+
+-- Such a disk goes on telling its content, and each image that a power loss may leave now, or might have left since, holds what
+-- was active at first, or a configuration that has a load, and good loads alone.
+abbrev pub LeavesFirstOrGood : (old new : DiskState) → Type 0
+LeavesFirstOrGood old new =
+    (set : SetView) (start : StandingView) (image : Image) → old.reads ≡ Some image → HoldsConfig image start → IsSettled old
+    → LeavesGood (setting_of set start) old.clock new
 
 -- The disk failed at least as often as the trace says that it stopped, and was armed once for each loss of power in it, with
 -- its numbers, and not else.
@@ -86,6 +116,16 @@ pub data StatusOfRun (sessions : List EndedSession) (status : ℕ) : Type 0 wher
   all_completed : All IsCompleted sessions → status ≡ 0 → StatusOfRun sessions status
   not_completed : ¬ All IsCompleted sessions → status ≡ 1 → StatusOfRun sessions status
 
+-- how often the disk stopped in a run that is handed out
+abbrev pub stops_of : Option RunSeen → ℕ
+stops_of None = 0
+stops_of (Some run) = disk_stops (steps_of run.trace)
+
+-- the command that prints this of a run
+abbrev pub run_command : Telling → (folder name : List ℕ) → CommandView
+run_command telling.Report folder name = replay_command folder name
+run_command telling.Trace folder name = wire_command folder name
+
 -- what is printed of a run, after which this stands on the disk
 abbrev pub told_as : Telling → List EndedSession → List TraceStep → StandingView → List ℕ
 told_as telling.Report sessions trace standing = report sessions trace standing
@@ -98,12 +138,12 @@ Tells told run (Some standing) status text = StatusOfRun run.sessions status × 
 
 -- The status, the text, the run that is handed out, and what they say of the disk, for this media set and script.
 pub data RunsTo (told : Telling) (set : SetView) (script : List Line) (old new : DiskState) (handed : Option RunSeen) (status : ℕ) (text : List ℕ) : Type 0 where
-  -- 0 or 1: the run came to its end, and the disk holds this configuration then
-  ended : (run : RunSeen) (standing : StandingView) → handed ≡ Some run → run.standing ≡ Some standing → RunsScript set script old new run
+  -- 0 or 1: the run came to its end, on a disk that held a configuration, and holds this one then
+  ended : (run : RunSeen) (standing : StandingView) → HoldsSome old → handed ≡ Some run → run.standing ≡ Some standing → RunsScript set script old new run
       → ForSome new.reads (λ image. HoldsConfig image standing) → CountsPower (steps_of run.trace) old new → StatusOfRun run.sessions status
       → text ≡ told_as told run.sessions run.trace standing → RunsTo told set script old new handed status text
   -- 5: the run came to its end, but the disk failed once more as it was recovered
-  unknown : (run : RunSeen) → handed ≡ Some run → run.standing ≡ None → RunsScript set script old new run → CountsPower (steps_of run.trace) old new
+  unknown : (run : RunSeen) → HoldsSome old → handed ≡ Some run → run.standing ≡ None → RunsScript set script old new run → CountsPower (steps_of run.trace) old new
       → RoseBy (disk_stops (steps_of run.trace) + 1) old.faults new.faults → new.stopped ≡ true → status ≡ 5 → text ≡ disk_fault
       → RunsTo told set script old new handed status text
   -- 5: the disk failed before anything happened, and nothing was written

@@ -1,5 +1,5 @@
 -- What a run of the program prints, its status, and the cause of each (docs/PROMISES.md).
-use Rattle.std.specs.Prelude.{◌≡◌, ◌≢◌, ℕ, ◌<◌, ◌≤◌, List, [], length, true, false, Option, Some, None, Ok, take, codes, ◌⊎◌}
+use Rattle.std.specs.Prelude.{◌≡◌, ◌≢◌, ℕ, ◌<◌, ◌≤◌, List, [], ◌+◌, length, true, false, Option, Some, None, Ok, take, codes, ◌⊎◌}
 use Rattle.std.specs.Option.{ForSome}
 use Rattle.load_base.specs.Counts.{Rose}
 use Rattle.load_base.specs.Host.{Files, longest_file}
@@ -25,11 +25,14 @@ use Rattle.disk_layout.specs.DiskReads.{IsOfDisk, RunsOn}
 use Rattle.disk_layout.specs.Holds.{StandingView, HoldsConfig, HasDiskFault}
 use Rattle.disk_layout.specs.declared.fault.RecoverFault.{RecoverFault}
 use Rattle.listing.specs.Listing.{listing}
+use Rattle.exchange_trace.specs.Lines.{Line}
+use Rattle.upload_replay.specs.Powers.{RoseBy}
 use Rattle.loader_cli.specs.Commands.{IsCommand, IsNo, IsAny}
 use Rattle.loader_cli.specs.Commands.CommandView.{list, format, show, check, build, make, replay, wire, trial}
 use Rattle.loader_cli.specs.Builds.{Builds, Makes, IsNameBuilt, IsNameMade}
-use Rattle.loader_cli.specs.Replays.{Replays, RunSeen}
+use Rattle.loader_cli.specs.Replays.{HasInputs, Replays, RunSeen, RunsScript, StatusOfRun, run_command, stops_of, told_as}
 use Rattle.loader_cli.specs.Trials.{Trials}
+use Rattle.loader_cli.specs.declared.replay.Telling.{Telling}
 use Rattle.loader_cli.specs.declared.replay.Telling.TheVariants.{Report, Trace}
 use Rattle.loader_cli.specs.HostFiles.{Has, HasTooMany, HostWork}
 use Rattle.loader_cli.specs.Texts.{formatted_line, built_line, findings_text, refused_words, refused_input, disk_fault, host_fault, no_configuration}
@@ -160,7 +163,7 @@ pub data Ends (run : Run) (ended : Ended) : Type 0 where
   sink_failed : (status : ℕ) (text : List ℕ) (n : ℕ) → Says run.work status text → IsExtended run.output run.output_after (take n text)
       → Rose run.sink_faults run.sink_faults_after → ended.status ≡ 7 → Ends run ended
   -- 6: out of memory
-  no_memory : ended.status ≡ 6 → Ends run ended
+  no_memory : ended.status ≡ 6 → run.work.handed ≡ None → Ends run ended
 
 -- ---- where a run can't but succeed
 
@@ -197,6 +200,31 @@ pub record MakesSet (run : Run) (number : ℕ) (folder : List ℕ) : Type 0 wher
   pub asked : IsCommand run.work.words (make number folder)
   pub answers : NothingFails run
 
+-- The arguments run this script on the set in this folder, and print this of it: the host has both, and all of the set can be
+-- read. The disk tells its content, holds this configuration, and a power loss can leave nothing else; and it fails in the run
+-- no more often than the trace says that it stops.
+pub record ReplaysSound (run : Run) (telling : Telling) (folder name : List ℕ) (told : Files) (set : SetView) (script : List Line) : Type 0 where
+  pub asked : IsCommand run.work.words (run_command telling folder name)
+  pub files : run.work.files ≡ Some told
+  pub inputs : HasInputs folder name (Some told) set script
+  pub start : StandingView
+  pub image : Image
+  pub reads : run.work.disk.reads ≡ Some image
+  pub holds : HoldsConfig image start
+  pub settled : IsSettled run.work.disk
+  pub answers : NothingFails run
+  pub stops : ¬ RoseBy (stops_of run.work.handed + 1) run.work.disk.faults run.work.disk_after.faults
+
+-- The script was run to its end on this set, and exactly the report or the trace of this run went out, with its status.
+pub record TellsRun (run : Run) (ended : Ended) (telling : Telling) (set : SetView) (script : List Line) : Type 0 where
+  pub seen : RunSeen
+  pub last : StandingView
+  pub handed : run.work.handed ≡ Some seen
+  pub standing : seen.standing ≡ Some last
+  pub runs : RunsScript set script run.work.disk run.work.disk_after seen
+  pub status : StatusOfRun seen.sessions ended.status
+  pub text : IsExtended run.output run.output_after (told_as telling seen.sessions seen.trace last)
+
 -- ---- what becomes of the host's files
 
 -- the arguments write a set into this folder
@@ -231,5 +259,7 @@ pub record EndsAsPromised (run : Run) (ended : Ended) : Type 0 where
   pub builds_it : (recipe folder : List ℕ) (told : Files) (lines : List RecipeLine) → BuildsRightSet run recipe folder told lines
       → Succeeds run ended (built_line (length (loads_of lines)) (length (recipe_bodies (sources_in told) lines)))
   pub makes_it : (number : ℕ) (folder : List ℕ) → MakesSet run number folder → Succeeds run ended (built_line 1 2)
+  pub replays_it : (telling : Telling) (folder name : List ℕ) (told : Files) (set : SetView) (script : List Line) → ReplaysSound run telling folder name told set script
+      → (ended.status ≡ 6) ⊎ TellsRun run ended telling set script
   pub leaves_set : (folder : List ℕ) (told : Files) → WritesInto run.work.words folder → run.work.files ≡ Some told → ended.status ≡ 0
       → LeavesSet run.work.words told folder run.work.files_after

@@ -6,7 +6,7 @@ ghost use Rattle.loader_machine.specs.Machine.{session_view};
 ghost use Rattle.media_check.specs.Sets.{set_view};
 ghost use Rattle.loader_cli.specs.Answers.{status_of, text_of};
 ghost use Rattle.loader_cli.specs.Replays.{IsCompleted, Replays, RunsTo, Tells, run_seen};
-ghost use Rattle.loader_cli.specs.Replays.{told_as};
+ghost use Rattle.loader_cli.specs.Replays.{LeavesFirstOrGood, told_as};
 
 use crate::answer::{Answer, Answered};
 use crate::inputs::{Inputs, read_inputs};
@@ -16,6 +16,7 @@ use link_net::{Script, ScriptLink};
 use load_base::{Bytes, Host, NoMemory};
 use loader_machine::{Outcome, Session};
 use media_check::MediaSet;
+use run_promises::laws::what_a_disk_holds_can_be_listed;
 use std::alloc::Global;
 use upload_replay::{Drive, DriveFault, drive, report_text, wire_text};
 
@@ -43,6 +44,7 @@ pub(crate) fn replay<'w, H: Host, K: Power>(
         (K.state disk.new) (option_map run_seen said.drive) (status_of said.answer)
         (text_of said.answer)) }
     ensures kept { H.files host.new ≡ H.files host.old }
+    ensures leaves { LeavesFirstOrGood (K.state disk.old) (K.state disk.new) }
 {
     match read_inputs(alloc, host, folder.as_bytes(), script.as_bytes())? {
         Inputs::Ready { set, script } => run_script(alloc, disk, &set, script, telling),
@@ -59,10 +61,13 @@ pub(crate) fn run_script<'w, K: Power>(
     telling: Telling,
 ) -> Result<Answered<'w>, NoMemory>
     requires { (K.state disk.old).stopped ≡ false }
-    ensures { IfOk result (λ said. RunsTo telling (set_view set.now) script (K.state disk.old)
-        (K.state disk.new) (option_map run_seen said.drive) (status_of said.answer)
-        (text_of said.answer)) }
+    ensures runs { IfOk result (λ said. RunsTo telling (set_view set.now) script
+        (K.state disk.old) (K.state disk.new) (option_map run_seen said.drive)
+        (status_of said.answer) (text_of said.answer)) }
+    ensures leaves { LeavesFirstOrGood (K.state disk.old) (K.state disk.new) }
 {
+    // For the proof: does nothing.
+    what_a_disk_holds_can_be_listed();
     let mut link = ScriptLink::new(alloc, script);
     let interlock = Interlock::new(PermitsAll);
     match drive(alloc, &mut link, disk, set, &interlock) {

@@ -8,9 +8,9 @@ ghost use Rattle.bank_store.specs.Formatting.{LeavesOldOrFormatted};
 ghost use Rattle.media_build.specs.WrittenFolders.{KeepsAllBut};
 ghost use Rattle.loader_cli.specs.Answers.{answered_of, status_of, text_of};
 ghost use Rattle.loader_cli.specs.Commands.{texts_of, IsCommand, IsNo, UsesDisk, WritesDisk};
-ghost use Rattle.loader_cli.specs.Commands.{UsesScript, UsesHost, WritesHost};
+ghost use Rattle.loader_cli.specs.Commands.{FormatsDisk, UsesScript, UsesHost, WritesHost};
 ghost use Rattle.loader_cli.specs.Commands.CommandView.{format as format_command};
-ghost use Rattle.loader_cli.specs.Replays.{run_seen};
+ghost use Rattle.loader_cli.specs.Replays.{LeavesFirstOrGood, run_seen};
 ghost use Rattle.loader_cli.specs.Runs.{Run, Lists, Formats, Says, EndsAsPromised, IsWritten};
 
 use crate::answer::{Answer, Answered};
@@ -22,7 +22,7 @@ use crate::show::show;
 use crate::text::formatted_text;
 use crate::trial::trial;
 use bank_store::{StoreFault, an_unformatted_disk_is_as_it_was, format};
-use disk_layout::Identity;
+use disk_layout::{Identity, an_image_holds_one_configuration};
 use disk_model::{Disk, Power};
 use listing::listing_text;
 use load_base::{Host, NoMemory, Sink, WriteFault};
@@ -111,9 +111,13 @@ pub fn run<H: Host, O: Sink, K: Power>(
     // What a power loss leaves.
     ensures while_formatting { (id : Identity) → IsCommand (texts_of words.now) (format_command id)
         → LeavesOldOrFormatted id (K.state disk.old) (K.state disk.new) }
+    ensures while_running { IsNo FormatsDisk (texts_of words.now)
+        → LeavesFirstOrGood (K.state disk.old) (K.state disk.new) }
 {
+    // For the proof: these do nothing.
     building_laws();
     a_written_folder_holds_the_set();
+    an_image_holds_one_configuration();
     let Ok(Answered { answer, drive }) = answer(alloc, words, host, disk) else {
         return out_of_memory();
     };
@@ -173,6 +177,8 @@ fn answer<'w, H: Host, K: Power>(
         KeepsAllBut (IsWritten (texts_of words.now) told) told (H.files host.new)) }
     ensures while_formatting { (id : Identity) → IsCommand (texts_of words.now) (format_command id)
         → LeavesOldOrFormatted id (K.state disk.old) (K.state disk.new) }
+    ensures while_running { IsNo FormatsDisk (texts_of words.now)
+        → LeavesFirstOrGood (K.state disk.old) (K.state disk.new) }
 {
     match Command::read(words) {
         None => Ok(Answered::of(Answer::RefusedWords)),

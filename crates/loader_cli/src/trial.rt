@@ -2,7 +2,7 @@
 ghost use Rattle.std.specs.Prelude.{◌≡◌, codes, false, option_map, IfOk};
 ghost use Rattle.media_check.specs.Sets.{set_view};
 ghost use Rattle.loader_cli.specs.Answers.{status_of, text_of};
-ghost use Rattle.loader_cli.specs.Replays.{run_seen};
+ghost use Rattle.loader_cli.specs.Replays.{LeavesFirstOrGood, run_seen};
 ghost use Rattle.loader_cli.specs.Trials.{IsGeneratedSet, Trials, trial_script};
 
 use crate::answer::{Answer, Answered};
@@ -23,8 +23,9 @@ pub(crate) fn trial<'w, K: Power>(
     number: u32,
 ) -> Result<Answered<'w>, NoMemory>
     requires { (K.state disk.old).stopped ≡ false }
-    ensures { IfOk result (λ said. Trials number (K.state disk.old) (K.state disk.new)
+    ensures tries { IfOk result (λ said. Trials number (K.state disk.old) (K.state disk.new)
         (option_map run_seen said.drive) (status_of said.answer) (text_of said.answer)) }
+    ensures leaves { LeavesFirstOrGood (K.state disk.old) (K.state disk.new) }
 {
     match survey(alloc, disk) {
         Ok(surveyed) => {

@@ -5,7 +5,9 @@ use Rattle.std.proofs.lemmas.Bool.Decides.{nat_tests}
 use Rattle.disk_model.specs.Image.{Image}
 use Rattle.disk_model.specs.State.{DiskState, Elapses, IsSettled, OnlyReads}
 use Rattle.disk_model.specs.declared.disk.DiskFault.{DiskFault}
-use Rattle.disk_layout.specs.Holds.{HoldsConfig, StandingView, outline_of}
+use Rattle.disk_layout.specs.Holds.{HasDiskFault, HoldsConfig, StandingView, outline_of}
+use Rattle.disk_layout.specs.declared.fault.RecoverFault.{RecoverFault}
+use Rattle.disk_layout.specs.declared.fault.RecoverFault.TheVariants.{BadManifest, BadSlot, DiskFailed, Memory, NoOpenSlot, NotFormatted}
 use Rattle.bank_store.specs.declared.store.Store.{Store}
 use Rattle.session_rules.specs.Target.{TargetView, new_target}
 use Rattle.session_rules.specs.TargetLog.{new_target_reading, target_view}
@@ -14,14 +16,15 @@ use Rattle.replay_rules.specs.ContentTraces.{ContentsFollowAt}
 use Rattle.replay_rules.specs.Histories.{active_by, may_be_active}
 use Rattle.replay_rules.specs.Promises.{HoldsOneOf}
 use Rattle.replay_rules.specs.Ties.{kept_by}
-use Rattle.target_machine.specs.Boots.{ComesUp}
+use Rattle.target_machine.specs.Boots.{BootFails, ComesUp}
+use Rattle.target_machine.specs.declared.boot.BootFault.TheVariants.{Recover}
 use Rattle.target_machine.specs.Decisions as machine
 use Rattle.target_machine.specs.Disks.{HoldsContents, StartsOn}
 use Rattle.upload_replay.specs.declared.powering.PowerNote.{PowerNote}
 use Rattle.upload_replay.specs.declared.powering.PowerNote.TheVariants as power
 use Rattle.upload_replay.specs.Moments.{AreApart, HoldsRun, LeftAtEnd}
 use Rattle.upload_replay.specs.Turns.{notes_of, target_kept}
-use Rattle.upload_replay.proofs.Held.{OneStanding, gone_holds, one_left}
+use Rattle.upload_replay.proofs.Held.{NeverBoth, OneStanding, gone_holds, one_left, which}
 
 -- ---- which configuration is settled
 
@@ -55,6 +58,31 @@ comes_up {R} one set (Is_down active interrupted) rule target old new image firs
       works = starts.holds;
       apart = tt;
     })
+
+-- it tells what is active then
+pub comes_up_told : {R : Type 0} → OneStanding → (set : Setting) (active : StandingView) (interrupted : Option StandingView) (target : machine.TargetState R) (old new : DiskState) (image : Image) (first_port sequence : ℕ)
+    → HoldsRun {R = R} set (Is_down active interrupted) None old → old.now image → StartsOn target.view target.store image new → sequence ≡ target.view.active.sequence
+    → sequence ≡ (settled sequence active interrupted).sequence
+comes_up_told one set active interrupted target old new image first_port sequence holds now starts is =
+    let s = starts.active in
+    let at : sequence ≡ s.sequence = is ∙ ap (λ o. o.sequence) starts.kept.active in
+    let which : settled sequence active interrupted ≡ s = rw at (settles one image s active interrupted holds.apart starts.held (holds.leaves image now)) in
+    at ∙ sym (ap (λ (x : StandingView). x.sequence) which)
+
+-- where it doesn't come up, the disk failed
+pub refused_told : NeverBoth → (set : Setting) (state : TargetState) (image : Image) (fault : RecoverFault) → HoldsOneOf (may_be_active state) image → BootFails image (Recover fault) → fault ≡ DiskFailed
+refused_told never set state image fault one refused = by fault refused
+  where
+    wrong : (f : RecoverFault) → HasDiskFault image f → f ≡ DiskFailed
+    wrong f has = let (s, held) = which image (may_be_active state) one in absurd (never image s f held has)
+
+    by : (f : RecoverFault) → BootFails image (Recover f) → f ≡ DiskFailed
+    by DiskFailed fails = refl
+    by Memory fails = absurd fails
+    by (NotFormatted offset) fails = wrong (NotFormatted offset) fails
+    by NoOpenSlot fails = wrong NoOpenSlot fails
+    by (BadSlot offset) fails = wrong (BadSlot offset) fails
+    by (BadManifest offset) fails = wrong (BadManifest offset) fails
 
 -- ---- the target was switched off
 

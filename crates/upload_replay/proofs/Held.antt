@@ -6,7 +6,8 @@ use Rattle.disk_model.specs.Image.{Image}
 use Rattle.disk_model.specs.State.{DiskState, Elapses, IsSettled, OnlyReads}
 use Rattle.disk_model.specs.Arming.{Arms}
 use Rattle.disk_model.specs.declared.disk.DiskFault.{DiskFault}
-use Rattle.disk_layout.specs.Holds.{HoldsConfig, StandingView}
+use Rattle.disk_layout.specs.Holds.{HasDiskFault, HoldsConfig, StandingView}
+use Rattle.disk_layout.specs.declared.fault.RecoverFault.{RecoverFault}
 use Rattle.bank_store.specs.declared.store.Store.{Store}
 use Rattle.bank_store.specs.DiskWrites.{TimeGoesOn}
 use Rattle.load_header.specs.Header.{HeaderView}
@@ -26,17 +27,21 @@ use Rattle.replay_rules.specs.BothEnds.{Is_down, Is_up, Setting, TargetState, ch
 use Rattle.replay_rules.specs.ContentTraces.{ContentsFollowAt, FollowsItsLog}
 use Rattle.replay_rules.specs.Histories.{may_be_active}
 use Rattle.replay_rules.specs.Promises.{AllMoments, HoldsOneOf}
-use Rattle.replay_rules.specs.Ties.{kept_by, target_next}
+use Rattle.replay_rules.specs.Ties.{target_next}
 use Rattle.target_machine.specs.Decisions as machine
 use Rattle.target_machine.specs.Disks.{HoldsContents, KeepsDisk}
 use Rattle.upload_replay.specs.Drives.{TargetTurns}
-use Rattle.upload_replay.specs.Moments.{AddsInStep, AreApart, AreClocks, HasContents, HeldSoFar, HoldsAsBefore, HoldsRun, LeavesNoMore, WorksOn, contents_then}
+use Rattle.upload_replay.specs.Moments.{AddsInStep, AreApart, AreClocks, BootIsTold, HasContents, HeldSoFar, HoldsAsBefore, HoldsRun, LeavesNoMore, WorksOn, contents_then}
 use Rattle.upload_replay.specs.Turns.{target_kept}
+use Rattle.upload_replay.proofs.Turning.{gone_keeps_none}
 
 -- ---- one of these configurations
 
 abbrev pub OneStanding : Type 0
 OneStanding = (image : Image) (s t : StandingView) → HoldsConfig image s → HoldsConfig image t → s ≡ t
+
+abbrev pub NeverBoth : Type 0
+NeverBoth = (image : Image) (s : StandingView) (f : RecoverFault) → HoldsConfig image s → HasDiskFault image f → ⊥
 
 module _ (image : Image) where
   pub one_left : (xs ys : List StandingView) → HoldsOneOf xs image → HoldsOneOf (xs ++ ys) image
@@ -159,15 +164,10 @@ no_work : (R : Type 0) (set : Setting) (state : TargetState) (disk : DiskState) 
 no_work R set (Is_up r) disk = tt
 no_work R set (Is_down active interrupted) disk = tt
 
-gone_kept : (set : Setting) (before after : TargetState) → None ≡ kept_by set (gone_down before after)
-gone_kept set (Is_up r) (Is_up s) = refl
-gone_kept set (Is_up r) (Is_down active interrupted) = refl
-gone_kept set (Is_down active interrupted) after = refl
-
 pub gone_holds : {R : Type 0} (set : Setting) (e : Option Event) (state : TargetState) (disk : DiskState) → ContentsFollowAt set state → AreApart state → is_some disk.reads ≡ true
     → ((image : Image) → disk.now image → HoldsOneOf (may_be_active state ++ may_be_active (reached set e state)) image) → HoldsRun {R = R} set (gone_down state (reached set e state)) None disk
 gone_holds {R} set e state disk follow apart tells each = record {
-  kept = gone_kept set state (reached set e state);
+  kept = sym (gone_keeps_none set state (reached set e state));
   tells = tells;
   leaves = λ image may. gone_leaves set e state image follow (each image may);
   works = no_work R set (gone_down state (reached set e state)) disk;
@@ -179,6 +179,7 @@ gone_holds {R} set e state disk follow apart tells each = record {
 -- nothing
 pub adds_nothing : {R : Type 0} (set : Setting) (state : TargetState) (target : Option (machine.TargetState R)) (disk : DiskState) → HoldsRun set state target disk → AddsInStep set None state disk disk
 adds_nothing set state target disk holds = record {
+  tells = refl;
   later = omega arith;
   each = λ t u image may. inl may;
   here = λ image may. one_left image (may_be_active state) (may_be_active (reached set None state)) (holds.leaves image may);
@@ -194,6 +195,7 @@ same_as_left set state target disk image holds may =
 -- an arming, or nothing but reads after a restart
 pub adds_no_image : {R : Type 0} (set : Setting) (state : TargetState) (target : Option (machine.TargetState R)) (old new : DiskState) → HoldsRun set state target old → LeavesNoMore old new → AddsInStep set None state old new
 adds_no_image set state target old new holds no_more = record {
+  tells = no_more.tells;
   later = no_more.later;
   each = λ t u image may. elim (no_more.each t u image may) [
     | inl before ↦ inl before
@@ -266,6 +268,7 @@ module _ {T R : Type 0} (set : Setting) (e : Option Event) (r : TargetReading) (
 
     pub adds_up : AddsInStep set e (Is_up r) old new
     adds_up = record {
+      tells = goes.tells;
       later = goes.later;
       each = λ t u image may. elim (kept.adds.each t u image may) [ inl before ↦ inl before | inr is ↦ inr (either image is) ];
       here = λ image may. either image (kept.adds.here image may);
@@ -353,17 +356,18 @@ noted_covers set e state before after posts (Came_up first_port sequence ∷ not
 -- a step more
 module _ {R : Type 0} (set : Setting) (old new : DiskState) (one : OneStanding) (counts : (t u : ℕ) (image : Image) → t ≤ old.clock → old.clock ≤ u → old.now image → old.between t u image)
     (only : (t u : ℕ) (image : Image) → old.clock ≤ t → old.between t u image → old.now image) (only_then : (t u : ℕ) (image : Image) → new.clock ≤ t → new.between t u image → new.now image) where
-  pub held_on : (since : ℕ) (steps : List Step) (s : Step) (target target_then : Option (machine.TargetState R)) (before after : Option TargetView) (posts : List DatagramView) → ContentsFollowAt set (target_at set steps)
+  pub held_on : (since : ℕ) (steps : List Step) (s : Step) (target target_then : Option (machine.TargetState R)) (before after : Option TargetView) (posts : List DatagramView) → ContentsFollowAt set (target_at set steps) → BootIsTold (target_at set (s ∷ steps)) s.notes
       → TargetTurns set (event_for sides.Target (posted_in steps) s.given) (target_at set steps) before after posts s.notes
       → AddsInStep set (event_for sides.Target (posted_in steps) s.given) (target_at set steps) old new → HoldsRun set (target_at set (s ∷ steps)) target_then new
       → HeldSoFar set since steps target old → HeldSoFar set since (s ∷ steps) target_then new
-  held_on since steps s target target_then before after posts follow turns adds holds so_far =
+  held_on since steps s target target_then before after posts follow boots turns adds holds so_far =
       let e = event_for sides.Target (posted_in steps) s.given in
       let state = target_at set steps in
       record {
         holds = holds;
         clocks = old.clock ∷ so_far.clocks;
         timed = (adds.later, so_far.timed);
+        boots = (boots, so_far.boots);
         moments = (
           λ image may. elim (adds.each old.clock new.clock image may) [
             | inl was ↦ one_left image (may_be_active state) (may_be_active (target_at set (s ∷ steps))) (so_far.holds.leaves image (only old.clock new.clock image (omega arith) was))

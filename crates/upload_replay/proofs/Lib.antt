@@ -2,6 +2,7 @@ pub mod Begins
 pub mod Booting
 pub mod Counted
 pub mod Ended
+pub mod Good
 pub mod Held
 pub mod Recorded
 pub mod Stepping

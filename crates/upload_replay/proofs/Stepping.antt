@@ -6,7 +6,7 @@ use Rattle.disk_model.specs.State.{DiskState, Elapses, OnlyReads}
 use Rattle.disk_model.specs.Arming.{Arms}
 use Rattle.disk_model.specs.declared.disk.DiskFault.{DiskFault}
 use Rattle.disk_layout.specs.Holds.{StandingView}
-use Rattle.disk_layout.specs.declared.fault.RecoverFault.{RecoverFault}
+use Rattle.disk_layout.specs.declared.fault.RecoverFault.TheVariants.{DiskFailed}
 use Rattle.bank_store.specs.DiskWrites.{TimeGoesOn}
 use Rattle.bank_store.specs.Fits.{Works}
 use Rattle.bank_store.specs.declared.store.Store.{Store}
@@ -18,20 +18,21 @@ use Rattle.exchange_trace.specs.Steps.{Note, Went_down}
 use Rattle.session_rules.specs.Contents.{TargetContents, contents_after, contents_of}
 use Rattle.session_rules.specs.TargetLog.{TargetReading, target_view}
 use Rattle.load_intake.specs.declared.down.Down.{Down}
-use Rattle.replay_rules.specs.BothEnds.{Is_down, Is_up, Setting, TargetState, gone_down, noted, reached}
+use Rattle.replay_rules.specs.BothEnds.{Is_down, Is_up, Setting, TargetState, noted, reached}
 use Rattle.replay_rules.specs.ContentTraces.{ContentsFollowAt}
 use Rattle.replay_rules.specs.Due.{IsBooted}
 use Rattle.replay_rules.specs.Histories.{may_be_active}
-use Rattle.replay_rules.specs.Ties.{kept_by, target_next}
+use Rattle.replay_rules.specs.Ties.{target_next}
 use Rattle.target_machine.specs.Decisions as machine
 use Rattle.target_machine.specs.DiskLaws.{learns_on}
 use Rattle.target_machine.specs.Disks.{HoldsContents, KeepsDisk}
 use Rattle.upload_replay.specs.declared.powering.PowerNote.{PowerNote}
 use Rattle.upload_replay.specs.declared.powering.PowerNote.TheVariants as power
 use Rattle.upload_replay.specs.Drives.{TargetTurns}
-use Rattle.upload_replay.specs.Moments.{AddsInStep, BeginsStep, HasContents, HoldsRun, LeavesNoMore, StepsOn, WorksOn, contents_then}
+use Rattle.upload_replay.specs.Moments.{AddsInStep, BeginsStep, BootIsTold, HasBooted, HasContents, HoldsRun, LeavesNoMore, StepsOn, WorksOn, contents_then}
 use Rattle.upload_replay.specs.Turns.{TargetTakes, notes_of, target_kept}
 use Rattle.upload_replay.proofs.Booting.{down_as, down_holds, noted_down}
+use Rattle.upload_replay.proofs.Turning.{gone_keeps_none}
 use Rattle.upload_replay.proofs.Held.{adds_no_image, adds_nothing, adds_up, arms_holds, arms_no_more, both_no_more, gone_holds, has, reads_no_more, restart_no_more, up_holds}
 
 -- ---- what a target keeps where no call of the disk is made
@@ -83,6 +84,7 @@ module _ {S R : Type 0} (may_say : R → LoadHeader → Bool → Type 0) (set : 
   took_steps E y x notes ok next none state begins = record {
     adds = took_adds state begins;
     holds = subst (λ (list : List Note). HoldsRun set (noted list state (reached set e state)) (Some after) new) (sym none) (holds_in y ok next state (begun state begins));
+    boots = subst (λ (list : List Note). BootIsTold (noted list state (reached set e state)) list) (sym none) tt;
   }
 
   -- or goes down
@@ -94,11 +96,12 @@ module _ {S R : Type 0} (may_say : R → LoadHeader → Bool → Type 0) (set : 
         adds = adds;
         holds = subst (λ (list : List Note). HoldsRun {R = R} set (noted list state (reached set e state)) None new) (sym down)
             (gone_holds {R = R} set e state new begins.follow begins.holds.apart (goes.tells ∙ begins.holds.tells) adds.here);
+        boots = subst (λ (list : List Note). BootIsTold (noted list state (reached set e state)) list) (sym down) tt;
       })
 
   -- or has no memory
   pub unmade_steps : {T E : Type 0} (after : Option (machine.TargetState R)) (notes : T → List Note) (fault : E) (state : TargetState) → BeginsStep may_say set state slot old → StepsOn {T = T} set e state after notes old new (Err fault)
-  unmade_steps after notes fault state begins = record { adds = took_adds state begins; holds = tt }
+  unmade_steps after notes fault state begins = record { adds = took_adds state begins; holds = tt; boots = tt }
 
 pub next_of : {R : Type 0} (set : Setting) (e : Option Event) (before after : machine.TargetState R) (posts : List DatagramView) → TargetTakes set.accepts e before after posts → Some after.view ≡ target_next set (Some before.view) e
 next_of set None before after posts takes = ap (λ t. Some t.view) takes.0
@@ -114,12 +117,14 @@ nothing_steps {T} {R} E may_say set e (Is_down active interrupted) disk x notes 
     by None = record {
       adds = adds_nothing set (Is_down active interrupted) None disk begins.holds;
       holds = subst (λ (list : List Note). HoldsRun {R = R} set (noted list (Is_down active interrupted) (Is_down active interrupted)) None disk) (sym none) begins.holds;
+      boots = subst (λ (list : List Note). BootIsTold (noted list (Is_down active interrupted) (Is_down active interrupted)) list) (sym none) tt;
     }
     by (Some event) =
         let adds = adds_nothing set (Is_down active interrupted) None disk begins.holds in
         record {
-          adds = record { later = adds.later; each = adds.each; here = adds.here; first = adds.first; earlier = adds.earlier };
+          adds = record { tells = adds.tells; later = adds.later; each = adds.each; here = adds.here; first = adds.first; earlier = adds.earlier };
           holds = subst (λ (list : List Note). HoldsRun {R = R} set (noted list (Is_down active interrupted) (Is_down active interrupted)) None disk) (sym none) begins.holds;
+          boots = subst (λ (list : List Note). BootIsTold (noted list (Is_down active interrupted) (Is_down active interrupted)) list) (sym none) tt;
         }
 
 -- it was taken from its slot
@@ -136,20 +141,16 @@ pub steps_as : {R T S E F : Type 0} (set : Setting) (e : Option Event) (state : 
 steps_as set e state target old new notes more x y same steps = record {
   adds = steps.adds;
   holds = subst (λ (list : List Note). HoldsRun set (noted list state (reached set e state)) target new) (sym same) steps.holds;
+  boots = subst (λ (list : List Note). BootIsTold (noted list state (reached set e state)) list) (sym same) steps.boots;
 }
 
 -- ---- a boot
-
-gone_is_none : (set : Setting) (before after : TargetState) → kept_by set (gone_down before after) ≡ None
-gone_is_none set (Is_up r) (Is_up s) = refl
-gone_is_none set (Is_up r) (Is_down active interrupted) = refl
-gone_is_none set (Is_down active interrupted) after = refl
 
 pub booted_turns : {R : Type 0} (set : Setting) (state : TargetState) (before : Option (machine.TargetState R)) (after : Option (machine.TargetState R)) (note : PowerNote) (disk : DiskState) (port : ℕ) → IsBooted port (notes_of (Some note))
     → HoldsRun set (noted (notes_of (Some note)) state (reached set None state)) after disk → TargetTurns set None state (target_kept before) (target_kept after) [] (notes_of (Some note))
 booted_turns set state before after power.Down disk port booted holds = absurd booted
 booted_turns set state before after (power.Up first_port sequence) disk port booted holds = (holds.kept, refl, refl)
-booted_turns set state before after (power.Refused fault) disk port booted holds = (holds.kept ∙ gone_is_none set state (reached set None state), refl, refl)
+booted_turns set state before after (power.Refused fault) disk port booted holds = (holds.kept ∙ gone_keeps_none set state (reached set None state), refl, refl)
 
 -- ---- an arming
 
@@ -168,6 +169,7 @@ pub armed_steps : {R : Type 0} (E : Type 0) (may_say : R → LoadHeader → Bool
 armed_steps E may_say set state slot old new calls pick arms works begins = record {
   adds = adds_no_image set state slot old new begins.holds (arms_no_more old new calls pick arms);
   holds = arms_holds set state slot old new calls pick begins.holds arms (armed_works set state slot old new calls pick arms works begins.holds.works);
+  boots = tt;
 }
 
 -- power is lost at once
@@ -178,28 +180,30 @@ cut_steps {R} E may_say set state slot gone old new calls pick none arms begins 
     subst (λ (o : Option (machine.TargetState R)). StepsOn {R = R} {E = E} set None state o notes_of old new (Ok (Some power.Down))) (sym none) (record {
       adds = adds;
       holds = gone_holds {R = R} set None state new begins.follow begins.holds.apart (ap is_some arms.reads ∙ begins.holds.tells) adds.here;
+      boots = tt;
     })
 
 -- ---- a target that is switched off and on
 
 -- the disk failed as it was restarted
-pub unrestarted_steps : {R T : Type 0} (E : Type 0) (may_say : R → LoadHeader → Bool → Type 0) (set : Setting) (state : TargetState) (slot gone : Option (machine.TargetState R)) (old new : DiskState) (result : Result T DiskFault) (fault : RecoverFault)
-    → gone ≡ None → Elapses old new old.now result → BeginsStep may_say set state slot old → StepsOn {R = R} {E = E} set None state gone (λ note. notes_of (Some note)) old new (Ok (power.Refused fault))
-unrestarted_steps {R} E may_say set state slot gone old new result fault none elapses begins =
-    subst (λ (o : Option (machine.TargetState R)). StepsOn {R = R} {E = E} set None state o (λ note. notes_of (Some note)) old new (Ok (power.Refused fault))) (sym none) (record {
+pub unrestarted_steps : {R T : Type 0} (E : Type 0) (may_say : R → LoadHeader → Bool → Type 0) (set : Setting) (state : TargetState) (slot gone : Option (machine.TargetState R)) (old new : DiskState) (result : Result T DiskFault)
+    → gone ≡ None → Elapses old new old.now result → BeginsStep may_say set state slot old → StepsOn {R = R} {E = E} set None state gone (λ note. notes_of (Some note)) old new (Ok (power.Refused DiskFailed))
+unrestarted_steps {R} E may_say set state slot gone old new result none elapses begins =
+    subst (λ (o : Option (machine.TargetState R)). StepsOn {R = R} {E = E} set None state o (λ note. notes_of (Some note)) old new (Ok (power.Refused DiskFailed))) (sym none) (record {
       adds = adds_no_image set state slot old new begins.holds (restart_no_more old new result elapses);
       holds = down_holds {R = R} set state slot old new result begins.follow begins.holds elapses;
+      boots = refl;
     })
 
 pub failed_steps : {R S E : Type 0} (may_say : R → LoadHeader → Bool → Type 0) (set : Setting) (state : TargetState) (slot after : Option (machine.TargetState R)) (old new : DiskState) (notes : S → List Note) (fault : E) → LeavesNoMore old new
     → BeginsStep may_say set state slot old → StepsOn {T = S} set None state after notes old new (Err fault)
-failed_steps may_say set state slot after old new notes fault no_more begins = record { adds = adds_no_image set state slot old new begins.holds no_more; holds = tt }
+failed_steps may_say set state slot after old new notes fault no_more begins = record { adds = adds_no_image set state slot old new begins.holds no_more; holds = tt; boots = tt }
 
 -- it was restarted, and the target comes up or stays down
 pub restarted_steps : {R T : Type 0} (E : Type 0) (may_say : R → LoadHeader → Bool → Type 0) (set : Setting) (state : TargetState) (slot after : Option (machine.TargetState R)) (old there new : DiskState) (restarted : Result T DiskFault) (note : PowerNote)
     → Elapses old there old.now restarted → OnlyReads there new
     → ((active : StandingView) (interrupted : Option StandingView) → HoldsRun {R = R} set (Is_down active interrupted) None there
-    → HoldsRun set (noted (notes_of (Some note)) (Is_down active interrupted) (Is_down active interrupted)) after new)
+    → HasBooted set (noted (notes_of (Some note)) (Is_down active interrupted) (Is_down active interrupted)) (notes_of (Some note)) after new)
     → BeginsStep may_say set state slot old → StepsOn {E = E} set None state after (λ n. notes_of (Some n)) old new (Ok note)
 restarted_steps {R} E may_say set state slot after old there new restarted note elapses reads comes begins =
     let down = down_as set state in
@@ -207,13 +211,14 @@ restarted_steps {R} E may_say set state slot after old there new restarted note 
     subst (λ (s : TargetState). HoldsRun {R = R} set s None there) down.is (down_holds {R = R} set state slot old there restarted begins.follow begins.holds elapses) in
     record {
       adds = adds_no_image set state slot old new begins.holds (both_no_more old there new (restart_no_more old there restarted elapses) (reads_no_more there new reads));
-      holds = subst (λ (s : TargetState). HoldsRun set s after new) (noted_down set state note down) (comes down.active down.interrupted off);
+      holds = subst (λ (s : TargetState). HoldsRun set s after new) (noted_down set state note down) (comes down.active down.interrupted off).holds;
+      boots = subst (λ (s : TargetState). BootIsTold s (notes_of (Some note))) (noted_down set state note down) (comes down.active down.interrupted off).boots;
     }
 
 pub boots_steps : {R T E : Type 0} (may_say : R → LoadHeader → Bool → Type 0) (set : Setting) (state : TargetState) (slot after : Option (machine.TargetState R)) (old there new : DiskState) (restarted : Result T DiskFault) (result : Result PowerNote E)
     → Elapses old there old.now restarted → OnlyReads there new
     → ((active : StandingView) (interrupted : Option StandingView) → HoldsRun {R = R} set (Is_down active interrupted) None there
-    → IfOk result (λ note. HoldsRun set (noted (notes_of (Some note)) (Is_down active interrupted) (Is_down active interrupted)) after new))
+    → IfOk result (λ note. HasBooted set (noted (notes_of (Some note)) (Is_down active interrupted) (Is_down active interrupted)) (notes_of (Some note)) after new))
     → BeginsStep may_say set state slot old → StepsOn set None state after (λ n. notes_of (Some n)) old new result
 boots_steps {R} {T} {E} may_say set state slot after old there new restarted (Ok note) elapses reads comes begins = restarted_steps E may_say set state slot after old there new restarted note elapses reads comes begins
 boots_steps may_say set state slot after old there new restarted (Err fault) elapses reads comes begins =
@@ -221,4 +226,4 @@ boots_steps may_say set state slot after old there new restarted (Err fault) ela
 
 pub errs_as : {R T S E F : Type 0} (set : Setting) (e : Option Event) (state : TargetState) (target : Option (machine.TargetState R)) (old new : DiskState) (notes : T → List Note) (more : S → List Note) (one : Result T E) (fault : F)
     → StepsOn set e state target notes old new one → StepsOn set e state target more old new (Err fault)
-errs_as set e state target old new notes more one fault steps = record { adds = steps.adds; holds = tt }
+errs_as set e state target old new notes more one fault steps = record { adds = steps.adds; holds = tt; boots = tt }

@@ -30,6 +30,7 @@ begins_held {R} one set rule target old new image settled told now start starts 
   holds = comes_up one set (Is_down set.start None) rule target old new image 1024 target.view.active.sequence switched_off settled told now starts reads up refl;
   clocks = [];
   timed = reads.clock;
+  boots = tt;
   moments = tt;
 }
   where
@@ -107,6 +108,7 @@ throughout one set steps target first old new standing counts only reads_now hel
   clocks = held.clocks;
   end = old.clock;
   timed = held.timed;
+  boots = held.boots;
   moments = moments_kept set old new one counts (λ t u image early may. elim (no_more.each t u image may) [ inl before ↦ inl before | inr left ↦ inr (same_as_left set (target_at set steps) target old image held.holds left) ])
       no_more.earlier first.clock old.clock held.clocks steps (omega arith) held.timed held.moments;
   after = λ u image may. elim (no_more.each old.clock u image may) [

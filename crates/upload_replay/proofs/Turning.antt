@@ -53,7 +53,7 @@ up_is set (Is_down active interrupted) = refl
 
 -- ---- the target
 
-gone_keeps_none : (set : Setting) (before after : TargetState) → kept_by set (gone_down before after) ≡ None
+pub gone_keeps_none : (set : Setting) (before after : TargetState) → kept_by set (gone_down before after) ≡ None
 gone_keeps_none set (Is_up r) (Is_up s) = refl
 gone_keeps_none set (Is_up r) (Is_down active interrupted) = refl
 gone_keeps_none set (Is_down active interrupted) after = refl

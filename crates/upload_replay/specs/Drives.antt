@@ -3,7 +3,7 @@ use Rattle.std.specs.Prelude.{◌≡◌, ◌⊎◌, List, [], ◌∷◌, ◌++�
 use Rattle.std.specs.List.{AllByRecursion}
 use Rattle.accept_rules.specs.Interlocks.{Follows}
 use Rattle.load_header.specs.declared.header.LoadHeader.{LoadHeader}
-use Rattle.disk_layout.specs.Holds.{HoldsConfig}
+use Rattle.disk_layout.specs.Holds.{HoldsConfig, StandingView}
 use Rattle.disk_model.specs.Image.{Image}
 use Rattle.media_check.specs.Sets.{SetView}
 use Rattle.exchange_trace.specs.declared.trace.Side.TheVariants as sides
@@ -19,9 +19,11 @@ use Rattle.session_rules.specs.LoaderLog.{loader_view}
 use Rattle.session_rules.specs.Target.{TargetView}
 use Rattle.loader_machine.specs.Machine.{LoaderState, all_sessions, media_of}
 use Rattle.replay_rules.specs.BothEnds.{Setting, TargetState, come_up, gone_down, loader_at, reached, target_at, waiting}
+use Rattle.replay_rules.specs.Changes.{AllCarryBytes}
 use Rattle.replay_rules.specs.Due.{AllNoted, MayBeNoted}
-use Rattle.replay_rules.specs.Promises.{IsTrace}
+use Rattle.replay_rules.specs.Promises.{EndsOnce, IsTrace}
 use Rattle.replay_rules.specs.Ties.{IsTied, kept_by, loader_next, loader_says, target_next, target_says}
+use Rattle.run_promises.specs.Promises.{KeepsPromises}
 use Rattle.target_machine.specs.Decisions as machine
 use Rattle.upload_replay.specs.Turns.{link_with, target_kept}
 
@@ -109,12 +111,21 @@ pub record IsSet {R : Type 0} (may_say : R → LoadHeader → Bool → Type 0) (
   pub accepts : Follows may_say interlock set.accepts
   pub start : HoldsConfig image set.start
 
+-- In every run the trace has the end last and once, and the link gave exactly its happenings and was posted exactly its posts.
+pub record TellsLink (began ended : LinkState) (steps : List Step) : Type 0 where
+  pub ends : EndsOnce steps
+  pub given : ended.given ≡ happenings_of steps ++ began.given
+  pub posted : ended.posted ≡ posted_in steps
+
 -- A run came to its end: its trace has the end last and once, exactly what was due was posted, and only that was noted of the
--- target which may be; the link was posted and gave exactly what the trace has; the loader has one session for each start.
-pub record IsRun (set : Setting) (began ended : LinkState) (steps : List Step) (sessions : List EndedSession) : Type 0 where
+-- target which may be; the link was posted and gave exactly what the trace has; the loader has one session for each start; and
+-- all is kept that is promised of a run with these sessions, at whose end this was recovered.
+pub record IsRun (set : Setting) (began ended : LinkState) (steps : List Step) (sessions : List EndedSession) (standing : Option StandingView) : Type 0 where
   pub trace : IsTrace set steps
+  pub carries : AllCarryBytes steps
   pub posted : ended.posted ≡ posted_in steps
   pub given : ended.given ≡ happenings_of steps ++ began.given
   pub honest : AllHonest steps
   pub follows : (script : List Line) → HasFollowed (waiting set) script [] began → HasFollowed (waiting set) script steps ended
   pub sessions_are : sessions ≡ all_sessions (loader_view (loader_at set steps))
+  pub keeps : KeepsPromises set steps sessions standing

@@ -3,7 +3,7 @@ use Rattle.std.specs.Prelude.{◌≡◌, ℕ, ◌+◌, true, ◌⊎◌, List, Op
 use Rattle.std.specs.Option.{ForSome}
 use Rattle.load_base.specs.Counts.{Rose}
 use Rattle.disk_layout.specs.DiskReads.{IsOfDisk}
-use Rattle.disk_layout.specs.Holds.{HasDiskFault, HoldsConfig, standing_view}
+use Rattle.disk_layout.specs.Holds.{HasDiskFault, HoldsConfig, StandingView, standing_view}
 use Rattle.disk_layout.specs.declared.fault.RecoverFault.{RecoverFault}
 use Rattle.disk_layout.specs.declared.fault.RecoverFault.TheVariants as recovers
 use Rattle.disk_layout.specs.declared.standing.Standing.{Standing}
@@ -28,6 +28,10 @@ abbrev pub last_refusal_of : RecoverFault → Result (Option Standing) DriveFaul
 last_refusal_of recovers.DiskFailed = Ok None
 last_refusal_of recovers.Memory = Err faults.Memory
 last_refusal_of fault = Err (faults.NoConfig fault)
+
+-- the disk holds a configuration, where it tells its content
+abbrev pub HoldsSome : DiskState → Type 0
+HoldsSome disk = ForSome disk.reads (λ image. (s : StandingView) × HoldsConfig image s)
 
 -- what was recovered at the end is the configuration that the disk holds, where it tells its content
 abbrev pub HoldsStanding : Option Standing → DiskState → Type 0

@@ -6,16 +6,16 @@ ghost use Rattle.bank_store.specs.DiskWrites.{IsRunning};
 ghost use Rattle.disk_layout.specs.Holds.{standing_view};
 ghost use Rattle.disk_model.specs.Image.{Image};
 ghost use Rattle.disk_model.specs.State.{IsSettled, KeepsPower, OnlyReads};
-ghost use Rattle.exchange_trace.specs.Posts.{happenings_of};
 ghost use Rattle.exchange_trace.specs.Steps.{steps_of};
 ghost use Rattle.loader_machine.specs.Machine.{session_view};
 ghost use Rattle.media_check.specs.Sets.{set_view};
 ghost use Rattle.replay_rules.specs.BothEnds.{Setting};
-ghost use Rattle.upload_replay.specs.Drives.{NeverBoots, IsRun, IsSet};
+ghost use Rattle.run_promises.specs.Promises.{AcceptsPermitted};
+ghost use Rattle.upload_replay.specs.Drives.{IsRun, IsSet, NeverBoots, TellsLink};
 ghost use Rattle.upload_replay.specs.Endings.{CountsStops, FailedIfUnknown, FailsAtFirst};
-ghost use Rattle.upload_replay.specs.Endings.{HoldsStanding, IsLastFault, IsNoConfig};
+ghost use Rattle.upload_replay.specs.Endings.{HoldsSome, HoldsStanding, IsLastFault, IsNoConfig};
 ghost use Rattle.upload_replay.specs.Endings.{first_fault_of, last_refusal_of};
-ghost use Rattle.upload_replay.specs.Moments.{HoldsThroughout, LeavesNoMore};
+ghost use Rattle.upload_replay.specs.Moments.{HoldsThroughout, LeavesGood, LeavesNoMore};
 ghost use Rattle.upload_replay.specs.Powers.{ArmsAsGiven, RoseBy};
 ghost use Rattle.upload_replay.specs.Turns.{HasDriveCause};
 
@@ -30,6 +30,7 @@ use link_net::Link;
 use loader_machine::Loader;
 use media_check::MediaSet;
 use recovery::recover;
+use run_promises::laws::a_run_keeps_its_promises;
 use std::alloc::Global;
 use target_machine::{BootFault, Target};
 
@@ -48,16 +49,17 @@ pub fn drive<L: Link, K: Power, R: Rule>(
     ensures run { (set : Setting) (image : Image) → IsSet R.may_say set interlock.now
         (set_view media.now) image → (K.state disk.old).reads ≡ Some image → IfOk result
         (λ drive. NeverBoots (steps_of drive.trace.items) ⊎ IsSettled (K.state disk.old)
-        → IsRun set (L.state link.old) (L.state link.new)
-        (steps_of drive.trace.items) (map session_view drive.sessions.items)) }
+        → IsRun set (L.state link.old) (L.state link.new) (steps_of drive.trace.items)
+        (map session_view drive.sessions.items) (option_map standing_view drive.standing)) }
     ensures moments { (set : Setting) (image : Image) → IsSet R.may_say set interlock.now
         (set_view media.now) image → (K.state disk.old).reads ≡ Some image
         → IsSettled (K.state disk.old) → IfOk result (λ drive. HoldsThroughout set
         (steps_of drive.trace.items) (option_map standing_view drive.standing)
         (K.state disk.old) (K.state disk.new)) }
+    ensures stood { OnOk result (HoldsSome (K.state disk.old)) }
     ensures standing { IfOk result (λ drive. HoldsStanding drive.standing (K.state disk.new)) }
-    ensures given { IfOk result (λ drive. (L.state link.new).given
-        ≡ happenings_of (steps_of drive.trace.items) ++ (L.state link.old).given) }
+    ensures told { IfOk result (λ drive. TellsLink (L.state link.old) (L.state link.new)
+        (steps_of drive.trace.items)) }
     ensures stops { IfOk result (λ drive. CountsStops (steps_of drive.trace.items)
         drive.standing (K.state disk.old) (K.state disk.new)) }
     // Refusals.
@@ -69,9 +71,14 @@ pub fn drive<L: Link, K: Power, R: Rule>(
     // Whatever it answers.
     ensures arms { ArmsAsGiven (L.state link.old).given (L.state link.new).given
         (K.state disk.old) (K.state disk.new) }
+    ensures leaves { (set : Setting) (image : Image) → IsSet R.may_say set interlock.now
+        (set_view media.now) image → (K.state disk.old).reads ≡ Some image
+        → IsSettled (K.state disk.old) → AcceptsPermitted set
+        → LeavesGood set (K.state disk.old).clock (K.state disk.new) }
 {
-    // For the proof: does nothing.
+    // For the proof: these do nothing.
     an_image_holds_one_configuration();
+    a_run_keeps_its_promises();
     let target = match Target::boot(alloc, disk, interlock, 1024) {
         Ok(target) => target,
         Err(fault) => return Err(first_fault(fault)),

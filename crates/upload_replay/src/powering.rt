@@ -10,7 +10,7 @@ ghost use Rattle.load_header.specs.Header.{HeaderView};
 ghost use Rattle.replay_rules.specs.BothEnds.{Is_down, Setting, TargetState, noted};
 ghost use Rattle.replay_rules.specs.Due.{IsBooted, MayBeNoted};
 ghost use Rattle.upload_replay.specs.Drives.{TargetTurns};
-ghost use Rattle.upload_replay.specs.Moments.{BeginsStep, HoldsRun, StepsOn};
+ghost use Rattle.upload_replay.specs.Moments.{BeginsStep, HasBooted, HoldsRun, StepsOn};
 ghost use Rattle.upload_replay.specs.Powers.{ArmsBy, RoseBy, stops_in, stops_noted};
 ghost use Rattle.upload_replay.specs.Turns.{RuleFollows, RunsWhileUp, notes_of, target_kept};
 ghost use Rattle.upload_replay.specs.declared.outcome.DriveFault.{DriveFault};
@@ -120,9 +120,9 @@ fn come_up<'i, K: Power, R: Rule>(
     ensures holds { (set : Setting) (active : StandingView) (interrupted : Option StandingView)
         → IsSettled (K.state disk.old)
         → HoldsRun set (Is_down active interrupted) slot.old (K.state disk.old)
-        → IfOk result (λ note. HoldsRun set (noted (notes_of (Some note))
-        (Is_down active interrupted) (Is_down active interrupted)) slot.new
-        (K.state disk.new)) }
+        → IfOk result (λ note. HasBooted set (noted (notes_of (Some note))
+        (Is_down active interrupted) (Is_down active interrupted)) (notes_of (Some note))
+        slot.new (K.state disk.new)) }
 {
     an_image_holds_one_configuration();
     match Target::boot(alloc, disk, interlock, first_port) {

@@ -1,5 +1,6 @@
 //! A turn of a run.
 ghost use Rattle.std.specs.Prelude.{◌≡◌, ◌⊎◌, ◌++◌, ℕ, Bool, List, is_some, IfErr, IfOk, OnOk};
+ghost use Rattle.std.specs.List.{AllByRecursion};
 ghost use Rattle.accept_rules.specs.Interlocks.{Follows};
 ghost use Rattle.bank_store.specs.DiskWrites.{IsRunning};
 ghost use Rattle.exchange_trace.specs.declared.trace.Side.TheVariants as sides;
@@ -12,6 +13,7 @@ ghost use Rattle.load_intake.specs.Stores.{Writes};
 ghost use Rattle.session_rules.specs.Contents.{TargetContents, contents_after};
 ghost use Rattle.target_machine.specs.Disks.{KeepsDisk};
 ghost use Rattle.replay_rules.specs.BothEnds.{Setting, TargetState, target_at};
+ghost use Rattle.replay_rules.specs.Changes.{AllCarryBytes, CarriesBytes, InjectsBytes};
 ghost use Rattle.replay_rules.specs.Due.{MayBeNoted};
 ghost use Rattle.target_machine.specs.Decisions.{Takes};
 ghost use Rattle.transfer_end.specs.Calls.{posts_view};
@@ -28,7 +30,7 @@ ghost use Rattle.upload_replay.specs.Turns.{noted_with, notes_of, target_kept};
 ghost use Rattle.upload_replay.specs.declared.outcome.DriveFault.TheVariants.{Memory};
 
 use crate::outcome::DriveFault;
-use crate::posting::post_all;
+use crate::posting::{are_bytes, post_all};
 use crate::powering::{PowerNote, boot_again, cut_power};
 use crate::reaching::loader_takes;
 use crate::recording::Recording;
@@ -70,6 +72,7 @@ pub(crate) fn turn<'r, L: Link, K: Power, R: Rule>(
         → HeldSoFar set since run.old.recording run.old.target (K.state disk.old)
         → OnOk result (HeldSoFar set since run.new.recording run.new.target (K.state disk.new)) }
     ensures step { IfOk result (λ ended. IsNewStep ended run.old.recording run.new.recording) }
+    ensures carries { AllCarryBytes run.old.recording → OnOk result (AllCarryBytes run.new.recording) }
     ensures media { OnOk result (run.new.loader.set ≡ run.old.loader.set) }
     ensures rule { (accepts : HeaderView → Bool) → Follows R.may_say interlock.now accepts
         → RuleFollows R.may_say accepts run.old.target
@@ -81,6 +84,8 @@ pub(crate) fn turn<'r, L: Link, K: Power, R: Rule>(
     ensures happened { (began : List HappeningView)
         → (L.state link.old).given ≡ happenings_of run.old.recording ++ began
         → OnOk result ((L.state link.new).given ≡ happenings_of run.new.recording ++ began) }
+    ensures posted { (L.state link.old).posted ≡ posted_in run.old.recording
+        → OnOk result ((L.state link.new).posted ≡ posted_in run.new.recording) }
     // Whatever it answers.
     ensures told { IfErr result (λ fault. IsOfRun fault) }
     ensures cause { HasDriveCause (L.faults link.old) (L.faults link.new) result }
@@ -94,6 +99,7 @@ pub(crate) fn turn<'r, L: Link, K: Power, R: Rule>(
     an_image_holds_one_configuration();
     contents_follow_their_trace();
     let happening = link.next(run.loader.waits(), waits(&run.target))?;
+    carries_bytes(&happening);
     let ended = is_end(&happening);
     // The target first: a loss of power is armed whatever else may fail.
     let second = target_turn(
@@ -107,6 +113,16 @@ pub(crate) fn turn<'r, L: Link, K: Power, R: Rule>(
     let first = loader_takes(&mut run.loader, &run.recording, &happening)?;
     put_turn(alloc, link, &mut run.recording, happening, first, second)?;
     Ok(ended)
+}
+
+/// What is injected is bytes.
+// For the proof: does nothing.
+fn carries_bytes(happening: &Happening)
+    ensures { InjectsBytes (happening_view happening.now) }
+{
+    if let Happening::Injected(datagram) = happening {
+        are_bytes(datagram.bytes.as_slice());
+    }
 }
 
 fn is_end(happening: &Happening) -> bool
@@ -317,6 +333,8 @@ pub(crate) fn put_turn<L: Link>(
         recording.old recording.new) }
     ensures link { OnOk result (L.state link.new ≡ link_with (L.state link.old)
         (posts_view first ++ posts_view second.posts)) }
+    ensures carries { OnOk result
+        (AllByRecursion CarriesBytes (posts_view first ++ posts_view second.posts)) }
     ensures given { (L.state link.new).given ≡ (L.state link.old).given }
     ensures told { IfErr result (λ fault. IsOfRun fault) }
     ensures cause { HasDriveCause (L.faults link.old) (L.faults link.new) result }

@@ -3,13 +3,14 @@ use Rattle.std.proofs.lemmas.Result.{IfOk-weaker}
 use Rattle.media_check.specs.Sets.{set_view}
 use Rattle.loader_cli.specs.Replays.{IsKept}
 use Rattle.loader_cli.specs.Replays.Replays.{ran, unread}
+use Rattle.loader_cli.proofs.Left.{untouched_leaves}
 use Rattle.loader_cli.proofs.replay.replay.Goals as goal
 
 pub returns-in-Ready-clause-replays : goal.returns-in-Ready-clause-replays
 returns-in-Ready-clause-replays g c =
     let reads = rw c.in-Ready.is at (c.in_ok-set.ensures.reads (g.H.Host.faults c.args.host.now) (omega arith)) in
     let inputs = rw (c.as_bytes.ensures.value, c.as_bytes-2.ensures.value) at reads in
-    IfOk-weaker c.run_script.result _ _ (λ answer runs. ran (set_view c.in-Ready.set) c.in-Ready.script inputs runs) c.run_script.ensures
+    IfOk-weaker c.run_script.result _ _ (λ answer runs. ran (set_view c.in-Ready.set) c.in-Ready.script inputs runs) c.run_script.ensures.runs
 
 pub returns-in-Refused-clause-replays : goal.returns-in-Refused-clause-replays
 returns-in-Refused-clause-replays g c =
@@ -23,3 +24,6 @@ returns-in-Refused-clause-replays g c =
       power = record { steady = refl; armings = refl; armed = refl };
     } in
     rw (c.of.ensures.answer, c.of.ensures.drive) (unread refuses kept refl)
+
+pub returns-in-Refused-clause-leaves : goal.returns-in-Refused-clause-leaves
+returns-in-Refused-clause-leaves g c = untouched_leaves (g.K.Disk.state c.args.disk.now) (g.met.K.Disk.only_now c.args.disk.now)

@@ -1,4 +1,4 @@
-use Rattle.std.proofs.Common.{◌≡◌, [], None, refl, sym, ap, subst, ◌∙◌}
+use Rattle.std.proofs.Common.{◌≡◌, ◌⊎◌, inr, [], None, Some, refl, sym, ap, subst, ◌∙◌}
 use Rattle.std.specs.Prelude.{map}
 use Rattle.std.proofs.lemmas.Result.{IfOk-weaker}
 use Rattle.disk_layout.specs.declared.fault.RecoverFault.{RecoverFault}
@@ -7,44 +7,74 @@ use Rattle.link_net.specs.Links.{LinkState}
 use Rattle.loader_machine.specs.Machine.{session_view}
 use Rattle.media_check.specs.Sets.{set_view}
 use Rattle.accept_rules.specs.Permissions.{permits}
-use Rattle.upload_replay.specs.Drives.{IsRun}
+use Rattle.disk_model.specs.Image.{Image}
+use Rattle.disk_model.specs.State.{IsSettled}
+use Rattle.disk_layout.specs.Holds.{HoldsConfig, StandingView}
+use Rattle.upload_replay.specs.Drives.{IsRun, NeverBoots}
 use Rattle.upload_replay.specs.declared.outcome.DriveFault.TheVariants.{Disk}
-use Rattle.loader_cli.specs.Replays.{RunsScript, RunsTo, run_seen, setting_of}
+use Rattle.loader_cli.specs.Replays.{IsScriptRun, RunsScript, RunsTo, run_seen, setting_of}
 use Rattle.loader_cli.specs.Replays.RunsTo.{disk_failed}
 use Rattle.loader_cli.specs.Texts.{no_configuration}
-use Rattle.loader_cli.proofs.Replayed.{counts_power, ran_to, refused_to}
+use Rattle.loader_cli.proofs.Left.{accepts_permitted, run_leaves}
+use Rattle.loader_cli.proofs.Replayed.{counts_power, held_run, ran_to, refused_to, script_run}
 use Rattle.loader_cli.proofs.replay.run_script.Goals as goal
 
-pub returns-in-Ok : goal.returns-in-Ok
-returns-in-Ok g c =
+pub returns-in-Ok-clause-runs : goal.returns-in-Ok-clause-runs
+returns-in-Ok-clause-runs g c =
     let set = set_view c.args.set.now in
     let run = c.in-Ok.run' in
     let old = g.K.Disk.state c.args.disk.now in
     let new = g.K.Disk.state c.drive.new.disk in
+    let is : (start : StandingView) (image : Image) → old.reads ≡ Some image → HoldsConfig image start → NeverBoots (steps_of run.trace.items) ⊎ IsSettled old → IsScriptRun set c.args.script start (run_seen run)
+    = λ start image told holds all. script_run set c.args.script start (run_seen run) c.drive.new.link (c.what_a_disk_holds_can_be_listed.ensures.fits image start holds)
+    (subst (λ (began : LinkState). IsRun (setting_of set start) began c.drive.new.link (steps_of run.trace.items) (run_seen run).sessions (run_seen run).standing) c.new-link.ensures
+    (c.in-Ok.ensures.run (setting_of set start) image (record { media = refl; accepts = λ fields answer said. said.says ∙ ap permits said.same; start = holds }) told all)) in
     let runs : RunsScript set c.args.script old new (run_seen run) = λ start image told holds. (
-      λ all. (
-        c.drive.new.link,
-        subst (λ (began : LinkState). IsRun (setting_of set start) began c.drive.new.link (steps_of run.trace.items) (run_seen run).sessions) c.new-link.ensures
-            (c.in-Ok.ensures.run (setting_of set start) image (record { media = refl; accepts = λ fields answer said. said.says ∙ ap permits said.same; start = holds }) told all),
-      ),
-      λ settled. c.in-Ok.ensures.moments (setting_of set start) image (record { media = refl; accepts = λ fields answer said. said.says ∙ ap permits said.same; start = holds }) told settled,
+      is start image told holds,
+      λ settled. held_run set c.args.script start old new (run_seen run) (c.what_a_disk_holds_can_be_listed.ensures.fits image start holds) (is start image told holds (inr settled))
+          (c.in-Ok.ensures.moments (setting_of set start) image (record { media = refl; accepts = λ fields answer said. said.says ∙ ap permits said.same; start = holds }) told settled),
     ) in
     let began : c.new-link.result.given ≡ [] = ap (λ (l : LinkState). l.given) c.new-link.ensures in
-    let counts = counts_power (steps_of run.trace.items) run.standing old new _ _ began c.in-Ok.ensures.stops c.in-Ok.ensures.given c.drive.ensures.arms in
-    ran_to c.args.telling set c.args.script old new run _ _ runs c.in-Ok.ensures.standing c.in-Ok.ensures.stops counts c.in_ok-answer-in-Ok.ensures
+    let counts = counts_power (steps_of run.trace.items) run.standing old new _ _ began c.in-Ok.ensures.stops c.in-Ok.ensures.told.given c.drive.ensures.arms in
+    ran_to c.args.telling set c.args.script old new run _ _ c.in-Ok.ensures.stood runs c.in-Ok.ensures.standing c.in-Ok.ensures.stops counts c.in_ok-answer-in-Ok.ensures
 
-pub returns-in-Err-Disk : goal.returns-in-Err-Disk
-returns-in-Err-Disk g c =
+pub returns-in-Err-Disk-clause-runs : goal.returns-in-Err-Disk-clause-runs
+returns-in-Err-Disk-clause-runs g c =
     let is : c.in-Err-Disk.field-0 ≡ Disk = c.in-Err-Disk.field-0-is in
     let failed = c.in-Err-Disk.ensures.disk_failed.failed (cc) in
     rw (c.of.ensures.answer, c.of.ensures.drive)
     (disk_failed refl failed.0 failed.1 (c.in-Err-Disk.ensures.disk_failed.clock (cc)) (c.in-Err-Disk.ensures.disk_failed.power (cc)) refl refl)
 
-pub returns-in-Err-NoConfig : goal.returns-in-Err-NoConfig
-returns-in-Err-NoConfig g c =
+pub returns-in-Err-NoConfig-clause-runs : goal.returns-in-Err-NoConfig-clause-runs
+returns-in-Err-NoConfig-clause-runs g c =
     let fault = c.in-Err-NoConfig.fault in
     rw (c.of-in-Err-NoConfig.ensures.answer, c.of-in-Err-NoConfig.ensures.drive)
     (subst (λ (f : RecoverFault). RunsTo c.args.telling (set_view c.args.set.now) c.args.script (g.K.Disk.state c.args.disk.now) (g.K.Disk.state c.drive.new.disk) None 8 (no_configuration f))
     (sym c.in-Err-NoConfig.fault-is)
     (refused_to c.args.telling (set_view c.args.set.now) c.args.script (g.K.Disk.state c.args.disk.now) (g.K.Disk.state c.drive.new.disk) fault
     (rw c.in-Err-NoConfig.field-0-is at c.in-Err-NoConfig.ensures.no_config)))
+
+pub returns-in-Ok-clause-leaves : goal.returns-in-Ok-clause-leaves
+returns-in-Ok-clause-leaves g c =
+    run_leaves (set_view c.args.set.now) (g.K.Disk.state c.args.disk.now) (g.K.Disk.state c.drive.new.disk) (λ start image told holds settled.
+    c.drive.ensures.leaves (setting_of (set_view c.args.set.now) start) image (record { media = refl; accepts = λ fields answer said. said.says ∙ ap permits said.same; start = holds }) told settled accepts_permitted)
+
+pub returns-in_err-answer-in-Ok-clause-leaves : goal.returns-in_err-answer-in-Ok-clause-leaves
+returns-in_err-answer-in-Ok-clause-leaves g c =
+    run_leaves (set_view c.args.set.now) (g.K.Disk.state c.args.disk.now) (g.K.Disk.state c.drive.new.disk) (λ start image told holds settled.
+    c.drive.ensures.leaves (setting_of (set_view c.args.set.now) start) image (record { media = refl; accepts = λ fields answer said. said.says ∙ ap permits said.same; start = holds }) told settled accepts_permitted)
+
+pub returns-in-Err-Disk-clause-leaves : goal.returns-in-Err-Disk-clause-leaves
+returns-in-Err-Disk-clause-leaves g c =
+    run_leaves (set_view c.args.set.now) (g.K.Disk.state c.args.disk.now) (g.K.Disk.state c.drive.new.disk) (λ start image told holds settled.
+    c.drive.ensures.leaves (setting_of (set_view c.args.set.now) start) image (record { media = refl; accepts = λ fields answer said. said.says ∙ ap permits said.same; start = holds }) told settled accepts_permitted)
+
+pub returns-in-Err-NoConfig-clause-leaves : goal.returns-in-Err-NoConfig-clause-leaves
+returns-in-Err-NoConfig-clause-leaves g c =
+    run_leaves (set_view c.args.set.now) (g.K.Disk.state c.args.disk.now) (g.K.Disk.state c.drive.new.disk) (λ start image told holds settled.
+    c.drive.ensures.leaves (setting_of (set_view c.args.set.now) start) image (record { media = refl; accepts = λ fields answer said. said.says ∙ ap permits said.same; start = holds }) told settled accepts_permitted)
+
+pub returns-in-Err-Memory-clause-leaves : goal.returns-in-Err-Memory-clause-leaves
+returns-in-Err-Memory-clause-leaves g c =
+    run_leaves (set_view c.args.set.now) (g.K.Disk.state c.args.disk.now) (g.K.Disk.state c.drive.new.disk) (λ start image told holds settled.
+    c.drive.ensures.leaves (setting_of (set_view c.args.set.now) start) image (record { media = refl; accepts = λ fields answer said. said.says ∙ ap permits said.same; start = holds }) told settled accepts_permitted)

@@ -7,6 +7,8 @@ use Rattle.loader_cli.specs.Commands.{texts_of}
 use Rattle.loader_cli.specs.Runs.{IsWritten}
 use Rattle.loader_cli.specs.Runs.IsWritten.{built, made}
 use Rattle.loader_cli.specs.Runs.Says.{lists, formats, shows, checks, builds, makes, replays, traces, tries}
+use Rattle.loader_cli.specs.Commands.CommandView.{format}
+use Rattle.loader_cli.proofs.Left.{reads_leave, untouched_leaves}
 use Rattle.loader_cli.proofs.OtherFiles.{sets_more}
 use Rattle.loader_cli.proofs.Replayed.{alone_so}
 use Rattle.loader_cli.proofs.Targets.{one_target}
@@ -77,4 +79,38 @@ returns-in-Some-Wire-clause-says g c =
 pub returns-in-Some-Trial-clause-says : goal.returns-in-Some-Trial-clause-says
 returns-in-Some-Trial-clause-says g c =
     let command = rw c.in-Some-Trial.field-0-is at c.in-Some-Trial.ensures.some in
-    IfOk-weaker c.trial.result _ _ (λ answer says. tries c.in-Some-Trial.number command says) c.trial.ensures
+    IfOk-weaker c.trial.result _ _ (λ answer says. tries c.in-Some-Trial.number command says) c.trial.ensures.tries
+
+-- ---- what is left on the disk
+
+pub returns-in-Some-List-clause-while_running : goal.returns-in-Some-List-clause-while_running
+returns-in-Some-List-clause-while_running g c = λ other. reads_leave (g.K.Disk.state c.args.disk.now) (g.met.K.Disk.only_now c.args.disk.now) (g.K.Disk.state c.list.new.disk) c.list.ensures.only_reads
+
+pub returns-in-Some-Format-clause-while_running : goal.returns-in-Some-Format-clause-while_running
+returns-in-Some-Format-clause-while_running g c = λ other.
+    let command = rw c.in-Some-Format.field-0-is at c.in-Some-Format.ensures.some in
+    absurd (other (format c.in-Some-Format.identity) command tt)
+
+pub returns-in-Some-Replay-clause-while_running : goal.returns-in-Some-Replay-clause-while_running
+returns-in-Some-Replay-clause-while_running g c = λ other. c.replay.ensures.leaves
+
+pub returns-in-Some-Wire-clause-while_running : goal.returns-in-Some-Wire-clause-while_running
+returns-in-Some-Wire-clause-while_running g c = λ other. c.replay-in-Some-Wire.ensures.leaves
+
+pub returns-in-Some-Trial-clause-while_running : goal.returns-in-Some-Trial-clause-while_running
+returns-in-Some-Trial-clause-while_running g c = λ other. c.trial.ensures.leaves
+
+pub returns-in-None-clause-while_running : goal.returns-in-None-clause-while_running
+returns-in-None-clause-while_running g c = λ other. untouched_leaves (g.K.Disk.state c.args.disk.now) (g.met.K.Disk.only_now c.args.disk.now)
+
+pub returns-in-Some-Show-clause-while_running : goal.returns-in-Some-Show-clause-while_running
+returns-in-Some-Show-clause-while_running g c = λ other. untouched_leaves (g.K.Disk.state c.args.disk.now) (g.met.K.Disk.only_now c.args.disk.now)
+
+pub returns-in-Some-Check-clause-while_running : goal.returns-in-Some-Check-clause-while_running
+returns-in-Some-Check-clause-while_running g c = λ other. untouched_leaves (g.K.Disk.state c.args.disk.now) (g.met.K.Disk.only_now c.args.disk.now)
+
+pub returns-in-Some-Build-clause-while_running : goal.returns-in-Some-Build-clause-while_running
+returns-in-Some-Build-clause-while_running g c = λ other. untouched_leaves (g.K.Disk.state c.args.disk.now) (g.met.K.Disk.only_now c.args.disk.now)
+
+pub returns-in-Some-Make-clause-while_running : goal.returns-in-Some-Make-clause-while_running
+returns-in-Some-Make-clause-while_running g c = λ other. untouched_leaves (g.K.Disk.state c.args.disk.now) (g.met.K.Disk.only_now c.args.disk.now)

@@ -18,7 +18,8 @@ returns-in-Ok-put-clause-ends g c =
       built = c.a_written_folder_holds_the_set.ensures.built;
       made = c.a_written_folder_holds_the_set.ensures.made;
     } in
-    as_promised laws _ _ (told (text_of c.in-Ok.field-0.answer) (rw (← c.status-status.ensures) at c.in-Ok.ensures.says) (subst (λ (bytes : List ℕ). IsExtended was now bytes) text c.in-Ok-put.ensures.content))
+    as_promised laws _ _ (record { not_both = c.an_image_holds_one_configuration.ensures.not_both; reads_now = g.met.K.Disk.reads_now c.answer.new.disk }) c.answer.ensures.while_running
+    (told (text_of c.in-Ok.field-0.answer) (rw (← c.status-status.ensures) at c.in-Ok.ensures.says) (subst (λ (bytes : List ℕ). IsExtended was now bytes) text c.in-Ok-put.ensures.content))
 
 pub returns-in-Err-Failed-clause-ends : goal.returns-in-Err-Failed-clause-ends
 returns-in-Err-Failed-clause-ends g c =
@@ -33,5 +34,6 @@ returns-in-Err-Failed-clause-ends g c =
       built = c.a_written_folder_holds_the_set.ensures.built;
       made = c.a_written_folder_holds_the_set.ensures.made;
     } in
-    as_promised laws _ _ (sink_failed c.status-status.result (text_of c.in-Ok.field-0.answer) part.0 (rw (← c.status-status.ensures) at c.in-Ok.ensures.says)
+    as_promised laws _ _ (record { not_both = c.an_image_holds_one_configuration.ensures.not_both; reads_now = g.met.K.Disk.reads_now c.answer.new.disk }) c.answer.ensures.while_running
+    (sink_failed c.status-status.result (text_of c.in-Ok.field-0.answer) part.0 (rw (← c.status-status.ensures) at c.in-Ok.ensures.says)
     (subst (λ (bytes : List ℕ). IsExtended was now (take part.0 bytes)) text part.1) (c.in-Err-Failed.ensures.cause.failed (cc)) refl)

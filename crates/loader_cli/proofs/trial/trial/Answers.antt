@@ -7,12 +7,13 @@ use Rattle.loader_cli.specs.Answers.{status_of, text_of}
 use Rattle.loader_cli.specs.Replays.{RunsTo, run_seen}
 use Rattle.loader_cli.specs.Trials.Trials.{tried, no_target}
 use Rattle.loader_cli.specs.declared.replay.Telling.TheVariants.{Report}
+use Rattle.loader_cli.proofs.Left.{leaves_since, reads_leave}
 use Rattle.loader_cli.proofs.Outputs.{names_the_condition, not_of_disk}
 use Rattle.loader_cli.proofs.Tried.{names_target, run_since}
 use Rattle.loader_cli.proofs.trial.trial.Goals as goal
 
-pub returns-in_ok-script-in-Ok : goal.returns-in_ok-script-in-Ok
-returns-in_ok-script-in-Ok g c =
+pub returns-in_ok-script-in-Ok-clause-tries : goal.returns-in_ok-script-in-Ok-clause-tries
+returns-in_ok-script-in-Ok-clause-tries g c =
     let old = g.K.Disk.state c.args.disk.now in
     let mid = g.K.Disk.state c.survey.new.disk in
     let new = g.K.Disk.state c.run_script.new.disk in
@@ -21,11 +22,25 @@ returns-in_ok-script-in-Ok g c =
     let read = c.in-Ok.ensures.reads_disk in
     IfOk-weaker c.run_script.result _ _
     (λ said runs. tried id set (names_target old.reads c.in-Ok.surveyed c.in-Ok.ensures.found) c.in_ok-set-in-Ok.ensures
-    (run_since Report set _ old mid new _ _ _ read.only_reads read.ok.reads (rw c.in_ok-script-in-Ok.ensures at runs))) c.run_script.ensures
+    (run_since Report set _ old mid new _ _ _ read.only_reads read.ok.reads (rw c.in_ok-script-in-Ok.ensures at runs))) c.run_script.ensures.runs
 
-pub returns-in_default : goal.returns-in_default
-returns-in_default g c =
+pub returns-in_default-clause-tries : goal.returns-in_default-clause-tries
+returns-in_default-clause-tries g c =
     let fault = c.in-Err.fault in
     let other = not_of_disk fault c.in_default.not-DiskFailed c.in_default.not-Memory in
     rw (c.of-in_default.ensures.answer, c.of-in_default.ensures.drive)
     (no_target fault c.in-Err.ensures.reads_disk.only_reads other (λ image told. names_the_condition image fault other (c.in-Err.ensures.refused image told)) refl refl refl)
+
+pub returns-in_ok-script-in-Ok-clause-leaves : goal.returns-in_ok-script-in-Ok-clause-leaves
+returns-in_ok-script-in-Ok-clause-leaves g c =
+    let read = c.in-Ok.ensures.reads_disk in
+    leaves_since (g.K.Disk.state c.args.disk.now) (g.K.Disk.state c.survey.new.disk) (g.K.Disk.state c.run_script.new.disk) read.only_reads read.ok.reads c.run_script.ensures.leaves
+
+pub returns-in_err-set-in-Ok-clause-leaves : goal.returns-in_err-set-in-Ok-clause-leaves
+returns-in_err-set-in-Ok-clause-leaves g c = reads_leave (g.K.Disk.state c.args.disk.now) (g.met.K.Disk.only_now c.args.disk.now) (g.K.Disk.state c.survey.new.disk) c.survey.ensures.reads_disk.only_reads
+
+pub returns-in_err-script-in-Ok-clause-leaves : goal.returns-in_err-script-in-Ok-clause-leaves
+returns-in_err-script-in-Ok-clause-leaves g c = reads_leave (g.K.Disk.state c.args.disk.now) (g.met.K.Disk.only_now c.args.disk.now) (g.K.Disk.state c.survey.new.disk) c.survey.ensures.reads_disk.only_reads
+
+pub returns-in_default-clause-leaves : goal.returns-in_default-clause-leaves
+returns-in_default-clause-leaves g c = reads_leave (g.K.Disk.state c.args.disk.now) (g.met.K.Disk.only_now c.args.disk.now) (g.K.Disk.state c.survey.new.disk) c.survey.ensures.reads_disk.only_reads

@@ -1,17 +1,18 @@
 use Rattle.std.proofs.Common.{◌≡◌, inl, inr, List, [], ◌++◌, Some, sym, ap, subst, ◌∙◌}
 use Rattle.std.specs.Prelude.{is_some, map, option_map}
 use Rattle.disk_layout.specs.Holds.{standing_view}
-use Rattle.exchange_trace.specs.Posts.{happenings_of}
+use Rattle.exchange_trace.specs.Posts.{happenings_of, posted_in}
 use Rattle.exchange_trace.specs.Steps.{Step, steps_of}
-use Rattle.session_rules.specs.Loader.{LoaderView, new_loader}
 use Rattle.loader_machine.specs.Machine.{LoaderState, media_of, session_view}
 use Rattle.accept_rules.specs.Interlocks.{Follows}
-use Rattle.upload_replay.specs.Drives.{NeverBoots, GoesOn, IsRun}
+use Rattle.upload_replay.specs.Drives.{NeverBoots, GoesOn, IsRun, TellsLink}
 use Rattle.upload_replay.specs.Turns.{target_kept}
 use Rattle.upload_replay.specs.Powers.{RoseBy, disk_stops}
 use Rattle.upload_replay.specs.Moments.{HoldsThroughout}
-use Rattle.upload_replay.proofs.Throughout.{first_held, settled_if, throughout}
-use Rattle.upload_replay.proofs.Begins.{begins, comes_up_with, is_run}
+use Rattle.upload_replay.proofs.Good.{first_left, left_no_more}
+use Rattle.upload_replay.proofs.Held.{reads_no_more}
+use Rattle.upload_replay.proofs.Throughout.{settled_if, throughout}
+use Rattle.upload_replay.proofs.Begins.{begins, comes_up_with, is_run, ready}
 use Rattle.upload_replay.proofs.Counted.{rose_not, rose_on}
 use Rattle.upload_replay.proofs.Ended.{first_refusal, of_last, of_run, refused_so}
 use Rattle.upload_replay.proofs.driving.drive.Goals as goal
@@ -36,26 +37,21 @@ returns-clause-run g c =
     let began = g.L.Link.state c.args.link.now in
     let target = c.in-Ok.target in
     let one = c.an_image_holds_one_configuration.ensures.one_standing in
-    let start : GoesOn set began [] new_loader (Some target.view) began =
-    begins set began target.view c.requires.nothing_posted
-    (comes_up_with c.args.interlock.now target (g.K.Disk.state c.args.disk.now) image set.start c.in-Ok.ensures.comes_up told is.start (one image)) in
-    let loader : GoesOn set began [] c.new-2.result.view (Some target.view) began =
-    subst (λ (v : LoaderView). GoesOn set began [] v (Some target.view) began) (sym (ap (λ (l : LoaderState). l.view) c.new-2.ensures)) start in
-    let ready : GoesOn set began c.new.result c.new-2.result.view (Some target.view) began =
-    subst (λ (steps : List Step). GoesOn set began steps c.new-2.result.view (Some target.view) began) (sym c.new.ensures) loader in
+    let sessions = map session_view c.into_sessions.result.items in
+    let standing = option_map standing_view c.in_ok-standing.standing in
+    let start : GoesOn set began c.new.result c.new-2.result.view (Some target.view) began = rw (c.new.ensures, c.new-2.ensures) (begins set began target.view c.requires.nothing_posted
+    (comes_up_with c.args.interlock.now target (g.K.Disk.state c.args.disk.now) image set.start c.in-Ok.ensures.comes_up told is.start (one image))) in
     let media = is.media ∙ ap (λ (l : LoaderState). media_of l.set) (sym c.new-2.ensures) in
     let rule = subst (λ rule. Follows g.R.Rule.may_say rule set.accepts) (sym c.in-Ok.ensures.comes_up.rule_is) is.accepts in
     let on : GoesOn set began c.run_to_end.new.run.recording c.run_to_end.new.run.loader.view (target_kept c.run_to_end.new.run.target) (g.L.Link.state c.run_to_end.new.link) = elim all [
-      | inl none_boots ↦ c.in_ok-run_to_end.ensures.goes_on set began media is.accepts rule (λ none. ready) (subst (λ (steps : List Step). NeverBoots steps) c.into_trace.ensures none_boots)
-      | inr settled ↦ (c.in_ok-run_to_end.ensures.held set began (g.K.Disk.state c.args.disk.now).clock media is.accepts rule (record {
-        goes_on = ready;
-        held = first_held one set c.args.interlock.now target (g.K.Disk.state c.args.disk.now) (g.K.Disk.state c.boot.new.disk) image c.new.result settled told (g.met.K.Disk.reads_now c.args.disk.now image told) is.start
-            (c.in-Ok.ensures.starts settled image told) c.in-Ok.ensures.reads_disk.only_reads c.in-Ok.ensures.comes_up c.new.ensures;
-      })).goes_on
+      | inl none_boots ↦ c.in_ok-run_to_end.ensures.goes_on set began media is.accepts rule (λ none. start) (subst (λ (steps : List Step). NeverBoots steps) c.into_trace.ensures none_boots)
+      | inr settled ↦ (c.in_ok-run_to_end.ensures.held set began (g.K.Disk.state c.args.disk.now).clock media is.accepts rule
+      (ready one set c.args.interlock.now target (g.K.Disk.state c.args.disk.now) (g.K.Disk.state c.boot.new.disk) image began c.new.result c.new-2.result c.requires.nothing_posted settled told (g.met.K.Disk.reads_now c.args.disk.now image told) is.start
+      (c.in-Ok.ensures.starts settled image told) c.in-Ok.ensures.reads_disk.only_reads c.in-Ok.ensures.comes_up c.new.ensures (ap (λ (l : LoaderState). l.view) c.new-2.ensures))).goes_on
     ] in
-    subst (λ (steps : List Step). IsRun set began (g.L.Link.state c.run_to_end.new.link) steps (map session_view c.into_sessions.result.items)) (sym c.into_trace.ensures)
-    (is_run set began (g.L.Link.state c.run_to_end.new.link) c.run_to_end.new.run.recording c.run_to_end.new.run.loader.view (target_kept c.run_to_end.new.run.target)
-    (map session_view c.into_sessions.result.items) on c.in_ok-run_to_end.ensures.ends c.into_sessions.ensures)
+    subst (λ (steps : List Step). IsRun set began (g.L.Link.state c.run_to_end.new.link) steps sessions standing) (sym c.into_trace.ensures)
+    (is_run c.a_run_keeps_its_promises.ensures set began (g.L.Link.state c.run_to_end.new.link) c.run_to_end.new.run.recording c.run_to_end.new.run.loader.view (target_kept c.run_to_end.new.run.target)
+    sessions standing on c.in_ok-run_to_end.ensures.ends c.in_ok-run_to_end.ensures.carries c.into_sessions.ensures)
 
 pub returns-clause-moments : goal.returns-clause-moments
 returns-clause-moments g c =
@@ -65,27 +61,81 @@ returns-clause-moments g c =
     let last = g.K.Disk.state c.run_to_end.new.disk in
     let target = c.in-Ok.target in
     let one = c.an_image_holds_one_configuration.ensures.one_standing in
-    let ready : GoesOn set began c.new.result c.new-2.result.view (Some target.view) began =
-    rw (c.new.ensures, c.new-2.ensures) (begins set began target.view c.requires.nothing_posted
-    (comes_up_with c.args.interlock.now target first image set.start c.in-Ok.ensures.comes_up told is.start (one image))) in
     let media = is.media ∙ ap (λ (l : LoaderState). media_of l.set) (sym c.new-2.ensures) in
     let rule = subst (λ rule. Follows g.R.Rule.may_say rule set.accepts) (sym c.in-Ok.ensures.comes_up.rule_is) is.accepts in
-    let held = (c.in_ok-run_to_end.ensures.held set began first.clock media is.accepts rule (record {
-      goes_on = ready;
-      held = first_held one set c.args.interlock.now target first (g.K.Disk.state c.boot.new.disk) image c.new.result settled told (g.met.K.Disk.reads_now c.args.disk.now image told) is.start
-          (c.in-Ok.ensures.starts settled image told) c.in-Ok.ensures.reads_disk.only_reads c.in-Ok.ensures.comes_up c.new.ensures;
-    })).held in
+    let held = (c.in_ok-run_to_end.ensures.held set began first.clock media is.accepts rule
+    (ready one set c.args.interlock.now target first (g.K.Disk.state c.boot.new.disk) image began c.new.result c.new-2.result c.requires.nothing_posted settled told (g.met.K.Disk.reads_now c.args.disk.now image told) is.start
+    (c.in-Ok.ensures.starts settled image told) c.in-Ok.ensures.reads_disk.only_reads c.in-Ok.ensures.comes_up c.new.ensures (ap (λ (l : LoaderState). l.view) c.new-2.ensures))).held in
     subst (λ (steps : List Step). HoldsThroughout set steps (option_map standing_view c.in_ok-standing.standing) first (g.K.Disk.state c.standing_at_end.new.disk)) (sym c.into_trace.ensures)
     (throughout one set c.run_to_end.new.run.recording c.run_to_end.new.run.target first last (g.K.Disk.state c.standing_at_end.new.disk) c.in_ok-standing.standing
     (g.met.K.Disk.counts_now c.run_to_end.new.disk) (g.met.K.Disk.only_now c.run_to_end.new.disk) (g.met.K.Disk.reads_now c.standing_at_end.new.disk) held c.standing_at_end.ensures.leaves c.in_ok-standing.ensures.standing
     (settled_if (is_some c.run_to_end.new.run.target) (g.K.Disk.state c.standing_at_end.new.disk) c.in_ok-standing.standing (λ down. c.in_ok-standing.ensures.settled (c.is_some.ensures ∙ down))))
 
-pub returns-clause-given : goal.returns-clause-given
-returns-clause-given g c =
+-- ---- what is left, whatever is answered
+
+pub returns-in-Err-clause-leaves : goal.returns-in-Err-clause-leaves
+returns-in-Err-clause-leaves g c =
+    λ set image is told settled accepts.
+    let first = g.K.Disk.state c.args.disk.now in
+    left_no_more set first.clock first (g.K.Disk.state c.boot.new.disk) (first_left set first image (g.met.K.Disk.only_now c.args.disk.now) settled told is.start)
+    (reads_no_more first (g.K.Disk.state c.boot.new.disk) c.boot.ensures.reads_disk.only_reads)
+
+pub returns-in_err-run_to_end-clause-leaves : goal.returns-in_err-run_to_end-clause-leaves
+returns-in_err-run_to_end-clause-leaves g c =
+    λ set image is told settled accepts.
+    let began = g.L.Link.state c.args.link.now in
+    let first = g.K.Disk.state c.args.disk.now in
+    let booted = g.K.Disk.state c.boot.new.disk in
+    let target = c.in-Ok.target in
+    let media = is.media ∙ ap (λ (l : LoaderState). media_of l.set) (sym c.new-2.ensures) in
+    let rule = subst (λ rule. Follows g.R.Rule.may_say rule set.accepts) (sym c.in-Ok.ensures.comes_up.rule_is) is.accepts in
+    let on = c.run_to_end.ensures.leaves set began first.clock media is.accepts rule accepts
+    (ready c.an_image_holds_one_configuration.ensures.one_standing set c.args.interlock.now target first booted image began c.new.result c.new-2.result c.requires.nothing_posted settled told (g.met.K.Disk.reads_now c.args.disk.now image told) is.start
+    (c.in-Ok.ensures.starts settled image told) c.in-Ok.ensures.reads_disk.only_reads c.in-Ok.ensures.comes_up c.new.ensures (ap (λ (l : LoaderState). l.view) c.new-2.ensures))
+    (left_no_more set first.clock first booted (first_left set first image (g.met.K.Disk.only_now c.args.disk.now) settled told is.start) (reads_no_more first booted c.in-Ok.ensures.reads_disk.only_reads)) in
+    on
+
+pub returns-in_err-standing-clause-leaves : goal.returns-in_err-standing-clause-leaves
+returns-in_err-standing-clause-leaves g c =
+    λ set image is told settled accepts.
+    let began = g.L.Link.state c.args.link.now in
+    let first = g.K.Disk.state c.args.disk.now in
+    let booted = g.K.Disk.state c.boot.new.disk in
+    let target = c.in-Ok.target in
+    let media = is.media ∙ ap (λ (l : LoaderState). media_of l.set) (sym c.new-2.ensures) in
+    let rule = subst (λ rule. Follows g.R.Rule.may_say rule set.accepts) (sym c.in-Ok.ensures.comes_up.rule_is) is.accepts in
+    let on = c.run_to_end.ensures.leaves set began first.clock media is.accepts rule accepts
+    (ready c.an_image_holds_one_configuration.ensures.one_standing set c.args.interlock.now target first booted image began c.new.result c.new-2.result c.requires.nothing_posted settled told (g.met.K.Disk.reads_now c.args.disk.now image told) is.start
+    (c.in-Ok.ensures.starts settled image told) c.in-Ok.ensures.reads_disk.only_reads c.in-Ok.ensures.comes_up c.new.ensures (ap (λ (l : LoaderState). l.view) c.new-2.ensures))
+    (left_no_more set first.clock first booted (first_left set first image (g.met.K.Disk.only_now c.args.disk.now) settled told is.start) (reads_no_more first booted c.in-Ok.ensures.reads_disk.only_reads)) in
+    left_no_more set first.clock (g.K.Disk.state c.run_to_end.new.disk) (g.K.Disk.state c.standing_at_end.new.disk) on c.standing_at_end.ensures.leaves
+
+pub returns-clause-leaves : goal.returns-clause-leaves
+returns-clause-leaves g c =
+    λ set image is told settled accepts.
+    let began = g.L.Link.state c.args.link.now in
+    let first = g.K.Disk.state c.args.disk.now in
+    let booted = g.K.Disk.state c.boot.new.disk in
+    let target = c.in-Ok.target in
+    let media = is.media ∙ ap (λ (l : LoaderState). media_of l.set) (sym c.new-2.ensures) in
+    let rule = subst (λ rule. Follows g.R.Rule.may_say rule set.accepts) (sym c.in-Ok.ensures.comes_up.rule_is) is.accepts in
+    let on = c.run_to_end.ensures.leaves set began first.clock media is.accepts rule accepts
+    (ready c.an_image_holds_one_configuration.ensures.one_standing set c.args.interlock.now target first booted image began c.new.result c.new-2.result c.requires.nothing_posted settled told (g.met.K.Disk.reads_now c.args.disk.now image told) is.start
+    (c.in-Ok.ensures.starts settled image told) c.in-Ok.ensures.reads_disk.only_reads c.in-Ok.ensures.comes_up c.new.ensures (ap (λ (l : LoaderState). l.view) c.new-2.ensures))
+    (left_no_more set first.clock first booted (first_left set first image (g.met.K.Disk.only_now c.args.disk.now) settled told is.start) (reads_no_more first booted c.in-Ok.ensures.reads_disk.only_reads)) in
+    left_no_more set first.clock (g.K.Disk.state c.run_to_end.new.disk) (g.K.Disk.state c.standing_at_end.new.disk) on c.standing_at_end.ensures.leaves
+
+pub returns-clause-told : goal.returns-clause-told
+returns-clause-told g c =
     let first = g.L.Link.state c.args.link.now in
+    let last = g.L.Link.state c.run_to_end.new.link in
     let none : first.given ≡ happenings_of c.new.result ++ first.given = ap (λ (steps : List Step). happenings_of steps ++ first.given) (sym c.new.ensures) in
-    subst (λ (steps : List Step). (g.L.Link.state c.run_to_end.new.link).given ≡ happenings_of steps ++ first.given) (sym c.into_trace.ensures)
-    (c.in_ok-run_to_end.ensures.happened first.given none)
+    let unposted : first.posted ≡ posted_in c.new.result = c.requires.nothing_posted ∙ ap posted_in (sym c.new.ensures) in
+    subst (λ (steps : List Step). TellsLink first last steps) (sym c.into_trace.ensures) (record {
+      ends = c.in_ok-run_to_end.ensures.ends;
+      given = c.in_ok-run_to_end.ensures.happened first.given none;
+      posted = c.in_ok-run_to_end.ensures.posted unposted;
+    })
 
 pub returns-clause-stops : goal.returns-clause-stops
 returns-clause-stops g c =
@@ -100,3 +150,8 @@ returns-clause-stops g c =
       stops = rose_on (disk_stops (steps_of c.into_trace.result.items)) first.faults last.faults (g.K.Disk.state c.standing_at_end.new.disk).faults so_far c.standing_at_end.ensures.faults;
       unknown = c.in_ok-standing.ensures.unknown first.faults (disk_stops (steps_of c.into_trace.result.items)) so_far;
     }
+
+pub returns-clause-stood : goal.returns-clause-stood
+returns-clause-stood g c = λ image told.
+    let (s, kept, is) = c.in-Ok.ensures.comes_up.active image told in
+    (s, record { slot = _; by = kept.by })

@@ -6,7 +6,7 @@ use Rattle.upload_replay.proofs.powering.boot_again.Goals as goal
 
 pub returns-in-Err-Failed-clause-steps : goal.returns-in-Err-Failed-clause-steps
 returns-in-Err-Failed-clause-steps g c = λ set state begins.
-    unrestarted_steps _ g.R.Rule.may_say set state c.args.slot.now c.take.new.self (g.K.Disk.state c.args.disk.now) (g.K.Disk.state c.restart.new.self) c.restart.result _ c.take.ensures.after c.restart.ensures.elapses begins
+    unrestarted_steps _ g.R.Rule.may_say set state c.args.slot.now c.take.new.self (g.K.Disk.state c.args.disk.now) (g.K.Disk.state c.restart.new.self) c.restart.result c.take.ensures.after c.restart.ensures.elapses begins
 
 pub returns-in-Ok-clause-steps : goal.returns-in-Ok-clause-steps
 returns-in-Ok-clause-steps g c = λ set state begins.

@@ -2,7 +2,7 @@ use Rattle.std.proofs.Common.{◌≡◌, Some, None, sym, subst}
 use Rattle.accept_rules.specs.Interlocks.{Follows}
 use Rattle.replay_rules.specs.BothEnds.{Is_down}
 use Rattle.upload_replay.specs.Moments.{HoldsRun}
-use Rattle.upload_replay.proofs.Booting.{comes_up, stays_down}
+use Rattle.upload_replay.proofs.Booting.{comes_up, comes_up_told, refused_told, stays_down}
 use Rattle.upload_replay.proofs.Throughout.{read_now}
 use Rattle.upload_replay.proofs.powering.come_up.Goals as goal
 
@@ -12,7 +12,23 @@ returns-in-Ok-clause-rule g c = λ accepts follows. subst (λ rule. Follows g.R.
 pub returns-in-Ok-clause-holds : goal.returns-in-Ok-clause-holds
 returns-in-Ok-clause-holds g c = λ set active interrupted settled holds.
     let old = g.K.Disk.state c.args.disk.now in
+    let one = c.an_image_holds_one_configuration.ensures.one_standing in
     let off = subst (λ o. HoldsRun set (Is_down active interrupted) o old) c.requires.down holds in
     let (image, told) = read_now old off.tells in
-    comes_up c.an_image_holds_one_configuration.ensures.one_standing set (Is_down active interrupted) c.args.interlock.now c.in-Ok.target old (g.K.Disk.state c.boot.new.disk) image c.args.first_port _ off settled told
-    (g.met.K.Disk.reads_now c.args.disk.now image told) (c.in-Ok.ensures.starts settled image told) c.boot.ensures.reads_disk.only_reads c.in-Ok.ensures.comes_up c.sequence-sequence.ensures
+    let now = g.met.K.Disk.reads_now c.args.disk.now image told in
+    let starts = c.in-Ok.ensures.starts settled image told in
+    record {
+      holds = comes_up one set (Is_down active interrupted) c.args.interlock.now c.in-Ok.target old (g.K.Disk.state c.boot.new.disk) image c.args.first_port _ off settled told
+          now starts c.boot.ensures.reads_disk.only_reads c.in-Ok.ensures.comes_up c.sequence-sequence.ensures;
+      boots = comes_up_told one set active interrupted c.in-Ok.target old (g.K.Disk.state c.boot.new.disk) image c.args.first_port _ off now starts c.sequence-sequence.ensures;
+    }
+
+pub returns-in-Err-Recover-clause-holds : goal.returns-in-Err-Recover-clause-holds
+returns-in-Err-Recover-clause-holds g c = λ set active interrupted settled holds.
+    let old = g.K.Disk.state c.args.disk.now in
+    let off = subst (λ o. HoldsRun set (Is_down active interrupted) o old) c.requires.down holds in
+    let (image, told) = read_now old off.tells in
+    record {
+      holds = subst (λ o. HoldsRun set (Is_down active interrupted) o (g.K.Disk.state c.boot.new.disk)) (sym c.requires.down) (stays_down set (Is_down active interrupted) old (g.K.Disk.state c.boot.new.disk) off c.boot.ensures.reads_disk.only_reads);
+      boots = refused_told c.an_image_holds_one_configuration.ensures.not_both set (Is_down active interrupted) image _ (off.leaves image (g.met.K.Disk.reads_now c.args.disk.now image told)) (rw c.in-Err-Recover.field-0-is at (c.in-Err-Recover.ensures.refused image told));
+    }

@@ -26,6 +26,10 @@ turns-preserved g c = record {
   held = λ set began since media says follows before.
       c.in_ok-go_on.ensures.held set began since (media ∙ ap media_of (sym c.turns.invariant.media)) (c.turns.invariant.rule set.accepts says follows)
       (c.turns.invariant.held set began since media says follows before);
+  carries = c.in_ok-go_on.ensures.carries c.turns.invariant.carries;
+  leaves = λ set began since media says follows accepts before was.
+      c.go_on.ensures.leaves set (c.turns.invariant.rule set.accepts says follows) accepts c.turns.invariant.carries (c.turns.invariant.held set began since media says follows before).held.holds
+      since (c.turns.invariant.leaves set began since media says follows accepts before was);
   no_end = subst (λ (steps : List Step). AllByRecursion (λ (s : Step). IsNoEnd s.given) steps) (sym c.in_ok-go_on.ensures.step.recorded)
       (no_end_of c.in_ok-go_on.ensures.step.step.given (sym c.in_ok-go_on.ensures.step.end ∙ c.if-branch.false), c.turns.invariant.no_end);
   media = c.in_ok-go_on.ensures.media ∙ c.turns.invariant.media;
@@ -33,6 +37,7 @@ turns-preserved g c = record {
   running = c.in_ok-go_on.ensures.running;
   stops = λ began first. c.in_ok-go_on.ensures.stops began (c.turns.invariant.stops began first);
   happened = λ began first. c.in_ok-go_on.ensures.happened began (c.turns.invariant.happened began first);
+  posted = λ first. c.in_ok-go_on.ensures.posted (c.turns.invariant.posted first);
   arms = arms_on _ _ _ _ _ _ c.turns.invariant.arms c.go_on.ensures.arms;
   faults = omega (arith, c.turns.invariant.faults, c.in_ok-go_on.ensures.cause.later);
 }
@@ -51,3 +56,21 @@ returns-then-branch-clause-held g c =
     λ set began since media says follows before.
     c.in_ok-go_on.ensures.held set began since (media ∙ ap media_of (sym c.turns.invariant.media)) (c.turns.invariant.rule set.accepts says follows)
     (c.turns.invariant.held set began since media says follows before)
+
+pub returns-then-branch-clause-carries : goal.returns-then-branch-clause-carries
+returns-then-branch-clause-carries g c = c.in_ok-go_on.ensures.carries c.turns.invariant.carries
+
+pub returns-in_err-go_on-clause-leaves : goal.returns-in_err-go_on-clause-leaves
+returns-in_err-go_on-clause-leaves g c =
+    λ set began since media says follows accepts before was.
+    c.go_on.ensures.leaves set (c.turns.invariant.rule set.accepts says follows) accepts c.turns.invariant.carries (c.turns.invariant.held set began since media says follows before).held.holds
+    since (c.turns.invariant.leaves set began since media says follows accepts before was)
+
+pub returns-then-branch-clause-leaves : goal.returns-then-branch-clause-leaves
+returns-then-branch-clause-leaves g c =
+    λ set began since media says follows accepts before was.
+    c.go_on.ensures.leaves set (c.turns.invariant.rule set.accepts says follows) accepts c.turns.invariant.carries (c.turns.invariant.held set began since media says follows before).held.holds
+    since (c.turns.invariant.leaves set began since media says follows accepts before was)
+
+pub returns-then-branch-clause-posted : goal.returns-then-branch-clause-posted
+returns-then-branch-clause-posted g c = λ first. c.in_ok-go_on.ensures.posted (c.turns.invariant.posted first)

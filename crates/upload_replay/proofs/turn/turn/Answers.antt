@@ -1,8 +1,10 @@
 use Rattle.std.proofs.Common.{◌≡◌, inl, inr, Bool, List, ◌∷◌, ◌++◌, sym, ap, subst, ◌∙◌}
-use Rattle.exchange_trace.specs.Happenings.{HappeningView, happening_view}
-use Rattle.exchange_trace.specs.Posts.{first_port_after, happenings_of}
+use Rattle.exchange_trace.specs.Happenings.{DatagramView, HappeningView, happening_view}
+use Rattle.exchange_trace.specs.Posts.{first_port_after, happenings_of, posted_in}
+use Rattle.link_net.specs.Links.{LinkState}
 use Rattle.exchange_trace.specs.Steps.{Step}
 use Rattle.replay_rules.specs.BothEnds.{target_at}
+use Rattle.replay_rules.specs.Changes.{AllCarryBytes}
 use Rattle.replay_rules.specs.Due.{MayBeNoted}
 use Rattle.transfer_end.specs.Calls.{posts_view}
 use Rattle.upload_replay.specs.Turns.{notes_of, target_kept}
@@ -88,28 +90,38 @@ returns-clause-held g c =
     let steps = c.in_ok-second.ensures.steps set (target_at set run.recording) begins in
     subst (λ (list : List Step). HeldSoFar set since list c.target_turn.new.slot new) (sym c.in_ok-put_turn.ensures.step)
     (held_on set old new c.an_image_holds_one_configuration.ensures.one_standing (g.met.K.Disk.counts_now c.args.disk.now) (g.met.K.Disk.only_now c.args.disk.now) (g.met.K.Disk.only_now c.target_turn.new.disk)
-    since run.recording step run.target c.target_turn.new.slot (target_kept run.target) (target_kept c.target_turn.new.slot) second follow
+    since run.recording step run.target c.target_turn.new.slot (target_kept run.target) (target_kept c.target_turn.new.slot) second follow steps.boots
     (c.in_ok-second.ensures.turns set (target_at set run.recording) rule (inr begins)) steps.adds steps.holds so_far)
 
 pub returns-in_err-happening-clause-adds : goal.returns-in_err-happening-clause-adds
-returns-in_err-happening-clause-adds g c = λ set rule holds. record { happening = Ended; adds = adds_nothing set (target_at set c.args.run.now.recording) c.args.run.now.target (g.K.Disk.state c.args.disk.now) holds }
+returns-in_err-happening-clause-adds g c = λ set rule holds. record { happening = Ended; carries = tt; adds = adds_nothing set (target_at set c.args.run.now.recording) c.args.run.now.target (g.K.Disk.state c.args.disk.now) holds }
 
 pub returns-in_err-second-clause-adds : goal.returns-in_err-second-clause-adds
 returns-in_err-second-clause-adds g c = λ set rule holds.
     let steps = c.target_turn.ensures.steps set (target_at set c.args.run.now.recording) (record { rule = rule; follow = c.contents_follow_their_trace.ensures set c.args.run.now.recording; holds = holds }) in
-    record { happening = happening_view c.in_ok-happening.happening; adds = steps.adds }
+    record { happening = happening_view c.in_ok-happening.happening; carries = c.carries_bytes.ensures; adds = steps.adds }
 
 pub returns-in_err-first-clause-adds : goal.returns-in_err-first-clause-adds
 returns-in_err-first-clause-adds g c = λ set rule holds.
     let steps = c.target_turn.ensures.steps set (target_at set c.args.run.now.recording) (record { rule = rule; follow = c.contents_follow_their_trace.ensures set c.args.run.now.recording; holds = holds }) in
-    record { happening = happening_view c.in_ok-happening.happening; adds = steps.adds }
+    record { happening = happening_view c.in_ok-happening.happening; carries = c.carries_bytes.ensures; adds = steps.adds }
 
 pub returns-in_err-put_turn-clause-adds : goal.returns-in_err-put_turn-clause-adds
 returns-in_err-put_turn-clause-adds g c = λ set rule holds.
     let steps = c.target_turn.ensures.steps set (target_at set c.args.run.now.recording) (record { rule = rule; follow = c.contents_follow_their_trace.ensures set c.args.run.now.recording; holds = holds }) in
-    record { happening = happening_view c.in_ok-happening.happening; adds = steps.adds }
+    record { happening = happening_view c.in_ok-happening.happening; carries = c.carries_bytes.ensures; adds = steps.adds }
 
 pub returns-clause-adds : goal.returns-clause-adds
 returns-clause-adds g c = λ set rule holds.
     let steps = c.target_turn.ensures.steps set (target_at set c.args.run.now.recording) (record { rule = rule; follow = c.contents_follow_their_trace.ensures set c.args.run.now.recording; holds = holds }) in
-    record { happening = happening_view c.in_ok-happening.happening; adds = steps.adds }
+    record { happening = happening_view c.in_ok-happening.happening; carries = c.carries_bytes.ensures; adds = steps.adds }
+
+pub returns-clause-carries : goal.returns-clause-carries
+returns-clause-carries g c = λ before. subst (λ (steps : List Step). AllCarryBytes steps) (sym c.in_ok-put_turn.ensures.step) ((c.in_ok-put_turn.ensures.carries, c.carries_bytes.ensures), before)
+
+pub returns-clause-posted : goal.returns-clause-posted
+returns-clause-posted g c =
+    λ is.
+    let posts = posts_view c.in_ok-first.first ++ posts_view c.in_ok-second.second.posts in
+    subst (λ (steps : List Step). (g.L.Link.state c.put_turn.new.link).posted ≡ posted_in steps) (sym c.in_ok-put_turn.ensures.step)
+    (ap (λ (l : LinkState). l.posted) c.in_ok-put_turn.ensures.link ∙ ap (λ (posted : List DatagramView). posted ++ posts) (c.in_ok-happening.ensures.ok.posted ∙ is))

@@ -1,0 +1,174 @@
+-- Proofs that what is active in a run can be listed at each moment, whatever was injected.
+use Rattle.std.proofs.Common.{◌≡◌, inl, inr, ℕ, Bool, true, false, cond, List, [], ◌∷◌, map, Option, Some, None, sym, ap, subst, ◌∙◌, arith}
+use Rattle.std.specs.Prelude.{◌==◌}
+use Rattle.std.specs.List.{AllByRecursion, AllZip}
+use Rattle.std.proofs.lemmas.List.{length-map}
+use Rattle.std.proofs.lemmas.List.Elements.{All-from_recursion, All-map, recursion_from_All}
+use Rattle.std.proofs.lemmas.Slice.Zip.{AllZip-long}
+use Rattle.load_base.specs.Config.{FileView, LoadView}
+use Rattle.load_base.specs.Text.{IsText}
+use Rattle.load_base.specs.TextLaws.{name_is_text, part_text_is_text}
+use Rattle.part_number.specs.Laws.Texts.{part_text_of_part}
+use Rattle.part_number.specs.PartNumber.{maker_of, product_of}
+use Rattle.load_header.specs.Header.{HeaderView}
+use Rattle.load_protocol_files.specs.declared.lcl.Part.{Part}
+use Rattle.load_protocol_files.specs.declared.lur.Wanted.{Wanted}
+use Rattle.load_protocol_files.specs.Lcl.{HardwareFits, InstalledFits}
+use Rattle.load_protocol_files.specs.Lur.{LurFits, WantedFits}
+use Rattle.disk_layout.specs.declared.identity.Identity.{Identity}
+use Rattle.disk_layout.specs.Contents.{entries_of, entry_of, file_entry_of}
+use Rattle.disk_layout.specs.Holds.{StandingView}
+use Rattle.disk_layout.specs.Manifest.{LoadEntry}
+use Rattle.exchange_trace.specs.declared.trace.Side.TheVariants as sides
+use Rattle.exchange_trace.specs.Logs.{Down, Event, Life, Up, event_for, target_life}
+use Rattle.exchange_trace.specs.Posts.{posted_in}
+use Rattle.exchange_trace.specs.Steps.{Boot_refused, Came_up, Note, Step, Went_down}
+use Rattle.accept_rules.specs.Permissions.{Permits}
+use Rattle.session_rules.specs.ArrivedRequestLaws.{target_step_requests}
+use Rattle.session_rules.specs.BufferLaws.{SumsJoin}
+use Rattle.session_rules.specs.NewConfigs.{IsGoodLoad, IsWanted}
+use Rattle.session_rules.specs.ReadFileLaws.{RequestsAreSpelled}
+use Rattle.session_rules.specs.Reports.{first_name, listed_part}
+use Rattle.session_rules.specs.Requests.{InstallsRequest, SessionHasRequest}
+use Rattle.session_rules.specs.SoundLogLaws.{PayloadsAreBytes}
+use Rattle.session_rules.specs.SoundLogs.{StaysOrIsNew}
+use Rattle.session_rules.specs.SoundnessLaws.{HeadersAreSpelled}
+use Rattle.session_rules.specs.TargetLog.{TargetReading, standing_after, target_extended}
+use Rattle.replay_rules.specs.BothEnds.{Is_down, Is_up, Setting, TargetState, changed, come_up, gone_down, noted, reached, settled, target_at}
+use Rattle.replay_rules.specs.CameTraceLaws.{target_takes}
+use Rattle.replay_rules.specs.CameTraces.{TargetTakes}
+use Rattle.replay_rules.specs.ChangeLaws.{BringsBytes, TargetIsSound, event_bytes, posted_bytes, step_sound, target_sound}
+use Rattle.replay_rules.specs.Changes.{AllCarryBytes, TargetStaysOrIsNew}
+use Rattle.replay_rules.specs.Histories.{active_in}
+use Rattle.replay_rules.specs.ListTraces.{AllCanBeListed}
+use Rattle.replay_rules.specs.TieLaws.{HasLive, target_is_live}
+use Rattle.run_promises.specs.Listing.{WhatIsActiveCanBeListed}
+use Rattle.run_promises.proofs.Listed.{listed, lists, no_text, standing_fits}
+
+-- ---- what is installed
+
+abbrev Accepted : Setting → HeaderView → Type 0
+Accepted set h = set.accepts h ≡ true
+
+abbrev EntryFits : LoadView → Type 0
+EntryFits load = InstalledFits (listed_part (entry_of load))
+
+module _ (Accepts : HeaderView → Type 0) (id : Identity) where
+  -- a load that was asked for, and is good
+  wanted_fits : (w : Wanted) (load : LoadView) → WantedFits w → IsWanted w load → IsGoodLoad Accepts id load → EntryFits load
+  wanted_fits w load fits is good =
+      let first : first_name (map file_entry_of load.files) ≡ w.header = ap (λ (files : List FileView). first_name (map file_entry_of files)) good.whole ∙ is.header in
+      record {
+        number = subst IsText (sym is.part) (part_text_is_text w.part (part_text_of_part w.part (maker_of w.part) (product_of w.part) fits.part));
+        amendment = no_text;
+        designation = subst IsText (sym first) (name_is_text w.header fits.header);
+      }
+
+  all_fit : (request : List Wanted) (loads : List LoadView) → AllByRecursion (λ (w : Wanted). WantedFits w) request → AllZip IsWanted request loads → AllByRecursion (IsGoodLoad Accepts id) loads → AllByRecursion EntryFits loads
+  all_fit [] [] fits each good = tt
+  all_fit [] (load ∷ loads) fits each good = absurd each
+  all_fit (w ∷ request) [] fits each good = absurd each
+  all_fit (w ∷ request) (load ∷ loads) (fit, fits) (is, each) (one, good) = (wanted_fits w load fit is one, all_fit request loads fits each good)
+
+  new_fits : (before : StandingView) (request : List Wanted) (loads : List LoadView) → LurFits (record { loads = request }) → AllZip IsWanted request loads → AllByRecursion (IsGoodLoad Accepts id) loads
+      → HardwareFits (listed before) → HardwareFits (listed (standing_after before loads))
+  new_fits before request loads asked each good was = record {
+    name = was.name;
+    serial = was.serial;
+    count = rw (length-map, length-map) (omega (arith, AllZip-long IsWanted request loads each, asked.count));
+    parts = All-map (λ (p : Part). InstalledFits p) listed_part (entries_of loads) (All-map (λ (l : LoadEntry). InstalledFits (listed_part l)) entry_of loads
+        (All-from_recursion EntryFits loads (all_fit request loads (recursion_from_All (λ (w : Wanted). WantedFits w) request asked.loads) each good)));
+  }
+
+-- ---- of a state
+
+abbrev Lists : StandingView → Type 0
+Lists s = HardwareFits (listed s)
+
+abbrev ListsIf : Option StandingView → Type 0
+ListsIf None = Unit {0}
+ListsIf (Some s) = Lists s
+
+-- What may be active can be listed, and what a live session was asked for arrived as a request.
+abbrev StateLists : Setting → TargetState → Type 0
+StateLists set (Is_up r) = Lists r.active × SessionHasRequest set.accepts r
+StateLists set (Is_down active interrupted) = Lists active × ListsIf interrupted
+
+active_lists : (set : Setting) (state : TargetState) → StateLists set state → Lists (active_in state)
+active_lists set (Is_up r) h = h.0
+active_lists set (Is_down active interrupted) h = h.0
+
+-- ---- what is noted
+
+changed_lists : (before after : StandingView) → Lists after → ListsIf (changed before after)
+changed_lists before after h = by (before.sequence == after.sequence)
+  where
+    by : (b : Bool) → ListsIf (cond b None (Some after))
+    by true = tt
+    by false = h
+
+settled_lists : (sequence : ℕ) (active : StandingView) (interrupted : Option StandingView) → Lists active → ListsIf interrupted → Lists (settled sequence active interrupted)
+settled_lists sequence active None h then = h
+settled_lists sequence active (Some new) h then = by (sequence == new.sequence)
+  where
+    by : (b : Bool) → Lists (cond b new active)
+    by true = then
+    by false = h
+
+module _ (set : Setting) where
+  gone_lists : (before after : TargetState) → StateLists set before → StateLists set after → StateLists set (gone_down before after)
+  gone_lists (Is_up r) (Is_up s) h then = (h.0, changed_lists r.active s.active then.0)
+  gone_lists (Is_up r) (Is_down active interrupted) h then = then
+  gone_lists (Is_down active interrupted) after h then = h
+
+  come_lists : (first_port sequence : ℕ) (state : TargetState) → StateLists set state → StateLists set (come_up first_port sequence state)
+  come_lists first_port sequence (Is_up r) h = h
+  come_lists first_port sequence (Is_down active interrupted) h = (settled_lists sequence active interrupted h.0 h.1, tt)
+
+  noted_lists : (notes : List Note) (before after : TargetState) → StateLists set before → StateLists set after → StateLists set (noted notes before after)
+  noted_lists [] before after h then = then
+  noted_lists (Went_down ∷ notes) before after h then = let down = gone_lists before after h then in noted_lists notes (gone_down before after) (gone_down before after) down down
+  noted_lists (Came_up first_port sequence ∷ notes) before after h then =
+      let up = come_lists first_port sequence (gone_down before after) (gone_lists before after h then) in
+      noted_lists notes (come_up first_port sequence (gone_down before after)) (come_up first_port sequence (gone_down before after)) up up
+  noted_lists (Boot_refused fault ∷ notes) before after h then = let down = gone_lists before after h then in noted_lists notes (gone_down before after) (gone_down before after) down down
+
+-- ---- a step more
+
+module _ (joins : SumsJoin) (spells : HeadersAreSpelled) (payloads : PayloadsAreBytes) (requests : RequestsAreSpelled) (set : Setting) (permits : (h : HeaderView) → set.accepts h ≡ true → Permits h) where
+  changed_active : (before after : TargetReading) → StaysOrIsNew set.accepts before after → InstallsRequest set.accepts before after → Lists before.active → Lists after.active
+  changed_active before after (inl same) asked h = subst (λ (s : StandingView). Lists s) (sym same) h
+  changed_active before after (inr new) asked h =
+      subst (λ (s : StandingView). Lists s) (sym new.next) (new_fits (Accepted set) before.active.identity before.active new.upload.request new.loads (asked new).spells.0 new.new.each new.new.good h)
+
+  reached_lists : (life : Life) (state : TargetState) (e : Option Event) → BringsBytes e → TargetTakes life state → HasLive state → TargetIsSound set life state → TargetStaysOrIsNew set state (reached set e state) → StateLists set state
+      → StateLists set (reached set e state)
+  reached_lists (Up first_port log) (Is_up r) None now takes live sound change h = h
+  reached_lists (Up first_port log) (Is_up r) (Some e) now (packets, blocks, last) live (fit, sound) change (h, has) =
+      let then = target_step_requests requests set.accepts joins payloads log r e (now, fit) packets live sound has in
+      (changed_active r (target_extended set.accepts r e) change then.1 h, then.0)
+  reached_lists (Up first_port log) (Is_down active interrupted) e now takes live sound change h = absurd takes
+  reached_lists Down (Is_up r) e now takes live sound change h = absurd takes
+  reached_lists Down (Is_down active interrupted) None now takes live sound change h = h
+  reached_lists Down (Is_down active interrupted) (Some e) now takes live sound change h = h
+
+  step_lists : (s : Step) (earlier : List Step) → AllCarryBytes (s ∷ earlier) → StateLists set (target_at set earlier) → StateLists set (target_at set (s ∷ earlier))
+  step_lists s earlier ((posts, given), all) h =
+      let e = event_for sides.Target (posted_in earlier) s.given in
+      let sound = target_sound joins spells payloads set permits earlier all in
+      noted_lists set s.notes (target_at set earlier) (reached set e (target_at set earlier)) h
+      (reached_lists (target_life earlier) (target_at set earlier) e (event_bytes (posted_in earlier) s.given (posted_bytes earlier all) given) (target_takes set earlier) (target_is_live joins set earlier) sound
+      (step_sound joins spells payloads set permits s earlier ((posts, given), all) sound).1 h)
+
+  state_lists : Lists set.start → (steps : List Step) → AllCarryBytes steps → StateLists set (target_at set steps)
+  state_lists first [] all = (first, tt)
+  state_lists first (s ∷ earlier) all = step_lists s earlier all (state_lists first earlier all.1)
+
+  all_can_be_listed : Lists set.start → (steps : List Step) → AllCarryBytes steps → AllCanBeListed set steps
+  all_can_be_listed first [] all = lists set.start first
+  all_can_be_listed first (s ∷ earlier) all =
+      (lists (active_in (target_at set (s ∷ earlier))) (active_lists set (target_at set (s ∷ earlier)) (state_lists first (s ∷ earlier) all)), all_can_be_listed first earlier all.1)
+
+pub active_is_listed : SumsJoin → HeadersAreSpelled → PayloadsAreBytes → RequestsAreSpelled → WhatIsActiveCanBeListed
+active_is_listed joins spells payloads requests set steps permits all fits =
+    all_can_be_listed joins spells payloads requests set permits (standing_fits set.start fits) steps all

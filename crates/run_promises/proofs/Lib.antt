@@ -1,0 +1,6 @@
+pub mod Active
+pub mod Held
+pub mod Kept
+pub mod Listed
+pub mod Named
+pub mod Told

@@ -1,0 +1,140 @@
+-- What is promised of a run that came to its end (docs/PROMISES.md, "The exchange is defined").
+use Rattle.std.specs.Prelude.{◌≡◌, ℕ, ◌+◌, ◌≤◌, List, ◌∷◌, ◌++◌, length, reverse, true, Option, Some}
+use Rattle.std.specs.List.{AllByRecursion}
+use Rattle.field_grammar.specs.Grammar.{IsBytes}
+use Rattle.load_header.specs.Header.{HeaderView}
+use Rattle.disk_model.specs.Image.{Image}
+use Rattle.disk_layout.specs.Holds.{HoldsConfig, StandingView}
+use Rattle.exchange_trace.specs.Lines.{Line}
+use Rattle.exchange_trace.specs.Posts.{AllHonest}
+use Rattle.exchange_trace.specs.Steps.{Step}
+use Rattle.accept_rules.specs.Permissions.{Permits}
+use Rattle.session_rules.specs.declared.outcome.Outcome.TheVariants.{Completed}
+use Rattle.session_rules.specs.declared.outcome.SessionKind.{SessionKind}
+use Rattle.session_rules.specs.declared.outcome.SessionKind.TheVariants.{Info, Upload}
+use Rattle.session_rules.specs.Loader.{EndedSession}
+use Rattle.session_rules.specs.LoaderLog.{loader_view}
+use Rattle.session_rules.specs.MediaFiles.{Media}
+use Rattle.loader_machine.specs.Machine.{all_sessions}
+use Rattle.replay_rules.specs.AskedTraces.{EntriesFit}
+use Rattle.replay_rules.specs.BothEnds.{Setting, loader_at, target_at}
+use Rattle.replay_rules.specs.Changes.{AllBroughtAreGood, AllCarryBytes, AllStayOrAreNew}
+use Rattle.replay_rules.specs.FaultFree.{IsFaultFree, NothingInjected}
+use Rattle.replay_rules.specs.FirstOrGood.{IsFirstOrGood}
+use Rattle.replay_rules.specs.Histories.{active_by, may_be_active}
+use Rattle.replay_rules.specs.ListTraces.{ListsInSession}
+use Rattle.replay_rules.specs.MediaTraces.{LengthsAreTold}
+use Rattle.replay_rules.specs.OwnSessionTraces.{StaysInstalled}
+use Rattle.replay_rules.specs.Promises.{AllOfMedia, IsTrace, NoneGoesDown, OnlyFinishIsLeft}
+use Rattle.replay_rules.specs.Runs.{Follows, IsWithinMargin}
+use Rattle.finish_ends.specs.Scripts.{most_of_lines}
+use Rattle.session_completion.specs.FinishedRuns.{IsComplete}
+use Rattle.run_promises.specs.Listing.{StandingFits}
+
+-- ---- premises
+
+-- the interlock accepts only what it may
+abbrev pub AcceptsPermitted : Setting → Type 0
+AcceptsPermitted set = (h : HeaderView) → set.accepts h ≡ true → Permits h
+
+-- The entries of the media set have names and part numbers, and its files are bytes, no more than a request can tell the length
+-- of.
+pub record CanBeTold (media : Media) : Type 0 where
+  pub entries : EntriesFit media
+  pub lengths : LengthsAreTold media
+  pub bytes : (name bytes : List ℕ) → media.file name ≡ Some bytes → IsBytes bytes
+
+-- A run came to its end: the end came last, exactly what was due was posted, only that was noted of the target which may be,
+-- the link delivered only what was posted, and datagrams carry bytes.
+pub record IsWholeRun (set : Setting) (steps : List Step) : Type 0 where
+  pub trace : IsTrace set steps
+  pub honest : AllHonest steps
+  pub carries : AllCarryBytes steps
+
+-- ---- what may be active
+
+-- The configuration changes only to that of a good verdict, made of loads that are good for the target; and what may be
+-- active in the end was active at the start, or has a load and good loads alone.
+pub record ChangesByGoodLoads (set : Setting) (steps : List Step) : Type 0 where
+  pub changes : AllStayOrAreNew set steps
+  pub brought : AllBroughtAreGood set steps
+  pub active : AllByRecursion (IsFirstOrGood set) (may_be_active (target_at set steps))
+
+-- The image holds what was active at the start, or a configuration that has a load and good loads alone.
+pub record HoldsFirstOrGood (set : Setting) (image : Image) : Type 0 where
+  pub active : StandingView
+  pub holds : HoldsConfig image active
+  pub good : IsFirstOrGood set active
+
+-- ---- what is told
+
+-- At this place among the sessions, in the order of their starts, one of this kind is told to be completed.
+pub record IsTold (kind : SessionKind) (sessions : List EndedSession) : Type 0 where
+  pub before : List EndedSession
+  pub session : EndedSession
+  pub after : List EndedSession
+  pub place : sessions ≡ before ++ session ∷ after
+  pub kind_is : session.kind ≡ kind
+  pub completed : session.outcome ≡ Completed
+
+-- The session with these before it ended in this step of the run: they had ended then, and no other.
+pub record EndsIn (set : Setting) (steps : List Step) (before : List EndedSession) (session : EndedSession) : Type 0 where
+  pub since : List Step
+  pub step : Step
+  pub earlier : List Step
+  pub split : steps ≡ since ++ step ∷ earlier
+  pub others : (loader_at set earlier).ended ≡ reverse before
+  pub ends : (loader_at set (step ∷ earlier)).ended ≡ session ∷ reverse before
+
+-- An upload had been installed in its own session when it ended: exactly the parts of its start, in their order. What it
+-- installed is in the history of the run, and what is active in the end is that or a later member.
+pub record UploadIsInstalled (set : Setting) (steps : List Step) (standing : Option StandingView) (before : List EndedSession) (session : EndedSession) : Type 0 where
+  pub ended : EndsIn set steps before session
+  pub stays : StaysInstalled set ended.since (ended.step ∷ ended.earlier) standing
+
+-- an information session lists what was active within it
+pub record ListIsTrue (set : Setting) (steps : List Step) (before : List EndedSession) (session : EndedSession) : Type 0 where
+  pub ended : EndsIn set steps before session
+  pub lists : ListsInSession set (ended.step ∷ ended.earlier) session
+
+-- What is told of the sessions is true: each file that is installed is the media set's file of its name, a completed upload
+-- is installed, and a completed information session lists what was active.
+pub record TellsTrue (set : Setting) (steps : List Step) (sessions : List EndedSession) (standing : Option StandingView) : Type 0 where
+  pub media : AllOfMedia set steps
+  pub uploads : (told : IsTold Upload sessions) → UploadIsInstalled set steps standing told.before told.session
+  pub lists : (told : IsTold Info sessions) → ListIsTrue set steps told.before told.session
+
+-- ---- what completes
+
+-- The run was left to a last `finish` of this script after the steps `before`, which are fault-free and within the margin, and
+-- the target doesn't go down in the steps of the `finish`.
+pub record IsLeftToLastFinish (set : Setting) (script : List Line) (steps : List Step) : Type 0 where
+  pub before : List Step
+  pub more : List Step
+  pub split : steps ≡ more ++ before
+  pub free : IsFaultFree set before
+  pub margin : IsWithinMargin set before
+  pub left : OnlyFinishIsLeft set script before
+  pub stays_up : NoneGoesDown more
+
+-- such a run, at whose end this was recovered, is complete
+abbrev pub CompletesAtFinish : Setting → List Line → List Step → Option StandingView → Type 0
+CompletesAtFinish set script steps standing =
+    (left : IsLeftToLastFinish set script steps) (last : StandingView) → standing ≡ Some last → last ≡ active_by (target_at set steps) (Some last)
+    → IsComplete set left.before left.free steps last
+
+-- ---- all of it
+
+-- What is promised of a run with these sessions, at whose end this was recovered, where the interlock accepts only what it may.
+-- Whatever was injected, what may be active is good; where nothing was injected, the media set can be told, and the run began
+-- with what a disk can hold, what is told is true; a run of a script has no more steps than its lines allow, and a fault-free
+-- one that was left to its last `finish` is complete.
+pub record KeepsPromises (set : Setting) (steps : List Step) (sessions : List EndedSession) (standing : Option StandingView) : Type 0 where
+  pub good : AcceptsPermitted set → ChangesByGoodLoads set steps
+  pub tells : AcceptsPermitted set → CanBeTold set.media → StandingFits set.start → NothingInjected steps → TellsTrue set steps sessions standing
+  pub bounded : (script : List Line) → Follows set script steps → length steps ≤ most_of_lines 0 script + 1
+  pub completes : AcceptsPermitted set → CanBeTold set.media → StandingFits set.start → (script : List Line) → Follows set script steps → CompletesAtFinish set script steps standing
+
+abbrev pub RunsKeepPromises : Type 0
+RunsKeepPromises = (set : Setting) (steps : List Step) (standing : Option StandingView) → IsWholeRun set steps
+    → KeepsPromises set steps (all_sessions (loader_view (loader_at set steps))) standing

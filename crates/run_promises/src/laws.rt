@@ -1,0 +1,53 @@
+//! What holds of a run that came to its end. These functions do nothing; their clauses are the law.
+ghost use Rattle.run_promises.specs.Listing.{WhatFitsCanBeListed, WhatFitsNamesItsFiles};
+ghost use Rattle.run_promises.specs.Listing.{WhatIsActiveCanBeListed, WhatIsHeldFits};
+ghost use Rattle.run_promises.specs.Promises.{RunsKeepPromises};
+
+use crc_fields::check_sum_laws;
+use finish_ends::laws::every_script_ends;
+use load_header::header_laws;
+use load_protocol_files::protocol_file_laws;
+use replay_rules::laws::{
+    a_completed_session_lists_what_was_active, a_completed_upload_is_installed,
+    the_configuration_changes_by_good_verdicts, what_is_installed_is_of_the_media_set,
+};
+use session_completion::laws::a_run_left_to_finish_completes;
+use tftp_packet::packet_laws;
+
+/// Whatever configuration an image holds, its identity has Idents and its loads are those of a
+/// manifest. So the protocol files of its target have names, and it can be listed in an
+/// information operation.
+pub fn what_a_disk_holds_can_be_listed()
+    ensures fits { WhatIsHeldFits }
+    ensures names { WhatFitsNamesItsFiles }
+    ensures lists { WhatFitsCanBeListed }
+{}
+
+/// What is active in a run can be listed at each of its moments, where the run began with what a
+/// disk can hold: whatever is delivered, lost, repeated, reordered or injected, and wherever power
+/// fails. What an installation brings has the part numbers and header names of a request that
+/// arrived.
+pub fn what_is_active_can_be_listed()
+    ensures { WhatIsActiveCanBeListed }
+{
+    check_sum_laws();
+    header_laws();
+    packet_laws();
+    protocol_file_laws();
+}
+
+/// Each run that came to its end keeps what is promised of it, through losses, repeats, other
+/// orders, power losses and boots: what may be active is good, where nothing was injected what is
+/// told of completed sessions is true, and a fault-free run that is left to `finish` completes.
+pub fn a_run_keeps_its_promises()
+    ensures { RunsKeepPromises }
+{
+    what_a_disk_holds_can_be_listed();
+    what_is_active_can_be_listed();
+    the_configuration_changes_by_good_verdicts();
+    what_is_installed_is_of_the_media_set();
+    a_completed_session_lists_what_was_active();
+    a_completed_upload_is_installed();
+    every_script_ends();
+    a_run_left_to_finish_completes();
+}
