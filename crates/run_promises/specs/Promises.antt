@@ -25,10 +25,10 @@ use Rattle.replay_rules.specs.Histories.{active_by, may_be_active}
 use Rattle.replay_rules.specs.ListTraces.{ListsInSession}
 use Rattle.replay_rules.specs.MediaTraces.{LengthsAreTold}
 use Rattle.replay_rules.specs.OwnSessionTraces.{StaysInstalled}
-use Rattle.replay_rules.specs.Promises.{AllOfMedia, IsTrace, NoneGoesDown, OnlyFinishIsLeft}
+use Rattle.replay_rules.specs.Promises.{AllOfMedia, IsTrace, NoneGoesDown}
 use Rattle.replay_rules.specs.Runs.{Follows, IsWithinMargin}
 use Rattle.finish_ends.specs.Scripts.{most_of_lines}
-use Rattle.session_completion.specs.FinishedRuns.{IsComplete}
+use Rattle.session_completion.specs.FinishedRuns.{FinishIsLeft, IsComplete}
 use Rattle.run_promises.specs.Listing.{StandingFits}
 
 -- ---- premises
@@ -114,7 +114,7 @@ pub record IsLeftToLastFinish (set : Setting) (script : List Line) (steps : List
   pub split : steps ≡ more ++ before
   pub free : IsFaultFree set before
   pub margin : IsWithinMargin set before
-  pub left : OnlyFinishIsLeft set script before
+  pub left : FinishIsLeft set script before
   pub stays_up : NoneGoesDown more
 
 -- such a run, at whose end this was recovered, is complete

@@ -2,11 +2,13 @@
 ghost use Rattle.run_promises.specs.Listing.{WhatFitsCanBeListed, WhatFitsNamesItsFiles};
 ghost use Rattle.run_promises.specs.Listing.{WhatIsActiveCanBeListed, WhatIsHeldFits};
 ghost use Rattle.run_promises.specs.Promises.{RunsKeepPromises};
+ghost use Rattle.run_promises.specs.TellableSets.{ReadSetsCanBeTold, SetsCanBeTold};
 
 use crc_fields::check_sum_laws;
 use finish_ends::laws::every_script_ends;
 use load_header::header_laws;
 use load_protocol_files::protocol_file_laws;
+use media_lists::loads_list_laws;
 use replay_rules::laws::{
     a_completed_session_lists_what_was_active, a_completed_upload_is_installed,
     the_configuration_changes_by_good_verdicts, what_is_installed_is_of_the_media_set,
@@ -34,6 +36,18 @@ pub fn what_is_active_can_be_listed()
     header_laws();
     packet_laws();
     protocol_file_laws();
+}
+
+/// A media set that was read can be told, where it was read of files that are bytes: each entry of
+/// its list of loads has a name and a part number, and each of its files is bytes, no more than a
+/// request can tell the length of.
+pub fn a_set_that_is_read_can_be_told()
+    // Whatever the media: a folder of a host, or lists and files in memory.
+    ensures media { SetsCanBeTold }
+    // A folder of a host that tells its files. An opening reads no file that is too long.
+    ensures folder { ReadSetsCanBeTold }
+{
+    loads_list_laws();
 }
 
 /// Each run that came to its end keeps what is promised of it, through losses, repeats, other

@@ -40,6 +40,7 @@ use Rattle.session_completion.proofs.Brought.{AreServedAs, KnowsBrought, active_
 use Rattle.session_completion.proofs.Contents.{loads_same}
 use Rattle.session_completion.proofs.FaultFreeRuns.{live_so, posted_since, target_so}
 use Rattle.session_completion.proofs.Finishing.{IsQuietly, all_quietly, begins_finish}
+use Rattle.session_completion.proofs.LastFinish.{some_left}
 
 -- ---- what a script names was posted
 
@@ -241,12 +242,11 @@ ends_before [] base none = none
 ends_before (s ∷ more) base none = ends_before more base none.1
 
 -- the end hasn't come where a line is left
-no_end : (set : Setting) (script : List Line) (more steps : List Step) → EndsOnce (more ++ steps) → Follows set script (more ++ steps) → (plan_at set script steps).lines ≡ Finish ∷ [] → NoEnds steps
-no_end set script [] [] ends follows left = absurd ends
-no_end set script [] (s ∷ earlier) ends follows left =
-    absurd (let none : (plan_at set script (s ∷ earlier)).lines ≡ [] = ap (λ (p : Plan). p.lines) (end_is_last (scene_at set earlier) (plan_at set script earlier) (sym follows.0 ∙ ends.0)) in
-    let wrong : [] ≡ Finish ∷ [] = sym none ∙ left in cc)
-no_end set script (s ∷ more) steps ends follows left = ends_before more steps ends.1
+no_end : (set : Setting) (script idle : List Line) (more steps : List Step) → EndsOnce (more ++ steps) → Follows set script (more ++ steps) → (plan_at set script steps).lines ≡ idle ++ Finish ∷ [] → NoEnds steps
+no_end set script idle [] [] ends follows left = absurd ends
+no_end set script idle [] (s ∷ earlier) ends follows left =
+    absurd (some_left idle (sym (ap (λ (p : Plan). p.lines) (end_is_last (scene_at set earlier) (plan_at set script earlier) (sym follows.0 ∙ ends.0))) ∙ left))
+no_end set script idle (s ∷ more) steps ends follows left = ends_before more steps ends.1
 
 -- the upload is completed, all is quiet, and the target is up with the entries of the loads that were asked for
 record HasEntries (set : Setting) (steps : List Step) (free : IsFaultFree set steps) (last : List Step) : Type 0 where
@@ -325,7 +325,7 @@ module _ (set : Setting) (script : List Line) (steps more : List Step) (free : I
         named = names_only set script steps follows;
         zips = subst (λ (ds : List DatagramView). AllZip (Names ds) (undelivered_after steps) q.queue) (sym posted) q.zips;
       } in
-      let end = finish_is keeps set script (posted_in free.before) now it.last q.queue sides.Loader it.finishes more steps at (no_end set script more steps left.trace.ends left.follows left.left.0)
+      let end = finish_is keeps set script (posted_in free.before) now it.last q.queue sides.Loader it.finishes more steps at (no_end set script left.left.idle more steps left.trace.ends left.follows left.left.lines)
       (record { ends = left.trace.ends; due = left.trace.due; follows = left.follows; up = left.stays_up }) in
       comes_to set steps (more ++ steps) free (posted_in free.before) it.last end it.loader it.target it.completed it.active
 

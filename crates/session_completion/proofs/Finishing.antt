@@ -1,18 +1,18 @@
 -- What a script's last `finish` gives: deliveries, ticks and the end.
-use Rattle.std.proofs.Common.{◌≡◌, ℕ, List, [], ◌∷◌, ◌++◌, Option, Some, None, sym, ap, subst, ◌∙◌}
+use Rattle.std.proofs.Common.{◌≡◌, ℕ, List, [], ◌∷◌, ◌++◌, Option, Some, None, refl, sym, ap, subst, ◌∙◌}
 use Rattle.std.specs.Prelude.{length, option_map}
 use Rattle.std.specs.List.{AllByRecursion}
 use Rattle.exchange_trace.specs.declared.trace.Side.{Side}
 use Rattle.exchange_trace.specs.declared.trace.Side.TheVariants as sides
 use Rattle.exchange_trace.specs.Following.{Deliveries, Finishing, Nothing_left, Rest, Scene, Turn, delivery, delivery_of_first, finishing, finishing_tick, from_lines, goes_on, least_delivery, next_turn, or_else, ticked_side, turn}
 use Rattle.exchange_trace.specs.Happenings.{DatagramView, Delivered, Ended, HappeningView, other}
-use Rattle.exchange_trace.specs.Lines.{Line}
+use Rattle.exchange_trace.specs.Lines.{Finish, Line}
 use Rattle.exchange_trace.specs.Posts.{numbered, undelivered}
 use Rattle.exchange_trace.specs.Steps.{Step}
 use Rattle.replay_rules.specs.BothEnds.{Setting}
 use Rattle.replay_rules.specs.FaultFree.{IsNoInjection, IsNoStart}
-use Rattle.replay_rules.specs.Promises.{OnlyFinishIsLeft}
 use Rattle.replay_rules.specs.Runs.{Follows, plan_at, scene_at}
+use Rattle.session_completion.specs.FinishedRuns.{AllGiveNothing, FinishIsLeft}
 
 -- nothing is injected, and no session is started
 pub record IsQuietly (h : HappeningView) : Type 0 where
@@ -61,16 +61,21 @@ last_turn s Nothing_left [] h = (record { injects = tt; starts = tt }, tt)
 last_turn s Nothing_left (line ∷ lines) h = absurd h
 last_turn s (Deliveries k) lines h = absurd h
 
--- the first turn of that `finish`
-pub begins_finish : (set : Setting) (script : List Line) (steps : List Step) → OnlyFinishIsLeft set script steps
-    → next_turn (scene_at set steps) (plan_at set script steps) ≡ or_else (goes_on (scene_at set steps) (Finishing sides.Loader) []) (turn Ended Nothing_left [])
-begins_finish set script steps only =
-    let s = scene_at set steps in
-    ap (λ (o : Option Turn). or_else o (from_lines s (plan_at set script steps).lines)) only.1 ∙ ap (λ (lines : List Line). from_lines s lines) only.0
+-- lines that give nothing are passed over
+passed_over : (s : Scene) (idle later : List Line) → AllGiveNothing s idle later → from_lines s (idle ++ later) ≡ from_lines s later
+passed_over s [] later h = refl
+passed_over s (line ∷ idle) later h = ap (λ (o : Option Turn). or_else o (from_lines s (idle ++ later))) h.0 ∙ passed_over s idle later h.1
 
-module _ (set : Setting) (script : List Line) (steps : List Step) (only : OnlyFinishIsLeft set script steps) where
+-- the first turn of that `finish`
+pub begins_finish : (set : Setting) (script : List Line) (steps : List Step) → FinishIsLeft set script steps
+    → next_turn (scene_at set steps) (plan_at set script steps) ≡ or_else (goes_on (scene_at set steps) (Finishing sides.Loader) []) (turn Ended Nothing_left [])
+begins_finish set script steps left =
+    let s = scene_at set steps in
+    ap (λ (o : Option Turn). or_else o (from_lines s (plan_at set script steps).lines)) left.over ∙ ap (λ (lines : List Line). from_lines s lines) left.lines ∙ passed_over s left.idle (Finish ∷ []) left.give_nothing
+
+module _ (set : Setting) (script : List Line) (steps : List Step) (left : FinishIsLeft set script steps) where
   turn_is_last : (more : List Step) → IsLastTurn (next_turn (scene_at set (more ++ steps)) (plan_at set script (more ++ steps)))
-  turn_is_last [] = subst (λ (t : Turn). IsLastTurn t) (sym (begins_finish set script steps only)) (finish_turn (scene_at set steps) sides.Loader)
+  turn_is_last [] = subst (λ (t : Turn). IsLastTurn t) (sym (begins_finish set script steps left)) (finish_turn (scene_at set steps) sides.Loader)
   turn_is_last (s ∷ more) =
       let plan = plan_at set script (s ∷ (more ++ steps)) in last_turn (scene_at set (s ∷ (more ++ steps))) plan.rest plan.lines (turn_is_last more).1
 

@@ -25,6 +25,7 @@ pub mod FaultFreeRuns
 pub mod Frees
 pub mod Idle
 pub mod Followed
+pub mod LastFinish
 pub mod Finishing
 pub mod Contents
 pub mod Brought

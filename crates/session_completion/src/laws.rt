@@ -3,7 +3,8 @@
 ghost use Rattle.session_completion.specs.FaultFreeRuns.{FaultFreeGivesNoneUp, FaultFreeRunsComplete};
 ghost use Rattle.session_completion.specs.FaultFreeRuns.{FaultFreeRunsLead, QuietIsIdle};
 ghost use Rattle.session_completion.specs.Finish.{FinishEnds};
-ghost use Rattle.session_completion.specs.FinishedRuns.{FinishCompletes};
+ghost use Rattle.session_completion.specs.FinishedRuns.{FinishAloneIsLeft, FinishCompletes};
+ghost use Rattle.session_completion.specs.FinishedRuns.{LastFinishIsReached};
 ghost use Rattle.session_completion.specs.GoodRequests.{GoodLoadsLeadOn, RequestsAreRead};
 ghost use Rattle.session_completion.specs.GoodUploads.{GoodUploadsComplete};
 ghost use Rattle.session_completion.specs.Laws.{AllComeOut, FewAreAhead, LastIsDone};
@@ -105,10 +106,17 @@ pub fn fault_free_runs_complete()
     good_uploads_complete();
 }
 
-/// So a fault-free run completes of which a script's last `finish` alone is left to follow: what a
-/// `finish` gives is that of both ends and of what was posted. The upload is completed, the run is
-/// quiet, and on the target are the loads that were asked for, with the bytes of the media set's
-/// files.
+/// A last `finish` is left where its turn comes next: lines before it that give nothing are passed
+/// over.
+pub fn a_last_finish_is_left()
+    ensures alone { FinishAloneIsLeft }
+    // Whatever stands before it in the script, and whatever happens.
+    ensures reached { LastFinishIsReached }
+{}
+
+/// So a fault-free run completes that is left to a script's last `finish`: what a `finish` gives is
+/// that of both ends and of what was posted. The upload is completed, the run is quiet, and on the
+/// target are the loads that were asked for, with the bytes of the media set's files.
 pub fn a_run_left_to_finish_completes()
     ensures { FinishCompletes }
 {

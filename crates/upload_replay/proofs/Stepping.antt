@@ -127,13 +127,6 @@ nothing_steps {T} {R} E may_say set e (Is_down active interrupted) disk x notes 
           boots = subst (λ (list : List Note). BootIsTold (noted list (Is_down active interrupted) (Is_down active interrupted)) list) (sym none) tt;
         }
 
--- it was taken from its slot
-pub idle_steps : {T R : Type 0} (E : Type 0) (may_say : R → LoadHeader → Bool → Type 0) (set : Setting) (e : Option Event) (state : TargetState) (slot gone : Option (machine.TargetState R)) (disk : DiskState) (x : T) (notes : T → List Note)
-    → slot ≡ None → gone ≡ None → notes x ≡ [] → BeginsStep may_say set state slot disk → StepsOn {R = R} {E = E} set e state gone notes disk disk (Ok x)
-idle_steps {T} {R} E may_say set e state slot gone disk x notes was is none begins =
-    subst (λ (o : Option (machine.TargetState R)). StepsOn {R = R} {E = E} set e state o notes disk disk (Ok x)) (sym is)
-    (nothing_steps E may_say set e state disk x notes none (subst (λ (o : Option (machine.TargetState R)). BeginsStep may_say set state o disk) was begins))
-
 -- ---- the same as another answer
 
 pub steps_as : {R T S E F : Type 0} (set : Setting) (e : Option Event) (state : TargetState) (target : Option (machine.TargetState R)) (old new : DiskState) (notes : T → List Note) (more : S → List Note) (x : T) (y : S) → more y ≡ notes x

@@ -65,8 +65,7 @@ fn post<L: Link>(
 // For the proof: does nothing.
 pub(crate) fn are_bytes(bytes: &[u8])
     ensures { IsBytes bytes.now }
-{
-}
+{}
 
 fn copy_of(alloc: Global, datagram: &Datagram) -> Result<Datagram, NoMemory>
     ensures copy { IfOk result (λ copy. datagram_view copy ≡ datagram_view datagram.now) }

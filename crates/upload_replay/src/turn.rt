@@ -240,21 +240,21 @@ fn reach_target<K: Disk, R: Rule>(
         (happening_view happening.now)) state slot.new (λ reply. notes_of reply.note)
         (K.state disk.old) (K.state disk.new) result }
 {
-    let Some(mut target) = slot.take() else {
+    let Some(target) = slot else {
         return Ok(Reply {
             posts: Posts::none(),
             note: None,
         });
     };
-    match target_takes(&mut target, disk, recording, happening) {
-        Ok(posts) => {
-            *slot = Some(target);
-            Ok(Reply { posts, note: None })
+    match target_takes(target, disk, recording, happening) {
+        Ok(posts) => Ok(Reply { posts, note: None }),
+        Err(Down::DiskFailed) => {
+            drop(slot.take());
+            Ok(Reply {
+                posts: Posts::none(),
+                note: Some(PowerNote::Down),
+            })
         }
-        Err(Down::DiskFailed) => Ok(Reply {
-            posts: Posts::none(),
-            note: Some(PowerNote::Down),
-        }),
         Err(Down::Memory) => Err(DriveFault::Memory),
     }
 }

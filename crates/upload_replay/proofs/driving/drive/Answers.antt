@@ -46,8 +46,8 @@ returns-clause-run g c =
     let on : GoesOn set began c.run_to_end.new.run.recording c.run_to_end.new.run.loader.view (target_kept c.run_to_end.new.run.target) (g.L.Link.state c.run_to_end.new.link) = elim all [
       | inl none_boots ↦ c.in_ok-run_to_end.ensures.goes_on set began media is.accepts rule (λ none. start) (subst (λ (steps : List Step). NeverBoots steps) c.into_trace.ensures none_boots)
       | inr settled ↦ (c.in_ok-run_to_end.ensures.held set began (g.K.Disk.state c.args.disk.now).clock media is.accepts rule
-      (ready one set c.args.interlock.now target (g.K.Disk.state c.args.disk.now) (g.K.Disk.state c.boot.new.disk) image began c.new.result c.new-2.result c.requires.nothing_posted settled told (g.met.K.Disk.reads_now c.args.disk.now image told) is.start
-      (c.in-Ok.ensures.starts settled image told) c.in-Ok.ensures.reads_disk.only_reads c.in-Ok.ensures.comes_up c.new.ensures (ap (λ (l : LoaderState). l.view) c.new-2.ensures))).goes_on
+          (ready one set c.args.interlock.now target (g.K.Disk.state c.args.disk.now) (g.K.Disk.state c.boot.new.disk) image began c.new.result c.new-2.result c.requires.nothing_posted settled told (g.met.K.Disk.reads_now c.args.disk.now image told) is.start
+          (c.in-Ok.ensures.starts settled image told) c.in-Ok.ensures.reads_disk.only_reads c.in-Ok.ensures.comes_up c.new.ensures (ap (λ (l : LoaderState). l.view) c.new-2.ensures))).goes_on
     ] in
     subst (λ (steps : List Step). IsRun set began (g.L.Link.state c.run_to_end.new.link) steps sessions standing) (sym c.into_trace.ensures)
     (is_run c.a_run_keeps_its_promises.ensures set began (g.L.Link.state c.run_to_end.new.link) c.run_to_end.new.run.recording c.run_to_end.new.run.loader.view (target_kept c.run_to_end.new.run.target)

@@ -1,0 +1,107 @@
+-- Proofs that a media set that was read can be told.
+use Rattle.std.proofs.Common.{◌≡◌, ◌↔◌, inl, inr, ℕ, ◌≤◌, Bool, true, false, cond, List, [], ◌∷◌, map, length, Option, Some, None, Result, Ok, Err, refl, subst, arith}
+use Rattle.std.specs.List.{AllByRecursion}
+use Rattle.std.specs.Map.{lookup}
+use Rattle.std.proofs.lemmas.List.Elements.{recursion_from_All}
+use Rattle.load_base.specs.Bytes.{same_bytes}
+use Rattle.load_base.specs.Host.{Files, longest_file}
+use Rattle.field_grammar.specs.Answers.{answer}
+use Rattle.field_grammar.specs.ExactLaws.{answer-fault, answer-spelled, spelled_at_start}
+use Rattle.field_grammar.specs.Grammar.{IsBytes, IsDecided, Spelled}
+use Rattle.load_protocol_files.specs.declared.lur.Wanted.{Wanted}
+use Rattle.load_protocol_files.specs.Lur.{WantedFits}
+use Rattle.media_lists.specs.Loads.{IsListedLoad, IsLoadsList, LoadEntryView, LoadsListView, LoadsSpells, loads_list}
+use Rattle.media_lists.specs.declared.fault.ListFault.{ListFault}
+use Rattle.media_lists.specs.declared.lists.ListedFile.{ListedFile}
+use Rattle.media_check.specs.HostNames.{host_media, listed_name}
+use Rattle.media_check.specs.Kept.{contents}
+use Rattle.media_check.specs.Openings.{IsShort}
+use Rattle.media_check.specs.Sets.{Media, bytes_found, entries_of, file_in, found_as, found_in, list_of, lists_in}
+use Rattle.loader_machine.specs.Machine.{loads_in, wanted_entry}
+use Rattle.run_promises.specs.TellableSets.{AllAreBytes, IsTellableFile, ReadSetsCanBeTold, SetsCanBeTold}
+
+-- the laws of the format of LOADS.LUM
+pub record ListLaws : Type 0 where
+  pub decided : (bytes : List ℕ) → IsBytes bytes → IsDecided loads_list bytes
+  pub spelled : (v : LoadsListView) (bytes : List ℕ) → Spelled loads_list bytes v ↔ LoadsSpells v bytes
+
+-- ---- the entries of a list that was read
+
+same_value : (v w : LoadsListView) (r : Result LoadsListView ListFault) → r ≡ Ok v → r ≡ Ok w → v ≡ w
+same_value v w r e d = cc
+
+no_value : (v : LoadsListView) (fault : ListFault) (r : Result LoadsListView ListFault) → r ≡ Ok v → r ≡ Err fault → ⊥
+no_value v fault r e d = cc
+
+abbrev AllFit : List Wanted → Type 0
+AllFit entries = AllByRecursion (λ (entry : Wanted). WantedFits entry) entries
+
+wanted_fit : (members : ℕ) (entries : List LoadEntryView) → AllByRecursion (IsListedLoad members) entries → AllFit (map wanted_entry entries)
+wanted_fit members [] all = tt
+wanted_fit members (entry ∷ entries) (one, all) = (record { header = one.header_name; part = one.part }, wanted_fit members entries all)
+
+module _ (laws : ListLaws) where
+  -- it is a list that can be written
+  read_is_list : (bytes : List ℕ) (v : LoadsListView) → IsBytes bytes → answer loads_list bytes ≡ Ok v → IsLoadsList v
+  read_is_list bytes v fit e =
+      elim (laws.decided bytes fit).one_or_other [
+        | inl is ↦
+            let same : is.0 ≡ v = same_value is.0 v (answer loads_list bytes) (answer-spelled loads_list bytes is.0 (spelled_at_start loads_list bytes is.0 is.1)) e in
+            subst (λ (list : LoadsListView). IsLoadsList list) same ((laws.spelled is.0 bytes).0 is.1).0
+        | inr faulty ↦ absurd (no_value v faulty.0 (answer loads_list bytes) e (answer-fault loads_list bytes faulty.0 faulty.1))
+      ]
+
+  answer_fits : (bytes : List ℕ) → IsBytes bytes → (r : Result LoadsListView ListFault) → answer loads_list bytes ≡ r → AllFit (loads_in (list_of (found_as r)))
+  answer_fits bytes fit (Ok v) e = wanted_fit v.members v.entries (read_is_list bytes v fit e).entries.each
+  answer_fits bytes fit (Err fault) e = tt
+
+  loads_fit : (file : Option (List ℕ)) → ((bytes : List ℕ) → file ≡ Some bytes → IsBytes bytes) → AllFit (loads_in (list_of (found_in loads_list file)))
+  loads_fit None fit = tt
+  loads_fit (Some bytes) fit = answer_fits bytes (fit bytes refl) (answer loads_list bytes) refl
+
+-- ---- its files
+
+abbrev IsTellable : List ℕ → Type 0
+IsTellable bytes = IsBytes bytes × (length bytes ≤ longest_file)
+
+-- what is found is this file, or one after it
+first_or_later : (media : Media) (entry : ListedFile) (entries : List ListedFile) (name bytes : List ℕ) (is_this : Bool) → (media.listed entry ≡ Some bytes → IsTellable bytes)
+    → (bytes_found (lookup (same_bytes name) (map (file_in media) entries)) ≡ Some bytes → IsTellable bytes)
+    → bytes_found (cond is_this (Some (file_in media entry).1) (lookup (same_bytes name) (map (file_in media) entries))) ≡ Some bytes → IsTellable bytes
+first_or_later media entry entries name bytes true this later e = this e
+first_or_later media entry entries name bytes false this later e = later e
+
+found_is_tellable : (media : Media) (entries : List ListedFile) → AllByRecursion (IsTellableFile media) entries → (name bytes : List ℕ)
+    → bytes_found (lookup (same_bytes name) (map (file_in media) entries)) ≡ Some bytes → IsTellable bytes
+found_is_tellable media [] all name bytes e = absurd cc
+found_is_tellable media (entry ∷ entries) (one, all) name bytes e =
+    first_or_later media entry entries name bytes (same_bytes name entry.name) (one bytes) (found_is_tellable media entries all name bytes) e
+
+-- ---- the whole
+
+pub set_is_told : ListLaws → SetsCanBeTold
+set_is_told laws media are = record {
+  entries = loads_fit laws (media.loads_list 1) are.loads;
+  lengths = λ name bytes is. let this = found_is_tellable media (entries_of (lists_in media 1).files) are.files name bytes is in omega (arith, this.1);
+  bytes = λ name bytes is. (found_is_tellable media (entries_of (lists_in media 1).files) are.files name bytes is).0;
+}
+
+-- ---- in a folder
+
+short_bytes : (file : Option (List ℕ)) (bytes : List ℕ) → length (contents file) ≤ longest_file → file ≡ Some bytes → length bytes ≤ longest_file
+short_bytes file bytes short is = subst (λ (f : Option (List ℕ)). length (contents f) ≤ longest_file) is short
+
+listed_are_tellable : (folder : List ℕ) (told : Files) → AllAreBytes told → (entries : List ListedFile) → AllByRecursion (IsShort told) (map (listed_name folder) entries)
+    → AllByRecursion (IsTellableFile (host_media told folder)) entries
+listed_are_tellable folder told are [] short = tt
+listed_are_tellable folder told are (entry ∷ entries) (one, short) = (
+  λ bytes is. (are (listed_name folder entry) bytes is, short_bytes (told (listed_name folder entry)) bytes one is),
+  listed_are_tellable folder told are entries short,
+)
+
+pub read_set_is_told : ListLaws → ReadSetsCanBeTold
+read_set_is_told laws folder told are can = set_is_told laws (host_media told folder) (record {
+  loads = λ bytes is. are _ bytes is;
+  files = listed_are_tellable folder told are (entries_of (lists_in (host_media told folder) 1).files)
+      (recursion_from_All (IsShort told) (map (listed_name folder) (entries_of (lists_in (host_media told folder) 1).files)) can.listed);
+})
