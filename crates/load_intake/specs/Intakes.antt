@@ -4,7 +4,7 @@ use Rattle.load_protocol_files.specs.declared.lur.Wanted.{Wanted}
 use Rattle.disk_layout.specs.Manifest.{entry_view}
 use Rattle.session_rules.specs.declared.reason.RequestFault.{RequestFault}
 use Rattle.session_rules.specs.TargetRows as rows
-use Rattle.session_rules.specs.TargetRows.{RowView, Reads_file, Writes_progress, Writes_stop, Writes_completion, arriving_of, with_bytes}
+use Rattle.session_rules.specs.TargetRows.{Arriving, Kept_bytes, Kept_sums, RowView, Reads_file, Writes_progress, Writes_stop, Writes_completion, arriving_of, with_bytes}
 use Rattle.load_intake.specs.declared.finished.Finished.{Finished}
 use Rattle.load_intake.specs.declared.finished.Finished.TheVariants as finished
 use Rattle.load_intake.specs.declared.ended.UploadEnd as declared_end
@@ -31,6 +31,12 @@ row_seen (finished.MoreFiles intake) = Reads_file intake.upload
 row_seen (finished.NextLoad intake) = Writes_progress intake.upload
 row_seen (finished.Stopped end) = Writes_stop (end_view end)
 row_seen (finished.Installed end loads) = Writes_completion (end_view end) (map entry_view loads.loads.items)
+
+-- how many bytes of the contents of a file are kept while it arrives: of a data or support file, which goes straight to the
+-- other bank, none
+abbrev pub contents_kept : Arriving → ℕ
+contents_kept (Kept_bytes b) = length b.prefix
+contents_kept (Kept_sums s) = 0
 
 -- nothing has arrived yet of the file that comes next
 abbrev pub IsFresh : IntakeState → Type 0

@@ -10,12 +10,12 @@ use Rattle.load_intake.specs.declared.next.Next.TheVariants as nexts
 -- the load that isn't whole, if the next file is one of its
 abbrev pub open_load : Place → Option OpenLoadView
 open_load (places.Header buffer) = None
-open_load (places.File load sums) = Some load
+open_load (places.File load sums waits) = Some load
 
 -- what is kept of the next file
 abbrev pub arriving_at : Place → Arriving
 arriving_at (places.Header buffer) = Kept_bytes buffer
-arriving_at (places.File load sums) = Kept_sums sums
+arriving_at (places.File load sums waits) = Kept_sums sums
 
 -- what comes after a file that was accepted
 abbrev pub next_seen : declared_next.Next → Next

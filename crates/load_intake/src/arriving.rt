@@ -12,6 +12,7 @@ ghost use Rattle.disk_layout.specs.declared.identity.Identity.{Identity as Ident
 ghost use Rattle.disk_layout.specs.Holds.{StandingView};
 ghost use Rattle.load_header.specs.Header.{HeaderView, header_view};
 ghost use Rattle.load_header.specs.HeaderFields.{HeaderSpells};
+ghost use Rattle.session_rules.specs.Buffers.{empty_buffer};
 ghost use Rattle.session_rules.specs.TargetRows.{Kept_bytes, Kept_sums, Over, Reads_file};
 ghost use Rattle.session_rules.specs.TargetRows.{done_move, placed_view, row_moved};
 ghost use Rattle.session_rules.specs.TargetRows.{stopped_upload, view_moved};
@@ -50,29 +51,29 @@ use session_rules::Reason;
 /// A header is whole.
 pub(crate) fn header_arrived<K: Disk, R: Rule>(
     whole: Whole,
-    buffer: &FileBuffer,
+    buffer: FileBuffer,
     interlock: &Interlock<R>,
     identity: &Identity,
     store: &mut Store,
     disk: &mut K,
 ) -> Result<Finished, Down>
-    requires arrived { Arrived (intake_at whole None (Kept_bytes buffer.now)) whole.need store.old
+    requires arrived { Arrived (intake_at whole None (Kept_bytes buffer)) whole.need store.old
         (K.state disk.old) }
     requires bank { identity.now.bank ≡ bank_size_of store.old }
     ensures row { (accepts : HeaderView → Bool) → Follows R.may_say interlock.now accepts
         → IfOk result (λ finished. row_seen finished ≡ view_moved
-        (Reads_file (upload_of whole None)) (Kept_bytes buffer.now)
+        (Reads_file (upload_of whole None)) (Kept_bytes buffer)
         (done_move accepts identity.now (Reads_file (upload_of whole None))
-        (Kept_bytes buffer.now))) }
+        (Kept_bytes buffer))) }
     ensures ends { IfOk result (λ finished. Ends finished store.old store.new
         (K.state disk.old) (K.state disk.new)) }
     ensures brings { (accepts : HeaderView → Bool) → Follows R.may_say interlock.now accepts
         → (s : StandingView) (u : Upload) (arrived : Items ℕ)
-        → IsOf (intake_at whole None (Kept_bytes buffer.now)) u arrived
+        → IsOf (intake_at whole None (Kept_bytes buffer)) u arrived
         → InstallsRow store.old (K.state disk.old) s (Reads_file u) arrived
         → BringsRow (K.state disk.old) store.new (K.state disk.new) s
         (row_moved (Reads_file u) arrived (done_move accepts identity.now
-        (Reads_file (upload_of whole None)) (Kept_bytes buffer.now))) result }
+        (Reads_file (upload_of whole None)) (Kept_bytes buffer))) result }
     ensures size { bank_size_of store.new ≡ bank_size_of store.old }
     ensures writes { Writes (K.state disk.old) (K.state disk.new) result }
 {
@@ -84,7 +85,7 @@ pub(crate) fn header_arrived<K: Disk, R: Rule>(
         return Ok(Finished::Stopped(end));
     }
     match LoadHeader::decode(whole.alloc(), bytes) {
-        Ok(header) => header_read(whole, header, bytes, interlock, identity, store, disk),
+        Ok(header) => header_read(whole, header, buffer, interlock, identity, store, disk),
         Err(HeaderFault::Memory) => Err(Down::Memory),
         Err(fault) => Ok(Finished::Stopped(refuse_header(whole, store, fault))),
     }
@@ -104,35 +105,36 @@ fn refuse_header(whole: Whole, store: &mut Store, fault: HeaderFault) -> UploadE
     whole.stop(store, arrived, Reason::HeaderRefused { fault })
 }
 
-/// A header was read from these bytes.
+/// A header was read from the bytes of this buffer, which are all of it.
 fn header_read<K: Disk, R: Rule>(
     whole: Whole,
     header: LoadHeader,
-    bytes: &[u8],
+    buffer: FileBuffer,
     interlock: &Interlock<R>,
     identity: &Identity,
     store: &mut Store,
     disk: &mut K,
 ) -> Result<Finished, Down>
-    requires arrived { Arrived (intake_at whole None (Kept_bytes (whole_buffer bytes.now)))
+    requires arrived { Arrived (intake_at whole None (Kept_bytes (whole_buffer buffer.prefix)))
         whole.need store.old (K.state disk.old) }
     requires bank { identity.now.bank ≡ bank_size_of store.old }
-    requires spelled { HeaderSpells (header_view header) bytes.now }
-    requires short { (4 ≤ length bytes.now) × (length bytes.now ≤ 65536) }
+    requires spelled { HeaderSpells (header_view header) buffer.prefix }
+    requires short { (4 ≤ length buffer.prefix) × (length buffer.prefix ≤ 65536) }
     ensures row { (accepts : HeaderView → Bool) → Follows R.may_say interlock.now accepts
         → IfOk result (λ finished. row_seen finished ≡ header_row accepts identity.now whole
-        (header_view header) bytes.now) }
+        (header_view header) buffer.prefix) }
     ensures ends { IfOk result (λ finished. Ends finished store.old store.new
         (K.state disk.old) (K.state disk.new)) }
     ensures brings { (accepts : HeaderView → Bool) → Follows R.may_say interlock.now accepts
         → (s : StandingView) (u : Upload) → upload_of whole None ≡ upload_view u
-        → InstallsRow store.old (K.state disk.old) s (Reads_file u) bytes.now
+        → InstallsRow store.old (K.state disk.old) s (Reads_file u) buffer.prefix
         → BringsRow (K.state disk.old) store.new (K.state disk.new) s
-        (whole_header_row accepts identity.now u (header_view header) bytes.now) result }
+        (whole_header_row accepts identity.now u (header_view header) buffer.prefix) result }
     ensures size { bank_size_of store.new ≡ bank_size_of store.old }
     ensures writes { Writes (K.state disk.old) (K.state disk.new) result }
 {
     let wanted = *whole.next_wanted();
+    let bytes = buffer.prefix();
     let size = bytes.len() as u32;
     let need = whole.need_with(&wanted, &header, size);
     let next = whole.next_after(&header, 0);
@@ -150,7 +152,7 @@ fn header_read<K: Disk, R: Rule>(
     }
     let whole = whole.with_need(need as u32);
     let load = OpenLoad::new(whole.alloc(), wanted, header, size, crc);
-    go_on(whole, load, sum, next, store, disk)
+    go_on(whole, load, sum, buffer, next, store, disk)
 }
 
 /// The check sum of a load of which this header was taken: all but its last 4 bytes, where the check
@@ -169,6 +171,7 @@ pub(crate) fn file_arrived<K: Disk>(
     whole: Whole,
     load: OpenLoad,
     sums: FileSums,
+    buffer: FileBuffer,
     store: &mut Store,
     disk: &mut K,
 ) -> Result<Finished, Down>
@@ -197,14 +200,15 @@ pub(crate) fn file_arrived<K: Disk>(
     let file = load.next_file(sums.count());
     storing::end_file(store, file.name);
     let load = load.with_file(file, sums.load_crc())?;
-    go_on(whole, load, sums.into_load_crc(), next, store, disk)
+    go_on(whole, load, sums.into_load_crc(), buffer, next, store, disk)
 }
 
-/// A file was accepted, and written.
+/// A file was accepted, and written. The buffer is emptied for the next header.
 fn go_on<K: Disk>(
     whole: Whole,
     load: OpenLoad,
     sum: Crc32,
+    mut buffer: FileBuffer,
     next: Next,
     store: &mut Store,
     disk: &mut K,
@@ -224,15 +228,16 @@ fn go_on<K: Disk>(
     ensures size { bank_size_of store.new ≡ bank_size_of store.old }
     ensures writes { Writes (K.state disk.old) (K.state disk.new) result }
 {
+    buffer.clear();
     match next {
-        Next::MoreFiles => Ok(more_files(whole, load, sum)),
-        Next::NextLoad => Ok(next_load(whole, load)?),
+        Next::MoreFiles => Ok(more_files(whole, load, sum, buffer)),
+        Next::NextLoad => Ok(next_load(whole, load, buffer)?),
         Next::Complete => complete(whole, load, store, disk),
     }
 }
 
 /// The load has more files.
-fn more_files(whole: Whole, load: OpenLoad, sum: Crc32) -> Finished
+fn more_files(whole: Whole, load: OpenLoad, sum: Crc32, buffer: FileBuffer) -> Finished
     requires accepted { IsAccepted whole load }
     requires more { length load.files < length (files_of load.header) }
     requires sum { sum ≡ load.crc }
@@ -242,11 +247,12 @@ fn more_files(whole: Whole, load: OpenLoad, sum: Crc32) -> Finished
         → GoesOnInStep result store }
 {
     let sums = FileSums::new(load.next_entry().length, sum);
-    Finished::MoreFiles(Intake::at(whole, Place::File(load, sums)))
+    Finished::MoreFiles(Intake::at(whole, Place::File(load, sums, buffer)))
 }
 
 /// The load is whole, and another is next.
-fn next_load(whole: Whole, load: OpenLoad) -> Result<Finished, NoMemory>
+fn next_load(whole: Whole, load: OpenLoad, buffer: FileBuffer) -> Result<Finished, NoMemory>
+    requires empty { buffer ≡ empty_buffer }
     requires accepted { IsAccepted whole load }
     requires all { length load.files ≡ length (files_of load.header) }
     requires more { length whole.loads + 1 < length whole.request }
@@ -256,7 +262,6 @@ fn next_load(whole: Whole, load: OpenLoad) -> Result<Finished, NoMemory>
     ensures in_step { IfOk result (λ finished. (store : StoreState) → HasAccepted whole load store
         → GoesOnInStep finished store) }
 {
-    let buffer = FileBuffer::new(whole.alloc());
     let whole = whole.with_load(&load)?;
     Ok(Finished::NextLoad(Intake::at(whole, Place::Header(buffer))))
 }

@@ -9,11 +9,13 @@ ghost use Rattle.disk_layout.specs.Holds.{StandingView};
 ghost use Rattle.session_rules.specs.Uploads.{Upload, next_name};
 ghost use Rattle.bank_store.specs.Fits.{InstallsBeside};
 ghost use Rattle.bank_store.specs.Keeps.{Continues};
+ghost use Rattle.session_rules.specs.Buffers.{buffer_size};
 ghost use Rattle.session_rules.specs.TargetRows.{Reads_file, Writes_stop, done_move, error_move};
 ghost use Rattle.session_rules.specs.TargetRows.{new_upload, new_upload_view, row_moved};
 ghost use Rattle.session_rules.specs.TargetRows.{view_moved};
 ghost use Rattle.load_intake.specs.Contents.{BringsRow, BringsTo, InstallsRow, IsOf};
-ghost use Rattle.load_intake.specs.Intakes.{IsFresh, end_view, row_seen, with_more};
+ghost use Rattle.load_intake.specs.Intakes.{IsFresh, contents_kept, end_view, row_seen};
+ghost use Rattle.load_intake.specs.Intakes.{with_more};
 ghost use Rattle.load_intake.specs.Kept.{IsIntake, intake_at};
 ghost use Rattle.load_intake.specs.Places.{arriving_at, open_load};
 ghost use Rattle.load_intake.specs.Stores.{Ends, IsInStep, StaysInStep, Writes};
@@ -65,10 +67,11 @@ impl Model for Intake {
 
 impl Intake {
     /// An upload of these loads, 1 to 32, begins: the other slot is shut, and the header of the
-    /// first load is next.
+    /// first load is next. Each header comes into this buffer, which is emptied before.
     pub fn begin<K: Disk>(
         alloc: Global,
         request: List<Wanted>,
+        mut buffer: FileBuffer,
         store: &mut Store,
         disk: &mut K,
     ) -> Result<Intake, Down>
@@ -89,6 +92,7 @@ impl Intake {
         ensures writes { Writes (K.state disk.old) (K.state disk.new) result }
     {
         storing::begin(store, disk)?;
+        buffer.clear();
         Ok(Intake {
             whole: Whole {
                 alloc,
@@ -96,7 +100,7 @@ impl Intake {
                 loads: List::new(alloc),
                 need: 2,
             },
-            place: Place::Header(FileBuffer::new(alloc)),
+            place: Place::Header(buffer),
         })
     }
 
@@ -113,7 +117,7 @@ impl Intake {
     {
         match &self.place {
             Place::Header(_) => self.whole.next_wanted().header,
-            Place::File(load, _) => load.next_entry().name,
+            Place::File(load, _, _) => load.next_entry().name,
         }
     }
 
@@ -195,9 +199,11 @@ impl Intake {
         let Intake { whole, place } = self;
         match place {
             Place::Header(buffer) => arriving::header_arrived(
-                whole, &buffer, interlock, identity, store, disk,
+                whole, buffer, interlock, identity, store, disk,
             ),
-            Place::File(load, sums) => arriving::file_arrived(whole, load, sums, store, disk),
+            Place::File(load, sums, buffer) => arriving::file_arrived(
+                whole, load, sums, buffer, store, disk,
+            ),
         }
     }
 
@@ -214,6 +220,17 @@ impl Intake {
             .stop(store, arrived, Reason::FileNotServed { code })
     }
 
+    /// Of the file that arrives at most 65,536 bytes are kept.
+    // For the proof: does nothing.
+    pub fn keeps_little(&self)
+        ensures { contents_kept self.now.arriving ≤ buffer_size }
+    {
+        match &self.place {
+            Place::Header(buffer) => buffer.keeps_little(),
+            Place::File(_, _, _) => {}
+        }
+    }
+
     /// No bytes more change nothing.
     // For the proof: does nothing.
     pub fn no_more(&self)
@@ -221,7 +238,7 @@ impl Intake {
     {
         match &self.place {
             Place::Header(_) => {}
-            Place::File(_, sums) => sums.no_more(),
+            Place::File(_, sums, _) => sums.no_more(),
         }
     }
 }

@@ -4,7 +4,7 @@
 //! Start from [`Intake`]. It asks for nothing itself:
 //!
 //! ```text
-//! let mut intake = Intake::begin(alloc, request, &mut store, &mut disk)?;
+//! let mut intake = Intake::begin(alloc, request, buffer, &mut store, &mut disk)?;
 //! // until the upload ends: the file `intake.next_name()` is asked for, and as its bytes come
 //! intake.take(&mut store, &mut disk, bytes)?;
 //! // when it is whole: what it comes to

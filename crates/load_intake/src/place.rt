@@ -27,8 +27,8 @@ use session_files::FileBuffer;
 pub(crate) enum Place {
     /// The header of the next load. Its first bytes.
     Header(FileBuffer),
-    /// A data or support file of this load. Its sums.
-    File(OpenLoad, FileSums),
+    /// A data or support file of this load. Its sums, and the buffer for the next header.
+    File(OpenLoad, FileSums, FileBuffer),
 }
 
 impl Place {
@@ -65,7 +65,7 @@ impl Place {
                 buffer.take(bytes)?;
                 Ok(())
             }
-            Place::File(_, sums) => write(sums, store, disk, bytes),
+            Place::File(_, sums, _) => write(sums, store, disk, bytes),
         }
     }
 }

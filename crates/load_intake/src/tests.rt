@@ -1,6 +1,6 @@
-ghost use Rattle.std.specs.Prelude.{◌≡◌, IfOk};
+ghost use Rattle.std.specs.Prelude.{◌≡◌, length, IfOk, OnOk};
 ghost use Rattle.bank_store.specs.DiskWrites.{IsRunning};
-ghost use Rattle.bank_store.specs.Store.{bank_size_of};
+ghost use Rattle.bank_store.specs.Store.{IsPrepared, IsSpent, bank_size_of};
 ghost use Rattle.disk_model.specs.MemDisk.{state_of};
 ghost use Rattle.load_intake.specs.Stores.{IsInStep};
 
@@ -31,7 +31,18 @@ static APP: [u8; 122] = [
     0x00, 0x00, 0x00, 0x00, 0x70, 0x42, 0xAD, 0xC0, 0x8C, 0x7F,
 ];
 
-/// The bytes of that header, with these from an offset on, and this check sum of the header.
+/// A header for the same hardware, of a load without other files. The last byte of its load CRC
+/// should be 0x7F.
+static ALONE: [u8; 90] = [
+    0x00, 0x00, 0x00, 0x2D, 0x80, 0x04, 0x00, 0x00, 0x00, 0x00, 0x00, 0x14, 0x00, 0x00, 0x00, 0x1D,
+    0x00, 0x00, 0x00, 0x21, 0x00, 0x00, 0x00, 0x25, 0x00, 0x00, 0x00, 0x26, 0x00, 0x00, 0x00, 0x27,
+    0x00, 0x00, 0x00, 0x28, 0x00, 0x00, 0x00, 0x29, 0x00, 0x0F, 0x41, 0x42, 0x43, 0x34, 0x31, 0x2D,
+    0x30, 0x30, 0x30, 0x30, 0x2D, 0x30, 0x30, 0x30, 0x31, 0x00, 0x00, 0x03, 0x41, 0x50, 0x50, 0x00,
+    0x00, 0x07, 0x00, 0x01, 0x00, 0x03, 0x48, 0x57, 0x31, 0x00, 0x00, 0x00, 0x00, 0x00, 0x00, 0x00,
+    0x00, 0x00, 0x00, 0x00, 0xB1, 0x5B, 0xF2, 0xA8, 0xCE, 0x7E,
+];
+
+/// The bytes of the header of APP, with these from an offset on, and this check sum of the header.
 fn app(at: usize, bytes: &[u8], sum: [u8; 2]) -> [u8; 122] {
     let mut header = APP;
     if let Some(cells) = header.get_mut(at..) {
@@ -65,18 +76,12 @@ fn end_of(finished: &Finished) -> (u16, Option<Reason>) {
     }
 }
 
-/// What comes of an upload of one load, of this header and perhaps this file.
-fn told(
-    alloc: Global,
-    identity: &Identity,
-    part: &[u8],
-    header: &[u8],
-    file: &[u8],
-) -> Result<(u16, Option<Reason>, u8), Fail>
-    requires { identity.now.bank ≡ 4096 }
+/// The store of a target that was formatted with banks of 4,096 bytes.
+fn first_store(alloc: Global) -> Result<Store, Fail>
+    ensures prepared { IfOk result (λ store. IsPrepared store) }
+    ensures sequence { IfOk result (λ store. ¬ IsSpent store) }
+    ensures bank { IfOk result (λ store. bank_size_of store ≡ 4096) }
 {
-    let mut disk = MemDisk::new(alloc, &[])?;
-    format(&mut disk, identity)?;
     let active = Active {
         slot: Slot::A,
         bank: Bank::Zero,
@@ -88,12 +93,39 @@ fn told(
     };
     let mut store = Store::new(alloc, 4096, active, false);
     store.prepare()?;
+    Ok(store)
+}
+
+/// A request for one load.
+fn request(alloc: Global, part: &[u8]) -> Result<List<Wanted>, Fail>
+    ensures { IfOk result (λ request. length request.items ≡ 1) }
+{
     let mut request = List::new(alloc);
     request.push(Wanted {
         header: Name::read(b"APP.LUH")?,
         part: PartNumber::read(part)?,
     })?;
-    let mut intake = Intake::begin(alloc, request, &mut store, &mut disk)?;
+    Ok(request)
+}
+
+/// What comes of an upload of one load, of this header and perhaps this file: how many loads had
+/// arrived, the reason if it was stopped, which bank is active, and whether the other bank of
+/// before begins with the header.
+fn told(
+    alloc: Global,
+    identity: &Identity,
+    part: &[u8],
+    header: &[u8],
+    file: &[u8],
+) -> Result<(u16, Option<Reason>, u8, bool), Fail>
+    requires { identity.now.bank ≡ 4096 }
+{
+    let request = request(alloc, part)?;
+    let mut store = first_store(alloc)?;
+    let mut disk = MemDisk::new(alloc, &[])?;
+    format(&mut disk, identity)?;
+    let buffer = FileBuffer::new(alloc);
+    let mut intake = Intake::begin(alloc, request, buffer, &mut store, &mut disk)?;
     intake.take(&mut store, &mut disk, header)?;
     let interlock = Interlock::new(PermitsAll);
     let (arrived, reason) = match intake.finish(&interlock, identity, &mut store, &mut disk)? {
@@ -102,7 +134,9 @@ fn told(
         )?,
         finished => end_of(&finished),
     };
-    Ok((arrived, reason, store.bank()))
+    let mut found = [0; 122];
+    disk.read(12_288, &mut found)?;
+    Ok((arrived, reason, store.bank(), found.starts_with(header)))
 }
 
 fn file_told(
@@ -116,6 +150,7 @@ fn file_told(
     requires in_step { IsInStep intake store.old }
     requires bank { identity.now.bank ≡ bank_size_of store.old }
     requires running { IsRunning (state_of disk.old) }
+    ensures { OnOk result (IsRunning (state_of disk.new)) }
 {
     intake.take(store, disk, file)?;
     let finished = intake.finish(interlock, identity, store, disk)?;
@@ -132,7 +167,7 @@ fn each_test_has_its_reason(rt: HostRuntime) -> Result<(), Fail> {
         &[u8],
         [u8; 2],
         &[u8],
-        (u16, Option<Reason>, u8),
+        (u16, Option<Reason>, u8, bool),
     ); 10] = [
         (
             b"HW1",
@@ -141,7 +176,7 @@ fn each_test_has_its_reason(rt: HostRuntime) -> Result<(), Fail> {
             &[],
             [0x70, 0x42],
             b"123456789",
-            (1, None, 1),
+            (1, None, 1, true),
         ),
         (
             b"HW1",
@@ -159,6 +194,7 @@ fn each_test_has_its_reason(rt: HostRuntime) -> Result<(), Fail> {
                     },
                 }),
                 0,
+                false,
             ),
         ),
         (
@@ -168,7 +204,7 @@ fn each_test_has_its_reason(rt: HostRuntime) -> Result<(), Fail> {
             &[],
             [0x70, 0x42],
             b"",
-            (0, Some(Reason::PartDiffers), 0),
+            (0, Some(Reason::PartDiffers), 0, false),
         ),
         (
             b"HW2",
@@ -177,7 +213,7 @@ fn each_test_has_its_reason(rt: HostRuntime) -> Result<(), Fail> {
             &[],
             [0x70, 0x42],
             b"",
-            (0, Some(Reason::NotThisHardware), 0),
+            (0, Some(Reason::NotThisHardware), 0, false),
         ),
         (
             b"HW1",
@@ -186,7 +222,7 @@ fn each_test_has_its_reason(rt: HostRuntime) -> Result<(), Fail> {
             &[0, 0],
             [0xBD, 0x3A],
             b"",
-            (0, Some(Reason::RuleRefused), 0),
+            (0, Some(Reason::RuleRefused), 0, false),
         ),
         (
             b"HW1",
@@ -202,6 +238,7 @@ fn each_test_has_its_reason(rt: HostRuntime) -> Result<(), Fail> {
                     have: 4096,
                 }),
                 0,
+                false,
             ),
         ),
         (
@@ -219,6 +256,7 @@ fn each_test_has_its_reason(rt: HostRuntime) -> Result<(), Fail> {
                     found: 9,
                 }),
                 0,
+                true,
             ),
         ),
         (
@@ -236,6 +274,7 @@ fn each_test_has_its_reason(rt: HostRuntime) -> Result<(), Fail> {
                     found: 10,
                 }),
                 0,
+                true,
             ),
         ),
         (
@@ -253,6 +292,7 @@ fn each_test_has_its_reason(rt: HostRuntime) -> Result<(), Fail> {
                     found: 0xB898,
                 }),
                 0,
+                true,
             ),
         ),
         (
@@ -269,6 +309,7 @@ fn each_test_has_its_reason(rt: HostRuntime) -> Result<(), Fail> {
                     found: 0xADC0_8C7F,
                 }),
                 0,
+                true,
             ),
         ),
     ];
@@ -277,6 +318,18 @@ fn each_test_has_its_reason(rt: HostRuntime) -> Result<(), Fail> {
         let told = told(rt.alloc(), &target(hw)?, part, &header, file)?;
         assert_eq!(rt; told, wanted);
     }
+    Ok(())
+}
+
+#[test]
+fn a_header_is_written_before_its_load_is_tested(rt: HostRuntime) -> Result<(), Fail> {
+    let wanted = Reason::LoadCrc {
+        said: 0xF2A8_CE7E,
+        found: 0xF2A8_CE7F,
+    };
+    let identity = target(b"HW1")?;
+    let told = told(rt.alloc(), &identity, b"ABC41-0000-0001", &ALONE, b"")?;
+    assert_eq!(rt; told, (1, Some(wanted), 0, true));
     Ok(())
 }
 

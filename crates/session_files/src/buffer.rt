@@ -1,6 +1,7 @@
 //! What is kept of a header or a protocol file while it arrives.
-ghost use Rattle.std.specs.Prelude.{◌≡◌, OnOk};
-ghost use Rattle.session_rules.specs.Buffers.{Buffer, buffered_more, empty_buffer, is_too_long};
+ghost use Rattle.std.specs.Prelude.{◌≡◌, ◌≤◌, OnOk, length};
+ghost use Rattle.session_rules.specs.Buffers.{Buffer, buffer_size, buffered_more, empty_buffer};
+ghost use Rattle.session_rules.specs.Buffers.{is_too_long};
 ghost use Rattle.session_files.specs.Prefixes.{IsFilled};
 
 use load_base::{Bytes, NoMemory};
@@ -30,7 +31,7 @@ impl Model for FileBuffer {
 }
 
 impl FileBuffer {
-    /// Nothing arrived yet.
+    /// Nothing arrived yet. It takes no memory before it is reserved, or bytes come.
     pub fn new(alloc: Global) -> FileBuffer
         ensures { result ≡ empty_buffer }
     {
@@ -38,6 +39,23 @@ impl FileBuffer {
             prefix: Bytes::new(alloc),
             count: 0,
         }
+    }
+
+    /// Reserves the memory of all that is kept of a file, so that bytes that come take none.
+    pub fn reserve(&mut self) -> Result<(), NoMemory>
+        ensures { self.new ≡ self.old }
+    {
+        let more = MOST_BYTES.saturating_sub(self.prefix.len());
+        self.prefix.reserve(more)?;
+        Ok(())
+    }
+
+    /// Empties it for another file, and keeps its memory.
+    pub fn clear(&mut self)
+        ensures { self.new ≡ empty_buffer }
+    {
+        self.prefix.clear();
+        self.count = 0;
     }
 
     /// Takes the next bytes of the file.
@@ -56,6 +74,14 @@ impl FileBuffer {
         ensures { result ≡ is_too_long self.now }
     {
         self.count > MOST_BYTES as u64
+    }
+
+    /// At most 65,536 bytes of the file are kept.
+    // For the proof: does nothing.
+    pub fn keeps_little(&self)
+        ensures { length self.now.prefix ≤ buffer_size }
+    {
+        let _kept = self.prefix.len();
     }
 
     /// How many bytes of the file came.

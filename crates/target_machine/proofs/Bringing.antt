@@ -7,7 +7,7 @@ use Rattle.load_header.specs.Header.{HeaderView}
 use Rattle.disk_layout.specs.Holds.{HoldsConfig, StandingView}
 use Rattle.bank_store.specs.declared.store.Store.{Store}
 use Rattle.bank_store.specs.Fits.{HoldsFor, InstallsBeside}
-use Rattle.bank_store.specs.Keeps.{Continues, IsOldOrNew}
+use Rattle.bank_store.specs.Keeps.{Continues}
 use Rattle.tftp_packet.specs.declared.options.Options.{Options}
 use Rattle.tftp_packet.specs.Packets.{Ack, Data, Error, Oack, PacketView, Rrq, Wrq}
 use Rattle.tftp_link.specs.Answers.{NewsView, Nothing, Block, Last, Done, PeerError, news_by}

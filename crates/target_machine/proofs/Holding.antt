@@ -1,5 +1,5 @@
 -- What calls of the target leave on its disk.
-use Rattle.std.proofs.Common.{◌≡◌, inl, inr, ℕ, List, [], ◌++◌, Bool, true, false, Option, Some, None, Result, Ok, Err, IsErr, refl, sym, subst}
+use Rattle.std.proofs.Common.{◌≡◌, ℕ, List, [], ◌++◌, Bool, true, false, Option, Some, None, Result, Ok, Err, IsErr, refl, sym, subst}
 use Rattle.disk_model.specs.Image.{Image}
 use Rattle.disk_model.specs.State.{DiskState}
 use Rattle.load_header.specs.Header.{HeaderView}
@@ -7,7 +7,7 @@ use Rattle.disk_layout.specs.Holds.{StandingView}
 use Rattle.disk_layout.specs.declared.identity.Identity.{Identity}
 use Rattle.bank_store.specs.declared.store.Store.{Store}
 use Rattle.bank_store.specs.Fits.{InstallsBeside}
-use Rattle.bank_store.specs.Keeps.{Continues, IsOldOrNew}
+use Rattle.bank_store.specs.Keeps.{Continues}
 use Rattle.session_rules.specs.Buffers.{Buffer, buffered_more}
 use Rattle.session_rules.specs.TargetLog.{standing_in}
 use Rattle.session_rules.specs.TargetRows.{Arriving, Awaits_lur, Gives_denial, Gives_lci, Gives_lui, Kept_bytes, Over, Reads_file, UploadEnd, WholeRow, Writes_completion, Writes_lcl, Writes_lcs, Writes_progress, Writes_ready, Writes_stop, arriving_of, done_move, error_move, row_after, row_moved, row_view}

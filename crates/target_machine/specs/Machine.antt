@@ -4,7 +4,7 @@ use Rattle.disk_layout.specs.Manifest.{LoadEntry}
 use Rattle.session_rules.specs.Buffers.{Buffer}
 use Rattle.session_rules.specs.Target.{TargetSession}
 use Rattle.session_rules.specs.TargetRows.{Arriving, Kept_bytes, RowView, Gives_lci, Writes_lcs, Writes_lcl, Gives_lui, Gives_denial, Writes_ready, Awaits_lur, Reads_file, Writes_progress, Writes_stop, Writes_completion, Over, with_bytes}
-use Rattle.load_intake.specs.Intakes.{end_view}
+use Rattle.load_intake.specs.Intakes.{contents_kept, end_view}
 use Rattle.target_machine.specs.declared.row.Row.{Row}
 use Rattle.target_machine.specs.declared.row.Row.TheVariants as rows
 use Rattle.target_machine.specs.declared.session.LiveSession.{LiveSession}
@@ -33,9 +33,18 @@ abbrev pub arriving_in : Row → Buffer → Arriving
 arriving_in (rows.ReadsFile intake) buffer = intake.arriving
 arriving_in row buffer = Kept_bytes buffer
 
+-- a session in a row, with this kept of what arrives
+abbrev pub session_at : Row → Buffer → LiveSession
+session_at row buffer = record { row = row; arriving = buffer }
+
 abbrev pub session_seen : List LoadEntry → LiveSession → TargetSession
 session_seen active s = record { row = row_seen active s.row; arriving = arriving_in s.row s.arriving }
 
 -- with these bytes more of a file
 abbrev pub session_with : TargetSession → List ℕ → TargetSession
 session_with s more = record { row = s.row; arriving = with_bytes s.arriving more }
+
+-- how many bytes of the contents of files a target's own lists hold: those of a request or a header that arrives
+abbrev pub contents_held : Option TargetSession → ℕ
+contents_held None = 0
+contents_held (Some s) = contents_kept s.arriving

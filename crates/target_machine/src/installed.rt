@@ -20,12 +20,12 @@ ghost use Rattle.load_intake.specs.Contents.{BringsRow, InstallsRow, IsOf};
 ghost use Rattle.load_intake.specs.Stores.{IsInStep, Writes};
 ghost use Rattle.target_machine.specs.Decisions.{broken_to, kind_given, row_then};
 ghost use Rattle.target_machine.specs.Disks.{TurnsDisk, whole_row_then};
-ghost use Rattle.target_machine.specs.Machine.{arriving_in, next_seen, row_seen, session_seen};
+ghost use Rattle.target_machine.specs.Machine.{arriving_in, next_seen, row_seen, session_at};
+ghost use Rattle.target_machine.specs.Machine.{session_seen};
 ghost use Rattle.target_machine.specs.Stages.{CanBegin, IsNextStage, IsReading, IsRowStage};
 ghost use Rattle.target_machine.specs.Stages.{StartsFresh, StaysOn, TurnsTo};
 
 use crate::row::Row;
-use crate::session::LiveSession;
 use accept_rules::{Interlock, Rule};
 use bank_store::{Store, a_store_goes_on_fitting};
 use disk_layout::{Identity, Manifest};
@@ -37,6 +37,7 @@ use session_files::FileBuffer;
 use session_rules::SessionKind;
 use std::alloc::Global;
 use std::marker::Model;
+use std::mem;
 
 /// The active configuration, without its contents, and the store that installs beside it.
 #[derive(Drop)]
@@ -72,14 +73,19 @@ impl Installed {
         }
     }
 
-    /// The first row of an operation. Before an upload is accepted the memory that an installation
-    /// takes is reserved; it is denied where no sequence number is left.
-    pub(crate) fn first_row(&mut self, kind: SessionKind) -> Result<Row, NoMemory>
+    /// The first row of an operation. Before an upload is accepted the memory that it takes is
+    /// reserved, in this buffer too; it is denied where no sequence number is left.
+    pub(crate) fn first_row(
+        &mut self,
+        kind: SessionKind,
+        buffer: &mut FileBuffer,
+    ) -> Result<Row, NoMemory>
         requires { IsIdle self.old.store }
         ensures row { (loads : List LoadEntry) → IfOk result (λ row. row_seen loads row
             ≡ first_of (kind_given kind) self.old.active.sequence) }
         ensures stage { IfOk result (λ row. IsRowStage row self.new.store) }
         ensures fresh { IfOk result (λ row. StartsFresh (Some row)) }
+        ensures buffer { buffer.new ≡ buffer.old }
         ensures idle { IsIdle self.new.store }
         ensures active { self.new.active ≡ self.old.active }
         ensures store { Continues self.old.store self.new.store }
@@ -88,6 +94,7 @@ impl Installed {
             SessionKind::Info => Ok(Row::GivesLci),
             SessionKind::Upload if self.store.sequence() == u32::MAX => Ok(Row::GivesDenial),
             SessionKind::Upload => {
+                buffer.reserve()?;
                 self.prepare()?;
                 Ok(Row::GivesLui)
             }
@@ -117,35 +124,37 @@ impl Installed {
         self.store.abandon();
     }
 
-    /// The row after a transfer of this session's row, which is over, perhaps by an ERROR; none
-    /// where the session is over. Then, and after a failure, no installation is begun.
+    /// The row after a transfer of this row, which is over, perhaps by an ERROR; none where the
+    /// session is over. Then, and after a failure, no installation is begun.
     pub(crate) fn turn<K: Disk, R: Rule>(
         &mut self,
         alloc: Global,
         interlock: &Interlock<R>,
         disk: &mut K,
-        session: LiveSession,
+        row: Row,
+        arriving: &mut FileBuffer,
         error: Option<u16>,
     ) -> Result<Option<Row>, Down>
-        requires stage { IsRowStage session.row self.old.store }
+        requires stage { IsRowStage row self.old.store }
         requires running { IsRunning (K.state disk.old) }
         ensures row { (accepts : HeaderView → Bool) → Follows R.may_say interlock.now accepts
             → IfOk result (λ next. TurnsTo next (row_then accepts self.old.active.identity
-            (session_seen self.old.active.loads session) error) self.old self.new) }
+            (session_seen self.old.active.loads (session_at row arriving.old)) error)
+            self.old self.new) }
         ensures stage { IfOk result (λ next. IsNextStage next self.new.store) }
         ensures failed { OnErr result (IsIdle self.new.store) }
         ensures goes_on { OnOk result (StaysOn self.old.store self.new.store (K.state disk.old)
             (K.state disk.new)) }
         ensures brings { (accepts : HeaderView → Bool) → Follows R.may_say interlock.now accepts
             → (s : StandingView) (x : SessionContents)
-            → session_seen self.old.active.loads session ≡ session_kept x
+            → session_seen self.old.active.loads (session_at row arriving.old) ≡ session_kept x
             → InstallsRow self.old.store (K.state disk.old) s x.row x.arrived
             → BringsRow (K.state disk.old) self.new.store (K.state disk.new) s
             (whole_row_then accepts self.old.active.identity x error) result }
         ensures writes { Writes (K.state disk.old) (K.state disk.new) result }
     {
         a_store_goes_on_fitting::<K>();
-        let result = self.next_row(alloc, interlock, disk, session, error);
+        let result = self.next_row(alloc, interlock, disk, row, arriving, error);
         if !matches!(result, Ok(Some(_))) {
             self.store.abandon();
         }
@@ -160,20 +169,22 @@ impl Installed {
         alloc: Global,
         interlock: &Interlock<R>,
         disk: &mut K,
-        session: LiveSession,
+        row: Row,
+        arriving: &mut FileBuffer,
         error: Option<u16>,
     ) -> Result<Option<Row>, Down>
-        requires stage { IsRowStage session.row self.old.store }
+        requires stage { IsRowStage row self.old.store }
         requires running { IsRunning (K.state disk.old) }
         ensures row { (accepts : HeaderView → Bool) → Follows R.may_say interlock.now accepts
             → IfOk result (λ next. TurnsTo next (row_then accepts self.old.active.identity
-            (session_seen self.old.active.loads session) error) self.old self.new) }
+            (session_seen self.old.active.loads (session_at row arriving.old)) error)
+            self.old self.new) }
         ensures stage { IfOk result (λ next. ForSome next (λ row. IsRowStage row self.new.store)) }
         ensures goes_on { OnOk result (StaysOn self.old.store self.new.store (K.state disk.old)
             (K.state disk.new)) }
         ensures brings { (accepts : HeaderView → Bool) → Follows R.may_say interlock.now accepts
             → (s : StandingView) (x : SessionContents)
-            → session_seen self.old.active.loads session ≡ session_kept x
+            → session_seen self.old.active.loads (session_at row arriving.old) ≡ session_kept x
             → InstallsRow self.old.store (K.state disk.old) s x.row x.arrived
             → TurnsDisk (K.state disk.old) self.new.store (K.state disk.new) s
             (whole_row_then accepts self.old.active.identity x error) result }
@@ -181,8 +192,8 @@ impl Installed {
     {
         a_store_goes_on_fitting::<K>();
         match error {
-            Some(code) => Ok(self.broken(session.row, code)),
-            None => self.done(alloc, interlock, disk, session),
+            Some(code) => Ok(self.broken(row, code)),
+            None => self.done(alloc, interlock, disk, row, arriving),
         }
     }
 
@@ -208,28 +219,29 @@ impl Installed {
         alloc: Global,
         interlock: &Interlock<R>,
         disk: &mut K,
-        session: LiveSession,
+        row: Row,
+        arriving: &mut FileBuffer,
     ) -> Result<Option<Row>, Down>
-        requires stage { IsRowStage session.row self.old.store }
+        requires stage { IsRowStage row self.old.store }
         requires running { IsRunning (K.state disk.old) }
         ensures row { (accepts : HeaderView → Bool) → Follows R.may_say interlock.now accepts
             → IfOk result (λ next. TurnsTo next (row_then accepts self.old.active.identity
-            (session_seen self.old.active.loads session) None) self.old self.new) }
+            (session_seen self.old.active.loads (session_at row arriving.old)) None)
+            self.old self.new) }
         ensures stage { IfOk result (λ next. ForSome next (λ row. IsRowStage row self.new.store)) }
         ensures goes_on { OnOk result (StaysOn self.old.store self.new.store (K.state disk.old)
             (K.state disk.new)) }
         ensures brings { (accepts : HeaderView → Bool) → Follows R.may_say interlock.now accepts
             → (s : StandingView) (x : SessionContents)
-            → session_seen self.old.active.loads session ≡ session_kept x
+            → session_seen self.old.active.loads (session_at row arriving.old) ≡ session_kept x
             → InstallsRow self.old.store (K.state disk.old) s x.row x.arrived
             → TurnsDisk (K.state disk.old) self.new.store (K.state disk.new) s
             (whole_row_then accepts self.old.active.identity x None) result }
         ensures writes { Writes (K.state disk.old) (K.state disk.new) result }
     {
-        let LiveSession { row, arriving } = session;
         match row {
             Row::ReadsFile(intake) => Ok(Some(self.finish(interlock, disk, intake)?)),
-            Row::AwaitsLur => Ok(Some(self.requested(alloc, disk, &arriving)?)),
+            Row::AwaitsLur => Ok(Some(self.requested(alloc, disk, arriving)?)),
             row => Ok(row.passed()),
         }
     }
@@ -275,18 +287,19 @@ impl Installed {
         }
     }
 
-    /// The request of an upload arrived: the installation begins, unless it is refused.
+    /// The request of an upload arrived: the installation begins, unless it is refused, and the
+    /// buffer of the request goes to it.
     fn requested<K: Disk>(
         &mut self,
         alloc: Global,
         disk: &mut K,
-        file: &FileBuffer,
+        file: &mut FileBuffer,
     ) -> Result<Row, Down>
         requires stage { CanBegin self.old.store }
         requires running { IsRunning (K.state disk.old) }
         ensures row { (accepts : HeaderView → Bool) → IfOk result (λ row. TurnsTo (Some row)
-            (view_moved Awaits_lur (Kept_bytes file.now) (done_move accepts
-            self.old.active.identity Awaits_lur (Kept_bytes file.now))) self.old self.new) }
+            (view_moved Awaits_lur (Kept_bytes file.old) (done_move accepts
+            self.old.active.identity Awaits_lur (Kept_bytes file.old))) self.old self.new) }
         ensures stage { IfOk result (λ row. IsRowStage row self.new.store) }
         ensures goes_on { OnOk result (StaysOn self.old.store self.new.store (K.state disk.old)
             (K.state disk.new)) }
@@ -294,12 +307,13 @@ impl Installed {
             → InstallsBeside self.old.store (K.state disk.old) s
             → BringsRow (K.state disk.old) self.new.store (K.state disk.new) s
             (row_moved Awaits_lur arrived (done_move accepts self.old.active.identity Awaits_lur
-            (Kept_bytes file.now))) result }
+            (Kept_bytes file.old))) result }
         ensures writes { Writes (K.state disk.old) (K.state disk.new) result }
     {
         match read_request(alloc, file)? {
             Request::Loads(loads) => {
-                let intake = Intake::begin(alloc, loads, &mut self.store, disk)?;
+                let buffer = mem::replace(file, FileBuffer::new(alloc));
+                let intake = Intake::begin(alloc, loads, buffer, &mut self.store, disk)?;
                 intake.no_more();
                 Ok(Row::ReadsFile(intake))
             }

@@ -1,12 +1,13 @@
 //! The session of a target.
-ghost use Rattle.std.specs.Prelude.{◌≡◌, ◌++◌, List, OnOk};
+ghost use Rattle.std.specs.Prelude.{◌≡◌, ◌≤◌, ◌++◌, List, OnOk};
 ghost use Rattle.bank_store.specs.DiskWrites.{IsRunning};
 ghost use Rattle.bank_store.specs.Store.{bank_size_of};
 ghost use Rattle.disk_layout.specs.Holds.{StandingView};
 ghost use Rattle.disk_layout.specs.Manifest.{LoadEntry};
-ghost use Rattle.session_rules.specs.Buffers.{empty_buffer};
+ghost use Rattle.session_rules.specs.Buffers.{buffer_size, empty_buffer};
 ghost use Rattle.session_rules.specs.Contents.{SessionContents, session_kept};
 ghost use Rattle.load_intake.specs.Contents.{BringsTo, InstallsRow};
+ghost use Rattle.load_intake.specs.Intakes.{contents_kept};
 ghost use Rattle.load_intake.specs.Stores.{GoesOn, Writes};
 ghost use Rattle.target_machine.specs.Machine.{session_seen, session_with};
 ghost use Rattle.target_machine.specs.Stages.{IsRowStage};
@@ -16,7 +17,6 @@ use bank_store::Store;
 use disk_model::Disk;
 use load_intake::Down;
 use session_files::FileBuffer;
-use std::alloc::Global;
 
 /// The session that is live.
 #[derive(Drop)]
@@ -27,14 +27,25 @@ pub(crate) struct LiveSession {
 }
 
 impl LiveSession {
-    /// It comes to a row, and nothing has arrived in it.
-    pub(crate) fn in_row(alloc: Global, row: Row) -> LiveSession
+    /// It comes to a row, and nothing has arrived in it. What arrives comes into this buffer, which
+    /// is emptied before.
+    pub(crate) fn in_row(row: Row, mut arriving: FileBuffer) -> LiveSession
         ensures row { result.row ≡ row }
         ensures nothing { result.arriving ≡ empty_buffer }
     {
-        LiveSession {
-            row,
-            arriving: FileBuffer::new(alloc),
+        arriving.clear();
+        LiveSession { row, arriving }
+    }
+
+    /// At most 65,536 bytes are kept of what arrives.
+    // For the proof: does nothing.
+    pub(crate) fn keeps_little(&self)
+        ensures { (active : List LoadEntry)
+            → contents_kept (session_seen active self.now).arriving ≤ buffer_size }
+    {
+        match &self.row {
+            Row::ReadsFile(intake) => intake.keeps_little(),
+            _ => self.arriving.keeps_little(),
         }
     }
 

@@ -1,6 +1,6 @@
 //! The target.
 ghost use Rattle.std.specs.Option.{ForSome};
-ghost use Rattle.std.specs.Prelude.{◌≡◌, ◌∷◌, [], Bool, List, ℕ, None, Some, true, IfErr, IfOk};
+ghost use Rattle.std.specs.Prelude.{◌≡◌, ◌≤◌, ◌∷◌, [], Bool, List, ℕ, None, Some, true, IfErr, IfOk};
 ghost use Rattle.std.specs.Prelude.{OnOk, bytes_eq, is_some, option_map};
 ghost use Rattle.accept_rules.specs.Interlocks.{Follows};
 ghost use Rattle.bank_store.specs.DiskWrites.{IsRunning};
@@ -19,6 +19,7 @@ ghost use Rattle.exchange_trace.specs.declared.trace.Side.TheVariants as sides;
 ghost use Rattle.transfer_end.specs.Calls.{Makes, posted, posts_view};
 ghost use Rattle.transfer_end.specs.Moves.{Stops, view_after};
 ghost use Rattle.transfer_end.specs.Packets.{has_port};
+ghost use Rattle.session_rules.specs.Buffers.{buffer_size};
 ghost use Rattle.session_rules.specs.Contents.{AreKept, SessionContents, TargetContents};
 ghost use Rattle.session_rules.specs.Contents.{contents_after, contents_changed, session_kept};
 ghost use Rattle.session_rules.specs.Target.{Continues as Goes_on};
@@ -39,6 +40,7 @@ ghost use Rattle.target_machine.specs.Decisions.{writing_decision};
 ghost use Rattle.target_machine.specs.Disks.{BringsContents, HoldsContents, IsAtRest};
 ghost use Rattle.target_machine.specs.Disks.{KeepsDisk, KeepsWork, StartsOn, change_heard};
 ghost use Rattle.target_machine.specs.Disks.{change_turned, whole_row_then};
+ghost use Rattle.target_machine.specs.Machine.{contents_held};
 ghost use Rattle.target_machine.specs.Stages.{StaysOn};
 
 use crate::boot::BootFault;
@@ -54,7 +56,7 @@ use exchange_trace::{Datagram, Side};
 use load_base::{Name, NoMemory};
 use load_intake::Down;
 use recovery::survey;
-use session_files::file_name;
+use session_files::{FileBuffer, file_name};
 use session_rules::laws::contents_follow_their_log;
 use session_rules::{FileKind, Reason, SessionKind};
 use std::alloc::Global;
@@ -223,6 +225,17 @@ impl<'i, R: Rule> Target<'i, R> {
         self.live.is_some()
     }
 
+    /// The target's own lists hold at most 65,536 bytes of the contents of files together: those of
+    /// a request or a header that arrives.
+    // For the proof: does nothing.
+    pub fn keeps_little(&self)
+        ensures { contents_held self.now.view.live ≤ buffer_size }
+    {
+        if let Some(session) = &self.live {
+            session.keeps_little();
+        }
+    }
+
     /// The port that is drawn next, or 65,536.
     pub fn next_port(&self) -> u32
         ensures { result ≡ self.now.view.end.next_port }
@@ -356,11 +369,12 @@ impl<'i, R: Rule> Target<'i, R> {
             return Ok(Posts::none());
         }
         self.close();
-        let row = self.installed.first_row(kind)?;
+        let mut buffer = FileBuffer::new(self.alloc);
+        let row = self.installed.first_row(kind, &mut buffer)?;
         let file = FileBytes::Owned(given_file(self.alloc, &row)?);
         let post = self.end.serve_read(Side::Target, from, options, file)?;
         self.reason = later(self.reason, row.reason());
-        drop(self.live.replace(LiveSession::in_row(self.alloc, row)));
+        drop(self.live.replace(LiveSession::in_row(row, buffer)));
         Ok(Posts::of(Some(post), None))
     }
 
@@ -569,12 +583,18 @@ impl<'i, R: Rule> Target<'i, R> {
         let Some(session) = self.live.take() else {
             return Ok(());
         };
-        let next = self
-            .installed
-            .turn(self.alloc, self.interlock, disk, session, error)?;
+        let LiveSession { row, mut arriving } = session;
+        let next = self.installed.turn(
+            self.alloc,
+            self.interlock,
+            disk,
+            row,
+            &mut arriving,
+            error,
+        )?;
         if let Some(row) = next {
             self.reason = later(self.reason, row.reason());
-            drop(self.live.replace(LiveSession::in_row(self.alloc, row)));
+            drop(self.live.replace(LiveSession::in_row(row, arriving)));
         }
         Ok(())
     }
