@@ -15,6 +15,8 @@
 
 mod boot;
 mod installed;
+#[cfg(test)]
+mod power_tests;
 mod request;
 mod row;
 mod session;

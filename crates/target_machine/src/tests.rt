@@ -13,7 +13,7 @@ use std::alloc::Global;
 use std::test::Fail;
 use transfer_end::Posts;
 
-fn ident(bytes: &[u8]) -> Result<Ident, Fail> {
+pub(crate) fn ident(bytes: &[u8]) -> Result<Ident, Fail> {
     match Ident::read(bytes) {
         Ok(ident) => Ok(ident),
         Err(_) => Err(Fail::new("no Ident")),
@@ -21,7 +21,12 @@ fn ident(bytes: &[u8]) -> Result<Ident, Fail> {
 }
 
 // A formatted disk without loads.
-fn formatted(alloc: Global, hw: Ident, pos: Ident, serial: Ident) -> Result<MemDisk, Fail>
+pub(crate) fn formatted(
+    alloc: Global,
+    hw: Ident,
+    pos: Ident,
+    serial: Ident,
+) -> Result<MemDisk, Fail>
     ensures { IfOk result (λ disk. IsRunning (state_of disk)) }
 {
     let Ok(mut disk) = MemDisk::new(alloc, &[]) else {
@@ -83,9 +88,9 @@ const ASKS_LCL: &[u8] = b"\0\x02HW1_L.LCL\0octet\0";
 
 const LCL: &[u8] = b"\0\x03\0\x01\0\0\0\x12\x41\x33\0\x01\x03HW1\x03SN1\0\0";
 
-const ACK_0: &[u8] = b"\0\x04\0\0";
+pub(crate) const ACK_0: &[u8] = b"\0\x04\0\0";
 
-const ACK_1: &[u8] = b"\0\x04\0\x01";
+pub(crate) const ACK_1: &[u8] = b"\0\x04\0\x01";
 
 // An information session, and requests that begin none: for a file that isn't there, and from a
 // port that isn't fresh.
