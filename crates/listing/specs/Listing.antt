@@ -20,13 +20,20 @@ bank_line bank sequence = line (codes "bank" ∷ decimal bank ∷ codes "sequenc
 abbrev pub loads_line : (count : ℕ) → List ℕ
 loads_line count = line (codes "loads" ∷ decimal count ∷ [])
 
--- `file NAME LENGTH CRC`, the CRC-16 of its contents in hexadecimal
+-- `file NAME LENGTH CRC`, the check sum in hexadecimal
+abbrev pub file_line_of : (name : List ℕ) → (size sum : ℕ) → List ℕ
+file_line_of name size sum = line (codes "file" ∷ name ∷ decimal size ∷ hex_16 sum ∷ [])
+
+-- a file, with the CRC-16 of its contents
 unfoldable pub file_line : FileView → List ℕ
-file_line file = line (codes "file" ∷ file.name ∷ decimal (length file.bytes) ∷ hex_16 (crc16_of file.bytes) ∷ [])
+file_line file = file_line_of file.name (length file.bytes) (crc16_of file.bytes)
 
 -- `load PART HEADER FILES`, with the number of its files
+abbrev pub load_line_of : (part header_name : List ℕ) → (files : ℕ) → List ℕ
+load_line_of part header_name files = line (codes "load" ∷ part ∷ header_name ∷ decimal files ∷ [])
+
 unfoldable pub load_line : LoadView → List ℕ
-load_line load = line (codes "load" ∷ load.part ∷ load.header_name ∷ decimal (length load.files) ∷ [])
+load_line load = load_line_of load.part load.header_name (length load.files)
 
 -- a load, and each of its files
 unfoldable pub load_lines : LoadView → List ℕ

@@ -1,19 +1,20 @@
 //! The listing of a target: its identity, its active bank, and its loads with their files, as lines
 //! of text.
 //!
-//! Start from [`listing_text`]. The lines are those of docs/FORMATS.md, "Printed text".
+//! Start from [`listing_text`]. Who has no configuration in memory puts the lines one by one. They
+//! are those of docs/FORMATS.md, "Printed text".
 #![tactic(auto)]
 
 ghost use Rattle.std.specs.Prelude.{◌≡◌, ◌++◌, map, OnOk, IfOk};
 ghost use Rattle.std.specs.List.{flat_map};
 ghost use Rattle.load_base.specs.Config.{file_view, load_view};
 ghost use Rattle.disk_layout.specs.Holds.{standing_view};
-ghost use Rattle.listing.specs.Listing.{file_line, load_line, load_lines, target_line, bank_line};
-ghost use Rattle.listing.specs.Listing.{loads_line, listing};
+ghost use Rattle.listing.specs.Listing.{file_line, load_lines, target_line, bank_line};
+ghost use Rattle.listing.specs.Listing.{loads_line, load_line_of, file_line_of, listing};
 
 use crc_fields::crc16;
 use disk_layout::{Identity, Standing};
-use load_base::{Bytes, Load, NoMemory, StoredFile};
+use load_base::{Bytes, Load, Name, NoMemory, PartText, StoredFile};
 use printed_text::{put_hex_16, put_number};
 use std::alloc::Global;
 
@@ -31,7 +32,8 @@ pub fn listing_text(alloc: Global, standing: &Standing) -> Result<Bytes, NoMemor
     Ok(out)
 }
 
-fn put_target(out: &mut Bytes, identity: &Identity) -> Result<(), NoMemory>
+/// Puts the line of a target: its hardware, position and serial number.
+pub fn put_target(out: &mut Bytes, identity: &Identity) -> Result<(), NoMemory>
     ensures { OnOk result (out.new.items ≡ out.old.items ++ target_line identity.now) }
 {
     out.extend(b"target ")?;
@@ -43,7 +45,8 @@ fn put_target(out: &mut Bytes, identity: &Identity) -> Result<(), NoMemory>
     out.extend(b"\n")
 }
 
-fn put_bank(alloc: Global, out: &mut Bytes, bank: u8, sequence: u32) -> Result<(), NoMemory>
+/// Puts the line of the active bank and its sequence number.
+pub fn put_bank(alloc: Global, out: &mut Bytes, bank: u8, sequence: u32) -> Result<(), NoMemory>
     ensures { OnOk result (out.new.items ≡ out.old.items ++ bank_line bank sequence) }
 {
     out.extend(b"bank ")?;
@@ -53,7 +56,8 @@ fn put_bank(alloc: Global, out: &mut Bytes, bank: u8, sequence: u32) -> Result<(
     out.extend(b"\n")
 }
 
-fn put_count(alloc: Global, out: &mut Bytes, loads: usize) -> Result<(), NoMemory>
+/// Puts the line that says how many loads there are.
+pub fn put_count(alloc: Global, out: &mut Bytes, loads: usize) -> Result<(), NoMemory>
     ensures { OnOk result (out.new.items ≡ out.old.items ++ loads_line loads) }
 {
     out.extend(b"loads ")?;
@@ -71,24 +75,31 @@ fn put_loads(alloc: Global, out: &mut Bytes, loads: &[Load]) -> Result<(), NoMem
     Ok(())
 }
 
-#[tactic(auto, unfolding(crate::specs::Listing::load_lines))]
+#[tactic(auto, unfolding(crate::specs::Listing::load_lines, crate::specs::Listing::load_line))]
 fn put_load(alloc: Global, out: &mut Bytes, load: &Load) -> Result<(), NoMemory>
     ensures { OnOk result (out.new.items ≡ out.old.items ++ load_lines (load_view load.now)) }
 {
-    put_load_line(alloc, out, load)?;
+    put_load_line(alloc, out, &load.part, &load.header_name, load.files.len())?;
     put_files(alloc, out, load.files.as_slice())
 }
 
-#[tactic(auto, unfolding(crate::specs::Listing::load_line))]
-fn put_load_line(alloc: Global, out: &mut Bytes, load: &Load) -> Result<(), NoMemory>
-    ensures { OnOk result (out.new.items ≡ out.old.items ++ load_line (load_view load.now)) }
+/// Puts the line of a load: its part number, the name of its header, and how many files it has.
+pub fn put_load_line(
+    alloc: Global,
+    out: &mut Bytes,
+    part: &PartText,
+    header_name: &Name,
+    files: usize,
+) -> Result<(), NoMemory>
+    ensures { OnOk result
+        (out.new.items ≡ out.old.items ++ load_line_of part.now header_name.now files) }
 {
     out.extend(b"load ")?;
-    out.extend(load.part.as_slice())?;
+    out.extend(part.as_slice())?;
     out.extend(b" ")?;
-    out.extend(load.header_name.as_slice())?;
+    out.extend(header_name.as_slice())?;
     out.extend(b" ")?;
-    put_number(alloc, out, load.files.len() as u64)?;
+    put_number(alloc, out, files as u64)?;
     out.extend(b"\n")
 }
 
@@ -106,12 +117,26 @@ fn put_files(alloc: Global, out: &mut Bytes, files: &[StoredFile]) -> Result<(),
 fn put_file(alloc: Global, out: &mut Bytes, file: &StoredFile) -> Result<(), NoMemory>
     ensures { OnOk result (out.new.items ≡ out.old.items ++ file_line (file_view file.now)) }
 {
+    let contents = file.bytes.as_slice();
+    put_file_line(alloc, out, &file.name, contents.len(), crc16(contents))
+}
+
+/// Puts the line of a file: its name, its length in bytes, and the CRC-16 of its contents.
+pub fn put_file_line(
+    alloc: Global,
+    out: &mut Bytes,
+    name: &Name,
+    length: usize,
+    sum: u16,
+) -> Result<(), NoMemory>
+    ensures { OnOk result (out.new.items ≡ out.old.items ++ file_line_of name.now length sum) }
+{
     out.extend(b"file ")?;
-    out.extend(file.name.as_slice())?;
+    out.extend(name.as_slice())?;
     out.extend(b" ")?;
-    put_number(alloc, out, file.bytes.len() as u64)?;
+    put_number(alloc, out, length as u64)?;
     out.extend(b" ")?;
-    put_hex_16(out, crc16(file.bytes.as_slice()))?;
+    put_hex_16(out, sum)?;
     out.extend(b"\n")
 }
 

@@ -194,25 +194,25 @@ file APP.BIN 9 29B1
 // Two loads, and a file that is read in more than one piece.
 #[test]
 fn lists_two_loads_with_a_long_file(rt: HostRuntime) -> Result<(), Fail> {
-    let mut disk = [0; 18_000];
+    let mut disk = [0; 79_000];
     put(&mut disk, 0, IDENTITY);
-    put(&mut disk, 6, &[0, 0, 0x40, 0]);
-    put(&mut disk, 20, &[0x5E, 0x2C]);
+    put(&mut disk, 6, &[0, 1, 0x40, 0]);
+    put(&mut disk, 20, &[0x1B, 0x4F]);
     put(&mut disk, 4096, &[0xA5]);
     put(
         &mut disk,
         4112,
-        &[0xFF, 0xFF, 0xFF, 0xFF, 0, 0, 0, 0x23, 0x2D, 0, 0, 0, 72],
+        &[0xFF, 0xFF, 0xFF, 0xFF, 0, 0, 1, 0x11, 0x75, 0, 0, 0, 72],
     );
     put(&mut disk, 8192, b"HEAD");
     put(
         &mut disk,
-        17_196,
-        b"x\x00\x02ABC41-0000-0001\x00\x02\x07APP.LUH\x00\x00\x00\x04\x07APP.BIN\x00\x00\x23\x28",
+        78_196,
+        b"x\x00\x02ABC41-0000-0001\x00\x02\x07APP.LUH\x00\x00\x00\x04\x07APP.BIN\x00\x01\x11\x70",
     );
     put(
         &mut disk,
-        17_240,
+        78_240,
         b"ABC42-0000-0002\x00\x01\x07OPS.LUH\x00\x00\x00\x01",
     );
     let mut disk = disk_with(rt.alloc(), &disk)?;
@@ -222,7 +222,7 @@ bank 0 sequence 4294967295
 loads 2
 load ABC41-0000-0001 APP.LUH 2
 file APP.LUH 4 AF7F
-file APP.BIN 9000 3065
+file APP.BIN 70000 5071
 load ABC42-0000-0002 OPS.LUH 1
 file OPS.LUH 1 1E6F
 ";

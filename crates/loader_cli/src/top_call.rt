@@ -24,10 +24,9 @@ use crate::trial::trial;
 use bank_store::{StoreFault, an_unformatted_disk_is_as_it_was, format};
 use disk_layout::{Identity, an_image_holds_one_configuration};
 use disk_model::{Disk, Power};
-use listing::listing_text;
 use load_base::{Host, NoMemory, Sink, WriteFault};
 use media_build::laws::{a_written_folder_holds_the_set, building_laws};
-use recovery::{RecoverFault, recover};
+use recovery::RecoverFault;
 use std::alloc::Global;
 use upload_replay::Drive;
 
@@ -218,8 +217,8 @@ fn list<'w, K: Disk>(alloc: Global, disk: &mut K) -> Result<Answer<'w>, NoMemory
         Lists (K.state disk.old) (K.state disk.new) (status_of answer) (text_of answer)) }
     ensures only_reads { OnlyReads (K.state disk.old) (K.state disk.new) }
 {
-    match recover(alloc, disk) {
-        Ok(standing) => Ok(Answer::Done(listing_text(alloc, &standing)?)),
+    match recovery::list(alloc, disk) {
+        Ok(text) => Ok(Answer::Done(text)),
         Err(fault) => match fault {
             RecoverFault::Memory => Err(NoMemory),
             RecoverFault::DiskFailed => Ok(Answer::DiskFault),

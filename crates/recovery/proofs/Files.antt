@@ -23,7 +23,7 @@ entries_more stored more file files i f within is pushed entry so_far =
     ∙ map_push file_entry_of (map file_view stored) (file_view file)
     ∙ ap₂ (λ (l : List ManifestFile) (g : ManifestFile). l ++ g ∷ []) so_far (entry ∙ is) ∙ sym (take_more files i f within)
 
-bytes_with : (files : List FileView) (file : FileView) → bytes_of (files ++ file ∷ []) ≡ bytes_of files ++ file.bytes
+pub bytes_with : (files : List FileView) (file : FileView) → bytes_of (files ++ file ∷ []) ≡ bytes_of files ++ file.bytes
 bytes_with files file =
     flat_map-append (λ (g : FileView). g.bytes) files (file ∷ [])
     ∙ ap (λ (l : List ℕ). bytes_of files ++ l) (flat_map-cons (λ (g : FileView). g.bytes) file [] ∙ append-nil file.bytes)

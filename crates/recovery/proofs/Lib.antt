@@ -1,7 +1,8 @@
 pub mod DiskReads
 pub mod Files
+pub mod Lines
 pub mod Loads
-pub mod Pieces
+pub mod Ranges
 pub mod Refusals
 pub mod Rulings
 pub mod Standings

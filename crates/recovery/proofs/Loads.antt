@@ -50,7 +50,7 @@ load_entries_more loads more load entries i e within is pushed entry so_far =
     ∙ map_push entry_of (map load_view loads) (load_view load)
     ∙ ap₂ (λ (l : List LoadEntry) (x : LoadEntry). l ++ x ∷ []) so_far (entry ∙ ap entry_view is) ∙ sym (map_more entry_view entries i e within)
 
-contents_with : (loads : List LoadView) (load : LoadView) → contents_of_loads (loads ++ load ∷ []) ≡ contents_of_loads loads ++ bytes_of load.files
+pub contents_with : (loads : List LoadView) (load : LoadView) → contents_of_loads (loads ++ load ∷ []) ≡ contents_of_loads loads ++ bytes_of load.files
 contents_with loads load =
     ap bytes_of (flat_map-append (λ (l : LoadView). l.files) loads (load ∷ []))
     ∙ flat_map-append (λ (f : FileView). f.bytes) (flat_map (λ (l : LoadView). l.files) loads) (flat_map (λ (l : LoadView). l.files) (load ∷ []))

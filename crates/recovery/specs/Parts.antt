@@ -1,5 +1,6 @@
 -- What the parts of a recovery find.
-use Rattle.std.specs.Prelude.{◌≡◌, ◌≢◌, ◌⊎◌, ◌↔◌, ℕ, ◌+◌, ◌<◌, ◌≤◌, List, length, Bool, true}
+use Rattle.std.specs.Prelude.{◌≡◌, ◌≢◌, ◌⊎◌, ◌↔◌, ℕ, ◌+◌, ◌<◌, ◌≤◌, List, length, Bool, true, Option}
+use Rattle.std.specs.Option.{ForSome}
 use Rattle.disk_model.specs.Image.{Image, range}
 use Rattle.field_grammar.specs.Grammar.{Spelled, Fault}
 use Rattle.disk_layout.specs.Offsets.{slot_a, slot_b, longest_manifest}
@@ -11,6 +12,15 @@ use Rattle.disk_layout.specs.declared.fault.RecoverFault.TheVariants.{NoOpenSlot
 use Rattle.disk_layout.specs.declared.manifest.ManifestFault.TheVariants.{Wrong}
 use Rattle.disk_layout.specs.declared.slot.SlotFields.{SlotFields}
 use Rattle.recovery.specs.declared.surveying.ActiveSlot.{ActiveSlot}
+
+-- ---- bytes
+
+-- So many bytes were taken: those that the disk has from this offset on, where it tells its content.
+pub record HasRead (taken : List ℕ → Type 0) (reads : Option Image) (at count : ℕ) : Type 0 where
+  pub bytes : List ℕ
+  pub are_taken : taken bytes
+  pub size : length bytes ≡ count
+  pub are_there : ForSome reads (λ image. bytes ≡ range image at count)
 
 -- ---- the slots
 

@@ -2,12 +2,15 @@
 #![tactic(auto)]
 
 mod contents;
+mod listed;
 mod looking;
+mod pieces;
 mod recovering;
 mod surveying;
 
 pub use bank_store::Store;
 pub use disk_layout::{Identity, Manifest, ManifestFile, ManifestLoad, RecoverFault, Standing};
+pub use listed::list;
 pub use recovering::recover;
 pub use surveying::{Surveyed, survey};
 

@@ -21,7 +21,7 @@ ghost use Rattle.recovery.specs.Parts.{RefusesBytes, RefusesManifest};
 ghost use Rattle.recovery.specs.Surveys.{IsSurveyed, IsSurveyInRange, FindsActive, IsFoundInRange};
 ghost use Rattle.recovery.specs.Surveys.{outline_of_survey};
 
-use crate::looking::{bytes_on, read_from};
+use crate::looking::{PIECE, bytes_on, read_from};
 use bank_store::{Store, a_settled_disk_works, a_store_goes_on_fitting};
 use disk_layout::offsets::{
     BANK_IN_SLOT, LENGTH_IN_SLOT, LONGEST_IDENTITY, LONGEST_MANIFEST, MANIFEST_OFFSET_IN_SLOT,
@@ -263,7 +263,8 @@ fn manifest_on<K: Disk>(
         (λ image. RefusesBytes image start length fault)) }
     ensures reads_disk { ReadsDisk (K.state disk.old) (K.state disk.new) result }
 {
-    let bytes = bytes_on(alloc, disk, start, length)?;
+    let mut buffer = [0; PIECE];
+    let bytes = bytes_on(alloc, disk, start, length, &mut buffer)?;
     match Manifest::decode(alloc, bytes.as_slice()) {
         Ok(manifest) => Ok(manifest),
         Err(ManifestFault::Wrong(offset)) => {

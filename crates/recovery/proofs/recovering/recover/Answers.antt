@@ -9,7 +9,7 @@ use Rattle.recovery.proofs.recovering.recover.Goals as goal
 pub returns-clause-found : goal.returns-clause-found
 returns-clause-found g c image told =
     let f = c.in_ok-found.found in
-    let entries = ap (map entry_view) c.as_slice.ensures in
+    let entries = ap (map entry_view) c.as_slice-entries.ensures in
     stands_for image f.identity f.manifest f.active f.other_is_open c.number.result (map load_view c.in_ok-loads.loads.items) c.number.ensures.value (c.in_ok-found.ensures.found image told)
     (c.in_ok-loads.ensures.entries ∙ entries) c.in_ok-loads.ensures.headers
     (c.in_ok-loads.ensures.bytes image (c.in_ok-found.ensures.reads_disk.ok.reads ∙ told)

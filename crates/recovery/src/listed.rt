@@ -1,0 +1,146 @@
+//! The listing of a disk, of whose files no contents are kept.
+ghost use Rattle.std.specs.Prelude.{◌≡◌, ◌+◌, ◌≤◌, Some, false, map, length, IfOk, IfErr, OnOk};
+ghost use Rattle.std.specs.Option.{ForSome};
+ghost use Rattle.std.specs.List.{All};
+ghost use Rattle.disk_model.specs.Image.{Image};
+ghost use Rattle.bank_store.specs.DiskWrites.{IsRunning};
+ghost use Rattle.disk_layout.specs.DiskReads.{IsOfDisk, ReadsDisk};
+ghost use Rattle.disk_layout.specs.Holds.{Refuses};
+ghost use Rattle.disk_layout.specs.Manifest.{entry_view, size_of, total_length};
+ghost use Rattle.recovery.specs.Listings.{IsListing, ListsFile, ListsFiles, ListsLoad, ListsLoads};
+ghost use Rattle.recovery.specs.Parts.{HasFiles};
+
+use crate::looking::{PIECE, pieces_on};
+use crate::surveying::active_on;
+use crc_fields::Crc16;
+use disk_layout::{ManifestFile, ManifestLoad, RecoverFault};
+use disk_model::{Disk, SIZE};
+use listing::{put_bank, put_count, put_file_line, put_load_line, put_target};
+use load_base::Bytes;
+use std::alloc::Global;
+
+/// The listing of the configuration that a disk holds, the same text as [`listing::listing_text`]
+/// of what [`crate::recover`] gives. Nothing is written. Each file's contents are read, and only
+/// their check sum is kept; besides the text this takes the manifest's memory. The first condition
+/// that fails is the refusal; after it the disk runs on.
+pub fn list<K: Disk>(alloc: Global, disk: &mut K) -> Result<Bytes, RecoverFault>
+    requires { IsRunning (K.state disk.old) }
+    ensures listed { IfOk result (λ text. IsListing (K.state disk.old).reads text.items) }
+    ensures refused { IfErr result (λ fault. ForSome (K.state disk.old).reads
+        (λ image. Refuses image fault)) }
+    ensures reads_disk { ReadsDisk (K.state disk.old) (K.state disk.new) result }
+{
+    let found = active_on(alloc, disk)?;
+    let start = found.active.bank.offset(found.identity.bank);
+    let loads = found.manifest.loads.as_slice();
+    let mut out = Bytes::new(alloc);
+    put_target(&mut out, &found.identity)?;
+    put_bank(
+        alloc,
+        &mut out,
+        found.active.bank.number(),
+        found.active.sequence,
+    )?;
+    put_count(alloc, &mut out, loads.len())?;
+    let mut buffer = [0; PIECE];
+    put_loads(alloc, disk, start, loads, &mut buffer, &mut out)?;
+    Ok(out)
+}
+
+// These loads, whose files stand back to back from `start` on.
+fn put_loads<K: Disk>(
+    alloc: Global,
+    disk: &mut K,
+    start: u32,
+    entries: &[ManifestLoad],
+    buffer: &mut [u8],
+    out: &mut Bytes,
+) -> Result<(), RecoverFault>
+    requires running { (K.state disk.old).stopped ≡ false }
+    requires within { start + total_length (map entry_view entries.now) ≤ SIZE }
+    requires files { All (λ entry. HasFiles entry) (map entry_view entries.now) }
+    requires buffer { 1 ≤ length buffer.old }
+    ensures listed { OnOk result (ListsLoads (K.state disk.old).reads start
+        (map entry_view entries.now) out.old.items out.new.items) }
+    ensures refused { IfErr result (λ fault. IsOfDisk fault) }
+    ensures reads_disk { ReadsDisk (K.state disk.old) (K.state disk.new) result }
+{
+    let mut at = start;
+    for entry in entries {
+        at = put_load(alloc, disk, at, entry, buffer, out)?;
+    }
+    Ok(())
+}
+
+// This load, whose files stand from `at` on. The offset after them.
+fn put_load<K: Disk>(
+    alloc: Global,
+    disk: &mut K,
+    at: u32,
+    entry: &ManifestLoad,
+    buffer: &mut [u8],
+    out: &mut Bytes,
+) -> Result<u32, RecoverFault>
+    requires running { (K.state disk.old).stopped ≡ false }
+    requires within { at + size_of entry.now.files.items ≤ SIZE }
+    requires files { HasFiles (entry_view entry.now) }
+    requires buffer { 1 ≤ length buffer.old }
+    ensures end { IfOk result (λ end. end ≡ at + size_of entry.now.files.items) }
+    ensures listed { OnOk result (ListsLoad (K.state disk.old).reads at (entry_view entry.now)
+        out.old.items out.new.items) }
+    ensures refused { IfErr result (λ fault. IsOfDisk fault) }
+    ensures reads_disk { ReadsDisk (K.state disk.old) (K.state disk.new) result }
+{
+    let files = entry.files.as_slice();
+    put_load_line(alloc, out, &entry.part, &files[0].name, files.len())?;
+    put_files(alloc, disk, at, files, buffer, out)
+}
+
+// These files, which stand back to back from `start` on. The offset after them.
+fn put_files<K: Disk>(
+    alloc: Global,
+    disk: &mut K,
+    start: u32,
+    files: &[ManifestFile],
+    buffer: &mut [u8],
+    out: &mut Bytes,
+) -> Result<u32, RecoverFault>
+    requires running { (K.state disk.old).stopped ≡ false }
+    requires within { start + size_of files.now ≤ SIZE }
+    requires buffer { 1 ≤ length buffer.old }
+    ensures end { IfOk result (λ end. end ≡ start + size_of files.now) }
+    ensures listed { OnOk result (ListsFiles (K.state disk.old).reads start files.now
+        out.old.items out.new.items) }
+    ensures refused { IfErr result (λ fault. IsOfDisk fault) }
+    ensures reads_disk { ReadsDisk (K.state disk.old) (K.state disk.new) result }
+{
+    let mut at = start;
+    for file in files {
+        put_file(alloc, disk, at, file, buffer, out)?;
+        at += file.length;
+    }
+    Ok(at)
+}
+
+// This file, which stands from `at` on.
+fn put_file<K: Disk>(
+    alloc: Global,
+    disk: &mut K,
+    at: u32,
+    file: &ManifestFile,
+    buffer: &mut [u8],
+    out: &mut Bytes,
+) -> Result<(), RecoverFault>
+    requires running { (K.state disk.old).stopped ≡ false }
+    requires within { at + file.now.length ≤ SIZE }
+    requires buffer { 1 ≤ length buffer.old }
+    ensures listed { OnOk result (ListsFile (K.state disk.old).reads at file.now out.old.items
+        out.new.items) }
+    ensures refused { IfErr result (λ fault. IsOfDisk fault) }
+    ensures reads_disk { ReadsDisk (K.state disk.old) (K.state disk.new) result }
+{
+    let mut sum = Crc16::new();
+    pieces_on(disk, at, file.length, buffer, &mut sum)?;
+    put_file_line(alloc, out, &file.name, file.length as usize, sum.value())?;
+    Ok(())
+}
