@@ -1,5 +1,6 @@
 pub mod Arming
 pub mod FileDisk
+pub mod FilledReads
 pub mod Fused
 pub mod Image
 pub mod MemDisk

@@ -1,7 +1,9 @@
 //! A disk in a file. Nothing is told of what the file holds.
-ghost use Rattle.std.specs.Prelude.{◌≡◌, ◌<◌, ◌≤◌, true, false, is_err, IsErrOf, OnOk, OnErr};
+ghost use Rattle.std.specs.Prelude.{◌≡◌, ◌<◌, ◌≤◌, true, false, is_err, length, IfOk, IfSome};
+ghost use Rattle.std.specs.Prelude.{IsErrOf, OnOk, OnErr};
 ghost use Rattle.std.proofs.Common.{inl};
 ghost use Rattle.load_base.specs.Counts.{Rose};
+ghost use Rattle.disk_model.specs.FilledReads.{IsFilled, ReadsUpTo};
 ghost use Rattle.disk_model.specs.State.{untold_reads};
 
 use crate::disk::refuse;
@@ -41,6 +43,7 @@ impl<'r, R: Files> FileDisk<'r, R> {
                 rt,
                 name,
                 open: None,
+                offset: None,
                 writable: false,
                 is_new: false,
                 is_lost: false,
@@ -140,6 +143,8 @@ struct DiskFile<'r, R: Files> {
     rt: &'r R,
     name: &'r str,
     open: Option<R::File>,
+    // Where the open file stands, where that is known.
+    offset: Option<u64>,
     // Whether it is open for writing too.
     writable: bool,
     // Whether its folder may not have its name yet after a power loss.
@@ -151,22 +156,36 @@ struct DiskFile<'r, R: Files> {
 impl<R: Files> DiskFile<'_, R> {
     // What lies after the file's end, or in no file, reads as zero.
     fn read_at(&mut self, at: u32, buf: &mut [u8]) -> io::Result<()> {
-        buf.fill(0);
         let Some(mut file) = self.take()? else {
+            buf.fill(0);
             return Ok(());
         };
-        file.seek(SeekFrom::Start(u64::from(at)))?;
-        fill_from(&mut file, buf)?;
-        self.open = Some(file);
+        self.go_to(&mut file, at)?;
+        let count = fill_from(&mut file, buf)?;
+        self.keep(file, at, count);
         Ok(())
     }
 
     fn write_at(&mut self, at: u32, bytes: &[u8]) -> io::Result<()> {
         let mut file = self.take_writable()?;
-        file.seek(SeekFrom::Start(u64::from(at)))?;
+        self.go_to(&mut file, at)?;
         file.write_all(bytes)?;
-        self.open = Some(file);
+        self.keep(file, at, bytes.len());
         Ok(())
+    }
+
+    // A file that stands right needs no seek.
+    fn go_to(&self, file: &mut R::File, at: u32) -> io::Result<()> {
+        if self.offset != Some(u64::from(at)) {
+            file.seek(SeekFrom::Start(u64::from(at)))?;
+        }
+        Ok(())
+    }
+
+    // Keeps the file open, which stands so many bytes after this offset.
+    fn keep(&mut self, file: R::File, at: u32, count: usize) {
+        self.open = Some(file);
+        self.offset = u64::from(at).checked_add(count as u64);
     }
 
     // Writes out what the file holds, and its name in its folder where that is new.
@@ -200,6 +219,7 @@ impl<R: Files> DiskFile<'_, R> {
         if let Some(file) = self.open.take() {
             return Ok(Some(file));
         }
+        self.offset = None;
         self.writable = false;
         let mut how = OpenOptions::new();
         how.read(true);
@@ -221,6 +241,7 @@ impl<R: Files> DiskFile<'_, R> {
             }
         }
         self.open = None;
+        self.offset = None;
         self.writable = true;
         let mut how = OpenOptions::new();
         how.read(true).write(true);
@@ -250,8 +271,21 @@ fn folder_of(name: &str) -> &str {
     }
 }
 
+// Fills the buffer with what the file has, and with zeros after its end. How many bytes it had.
+fn fill_from<F: Read>(file: &mut F, buf: &mut [u8]) -> io::Result<usize>
+    ensures { OnOk result (IfSome (F.remaining file.old) (λ told. IsFilled told buf.new)) }
+{
+    let filled = read_up_to(file, buf)?;
+    buf[filled..].fill(0);
+    Ok(filled)
+}
+
 // Reads until the buffer is full or the file ends.
-fn fill_from<F: Read>(file: &mut F, buf: &mut [u8]) -> io::Result<()> {
+fn read_up_to<F: Read>(file: &mut F, buf: &mut [u8]) -> io::Result<usize>
+    ensures bound { IfOk result (λ count. count ≤ length buf.new) }
+    ensures bytes { IfOk result (λ count. IfSome (F.remaining file.old)
+        (λ told. ReadsUpTo told count buf.new)) }
+{
     let mut filled = 0;
     while filled < buf.len() {
         let count = read_some(file, &mut buf[filled..])?;
@@ -260,5 +294,5 @@ fn fill_from<F: Read>(file: &mut F, buf: &mut [u8]) -> io::Result<()> {
         }
         filled += count;
     }
-    Ok(())
+    Ok(filled)
 }

@@ -260,6 +260,35 @@ fn ends(rt: &HostRuntime, name: &str) -> Result<[u8; 6], DiskFault> {
     Ok(bytes)
 }
 
+// Two bytes of a disk.
+fn two<K: Disk>(disk: &mut K, at: u32) -> Result<[u8; 2], DiskFault>
+    requires within { at ≤ 8 }
+    requires running { (K.state disk.old).stopped ≡ false }
+    ensures { (K.state disk.new).stopped ≡ is_err result }
+{
+    let mut bytes = [0xFF; 2];
+    disk.read(at, &mut bytes)?;
+    Ok(bytes)
+}
+
+// Writes and reads of which most begin where the call before them ended.
+fn back_to_back(rt: &HostRuntime, name: &str) -> Result<[[u8; 2]; 5], DiskFault> {
+    let mut disk = FileDisk::new(rt, name);
+    disk.write(2, &[1, 2])?;
+    disk.write(4, &[3])?;
+    let past_the_end = two(&mut disk, 5)?;
+    let first = two(&mut disk, 2)?;
+    let second = two(&mut disk, 4)?;
+    disk.write(6, &[9])?;
+    Ok([
+        past_the_end,
+        first,
+        second,
+        two(&mut disk, 6)?,
+        two(&mut disk, 4)?,
+    ])
+}
+
 #[test]
 fn a_disk_in_a_file_reads_what_was_written(rt: HostRuntime) -> Result<(), Fail> {
     let name = "a_disk_in_a_file.disk";
@@ -269,6 +298,9 @@ fn a_disk_in_a_file_reads_what_was_written(rt: HostRuntime) -> Result<(), Fail> 
     assert_eq!(rt; write_file(&rt, name)?, [1, 0, 0, 5, 6, 0, 0, 0]);
     assert_eq!(rt; ends(&rt, name)?, [6, 0, 0, 0, 0, 0]);
     assert_eq!(rt; fs::read(&rt, name)?.as_slice(), [1, 0, 0, 5, 6].as_slice());
+    fs::remove_file(&rt, name)?;
+    let wanted = [[0, 0], [1, 2], [3, 0], [9, 0], [3, 0]];
+    assert_eq!(rt; back_to_back(&rt, name)?, wanted);
     fs::remove_file(&rt, name)?;
     Ok(())
 }

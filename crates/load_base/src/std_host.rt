@@ -1,5 +1,5 @@
 //! The files of the system.
-ghost use Rattle.std.specs.Prelude.{◌≡◌, ◌≤◌, None, length, IfOk, IsErrOf};
+ghost use Rattle.std.specs.Prelude.{◌≡◌, ◌≤◌, None, length, IfOk, IfSome, IsErrOf};
 ghost use Rattle.load_base.specs.Host.{WritesFile};
 ghost use Rattle.load_base.specs.Sink.{HasWriteCause};
 
@@ -81,7 +81,9 @@ fn read_file<R: Files>(rt: &R, alloc: Global, name: &[u8]) -> Result<Bytes, Read
 
 // Each read but the last gives a byte at least.
 fn read_whole<F: Read>(file: &mut F, alloc: Global) -> Result<Bytes, ReadFault>
-    ensures { IfOk result (λ bytes. length bytes.items ≤ LONGEST_FILE) }
+    ensures limit { IfOk result (λ bytes. length bytes.items ≤ LONGEST_FILE) }
+    ensures whole { IfOk result (λ bytes. IfSome (F.remaining file.old)
+        (λ told. bytes.items ≡ told)) }
 {
     let mut bytes = Bytes::new(alloc);
     let mut piece = [0; PIECE];
