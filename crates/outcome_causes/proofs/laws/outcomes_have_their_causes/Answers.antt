@@ -1,0 +1,25 @@
+use Rattle.session_rules.specs.SoundLogLaws.{payloads_are_bytes}
+use Rattle.outcome_causes.proofs.Outcomes.{denials_are_for_sequence, stops_are_for_verdicts}
+use Rattle.outcome_causes.proofs.laws.outcomes_have_their_causes.Goals as goal
+
+pub returns-clause-denied : goal.returns-clause-denied
+returns-clause-denied c = denials_are_for_sequence (record {
+  crc16 = c.check_sum_laws.ensures.crc16_joined;
+  crc32 = c.check_sum_laws.ensures.crc32_joined;
+}) (payloads_are_bytes c.packet_laws.ensures.decided c.packet_laws.ensures.spelled) c.what_arrives_was_sent.ensures.sent (record {
+  lci_exact = c.protocol_file_laws.ensures.lci;
+  lcs_exact = c.protocol_file_laws.ensures.lcs;
+  lui_exact = c.protocol_file_laws.ensures.lui;
+  lus_exact = c.protocol_file_laws.ensures.lus;
+}) c.the_configuration_changes_by_good_verdicts.ensures.changes
+
+pub returns-clause-stopped : goal.returns-clause-stopped
+returns-clause-stopped c = stops_are_for_verdicts (record {
+  crc16 = c.check_sum_laws.ensures.crc16_joined;
+  crc32 = c.check_sum_laws.ensures.crc32_joined;
+}) (payloads_are_bytes c.packet_laws.ensures.decided c.packet_laws.ensures.spelled) c.what_arrives_was_sent.ensures.sent (record {
+  lci_exact = c.protocol_file_laws.ensures.lci;
+  lcs_exact = c.protocol_file_laws.ensures.lcs;
+  lui_exact = c.protocol_file_laws.ensures.lui;
+  lus_exact = c.protocol_file_laws.ensures.lus;
+}) c.the_configuration_changes_by_good_verdicts.ensures.changes
