@@ -51,6 +51,7 @@ script_run set script start run link fits is = record {
   ended = link;
   is = is;
   good = is.keeps.good accepts_permitted;
+  reports = is.keeps.reports accepts_permitted;
   tells = λ can none. is.keeps.tells accepts_permitted can fits none;
   bounded = is.keeps.bounded script (is.follows script (record { posted = refl; given = refl; plan = refl; follows = tt })).follows;
 }

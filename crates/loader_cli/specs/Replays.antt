@@ -35,6 +35,7 @@ use Rattle.replay_rules.specs.BothEnds.{Setting}
 use Rattle.replay_rules.specs.FaultFree.{NothingInjected}
 use Rattle.finish_ends.specs.Scripts.{most_of_lines}
 use Rattle.session_completion.specs.FinishedRuns.{IsComplete}
+use Rattle.completion_reports.specs.Reports.{AllReportsAreTrue}
 use Rattle.run_promises.specs.Promises.{CanBeTold, ChangesByGoodLoads, IsLeftToLastFinish, TellsTrue}
 use Rattle.upload_replay.specs.declared.outcome.Drive.{Drive}
 use Rattle.upload_replay.specs.Drives.{IsRun, NeverBoots}
@@ -75,6 +76,7 @@ pub record IsScriptRun (set : SetView) (script : List Line) (start : StandingVie
   pub ended : LinkState
   pub is : IsRun (setting_of set start) (link_of script) ended (steps_of run.trace) run.sessions run.standing
   pub good : ChangesByGoodLoads (setting_of set start) (steps_of run.trace)
+  pub reports : AllReportsAreTrue (setting_of set start) (steps_of run.trace)
   pub tells : CanBeTold (media_of set) → NothingInjected (steps_of run.trace) → TellsTrue (setting_of set start) (steps_of run.trace) run.sessions run.standing
   pub bounded : length (steps_of run.trace) ≤ most_of_lines 0 script + 1
 

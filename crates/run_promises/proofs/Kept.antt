@@ -6,6 +6,8 @@ use Rattle.load_base.specs.Name.{IsName}
 use Rattle.field_grammar.specs.Grammar.{IsBytes}
 use Rattle.disk_layout.specs.Holds.{StandingView}
 use Rattle.exchange_trace.specs.Steps.{Step}
+use Rattle.session_rules.specs.declared.outcome.Outcome.{Outcome}
+use Rattle.session_rules.specs.declared.outcome.Outcome.TheVariants.{Denied, TargetStopped}
 use Rattle.session_rules.specs.declared.outcome.SessionKind.TheVariants.{Info, Upload}
 use Rattle.session_rules.specs.Loader.{EndedSession}
 use Rattle.session_rules.specs.LoaderLog.{loader_view}
@@ -26,10 +28,12 @@ use Rattle.replay_rules.specs.OwnSessionTraces.{CompletedStays}
 use Rattle.replay_rules.specs.Promises.{IsTrace}
 use Rattle.replay_rules.specs.Runs.{Follows}
 use Rattle.exchange_trace.specs.Lines.{Line}
+use Rattle.completion_reports.specs.Reports.{ReportsAreTrue}
+use Rattle.outcome_causes.specs.Causes.{AllDeniedWhereSpent, AllStoppedWhereFailed, DenialsAreForSequence, DeniedWhereSpent, EndsAs, IsOfFile, SessionsEndInSteps, StoppedWhereFailed, StopsAreForVerdicts}
 use Rattle.finish_ends.specs.Scripts.{TracesAreBounded}
 use Rattle.session_completion.specs.FinishedRuns.{FinishCompletes, IsComplete}
 use Rattle.run_promises.specs.Listing.{StandingFits, WhatFitsNamesItsFiles, WhatIsActiveCanBeListed}
-use Rattle.run_promises.specs.Promises.{AcceptsPermitted, CanBeTold, CompletesAtFinish, IsTold, IsWholeRun, ListIsTrue, RunsKeepPromises, TellsTrue, UploadIsInstalled}
+use Rattle.run_promises.specs.Promises.{AcceptsPermitted, CanBeTold, CompletesAtFinish, DenialIsTrue, EndsIn, IsTold, IsToldAs, IsWholeRun, ListIsTrue, RunsKeepPromises, StopIsTrue, TellsTrue, UploadIsInstalled}
 use Rattle.run_promises.proofs.Told.{told_ended}
 
 uninjected : (set : Setting) (steps : List Step) → IsWholeRun set steps → NothingInjected steps → IsUninjected set steps
@@ -40,13 +44,27 @@ lists_at : (set : Setting) (since : List Step) (s : Step) (earlier : List Step) 
 lists_at set [] s earlier (now, before) = now
 lists_at set (x ∷ since) s earlier (now, before) = lists_at set since s earlier before
 
-module _ (media : InstallsAreOfMedia) (lists : CompletedListsActive) (names : WhatFitsNamesItsFiles) (active : WhatIsActiveCanBeListed) (stays : CompletedStays) (set : Setting) (steps : List Step) (standing : Option StandingView) (accepts : AcceptsPermitted set) (can : CanBeTold set.media) (fits : StandingFits set.start) (is : IsUninjected set steps) where
+denied_at : (set : Setting) (since : List Step) (s : Step) (earlier : List Step) → AllDeniedWhereSpent set (since ++ s ∷ earlier) → DeniedWhereSpent set s earlier
+denied_at set [] s earlier (now, before) = now
+denied_at set (x ∷ since) s earlier (now, before) = denied_at set since s earlier before
+
+stopped_at : (set : Setting) (since : List Step) (s : Step) (earlier : List Step) → AllStoppedWhereFailed set (since ++ s ∷ earlier) → StoppedWhereFailed set s earlier
+stopped_at set [] s earlier (now, before) = now
+stopped_at set (x ∷ since) s earlier (now, before) = stopped_at set since s earlier before
+
+-- what is said of how sessions ended
+pub record EndedLaws : Type 0 where
+  pub ends : SessionsEndInSteps
+  pub denials : DenialsAreForSequence
+  pub stops : StopsAreForVerdicts
+
+module _ (ended : EndedLaws) (media : InstallsAreOfMedia) (lists : CompletedListsActive) (names : WhatFitsNamesItsFiles) (active : WhatIsActiveCanBeListed) (stays : CompletedStays) (set : Setting) (steps : List Step) (standing : Option StandingView) (accepts : AcceptsPermitted set) (can : CanBeTold set.media) (fits : StandingFits set.start) (is : IsUninjected set steps) where
   abbrev sessions : List EndedSession
   sessions = all_sessions (loader_view (loader_at set steps))
 
   upload : (told : IsTold Upload sessions) → UploadIsInstalled set steps standing told.before told.session
   upload told =
-      let e = told_ended told.session told.completed set steps told.before told.after told.place in
+      let e = told_ended told.session (subst IsOfFile (sym told.completed) tt) ended.ends set steps told.before told.after told.place in
       record {
         ended = e;
         stays = stays set e.since e.step e.earlier standing accepts can.entries (subst (λ (list : List Step). IsUninjected set list) e.split is) (told.session, e.ends ∙ ap (λ (others : List EndedSession). told.session ∷ others) (sym e.others)) (rw e.ends (told.kind_is, told.completed));
@@ -54,14 +72,33 @@ module _ (media : InstallsAreOfMedia) (lists : CompletedListsActive) (names : Wh
 
   list : (told : IsTold Info sessions) → ListIsTrue set steps told.before told.session
   list told =
-      let e = told_ended told.session told.completed set steps told.before told.after told.place in
+      let e = told_ended told.session (subst IsOfFile (sym told.completed) tt) ended.ends set steps told.before told.after told.place in
       record {
         ended = e;
         lists = lists_at set e.since e.step e.earlier (subst (λ (list : List Step). AllListInSession set list) e.split (lists set steps is (names set.start fits) (active set steps accepts is.carries fits))) told.session (e.ends ∙ ap (λ (others : List EndedSession). told.session ∷ others) (sym e.others)) told.kind_is told.completed;
       }
 
+  ends_as : (outcome : Outcome) (told : IsToldAs outcome sessions) (e : EndsIn set steps told.before told.session) → EndsAs set e.step e.earlier outcome
+  ends_as outcome told e = record { session = told.session; ended = e.ends ∙ ap (λ (others : List EndedSession). told.session ∷ others) (sym e.others); came_to = told.came_to }
+
+  denial : (text : List ℕ) (told : IsToldAs (Denied text) sessions) → DenialIsTrue set steps told.before told.session text
+  denial text told =
+      let e = told_ended told.session (subst IsOfFile (sym told.came_to) tt) ended.ends set steps told.before told.after told.place in
+      record {
+        ended = e;
+        denied = denied_at set e.since e.step e.earlier (subst (λ (list : List Step). AllDeniedWhereSpent set list) e.split (ended.denials set steps accepts fits.identity.hw is)) text (ends_as (Denied text) told e);
+      }
+
+  stop : (text : List ℕ) (told : IsToldAs (TargetStopped text) sessions) → StopIsTrue set steps told.before told.session text
+  stop text told =
+      let e = told_ended told.session (subst IsOfFile (sym told.came_to) tt) ended.ends set steps told.before told.after told.place in
+      record {
+        ended = e;
+        stopped = stopped_at set e.since e.step e.earlier (subst (λ (list : List Step). AllStoppedWhereFailed set list) e.split (ended.stops set steps accepts fits.identity.hw is)) text (ends_as (TargetStopped text) told e);
+      }
+
   tells : TellsTrue set steps sessions standing
-  tells = record { media = media set steps accepts can.lengths is; uploads = upload; lists = list }
+  tells = record { media = media set steps accepts can.lengths is; uploads = upload; lists = list; denials = denial; stops = stop }
 
 -- the files of loads that the media set has
 served_bytes : (media : Media) → CanBeTold media → (loads : List LoadView) → AreOfMedia media loads → AllByRecursion (λ (f : FileView). IsBytes f.bytes) (files_in loads)
@@ -84,10 +121,11 @@ completes_free complete set steps standing is accepts can named script follows l
       stays_up = left.stays_up;
     }) (subst (λ (list : List Step). last ≡ active_by (target_at set list) (Some last)) left.split active))
 
-pub kept : ChangesAreNew → InstallsAreGood → ActiveIsFirstOrGood → InstallsAreOfMedia → CompletedListsActive → WhatFitsNamesItsFiles → WhatIsActiveCanBeListed → CompletedStays → TracesAreBounded → FinishCompletes → RunsKeepPromises
-kept changes good active media lists names listed stays bounded complete set steps standing is = record {
+pub kept : EndedLaws → ReportsAreTrue → ChangesAreNew → InstallsAreGood → ActiveIsFirstOrGood → InstallsAreOfMedia → CompletedListsActive → WhatFitsNamesItsFiles → WhatIsActiveCanBeListed → CompletedStays → TracesAreBounded → FinishCompletes → RunsKeepPromises
+kept ended reports changes good active media lists names listed stays bounded complete set steps standing is = record {
   good = λ accepts. record { changes = changes set steps accepts is.carries; brought = good set steps accepts is.carries; active = active set steps accepts is.carries };
-  tells = λ accepts can fits none. tells media lists names listed stays set steps standing accepts can fits (uninjected set steps is none);
+  reports = λ accepts. reports set steps accepts is.carries;
+  tells = λ accepts can fits none. tells ended media lists names listed stays set steps standing accepts can fits (uninjected set steps is none);
   bounded = λ script follows. bounded set script steps follows is.trace is.carries;
   completes = λ accepts can fits script follows. completes_free complete set steps standing is accepts can (names set.start fits) script follows;
 }

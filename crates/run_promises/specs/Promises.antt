@@ -9,7 +9,8 @@ use Rattle.exchange_trace.specs.Lines.{Line}
 use Rattle.exchange_trace.specs.Posts.{AllHonest}
 use Rattle.exchange_trace.specs.Steps.{Step}
 use Rattle.accept_rules.specs.Permissions.{Permits}
-use Rattle.session_rules.specs.declared.outcome.Outcome.TheVariants.{Completed}
+use Rattle.session_rules.specs.declared.outcome.Outcome.{Outcome}
+use Rattle.session_rules.specs.declared.outcome.Outcome.TheVariants.{Completed, Denied, TargetStopped}
 use Rattle.session_rules.specs.declared.outcome.SessionKind.{SessionKind}
 use Rattle.session_rules.specs.declared.outcome.SessionKind.TheVariants.{Info, Upload}
 use Rattle.session_rules.specs.Loader.{EndedSession}
@@ -27,6 +28,8 @@ use Rattle.replay_rules.specs.MediaTraces.{LengthsAreTold}
 use Rattle.replay_rules.specs.OwnSessionTraces.{StaysInstalled}
 use Rattle.replay_rules.specs.Promises.{AllOfMedia, IsTrace, NoneGoesDown}
 use Rattle.replay_rules.specs.Runs.{Follows, IsWithinMargin}
+use Rattle.completion_reports.specs.Reports.{AllReportsAreTrue}
+use Rattle.outcome_causes.specs.Causes.{IsDeniedForSequence, IsStoppedByVerdict}
 use Rattle.finish_ends.specs.Scripts.{most_of_lines}
 use Rattle.session_completion.specs.FinishedRuns.{FinishIsLeft, IsComplete}
 use Rattle.run_promises.specs.Listing.{StandingFits}
@@ -77,6 +80,14 @@ pub record IsTold (kind : SessionKind) (sessions : List EndedSession) : Type 0 w
   pub kind_is : session.kind ≡ kind
   pub completed : session.outcome ≡ Completed
 
+-- at this place one is told to have come to this
+pub record IsToldAs (outcome : Outcome) (sessions : List EndedSession) : Type 0 where
+  pub before : List EndedSession
+  pub session : EndedSession
+  pub after : List EndedSession
+  pub place : sessions ≡ before ++ session ∷ after
+  pub came_to : session.outcome ≡ outcome
+
 -- The session with these before it ended in this step of the run: they had ended then, and no other.
 pub record EndsIn (set : Setting) (steps : List Step) (before : List EndedSession) (session : EndedSession) : Type 0 where
   pub since : List Step
@@ -97,12 +108,25 @@ pub record ListIsTrue (set : Setting) (steps : List Step) (before : List EndedSe
   pub ended : EndsIn set steps before session
   pub lists : ListsInSession set (ended.step ∷ ended.earlier) session
 
+-- a session was denied with this text, since no sequence number was left as it ended
+pub record DenialIsTrue (set : Setting) (steps : List Step) (before : List EndedSession) (session : EndedSession) (text : List ℕ) : Type 0 where
+  pub ended : EndsIn set steps before session
+  pub denied : IsDeniedForSequence set (ended.step ∷ ended.earlier) text
+
+-- the target stopped a session with this text, which is that of a verdict
+pub record StopIsTrue (set : Setting) (steps : List Step) (before : List EndedSession) (session : EndedSession) (text : List ℕ) : Type 0 where
+  pub ended : EndsIn set steps before session
+  pub stopped : IsStoppedByVerdict set (ended.step ∷ ended.earlier) text
+
 -- What is told of the sessions is true: each file that is installed is the media set's file of its name, a completed upload
--- is installed, and a completed information session lists what was active.
+-- is installed, a completed information session lists what was active, and one that is denied or stopped is so for the reason
+-- of the target that is told.
 pub record TellsTrue (set : Setting) (steps : List Step) (sessions : List EndedSession) (standing : Option StandingView) : Type 0 where
   pub media : AllOfMedia set steps
   pub uploads : (told : IsTold Upload sessions) → UploadIsInstalled set steps standing told.before told.session
   pub lists : (told : IsTold Info sessions) → ListIsTrue set steps told.before told.session
+  pub denials : (text : List ℕ) (told : IsToldAs (Denied text) sessions) → DenialIsTrue set steps told.before told.session text
+  pub stops : (text : List ℕ) (told : IsToldAs (TargetStopped text) sessions) → StopIsTrue set steps told.before told.session text
 
 -- ---- what completes
 
@@ -126,11 +150,13 @@ CompletesAtFinish set script steps standing =
 -- ---- all of it
 
 -- What is promised of a run with these sessions, at whose end this was recovered, where the interlock accepts only what it may.
--- Whatever was injected, what may be active is good; where nothing was injected, the media set can be told, and the run began
+-- Whatever was injected, what may be active is good, and as a target reports a completion nothing else may be active than what
+-- it reports; where nothing was injected, the media set can be told, and the run began
 -- with what a disk can hold, what is told is true; a run of a script has no more steps than its lines allow, and a fault-free
 -- one that was left to its last `finish` is complete.
 pub record KeepsPromises (set : Setting) (steps : List Step) (sessions : List EndedSession) (standing : Option StandingView) : Type 0 where
   pub good : AcceptsPermitted set → ChangesByGoodLoads set steps
+  pub reports : AcceptsPermitted set → AllReportsAreTrue set steps
   pub tells : AcceptsPermitted set → CanBeTold set.media → StandingFits set.start → NothingInjected steps → TellsTrue set steps sessions standing
   pub bounded : (script : List Line) → Follows set script steps → length steps ≤ most_of_lines 0 script + 1
   pub completes : AcceptsPermitted set → CanBeTold set.media → StandingFits set.start → (script : List Line) → Follows set script steps → CompletesAtFinish set script steps standing

@@ -4,11 +4,13 @@ ghost use Rattle.run_promises.specs.Listing.{WhatIsActiveCanBeListed, WhatIsHeld
 ghost use Rattle.run_promises.specs.Promises.{RunsKeepPromises};
 ghost use Rattle.run_promises.specs.TellableSets.{ReadSetsCanBeTold, SetsCanBeTold};
 
+use completion_reports::laws::what_a_target_reports_is_installed;
 use crc_fields::check_sum_laws;
 use finish_ends::laws::every_script_ends;
 use load_header::header_laws;
 use load_protocol_files::protocol_file_laws;
 use media_lists::loads_list_laws;
+use outcome_causes::laws::{outcomes_have_their_causes, sessions_end_in_steps};
 use replay_rules::laws::{
     a_completed_session_lists_what_was_active, a_completed_upload_is_installed,
     the_configuration_changes_by_good_verdicts, what_is_installed_is_of_the_media_set,
@@ -51,8 +53,9 @@ pub fn a_set_that_is_read_can_be_told()
 }
 
 /// Each run that came to its end keeps what is promised of it, through losses, repeats, other
-/// orders, power losses and boots: what may be active is good, where nothing was injected what is
-/// told of completed sessions is true, and a fault-free run that is left to `finish` completes.
+/// orders, power losses and boots: what may be active is good, what a target reports as installed
+/// is active, where nothing was injected what is told of sessions is true, and a fault-free run
+/// that is left to `finish` completes.
 pub fn a_run_keeps_its_promises()
     ensures { RunsKeepPromises }
 {
@@ -62,6 +65,9 @@ pub fn a_run_keeps_its_promises()
     what_is_installed_is_of_the_media_set();
     a_completed_session_lists_what_was_active();
     a_completed_upload_is_installed();
+    what_a_target_reports_is_installed();
+    sessions_end_in_steps();
+    outcomes_have_their_causes();
     every_script_ends();
     a_run_left_to_finish_completes();
 }
