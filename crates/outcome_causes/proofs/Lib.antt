@@ -6,3 +6,4 @@ pub mod TargetTells
 pub mod Replies
 pub mod Arrived
 pub mod Outcomes
+pub mod ByCause

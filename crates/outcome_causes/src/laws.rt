@@ -1,6 +1,7 @@
 //! What a session of a run came to and why. These functions do nothing; their clauses are the law.
 ghost use Rattle.outcome_causes.specs.Causes.{DenialsAreForSequence, SessionsEndInSteps};
 ghost use Rattle.outcome_causes.specs.Causes.{StopsAreForVerdicts};
+ghost use Rattle.outcome_causes.specs.Outcomes.{OutcomesHaveCauses};
 
 use crc_fields::check_sum_laws;
 use load_protocol_files::protocol_file_laws;
@@ -11,6 +12,13 @@ use tftp_packet::packet_laws;
 /// had, whatever comes.
 pub fn sessions_end_in_steps()
     ensures { SessionsEndInSteps }
+{}
+
+/// Each session that ends in a step of a run comes to its outcome by its cause, whatever comes: by a
+/// file that arrived whole, an ERROR, a tick after five retries, a start, the parts of its own
+/// start, or since no port was left.
+pub fn each_session_ends_by_its_cause()
+    ensures { OutcomesHaveCauses }
 {}
 
 /// Where nothing is injected, a session is denied only where no sequence number is left after that

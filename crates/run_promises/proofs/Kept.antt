@@ -30,6 +30,7 @@ use Rattle.replay_rules.specs.Runs.{Follows}
 use Rattle.exchange_trace.specs.Lines.{Line}
 use Rattle.completion_reports.specs.Reports.{ReportsAreTrue}
 use Rattle.outcome_causes.specs.Causes.{AllDeniedWhereSpent, AllStoppedWhereFailed, DenialsAreForSequence, DeniedWhereSpent, EndsAs, IsOfFile, SessionsEndInSteps, StoppedWhereFailed, StopsAreForVerdicts}
+use Rattle.outcome_causes.specs.Outcomes.{OutcomesHaveCauses}
 use Rattle.finish_ends.specs.Scripts.{TracesAreBounded}
 use Rattle.session_completion.specs.FinishedRuns.{FinishCompletes, IsComplete}
 use Rattle.run_promises.specs.Listing.{StandingFits, WhatFitsNamesItsFiles, WhatIsActiveCanBeListed}
@@ -57,6 +58,7 @@ pub record EndedLaws : Type 0 where
   pub ends : SessionsEndInSteps
   pub denials : DenialsAreForSequence
   pub stops : StopsAreForVerdicts
+  pub causes : OutcomesHaveCauses
 
 module _ (ended : EndedLaws) (media : InstallsAreOfMedia) (lists : CompletedListsActive) (names : WhatFitsNamesItsFiles) (active : WhatIsActiveCanBeListed) (stays : CompletedStays) (set : Setting) (steps : List Step) (standing : Option StandingView) (accepts : AcceptsPermitted set) (can : CanBeTold set.media) (fits : StandingFits set.start) (is : IsUninjected set steps) where
   abbrev sessions : List EndedSession
@@ -125,6 +127,7 @@ pub kept : EndedLaws → ReportsAreTrue → ChangesAreNew → InstallsAreGood �
 kept ended reports changes good active media lists names listed stays bounded complete set steps standing is = record {
   good = λ accepts. record { changes = changes set steps accepts is.carries; brought = good set steps accepts is.carries; active = active set steps accepts is.carries };
   reports = λ accepts. reports set steps accepts is.carries;
+  causes = ended.causes set steps;
   tells = λ accepts can fits none. tells ended media lists names listed stays set steps standing accepts can fits (uninjected set steps is none);
   bounded = λ script follows. bounded set script steps follows is.trace is.carries;
   completes = λ accepts can fits script follows. completes_free complete set steps standing is accepts can (names set.start fits) script follows;

@@ -30,6 +30,7 @@ use Rattle.replay_rules.specs.Promises.{AllOfMedia, IsTrace, NoneGoesDown}
 use Rattle.replay_rules.specs.Runs.{Follows, IsWithinMargin}
 use Rattle.completion_reports.specs.Reports.{AllReportsAreTrue}
 use Rattle.outcome_causes.specs.Causes.{IsDeniedForSequence, IsStoppedByVerdict}
+use Rattle.outcome_causes.specs.Outcomes.{AllEndByCause}
 use Rattle.finish_ends.specs.Scripts.{most_of_lines}
 use Rattle.session_completion.specs.FinishedRuns.{FinishIsLeft, IsComplete}
 use Rattle.run_promises.specs.Listing.{StandingFits}
@@ -150,13 +151,14 @@ CompletesAtFinish set script steps standing =
 -- ---- all of it
 
 -- What is promised of a run with these sessions, at whose end this was recovered, where the interlock accepts only what it may.
--- Whatever was injected, what may be active is good, and as a target reports a completion nothing else may be active than what
--- it reports; where nothing was injected, the media set can be told, and the run began
--- with what a disk can hold, what is told is true; a run of a script has no more steps than its lines allow, and a fault-free
--- one that was left to its last `finish` is complete.
+-- Whatever was injected, what may be active is good, as a target reports a completion nothing else may be active than what it
+-- reports, and each session that ended came to its outcome by its cause; where nothing was injected, the media set can be told,
+-- and the run began with what a disk can hold, what is told is true; a run of a script has no more steps than its lines allow,
+-- and a fault-free one that was left to its last `finish` is complete.
 pub record KeepsPromises (set : Setting) (steps : List Step) (sessions : List EndedSession) (standing : Option StandingView) : Type 0 where
   pub good : AcceptsPermitted set → ChangesByGoodLoads set steps
   pub reports : AcceptsPermitted set → AllReportsAreTrue set steps
+  pub causes : AllEndByCause set steps
   pub tells : AcceptsPermitted set → CanBeTold set.media → StandingFits set.start → NothingInjected steps → TellsTrue set steps sessions standing
   pub bounded : (script : List Line) → Follows set script steps → length steps ≤ most_of_lines 0 script + 1
   pub completes : AcceptsPermitted set → CanBeTold set.media → StandingFits set.start → (script : List Line) → Follows set script steps → CompletesAtFinish set script steps standing

@@ -10,7 +10,9 @@ use finish_ends::laws::every_script_ends;
 use load_header::header_laws;
 use load_protocol_files::protocol_file_laws;
 use media_lists::loads_list_laws;
-use outcome_causes::laws::{outcomes_have_their_causes, sessions_end_in_steps};
+use outcome_causes::laws::{
+    each_session_ends_by_its_cause, outcomes_have_their_causes, sessions_end_in_steps,
+};
 use replay_rules::laws::{
     a_completed_session_lists_what_was_active, a_completed_upload_is_installed,
     the_configuration_changes_by_good_verdicts, what_is_installed_is_of_the_media_set,
@@ -54,7 +56,7 @@ pub fn a_set_that_is_read_can_be_told()
 
 /// Each run that came to its end keeps what is promised of it, through losses, repeats, other
 /// orders, power losses and boots: what may be active is good, what a target reports as installed
-/// is active, where nothing was injected what is told of sessions is true, and a fault-free run
+/// is active, each session came to its outcome by its cause, where nothing was injected what is told of sessions is true, and a fault-free run
 /// that is left to `finish` completes.
 pub fn a_run_keeps_its_promises()
     ensures { RunsKeepPromises }
@@ -67,6 +69,7 @@ pub fn a_run_keeps_its_promises()
     a_completed_upload_is_installed();
     what_a_target_reports_is_installed();
     sessions_end_in_steps();
+    each_session_ends_by_its_cause();
     outcomes_have_their_causes();
     every_script_ends();
     a_run_left_to_finish_completes();
