@@ -8,6 +8,7 @@ use Rattle.loader_cli.specs.Commands.{CommandView, FormatsDisk, IsCommand, IsNo}
 use Rattle.loader_cli.specs.Commands.CommandView.{list, format, show, check, build, make, replay, wire, trial}
 use Rattle.loader_cli.specs.Replays.{Replays, run_command}
 use Rattle.loader_cli.specs.Runs.{Work, host_work, Says, Checks}
+use Rattle.loader_cli.specs.Trials.{Trials}
 use Rattle.loader_cli.specs.declared.replay.Telling.{Telling}
 use Rattle.loader_cli.specs.declared.replay.Telling.TheVariants.{Report, Trace}
 use Rattle.loader_cli.specs.Runs.Says.{refused, lists, formats, shows, checks, builds, makes, replays, traces, tries}
@@ -119,6 +120,41 @@ says_of_make work number folder status text asked (builds recipe other is _) = l
 says_of_make work number folder status text asked (makes number_2 folder_2 is found) =
     let same = one_make work.words number number_2 folder folder_2 asked is in
     subst (λ (n : ℕ). Makes n folder (host_work work) status text) same.0 (subst (λ (f : List ℕ). Makes number_2 f (host_work work) status text) same.1 found)
+
+-- what is said of a trial
+pub one_trial : (words : List (List ℕ)) (number number_2 : ℕ) → IsCommand words (trial number) → IsCommand words (trial number_2) → number_2 ≡ number
+one_trial words number number_2 one two =
+    let same : codes "trial" ∷ decimal number_2 ∷ [] ≡ codes "trial" ∷ decimal number ∷ [] = sym two.0 ∙ one.0 in
+    let digits : decimal number_2 ≡ decimal number = cc in
+    decimal_injective number_2 number (omega (arith, two.1)) (omega (arith, one.1)) digits
+
+pub says_of_trial : (work : Work) (number : ℕ) (status : ℕ) (text : List ℕ) → IsCommand work.words (trial number) → Says work status text
+    → Trials number work.disk work.disk_after work.handed status text
+unfolding verb
+says_of_trial work number status text asked (refused none _ _) = absurd (none (trial number) asked tt)
+says_of_trial work number status text asked (replays other script is _) = let no = same_verb work.words (trial number) (replay other script) asked is in absurd cc
+says_of_trial work number status text asked (traces other script is _) = let no = same_verb work.words (trial number) (wire other script) asked is in absurd cc
+says_of_trial work number status text asked (lists is _) = let no = same_verb work.words (trial number) list asked is in absurd cc
+says_of_trial work number status text asked (formats id is _) = let no = same_verb work.words (trial number) (format id) asked is in absurd cc
+says_of_trial work number status text asked (shows kind file is _) = let no = same_verb work.words (trial number) (show kind file) asked is in absurd cc
+says_of_trial work number status text asked (checks other is _) = absurd (not_trial (same_verb work.words (check other) (trial number) is asked))
+says_of_trial work number status text asked (builds recipe other is _) = let no = same_verb work.words (build recipe other) (trial number) is asked in absurd cc
+says_of_trial work number status text asked (makes other folder is _) = let no = same_verb work.words (trial number) (make other folder) asked is in absurd cc
+says_of_trial work number status text asked (tries other is found) =
+    subst (λ (n : ℕ). Trials n work.disk work.disk_after work.handed status text) (one_trial work.words number other asked is) found
+
+-- which formats no disk
+pub trial_formats_none : (words : List (List ℕ)) (number : ℕ) → IsCommand words (trial number) → IsNo FormatsDisk words
+unfolding verb
+trial_formats_none words number asked (format id) is writes = let no = same_verb words (trial number) (format id) asked is in absurd cc
+trial_formats_none words number asked list is writes = writes
+trial_formats_none words number asked (show kind file) is writes = writes
+trial_formats_none words number asked (check other) is writes = writes
+trial_formats_none words number asked (build recipe other) is writes = writes
+trial_formats_none words number asked (make other folder) is writes = writes
+trial_formats_none words number asked (replay other name) is writes = writes
+trial_formats_none words number asked (wire other name) is writes = writes
+trial_formats_none words number asked (trial other) is writes = writes
 
 -- what is said of a run of a script
 one_replay : (words : List (List ℕ)) (folder script folder_2 script_2 : List ℕ) → IsCommand words (replay folder script) → IsCommand words (replay folder_2 script_2) → (folder_2 ≡ folder) × (script_2 ≡ script)

@@ -101,7 +101,7 @@ pub record EndLaws (old new : DiskState) : Type 0 where
   pub not_both : (image : Image) (s : StandingView) (f : RecoverFault) → HoldsConfig image s → HasDiskFault image f → ⊥
   pub reads_now : (image : Image) → new.reads ≡ Some image → new.now image
 
-read_of : (disk : DiskState) → is_some disk.reads ≡ true → (image : Image) × (disk.reads ≡ Some image)
+pub read_of : (disk : DiskState) → is_some disk.reads ≡ true → (image : Image) × (disk.reads ≡ Some image)
 read_of disk tells = by disk.reads refl tells
   where
     by : (o : Option Image) → disk.reads ≡ o → is_some o ≡ true → (image : Image) × (disk.reads ≡ Some image)

@@ -1,5 +1,5 @@
 -- What a run of the program prints, its status, and the cause of each (docs/PROMISES.md).
-use Rattle.std.specs.Prelude.{◌≡◌, ◌≢◌, ℕ, ◌<◌, ◌≤◌, List, [], ◌+◌, length, true, false, Option, Some, None, Ok, take, codes, ◌⊎◌}
+use Rattle.std.specs.Prelude.{◌≡◌, ◌≢◌, ℕ, ◌<◌, ◌≤◌, List, [], ◌∷◌, ◌+◌, length, true, false, Option, Some, None, Ok, take, codes, ◌⊎◌}
 use Rattle.std.specs.Option.{ForSome}
 use Rattle.load_base.specs.Counts.{Rose}
 use Rattle.load_base.specs.Host.{Files, longest_file}
@@ -26,6 +26,8 @@ use Rattle.disk_layout.specs.Holds.{StandingView, HoldsConfig, HasDiskFault}
 use Rattle.disk_layout.specs.declared.fault.RecoverFault.{RecoverFault}
 use Rattle.listing.specs.Listing.{listing}
 use Rattle.exchange_trace.specs.Lines.{Line}
+use Rattle.generated_uploads.specs.GeneratedMedia.{uploaded_load}
+use Rattle.generated_uploads.specs.GeneratedUploads.{CanTakeGeneratedSet, IsOneUpload}
 use Rattle.upload_replay.specs.Powers.{RoseBy}
 use Rattle.loader_cli.specs.Commands.{IsCommand, IsNo, IsAny}
 use Rattle.loader_cli.specs.Commands.CommandView.{list, format, show, check, build, make, replay, wire, trial}
@@ -225,6 +227,30 @@ pub record TellsRun (run : Run) (ended : Ended) (telling : Telling) (set : SetVi
   pub status : StatusOfRun seen.sessions ended.status
   pub text : IsExtended run.output run.output_after (told_as telling seen.sessions seen.trace last)
 
+-- The arguments upload the generated set of this number to a target that can take it: the disk tells its content, holds such a
+-- configuration, and a power loss can leave nothing else; and neither disk nor sink fails in the run.
+pub record TriesSound (run : Run) (number : ℕ) : Type 0 where
+  pub asked : IsCommand run.work.words (trial number)
+  pub start : StandingView
+  pub image : Image
+  pub reads : run.work.disk.reads ≡ Some image
+  pub holds : HoldsConfig image start
+  pub can_take : CanTakeGeneratedSet start
+  pub settled : IsSettled run.work.disk
+  pub disk_answers : ¬ Rose run.work.disk.faults run.work.disk_after.faults
+  pub sink_answers : ¬ Rose run.sink_faults run.sink_faults_after
+
+-- The upload was completed, and the target has exactly the generated load: the report of this run went out, with status 0.
+pub record TellsUpload (run : Run) (ended : Ended) (number : ℕ) : Type 0 where
+  pub seen : RunSeen
+  pub last : StandingView
+  pub handed : run.work.handed ≡ Some seen
+  pub standing : seen.standing ≡ Some last
+  pub sessions : IsOneUpload seen.sessions
+  pub loads : last.loads ≡ uploaded_load number ∷ []
+  pub status : ended.status ≡ 0
+  pub text : IsExtended run.output run.output_after (told_as Report seen.sessions seen.trace last)
+
 -- ---- what becomes of the host's files
 
 -- the arguments write a set into this folder
@@ -261,5 +287,6 @@ pub record EndsAsPromised (run : Run) (ended : Ended) : Type 0 where
   pub makes_it : (number : ℕ) (folder : List ℕ) → MakesSet run number folder → Succeeds run ended (built_line 1 2)
   pub replays_it : (telling : Telling) (folder name : List ℕ) (told : Files) (set : SetView) (script : List Line) → ReplaysSound run telling folder name told set script
       → (ended.status ≡ 6) ⊎ TellsRun run ended telling set script
+  pub tries_it : (number : ℕ) → TriesSound run number → (ended.status ≡ 6) ⊎ TellsUpload run ended number
   pub leaves_set : (folder : List ℕ) (told : Files) → WritesInto run.work.words folder → run.work.files ≡ Some told → ended.status ≡ 0
       → LeavesSet run.work.words told folder run.work.files_after

@@ -1,5 +1,5 @@
 -- What `trial` prints, its status, and the cause of each (docs/PROMISES.md).
-use Rattle.std.specs.Prelude.{◌≡◌, ℕ, List, [], ◌∷◌, codes, Option, None, true}
+use Rattle.std.specs.Prelude.{◌≡◌, ℕ, List, Option, None, true}
 use Rattle.std.specs.Option.{ForSome}
 use Rattle.load_base.specs.Counts.{Rose}
 use Rattle.disk_model.specs.State.{DiskState, OnlyReads}
@@ -7,27 +7,13 @@ use Rattle.disk_layout.specs.DiskReads.{IsOfDisk}
 use Rattle.disk_layout.specs.Identity.{HasIdentity}
 use Rattle.disk_layout.specs.declared.fault.RecoverFault.{RecoverFault}
 use Rattle.disk_layout.specs.declared.identity.Identity.{Identity}
-use Rattle.exchange_trace.specs.Lines.{Line, Finish, Upload}
-use Rattle.media_build.specs.GeneratedSet.{generated_lines, generated_sources}
-use Rattle.media_build.specs.NoFindings.{built_view}
-use Rattle.media_build.specs.RecipeSets.{recipe_set}
-use Rattle.media_check.specs.BuiltSets.{built_media}
-use Rattle.media_check.specs.Sets.{SetView, set_in}
-use Rattle.media_check.specs.declared.built.Built.{Built}
+use Rattle.media_check.specs.Sets.{SetView}
+use Rattle.generated_uploads.specs.GeneratedMedia.{IsGeneratedSet}
+use Rattle.generated_uploads.specs.GeneratedUploads.{trial_script}
 use Rattle.upload_replay.specs.Endings.{HoldsNone}
 use Rattle.loader_cli.specs.Replays.{RunSeen, RunsTo}
 use Rattle.loader_cli.specs.Texts.{disk_fault, no_configuration}
 use Rattle.loader_cli.specs.declared.replay.Telling.TheVariants.{Report}
-
--- The media set is that of the lists and files of the generated set of this number.
-pub record IsGeneratedSet (number : ℕ) (set : SetView) : Type 0 where
-  pub built : Built
-  pub made : built_view built ≡ recipe_set (generated_sources number) generated_lines
-  pub holds : set ≡ set_in (built_media built)
-
--- the lines `upload HW POS ABC41-0000-0001`, for this target, and `finish`
-abbrev pub trial_script : Identity → List Line
-trial_script id = Upload id.hw id.pos (codes "ABC41-0000-0001" ∷ []) ∷ Finish ∷ []
 
 -- The status, the text, the run that is handed out, and what they say of the disk.
 pub data Trials (number : ℕ) (old new : DiskState) (handed : Option RunSeen) (status : ℕ) (text : List ℕ) : Type 0 where

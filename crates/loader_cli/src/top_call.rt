@@ -24,9 +24,11 @@ use crate::trial::trial;
 use bank_store::{StoreFault, an_unformatted_disk_is_as_it_was, format};
 use disk_layout::{Identity, an_image_holds_one_configuration};
 use disk_model::{Disk, Power};
+use generated_uploads::laws::{a_generated_upload_completes, only_a_trial_happens};
 use load_base::{Host, NoMemory, Sink, WriteFault};
 use media_build::laws::{a_written_folder_holds_the_set, building_laws};
 use recovery::RecoverFault;
+use run_promises::laws::what_a_disk_holds_can_be_listed;
 use std::alloc::Global;
 use upload_replay::Drive;
 
@@ -76,7 +78,8 @@ pub fn run<H: Host, O: Sink, K: Power>(
     requires { (K.state disk.old).stopped ≡ false }
     // The status with its cause, and exactly the text that goes out. Where neither host nor sink
     // fails, `check` of a set that can be read and has no finding, `build` of a recipe of which
-    // nothing is refused, and `make` succeed, but for out of memory. After `build` and `make` with
+    // nothing is refused, and `make` succeed, but for out of memory; and where neither sink nor disk
+    // fails, `trial` on a target that can take its set. After `build` and `make` with
     // status 0 the folder has exactly their set, can be read and has no finding.
     ensures ends { EndsAsPromised (record {
       work = record {
@@ -117,6 +120,9 @@ pub fn run<H: Host, O: Sink, K: Power>(
     building_laws();
     a_written_folder_holds_the_set();
     an_image_holds_one_configuration();
+    what_a_disk_holds_can_be_listed();
+    only_a_trial_happens();
+    a_generated_upload_completes();
     let Ok(Answered { answer, drive }) = answer(alloc, words, host, disk) else {
         return out_of_memory();
     };

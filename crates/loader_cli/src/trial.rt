@@ -3,7 +3,9 @@ ghost use Rattle.std.specs.Prelude.{◌≡◌, codes, false, option_map, IfOk};
 ghost use Rattle.media_check.specs.Sets.{set_view};
 ghost use Rattle.loader_cli.specs.Answers.{status_of, text_of};
 ghost use Rattle.loader_cli.specs.Replays.{LeavesFirstOrGood, run_seen};
-ghost use Rattle.loader_cli.specs.Trials.{IsGeneratedSet, Trials, trial_script};
+ghost use Rattle.generated_uploads.specs.GeneratedMedia.{IsGeneratedSet};
+ghost use Rattle.generated_uploads.specs.GeneratedUploads.{trial_script};
+ghost use Rattle.loader_cli.specs.Trials.{Trials};
 
 use crate::answer::{Answer, Answered};
 use crate::replay::{Telling, run_script};

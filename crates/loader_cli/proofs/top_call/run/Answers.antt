@@ -5,6 +5,7 @@ use Rattle.loader_cli.specs.Answers.{text_of}
 use Rattle.loader_cli.specs.Runs.Ends.{told, sink_failed}
 use Rattle.loader_cli.proofs.Promised.{as_promised}
 use Rattle.loader_cli.proofs.SetRuns.{BuildingLaws}
+use Rattle.loader_cli.proofs.Uploaded.{UploadLaws}
 use Rattle.loader_cli.proofs.top_call.run.Goals as goal
 
 pub returns-in-Ok-put-clause-ends : goal.returns-in-Ok-put-clause-ends
@@ -18,7 +19,12 @@ returns-in-Ok-put-clause-ends g c =
       built = c.a_written_folder_holds_the_set.ensures.built;
       made = c.a_written_folder_holds_the_set.ensures.made;
     } in
-    as_promised laws _ _ (record { not_both = c.an_image_holds_one_configuration.ensures.not_both; reads_now = g.met.K.Disk.reads_now c.answer.new.disk }) c.answer.ensures.while_running
+    let uploads : UploadLaws = record {
+      completes = c.a_generated_upload_completes.ensures;
+      happens = c.only_a_trial_happens.ensures;
+      fits = c.what_a_disk_holds_can_be_listed.ensures.fits;
+    } in
+    as_promised laws uploads _ _ (record { not_both = c.an_image_holds_one_configuration.ensures.not_both; reads_now = g.met.K.Disk.reads_now c.answer.new.disk }) c.answer.ensures.while_running
     (told (text_of c.in-Ok.field-0.answer) (rw (← c.status-status.ensures) at c.in-Ok.ensures.says) (subst (λ (bytes : List ℕ). IsExtended was now bytes) text c.in-Ok-put.ensures.content))
 
 pub returns-in-Err-Failed-clause-ends : goal.returns-in-Err-Failed-clause-ends
@@ -34,6 +40,11 @@ returns-in-Err-Failed-clause-ends g c =
       built = c.a_written_folder_holds_the_set.ensures.built;
       made = c.a_written_folder_holds_the_set.ensures.made;
     } in
-    as_promised laws _ _ (record { not_both = c.an_image_holds_one_configuration.ensures.not_both; reads_now = g.met.K.Disk.reads_now c.answer.new.disk }) c.answer.ensures.while_running
+    let uploads : UploadLaws = record {
+      completes = c.a_generated_upload_completes.ensures;
+      happens = c.only_a_trial_happens.ensures;
+      fits = c.what_a_disk_holds_can_be_listed.ensures.fits;
+    } in
+    as_promised laws uploads _ _ (record { not_both = c.an_image_holds_one_configuration.ensures.not_both; reads_now = g.met.K.Disk.reads_now c.answer.new.disk }) c.answer.ensures.while_running
     (sink_failed c.status-status.result (text_of c.in-Ok.field-0.answer) part.0 (rw (← c.status-status.ensures) at c.in-Ok.ensures.says)
     (subst (λ (bytes : List ℕ). IsExtended was now (take part.0 bytes)) text part.1) (c.in-Err-Failed.ensures.cause.failed (cc)) refl)

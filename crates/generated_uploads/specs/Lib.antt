@@ -1,0 +1,2 @@
+pub mod GeneratedMedia
+pub mod GeneratedUploads
