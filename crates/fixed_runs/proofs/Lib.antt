@@ -1,0 +1,3 @@
+pub mod Fixed
+pub mod StaysUp
+pub mod Whole
