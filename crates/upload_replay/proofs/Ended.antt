@@ -14,7 +14,7 @@ use Rattle.target_machine.specs.declared.boot.BootFault.TheVariants as boots
 use Rattle.upload_replay.specs.declared.outcome.DriveFault.{DriveFault}
 use Rattle.upload_replay.specs.declared.outcome.DriveFault.TheVariants as faults
 use Rattle.upload_replay.specs.Turns.{IsOfRun}
-use Rattle.upload_replay.specs.Endings.{HoldsStanding, IsLastFault, IsNoConfig, first_fault_of, last_refusal_of}
+use Rattle.upload_replay.specs.Endings.{HoldsSome, HoldsStanding, IsLastFault, IsNoConfig, first_fault_of, last_refusal_of}
 
 pub first_refusal : (fault : BootFault) (first last : DiskState) → ForSome first.reads (λ image. BootFails image fault) → IsNoConfig (first_fault_of fault) first last
 first_refusal (boots.Recover (NotFormatted offset)) first last refused = (λ is. is, inl refused)
@@ -49,11 +49,11 @@ of_run faults.Disk first last of = absurd of
 of_run (faults.NoConfig fault) first last of = absurd of
 of_run faults.Memory first last of = tt
 
-pub of_last : (fault : DriveFault) (first last : DiskState) → IsLastFault fault last → IsNoConfig fault first last
-of_last faults.Link first last refused = tt
-of_last faults.Disk first last refused = tt
-of_last (faults.NoConfig fault) first last refused = (refused.0, inr refused.1)
-of_last faults.Memory first last refused = tt
+pub of_last : (fault : DriveFault) (first last : DiskState) → HoldsSome first → IsLastFault fault last → IsNoConfig fault first last
+of_last faults.Link first last held refused = tt
+of_last faults.Disk first last held refused = tt
+of_last (faults.NoConfig fault) first last held refused = (refused.0, inr (held, refused.1))
+of_last faults.Memory first last held refused = tt
 
 -- what is said of a fault is said of the answer that has it
 pub refused_so : {T : Type 0} (r : Result T DriveFault) (P : DriveFault → Type 0) (first last : DiskState) (fault : DriveFault) → IsErrAnd r P → ((e : DriveFault) → P e → e ≡ fault)

@@ -13,7 +13,8 @@ use Rattle.exchange_trace.specs.declared.trace.TraceStep.TheVariants as lines
 use Rattle.exchange_trace.specs.Happenings.{DatagramView, HappeningView, datagram_view, happening_view}
 use Rattle.exchange_trace.specs.Posts.{numbered, port_above, posted_in}
 use Rattle.exchange_trace.specs.Steps.{Boot_refused, Came_up, Note, Step, Went_down, steps_of, with_given, with_line, with_note, with_post}
-use Rattle.upload_replay.specs.Recordings.{HasBegun, IsRecorded, post_of}
+use Rattle.upload_replay.specs.Orders.{Happens, IsInOrder, Notes, Posts, SeenLine, lines_of, seen_line}
+use Rattle.upload_replay.specs.Recordings.{HasBegun, HasPlace, IsRecorded, post_of}
 
 -- ---- the steps
 
@@ -34,7 +35,49 @@ posted_post (s ∷ earlier) d begun = sym (append_assoc (posted_in earlier) s.po
 
 pub still_begun : (steps : List Step) (d : DatagramView) → HasBegun steps → HasBegun (with_post steps d)
 still_begun [] d begun = absurd begun
-still_begun (s ∷ earlier) d begun = tt
+still_begun (s ∷ earlier) d begun = begun
+
+-- ---- the order of the lines
+
+module _ (before : List SeenLine) (given : HappeningView) where
+  abbrev step_lines : List DatagramView → List Note → List SeenLine
+  step_lines posts notes = before ++ Happens given ∷ (map (λ (d : DatagramView). Posts d) posts ++ map (λ (n : Note). Notes n) notes)
+
+  lines_posted : (posts : List DatagramView) (notes : List Note) (d : DatagramView) → notes ≡ [] → step_lines (posts ++ d ∷ []) notes ≡ step_lines posts notes ++ Posts d ∷ []
+  lines_posted posts notes d none =
+      let sent = map (λ (x : DatagramView). Posts x) posts in
+      ap (λ (m : List Note). step_lines (posts ++ d ∷ []) m) none
+      ∙ (ap (λ (lines : List SeenLine). before ++ Happens given ∷ lines)
+      (append-nil (map (λ (x : DatagramView). Posts x) (posts ++ d ∷ []))
+      ∙ (map-append (λ (x : DatagramView). Posts x) posts (d ∷ []) ∙ ap (λ (lines : List SeenLine). lines ++ Posts d ∷ []) (sym (append-nil sent))))
+      ∙ (sym (append_assoc before (Happens given ∷ (sent ++ [])) (Posts d ∷ []))
+      ∙ ap (λ (m : List Note). step_lines posts m ++ Posts d ∷ []) (sym none)))
+
+  lines_noted : (posts : List DatagramView) (notes : List Note) (n : Note) → step_lines posts (notes ++ n ∷ []) ≡ step_lines posts notes ++ Notes n ∷ []
+  lines_noted posts notes n =
+      let sent = map (λ (x : DatagramView). Posts x) posts in
+      let told = map (λ (x : Note). Notes x) notes in
+      ap (λ (lines : List SeenLine). before ++ Happens given ∷ (sent ++ lines)) (map-append (λ (x : Note). Notes x) notes (n ∷ []))
+      ∙ (ap (λ (lines : List SeenLine). before ++ Happens given ∷ lines) (sym (append_assoc sent told (Notes n ∷ [])))
+      ∙ sym (append_assoc before (Happens given ∷ (sent ++ told)) (Notes n ∷ [])))
+
+note_in_order : (steps : List Step) (n : Note) → HasBegun steps → lines_of (with_note steps n) ≡ lines_of steps ++ Notes n ∷ []
+note_in_order [] n begun = absurd begun
+note_in_order (s ∷ earlier) n begun = lines_noted (lines_of earlier) s.given s.posts s.notes n
+
+line_in_order : (steps : List Step) (line : TraceStep) → HasPlace steps line → lines_of (with_line steps line) ≡ lines_of steps ++ seen_line line ∷ []
+line_in_order steps (lines.Given h) place = refl
+line_in_order [] (lines.Posted d) place = absurd place
+line_in_order (s ∷ earlier) (lines.Posted d) place = lines_posted (lines_of earlier) s.given s.posts s.notes (datagram_view d) place
+line_in_order steps lines.Down place = note_in_order steps Went_down place
+line_in_order steps (lines.Up first_port sequence) place = note_in_order steps (Came_up first_port sequence) place
+line_in_order steps (lines.BootRefused fault) place = note_in_order steps (Boot_refused fault) place
+
+stays_in_order : (trace : List TraceStep) (line : TraceStep) → HasPlace (steps_of trace) line → IsInOrder trace → IsInOrder (trace ++ line ∷ [])
+stays_in_order trace line place order =
+    map-append seen_line trace (line ∷ [])
+    ∙ (ap (λ (seen : List SeenLine). seen ++ seen_line line ∷ []) order
+    ∙ (sym (line_in_order (steps_of trace) line place) ∙ ap lines_of (sym (steps_more trace line))))
 
 port_more : (posts : List DatagramView) (least : ℕ) (d : DatagramView) → port_above least (posts ++ d ∷ []) ≡ port_above (port_above least posts) (d ∷ [])
 port_more [] least d = refl
@@ -74,14 +117,15 @@ module _ (trace : List TraceStep) (line : TraceStep) where
   still_within posts within = All-weaker (λ (i : ℕ). i < length trace) (λ (i : ℕ). i < length (trace ++ line ∷ [])) (λ i lt. omega (arith, longer, lt)) posts within
 
   -- a line that posts nothing
-  pub unposted : (posts : List ℕ) (port : ℕ) → post_of (Some line) ≡ None → IsRecorded trace posts port → IsRecorded (trace ++ line ∷ []) posts port
-  unposted posts port none r =
+  pub unposted : (posts : List ℕ) (port : ℕ) → post_of (Some line) ≡ None → HasPlace (steps_of trace) line → IsRecorded trace posts port → IsRecorded (trace ++ line ∷ []) posts port
+  unposted posts port none place r =
       let steps : posted_in (steps_of (trace ++ line ∷ [])) ≡ posted_in (steps_of trace) = ap posted_in (steps_more trace line) ∙ posts_nothing line (steps_of trace) none in
       record {
         found = same_posts posts r.within ∙ r.found ∙ ap (map (λ (d : DatagramView). Some d)) (sym steps);
         within = still_within posts r.within;
         port = r.port ∙ ap (port_above 1024) (sym steps);
         small = r.small;
+        ordered = stays_in_order trace line place r.ordered;
       }
 
 -- a datagram
@@ -100,6 +144,7 @@ posted_on trace d posts port next begun is small r =
           (All-cons (λ (i : ℕ). i < length (trace ++ line ∷ [])) (length trace) [] (omega (arith, longer trace line)) (All-nil (λ (i : ℕ). i < length (trace ++ line ∷ []))));
       port = is ∙ (ap (λ (least : ℕ). port_above least (datagram_view d ∷ [])) r.port ∙ (sym (port_more (posted_in (steps_of trace)) 1024 (datagram_view d)) ∙ ap (port_above 1024) (sym all)));
       small = small;
+      ordered = stays_in_order trace line begun r.ordered;
     }
 
 -- ---- a datagram by its number

@@ -67,7 +67,8 @@ IsLastFault (faults.NoConfig fault) disk = ¬ IsOfDisk fault × HoldsNone fault 
 IsLastFault faults.Memory disk = ⊤
 IsLastFault fault disk = ⊥
 
--- a refusal for no configuration is one of what the disk held at first, or holds at the end
+-- A refusal for no configuration is one of what the disk held at first; or it held one then, and this is the fault of what it
+-- holds at the end.
 abbrev pub IsNoConfig : DriveFault → (first last : DiskState) → Type 0
-IsNoConfig (faults.NoConfig fault) first last = ¬ IsOfDisk fault × (HoldsNone fault first ⊎ HoldsNone fault last)
+IsNoConfig (faults.NoConfig fault) first last = ¬ IsOfDisk fault × (HoldsNone fault first ⊎ (HoldsSome first × HoldsNone fault last))
 IsNoConfig fault first last = ⊤

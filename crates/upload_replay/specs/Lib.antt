@@ -6,3 +6,5 @@ pub mod Recordings
 pub mod Texts
 pub mod Turns
 pub mod Moments
+pub mod Orders
+pub mod OrderLaws

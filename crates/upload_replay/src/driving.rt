@@ -16,6 +16,7 @@ ghost use Rattle.upload_replay.specs.Endings.{CountsStops, FailedIfUnknown, Fail
 ghost use Rattle.upload_replay.specs.Endings.{HoldsSome, HoldsStanding, IsLastFault, IsNoConfig};
 ghost use Rattle.upload_replay.specs.Endings.{first_fault_of, last_refusal_of};
 ghost use Rattle.upload_replay.specs.Moments.{HoldsThroughout, LeavesGood, LeavesNoMore};
+ghost use Rattle.upload_replay.specs.Orders.{IsInOrder};
 ghost use Rattle.upload_replay.specs.Powers.{ArmsAsGiven, RoseBy};
 ghost use Rattle.upload_replay.specs.Turns.{HasDriveCause};
 
@@ -60,6 +61,7 @@ pub fn drive<L: Link, K: Power, R: Rule>(
     ensures standing { IfOk result (λ drive. HoldsStanding drive.standing (K.state disk.new)) }
     ensures told { IfOk result (λ drive. TellsLink (L.state link.old) (L.state link.new)
         (steps_of drive.trace.items)) }
+    ensures ordered { IfOk result (λ drive. IsInOrder drive.trace.items) }
     ensures stops { IfOk result (λ drive. CountsStops (steps_of drive.trace.items)
         drive.standing (K.state disk.old) (K.state disk.new)) }
     // Refusals.

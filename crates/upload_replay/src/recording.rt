@@ -4,7 +4,8 @@ ghost use Rattle.exchange_trace.specs.Happenings.{datagram_view, happening_view}
 ghost use Rattle.exchange_trace.specs.Posts.{first_port_after, numbered, port_above, posted_in};
 ghost use Rattle.exchange_trace.specs.Steps.{Boot_refused, Came_up, Went_down, steps_of};
 ghost use Rattle.exchange_trace.specs.Steps.{with_given, with_line, with_note, with_post};
-ghost use Rattle.upload_replay.specs.Recordings.{HasBegun, post_of};
+ghost use Rattle.upload_replay.specs.Orders.{IsInOrder};
+ghost use Rattle.upload_replay.specs.Recordings.{HasBegun, HasPlace, post_of};
 
 use disk_layout::RecoverFault;
 use exchange_trace::{Datagram, Happening, Side, TraceStep};
@@ -48,7 +49,8 @@ impl Recording {
 
     /// A line of the trace that posts nothing.
     fn push(&mut self, line: TraceStep) -> Result<(), NoMemory>
-        requires { post_of (Some line) ≡ None }
+        requires no_post { post_of (Some line) ≡ None }
+        requires place { HasPlace self.old line }
         ensures { OnOk result (self.new ≡ with_line self.old line) }
     {
         self.trace.push(line)?;
@@ -80,6 +82,7 @@ impl Recording {
 
     /// The target goes down in the step.
     pub(crate) fn note_down(&mut self) -> Result<(), NoMemory>
+        requires { HasBegun self.old }
         ensures { OnOk result (self.new ≡ with_note self.old Went_down) }
     {
         self.push(TraceStep::Down)
@@ -87,6 +90,7 @@ impl Recording {
 
     /// The target comes up in the step.
     pub(crate) fn note_up(&mut self, first_port: u32, sequence: u32) -> Result<(), NoMemory>
+        requires { HasBegun self.old }
         ensures { OnOk result (self.new ≡ with_note self.old (Came_up first_port sequence)) }
     {
         self.push(TraceStep::Up {
@@ -97,6 +101,7 @@ impl Recording {
 
     /// The target stays down in the step.
     pub(crate) fn note_refused(&mut self, fault: RecoverFault) -> Result<(), NoMemory>
+        requires { HasBegun self.old }
         ensures { OnOk result (self.new ≡ with_note self.old (Boot_refused fault)) }
     {
         self.push(TraceStep::BootRefused(fault))
@@ -127,7 +132,8 @@ impl Recording {
 
     /// The trace. It takes no memory.
     pub(crate) fn into_trace(self) -> List<TraceStep>
-        ensures { steps_of result.items ≡ self }
+        ensures steps { steps_of result.items ≡ self }
+        ensures ordered { IsInOrder result.items }
     {
         self.trace
     }

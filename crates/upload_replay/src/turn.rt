@@ -24,6 +24,7 @@ ghost use Rattle.upload_replay.specs.Powers.{ArmsAsGiven, ArmsBy, LeavesPower, R
 ghost use Rattle.upload_replay.specs.Powers.{disk_stops, stops_in};
 ghost use Rattle.upload_replay.specs.Moments.{AddsAtHappening, BeginsStep, HasContents};
 ghost use Rattle.upload_replay.specs.Moments.{HeldSoFar, HoldsRun, StepsOn, contents_then};
+ghost use Rattle.upload_replay.specs.Recordings.{HasBegun};
 ghost use Rattle.upload_replay.specs.Turns.{HasDriveCause, IsOfRun, IsStep};
 ghost use Rattle.upload_replay.specs.Turns.{RuleFollows, RunsWhileUp, TargetTakes, link_with};
 ghost use Rattle.upload_replay.specs.Turns.{noted_with, notes_of, target_kept};
@@ -349,6 +350,7 @@ pub(crate) fn put_turn<L: Link>(
 }
 
 fn put_note(recording: &mut Recording, note: PowerNote) -> Result<(), DriveFault>
+    requires { HasBegun recording.old }
     ensures noted { OnOk result (recording.new ≡ noted_with recording.old note) }
     ensures told { IfErr result (λ fault. fault ≡ Memory) }
 {

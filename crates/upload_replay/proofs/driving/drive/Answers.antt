@@ -28,7 +28,8 @@ returns-in_err-run_to_end-clause-no_config g c =
 pub returns-in_err-standing-clause-no_config : goal.returns-in_err-standing-clause-no_config
 returns-in_err-standing-clause-no_config g c =
     refused_so c.from_residual-in_err-standing.result _ (g.K.Disk.state c.args.disk.now) _ c.in_err-standing.field-0.0 c.from_residual-in_err-standing.ensures.1 (λ e is. is)
-    (of_last c.in_err-standing.field-0.0 (g.K.Disk.state c.args.disk.now) _ c.in_err-standing.ensures.refused)
+    (of_last c.in_err-standing.field-0.0 (g.K.Disk.state c.args.disk.now) _
+    (λ image told. let (s, kept, is) = c.in-Ok.ensures.comes_up.active image told in (s, record { slot = _; by = kept.by })) c.in_err-standing.ensures.refused)
 
 pub returns-clause-run : goal.returns-clause-run
 returns-clause-run g c =
@@ -44,12 +45,12 @@ returns-clause-run g c =
     let media = is.media ∙ ap (λ (l : LoaderState). media_of l.set) (sym c.new-2.ensures) in
     let rule = subst (λ rule. Follows g.R.Rule.may_say rule set.accepts) (sym c.in-Ok.ensures.comes_up.rule_is) is.accepts in
     let on : GoesOn set began c.run_to_end.new.run.recording c.run_to_end.new.run.loader.view (target_kept c.run_to_end.new.run.target) (g.L.Link.state c.run_to_end.new.link) = elim all [
-      | inl none_boots ↦ c.in_ok-run_to_end.ensures.goes_on set began media is.accepts rule (λ none. start) (subst (λ (steps : List Step). NeverBoots steps) c.into_trace.ensures none_boots)
+      | inl none_boots ↦ c.in_ok-run_to_end.ensures.goes_on set began media is.accepts rule (λ none. start) (subst (λ (steps : List Step). NeverBoots steps) c.into_trace.ensures.steps none_boots)
       | inr settled ↦ (c.in_ok-run_to_end.ensures.held set began (g.K.Disk.state c.args.disk.now).clock media is.accepts rule
           (ready one set c.args.interlock.now target (g.K.Disk.state c.args.disk.now) (g.K.Disk.state c.boot.new.disk) image began c.new.result c.new-2.result c.requires.nothing_posted settled told (g.met.K.Disk.reads_now c.args.disk.now image told) is.start
           (c.in-Ok.ensures.starts settled image told) c.in-Ok.ensures.reads_disk.only_reads c.in-Ok.ensures.comes_up c.new.ensures (ap (λ (l : LoaderState). l.view) c.new-2.ensures))).goes_on
     ] in
-    subst (λ (steps : List Step). IsRun set began (g.L.Link.state c.run_to_end.new.link) steps sessions standing) (sym c.into_trace.ensures)
+    subst (λ (steps : List Step). IsRun set began (g.L.Link.state c.run_to_end.new.link) steps sessions standing) (sym c.into_trace.ensures.steps)
     (is_run c.a_run_keeps_its_promises.ensures set began (g.L.Link.state c.run_to_end.new.link) c.run_to_end.new.run.recording c.run_to_end.new.run.loader.view (target_kept c.run_to_end.new.run.target)
     sessions standing on c.in_ok-run_to_end.ensures.ends c.in_ok-run_to_end.ensures.carries c.into_sessions.ensures)
 
@@ -66,7 +67,7 @@ returns-clause-moments g c =
     let held = (c.in_ok-run_to_end.ensures.held set began first.clock media is.accepts rule
     (ready one set c.args.interlock.now target first (g.K.Disk.state c.boot.new.disk) image began c.new.result c.new-2.result c.requires.nothing_posted settled told (g.met.K.Disk.reads_now c.args.disk.now image told) is.start
     (c.in-Ok.ensures.starts settled image told) c.in-Ok.ensures.reads_disk.only_reads c.in-Ok.ensures.comes_up c.new.ensures (ap (λ (l : LoaderState). l.view) c.new-2.ensures))).held in
-    subst (λ (steps : List Step). HoldsThroughout set steps (option_map standing_view c.in_ok-standing.standing) first (g.K.Disk.state c.standing_at_end.new.disk)) (sym c.into_trace.ensures)
+    subst (λ (steps : List Step). HoldsThroughout set steps (option_map standing_view c.in_ok-standing.standing) first (g.K.Disk.state c.standing_at_end.new.disk)) (sym c.into_trace.ensures.steps)
     (throughout one set c.run_to_end.new.run.recording c.run_to_end.new.run.target first last (g.K.Disk.state c.standing_at_end.new.disk) c.in_ok-standing.standing
     (g.met.K.Disk.counts_now c.run_to_end.new.disk) (g.met.K.Disk.only_now c.run_to_end.new.disk) (g.met.K.Disk.reads_now c.standing_at_end.new.disk) held c.standing_at_end.ensures.leaves c.in_ok-standing.ensures.standing
     (settled_if (is_some c.run_to_end.new.run.target) (g.K.Disk.state c.standing_at_end.new.disk) c.in_ok-standing.standing (λ down. c.in_ok-standing.ensures.settled (c.is_some.ensures ∙ down))))
@@ -131,7 +132,7 @@ returns-clause-told g c =
     let last = g.L.Link.state c.run_to_end.new.link in
     let none : first.given ≡ happenings_of c.new.result ++ first.given = ap (λ (steps : List Step). happenings_of steps ++ first.given) (sym c.new.ensures) in
     let unposted : first.posted ≡ posted_in c.new.result = c.requires.nothing_posted ∙ ap posted_in (sym c.new.ensures) in
-    subst (λ (steps : List Step). TellsLink first last steps) (sym c.into_trace.ensures) (record {
+    subst (λ (steps : List Step). TellsLink first last steps) (sym c.into_trace.ensures.steps) (record {
       ends = c.in_ok-run_to_end.ensures.ends;
       given = c.in_ok-run_to_end.ensures.happened first.given none;
       posted = c.in_ok-run_to_end.ensures.posted unposted;
@@ -145,7 +146,7 @@ returns-clause-stops g c =
     subst (λ (steps : List Step). RoseBy (disk_stops steps) first.faults (g.K.Disk.state c.boot.new.disk).faults) (sym c.new.ensures)
     (rose_not first.faults (g.K.Disk.state c.boot.new.disk).faults c.in-Ok.ensures.reads_disk.only_reads.faults) in
     let so_far : RoseBy (disk_stops (steps_of c.into_trace.result.items)) first.faults last.faults =
-    subst (λ (steps : List Step). RoseBy (disk_stops steps) first.faults last.faults) (sym c.into_trace.ensures) (c.in_ok-run_to_end.ensures.stops first.faults began) in
+    subst (λ (steps : List Step). RoseBy (disk_stops steps) first.faults last.faults) (sym c.into_trace.ensures.steps) (c.in_ok-run_to_end.ensures.stops first.faults began) in
     record {
       stops = rose_on (disk_stops (steps_of c.into_trace.result.items)) first.faults last.faults (g.K.Disk.state c.standing_at_end.new.disk).faults so_far c.standing_at_end.ensures.faults;
       unknown = c.in_ok-standing.ensures.unknown first.faults (disk_stops (steps_of c.into_trace.result.items)) so_far;

@@ -6,7 +6,7 @@ use Rattle.upload_replay.proofs.recording.Recording.new.Goals as goal
 
 nothing : IsRecorded [] [] 1024
 unfolding steps_of
-nothing = record { found = refl; within = All-nil _; port = refl; small = omega arith }
+nothing = record { found = refl; within = All-nil _; port = refl; small = omega arith; ordered = refl }
 
 pub invariant_of-result : goal.invariant_of-result
 invariant_of-result c = rw (c.new.ensures, c.new-2.ensures) nothing
