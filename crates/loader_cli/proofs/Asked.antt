@@ -7,10 +7,14 @@ use Rattle.loader_cli.specs.Builds.{Builds, Makes}
 use Rattle.loader_cli.specs.Commands.{CommandView, FormatsDisk, IsCommand, IsNo}
 use Rattle.loader_cli.specs.Commands.CommandView.{list, format, show, check, build, make, replay, wire, trial}
 use Rattle.loader_cli.specs.Replays.{Replays, run_command}
-use Rattle.loader_cli.specs.Runs.{Work, host_work, Says, Checks}
+use Rattle.shown_files.specs.Kinds.{IsNameOf}
+use Rattle.shown_files.specs.declared.kind.ShownKind.{ShownKind}
+use Rattle.disk_layout.specs.declared.identity.Identity.{Identity}
+use Rattle.loader_cli.specs.Runs.{Work, host_work, Says, Checks, Formats, Lists, Shows}
 use Rattle.loader_cli.specs.Trials.{Trials}
 use Rattle.loader_cli.specs.declared.replay.Telling.{Telling}
 use Rattle.loader_cli.specs.declared.replay.Telling.TheVariants.{Report, Trace}
+use Rattle.loader_cli.proofs.ShownOnce.{one_kind}
 use Rattle.loader_cli.specs.Runs.Says.{refused, lists, formats, shows, checks, builds, makes, replays, traces, tries}
 
 -- ---- the first argument
@@ -228,3 +232,73 @@ formats_none telling words folder script asked (make number other) is writes = w
 formats_none telling words folder script asked (replay other name) is writes = writes
 formats_none telling words folder script asked (wire other name) is writes = writes
 formats_none telling words folder script asked (trial number) is writes = writes
+
+-- ---- `list`, `format`, `show`
+
+apart_list_show : codes "list" ≡ codes "show" → ⊥
+apart_list_show same = let head : 108 ≡ 115 = same_head 108 115 (codes "ist") (codes "how") same in absurd (omega (arith, head))
+
+apart_list_make : codes "list" ≡ codes "make" → ⊥
+apart_list_make same = let head : 108 ≡ 109 = same_head 108 109 (codes "ist") (codes "ake") same in absurd (omega (arith, head))
+
+apart_list_wire : codes "list" ≡ codes "wire" → ⊥
+apart_list_wire same = let head : 108 ≡ 119 = same_head 108 119 (codes "ist") (codes "ire") same in absurd (omega (arith, head))
+
+apart_show_list : codes "show" ≡ codes "list" → ⊥
+apart_show_list same = let head : 115 ≡ 108 = same_head 115 108 (codes "how") (codes "ist") same in absurd (omega (arith, head))
+
+apart_show_make : codes "show" ≡ codes "make" → ⊥
+apart_show_make same = let head : 115 ≡ 109 = same_head 115 109 (codes "how") (codes "ake") same in absurd (omega (arith, head))
+
+apart_show_wire : codes "show" ≡ codes "wire" → ⊥
+apart_show_wire same = let head : 115 ≡ 119 = same_head 115 119 (codes "how") (codes "ire") same in absurd (omega (arith, head))
+
+apart_format_replay : codes "format" ≡ codes "replay" → ⊥
+apart_format_replay same = let head : 102 ≡ 114 = same_head 102 114 (codes "ormat") (codes "eplay") same in absurd (omega (arith, head))
+
+pub says_of_list : (work : Work) (status : ℕ) (text : List ℕ) → IsCommand work.words list → Says work status text → Lists work.disk work.disk_after status text
+unfolding verb
+says_of_list work status text asked (refused none _ _) = absurd (none list asked tt)
+says_of_list work status text asked (formats id_2 is _) = let no = same_verb work.words list (format id_2) asked is in absurd cc
+says_of_list work status text asked (shows kind_2 file_2 is _) = absurd (apart_list_show (same_verb work.words list (show kind_2 file_2) asked is))
+says_of_list work status text asked (checks other is _) = let no = same_verb work.words list (check other) asked is in absurd cc
+says_of_list work status text asked (builds recipe other is _) = let no = same_verb work.words list (build recipe other) asked is in absurd cc
+says_of_list work status text asked (makes number other is _) = absurd (apart_list_make (same_verb work.words list (make number other) asked is))
+says_of_list work status text asked (replays other script is _) = let no = same_verb work.words list (replay other script) asked is in absurd cc
+says_of_list work status text asked (traces other script is _) = absurd (apart_list_wire (same_verb work.words list (wire other script) asked is))
+says_of_list work status text asked (tries number is _) = let no = same_verb work.words list (trial number) asked is in absurd cc
+says_of_list work status text asked (lists is found) = found
+
+-- of the same target, perhaps with other spare capacity of its names
+pub says_of_format : (work : Work) (id : Identity) (status : ℕ) (text : List ℕ) → IsCommand work.words (format id) → Says work status text
+    → (other : Identity) × IsCommand work.words (format other) × Formats work.disk work.disk_after other status text
+unfolding verb
+says_of_format work id status text asked (refused none _ _) = absurd (none (format id) asked tt)
+says_of_format work id status text asked (lists is _) = let no = same_verb work.words (format id) list asked is in absurd cc
+says_of_format work id status text asked (shows kind_2 file_2 is _) = let no = same_verb work.words (format id) (show kind_2 file_2) asked is in absurd cc
+says_of_format work id status text asked (checks other is _) = let no = same_verb work.words (format id) (check other) asked is in absurd cc
+says_of_format work id status text asked (builds recipe other is _) = let no = same_verb work.words (format id) (build recipe other) asked is in absurd cc
+says_of_format work id status text asked (makes number other is _) = let no = same_verb work.words (format id) (make number other) asked is in absurd cc
+says_of_format work id status text asked (replays other script is _) = absurd (apart_format_replay (same_verb work.words (format id) (replay other script) asked is))
+says_of_format work id status text asked (traces other script is _) = let no = same_verb work.words (format id) (wire other script) asked is in absurd cc
+says_of_format work id status text asked (tries number is _) = let no = same_verb work.words (format id) (trial number) asked is in absurd cc
+says_of_format work id status text asked (formats other is found) = (other, is, found)
+
+pub says_of_show : (work : Work) (kind : ShownKind) (file : List ℕ) (status : ℕ) (text : List ℕ) → IsCommand work.words (show kind file) → Says work status text
+    → Shows kind work.files work.host_faults work.host_faults_after file status text
+unfolding verb
+says_of_show work kind file status text asked (refused none _ _) = absurd (none (show kind file) asked tt)
+says_of_show work kind file status text asked (lists is _) = absurd (apart_show_list (same_verb work.words (show kind file) list asked is))
+says_of_show work kind file status text asked (formats id_2 is _) = let no = same_verb work.words (show kind file) (format id_2) asked is in absurd cc
+says_of_show work kind file status text asked (checks other is _) = let no = same_verb work.words (show kind file) (check other) asked is in absurd cc
+says_of_show work kind file status text asked (builds recipe other is _) = let no = same_verb work.words (show kind file) (build recipe other) asked is in absurd cc
+says_of_show work kind file status text asked (makes number other is _) = absurd (apart_show_make (same_verb work.words (show kind file) (make number other) asked is))
+says_of_show work kind file status text asked (replays other script is _) = let no = same_verb work.words (show kind file) (replay other script) asked is in absurd cc
+says_of_show work kind file status text asked (traces other script is _) = absurd (apart_show_wire (same_verb work.words (show kind file) (wire other script) asked is))
+says_of_show work kind file status text asked (tries number is _) = let no = same_verb work.words (show kind file) (trial number) asked is in absurd cc
+says_of_show work kind file status text asked (shows kind_2 file_2 is found) =
+    let same : codes "show" ∷ file_2 ∷ [] ≡ codes "show" ∷ file ∷ [] = sym is.0 ∙ asked.0 in
+    let name : file_2 ≡ file = cc in
+    let shown : kind_2 ≡ kind = one_kind kind kind_2 file asked.2 (subst (λ (f : List ℕ). IsNameOf kind_2 f) name is.2) in
+    subst (λ (k : ShownKind). Shows k work.files work.host_faults work.host_faults_after file status text) shown
+    (subst (λ (f : List ℕ). Shows kind_2 work.files work.host_faults work.host_faults_after f status text) name found)

@@ -117,4 +117,4 @@ script_read folder name bytes files set before after (inputs.Ready opened script
   short = short;
   says = says.1;
 }
-script_read folder name bytes files set before after (inputs.Refused answer) has there short says = no_script set bytes says.0 has there says.1 says.2 says.3
+script_read folder name bytes files set before after (inputs.Refused answer) has there short says = no_script set bytes says.0 has there short says.1 says.2 says.3

@@ -1,9 +1,8 @@
 -- How a run ends that runs a script of which nothing is refused.
-use Rattle.std.proofs.Common.{◌≡◌, ◌⊎◌, inl, inr, ℕ, suc, ◌+◌, ◌<◌, ◌≤◌, Bool, true, List, [], ◌∷◌, ◌++◌, length, Option, Some, None, Result, Ok, Err, refl, sym, ap, subst, ◌∙◌, arith}
+use Rattle.std.proofs.Common.{◌≡◌, ◌⊎◌, inl, inr, ℕ, ◌+◌, true, List, [], ◌∷◌, ◌++◌, length, Option, Some, None, Result, Ok, Err, refl, sym, ap, subst, ◌∙◌, arith}
 use Rattle.std.specs.Prelude.{is_some}
 use Rattle.load_base.specs.Counts.{Rose}
-use Rattle.load_base.specs.Host.{Files, longest_file}
-use Rattle.load_base.specs.Sink.{IsExtended}
+use Rattle.load_base.specs.Host.{Files}
 use Rattle.disk_model.specs.Image.{Image}
 use Rattle.disk_model.specs.State.{DiskState}
 use Rattle.disk_layout.specs.Holds.{HasDiskFault, HoldsConfig, StandingView}
@@ -15,12 +14,12 @@ use Rattle.exchange_trace.specs.declared.fault.ScriptFault.{ScriptFault}
 use Rattle.media_lists.specs.Files.{files_list}
 use Rattle.media_lists.specs.Loads.{loads_list}
 use Rattle.media_lists.specs.declared.fault.ListFault.{ListFault}
-use Rattle.media_check.specs.HostNames.{files_name, host_media, loads_name}
+use Rattle.media_check.specs.HostNames.{files_name, loads_name}
 use Rattle.media_check.specs.OpeningLaws.{not_too_large, not_too_long}
 use Rattle.media_check.specs.Openings.{IsFirstLong, IsShort}
-use Rattle.media_check.specs.Sets.{SetView, found_in, set_in}
+use Rattle.media_check.specs.Sets.{SetView, found_in}
 use Rattle.media_check.specs.declared.found.Found.{Found}
-use Rattle.upload_replay.specs.Endings.{HoldsNone}
+use Rattle.upload_replay.specs.Endings.{HoldsNone, HoldsSome}
 use Rattle.upload_replay.specs.Powers.{RoseBy}
 use Rattle.loader_cli.specs.Replays.{HasInputs, HasList, IsRead, LeavesFirstOrGood, RefusesInputs, RefusesList, Replays, RunSeen, RunsScript, RunsTo, StatusOfRun, rest_of, stops_of, told_as}
 use Rattle.loader_cli.specs.Replays.RefusesInputs.{files_refused, files_too_long, host_failed, large_set, loads_refused, loads_too_long, long_file, no_script, script_absent, script_too_long}
@@ -29,7 +28,7 @@ use Rattle.loader_cli.specs.Replays.Replays.{ran, unread}
 use Rattle.loader_cli.specs.Replays.RunsTo.{disk_failed, ended, no_config, unknown}
 use Rattle.loader_cli.specs.Runs.{ReplaysSound, Run, Says}
 use Rattle.loader_cli.specs.declared.replay.Telling.{Telling}
-use Rattle.loader_cli.proofs.Asked.{formats_none, says_of_run}
+use Rattle.loader_cli.proofs.Asked.{says_of_run}
 
 -- ---- no input is refused
 
@@ -72,14 +71,14 @@ none_refused folder name told set script before after status text has answers (l
 none_refused folder name told set script before after status text has answers (script_absent _ _ none _ _) = not_none (sym has.there ∙ none)
 none_refused folder name told set script before after status text has answers (script_too_long _ _ long _ _) =
     let same : has.text ≡ long.0 = some_of (sym has.there ∙ long.1) in absurd (omega (arith, ap length same, has.short, long.2))
-none_refused folder name told set script before after status text has answers (no_script _ bytes fault _ there wrong _ _) =
+none_refused folder name told set script before after status text has answers (no_script _ bytes fault _ there _ wrong _ _) =
     let same : has.text ≡ bytes = some_of (sym has.there ∙ there) in not_both (script_said bytes) script fault (subst (λ (b : List ℕ). script_said b ≡ Ok script) same has.says) wrong
 none_refused folder name told set script before after status text has answers (host_failed rose _ _) = answers rose
 
-same_set : (folder name : List ℕ) (told : Files) (set other : SetView) (script script_2 : List Line) → HasInputs folder name (Some told) set script → HasInputs folder name (Some told) other script_2 → other ≡ set
+pub same_set : (folder name : List ℕ) (told : Files) (set other : SetView) (script script_2 : List Line) → HasInputs folder name (Some told) set script → HasInputs folder name (Some told) other script_2 → other ≡ set
 same_set folder name told set other script script_2 one two = (two.has_set.rest told refl).1 ∙ sym (one.has_set.rest told refl).1
 
-same_script : (folder name : List ℕ) (told : Files) (set other : SetView) (script script_2 : List Line) → HasInputs folder name (Some told) set script → HasInputs folder name (Some told) other script_2 → script_2 ≡ script
+pub same_script : (folder name : List ℕ) (told : Files) (set other : SetView) (script script_2 : List Line) → HasInputs folder name (Some told) set script → HasInputs folder name (Some told) other script_2 → script_2 ≡ script
 same_script folder name told set other script script_2 one two =
     let same : two.text ≡ one.text = some_of (sym two.there ∙ one.there) in
     ok_of (script_said one.text) script_2 script (subst (λ (b : List ℕ). script_said b ≡ Ok script_2) same two.says) one.says
@@ -110,9 +109,9 @@ read_of disk tells = by disk.reads refl tells
 
 module _ (run : Run) (telling : Telling) (folder name : List ℕ) (told : Files) (set : SetView) (script : List Line) (is : ReplaysSound run telling folder name told set script)
     (laws : EndLaws run.work.disk run.work.disk_after) (leaves : LeavesFirstOrGood run.work.disk run.work.disk_after) where
-  none_left : (fault : RecoverFault) → HoldsNone fault run.work.disk ⊎ HoldsNone fault run.work.disk_after → ⊥
+  none_left : (fault : RecoverFault) → HoldsNone fault run.work.disk ⊎ (HoldsSome run.work.disk × HoldsNone fault run.work.disk_after) → ⊥
   none_left fault (inl none) = laws.not_both is.image is.start fault is.holds (none is.image is.reads)
-  none_left fault (inr none) =
+  none_left fault (inr (some, none)) =
       let left = leaves set is.start is.image is.reads is.holds is.settled in
       let (image, read) = read_of run.work.disk_after left.tells in
       let held = left.only.here image (laws.reads_now image read) in

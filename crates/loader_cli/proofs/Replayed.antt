@@ -16,6 +16,7 @@ use Rattle.link_net.specs.Links.{LinkState}
 use Rattle.run_promises.specs.Listing.{StandingFits}
 use Rattle.upload_replay.specs.Drives.{IsRun}
 use Rattle.upload_replay.specs.Moments.{HoldsThroughout}
+use Rattle.upload_replay.specs.Orders.{IsInOrder}
 use Rattle.upload_replay.specs.Endings.{CountsStops, FailedIfUnknown, HoldsSome, HoldsStanding, IsNoConfig}
 use Rattle.upload_replay.specs.Powers.{ArmsAsGiven, armed_after, armings_after, disk_stops}
 use Rattle.upload_replay.specs.declared.outcome.Drive.{Drive}
@@ -45,15 +46,16 @@ counts_power steps standing old new before after none stops is arms =
     }
 
 -- a run of a link that followed a script
-pub script_run : (set : SetView) (script : List Line) (start : StandingView) (run : RunSeen) (link : LinkState) → StandingFits start → IsRun (setting_of set start) (link_of script) link (steps_of run.trace) run.sessions run.standing
-    → IsScriptRun set script start run
-script_run set script start run link fits is = record {
+pub script_run : (set : SetView) (script : List Line) (start : StandingView) (run : RunSeen) (link : LinkState) → StandingFits start → IsInOrder run.trace
+    → IsRun (setting_of set start) (link_of script) link (steps_of run.trace) run.sessions run.standing → IsScriptRun set script start run
+script_run set script start run link fits ordered is = record {
   ended = link;
   is = is;
   good = is.keeps.good accepts_permitted;
   reports = is.keeps.reports accepts_permitted;
   tells = λ can none. is.keeps.tells accepts_permitted can fits none;
   bounded = is.keeps.bounded script (is.follows script (record { posted = refl; given = refl; plan = refl; follows = tt })).follows;
+  ordered = ordered;
 }
 
 -- on a disk that holds it throughout

@@ -48,12 +48,13 @@ counts_since steps old mid new read counts = record {
 
 -- ---- the run
 
-none_since : (fault : RecoverFault) (old mid new : DiskState) → mid.reads ≡ old.reads → HoldsNone fault mid ⊎ HoldsNone fault new → HoldsNone fault old ⊎ HoldsNone fault new
-none_since fault old mid new same (inl holds) = inl (λ image is. holds image (same ∙ is))
-none_since fault old mid new same (inr holds) = inr holds
-
 held_since : (old mid : DiskState) → mid.reads ≡ old.reads → HoldsSome mid → HoldsSome old
 held_since old mid same held image is = held image (same ∙ is)
+
+none_since : (fault : RecoverFault) (old mid new : DiskState) → mid.reads ≡ old.reads → HoldsNone fault mid ⊎ (HoldsSome mid × HoldsNone fault new)
+    → HoldsNone fault old ⊎ (HoldsSome old × HoldsNone fault new)
+none_since fault old mid new same (inl holds) = inl (λ image is. holds image (same ∙ is))
+none_since fault old mid new same (inr (held, holds)) = inr (held_since old mid same held, holds)
 
 -- each moment since a survey is one since its start
 throughout_since : (set : Setting) (steps : List Step) (standing : Option StandingView) (old mid new : DiskState) → OnlyReads old mid → HoldsThroughout set steps standing mid new → HoldsThroughout set steps standing old new

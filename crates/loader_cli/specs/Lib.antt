@@ -1,6 +1,7 @@
 pub mod Answers
 pub mod Builds
 pub mod Commands
+pub mod FixedOutputs
 pub mod HostFiles
 pub mod Inputs
 pub mod Replays

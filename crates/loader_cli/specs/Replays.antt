@@ -41,6 +41,7 @@ use Rattle.upload_replay.specs.declared.outcome.Drive.{Drive}
 use Rattle.upload_replay.specs.Drives.{IsRun, NeverBoots}
 use Rattle.upload_replay.specs.Endings.{HoldsNone, HoldsSome}
 use Rattle.upload_replay.specs.Moments.{HoldsThroughout, LeavesGood}
+use Rattle.upload_replay.specs.Orders.{IsInOrder}
 use Rattle.upload_replay.specs.Powers.{RoseBy, armed_after, armings_after, disk_stops}
 use Rattle.upload_replay.specs.Texts.{report, wire}
 use Rattle.loader_cli.specs.Commands.{CommandView}
@@ -71,7 +72,7 @@ run_seen drive = record { trace = drive.trace.items; sessions = map session_view
 
 -- The trace and the sessions are those of a run of this script on this media set. What is promised of it is said again without
 -- the premises that this target and this disk meet: what becomes active is good; where nothing was injected, what is told is
--- true; and the trace is no longer than the script allows.
+-- true; the trace is no longer than the script allows; and its lines stand in order.
 pub record IsScriptRun (set : SetView) (script : List Line) (start : StandingView) (run : RunSeen) : Type 0 where
   pub ended : LinkState
   pub is : IsRun (setting_of set start) (link_of script) ended (steps_of run.trace) run.sessions run.standing
@@ -79,6 +80,7 @@ pub record IsScriptRun (set : SetView) (script : List Line) (start : StandingVie
   pub reports : AllReportsAreTrue (setting_of set start) (steps_of run.trace)
   pub tells : CanBeTold (media_of set) → NothingInjected (steps_of run.trace) → TellsTrue (setting_of set start) (steps_of run.trace) run.sessions run.standing
   pub bounded : length (steps_of run.trace) ≤ most_of_lines 0 script + 1
+  pub ordered : IsInOrder run.trace
 
 -- Each image that a power loss might have left since holds what was active at its moment; and a fault-free run that was left to
 -- the script's last `finish` is complete.
@@ -151,8 +153,8 @@ pub data RunsTo (told : Telling) (set : SetView) (script : List Line) (old new :
   -- 5: the disk failed before anything happened, and nothing was written
   disk_failed : handed ≡ None → Rose old.faults new.faults → new.stopped ≡ true → new.clock ≡ old.clock → KeepsPower old new → status ≡ 5 → text ≡ disk_fault
       → RunsTo told set script old new handed status text
-  -- 8: the disk held nothing at first, or holds nothing at the end, for this fault
-  no_config : (fault : RecoverFault) → handed ≡ None → ¬ IsOfDisk fault → HoldsNone fault old ⊎ HoldsNone fault new → status ≡ 8 → text ≡ no_configuration fault
+  -- 8: the disk held nothing at first, for this fault; or it did, and holds nothing at the end, for this one
+  no_config : (fault : RecoverFault) → handed ≡ None → ¬ IsOfDisk fault → HoldsNone fault old ⊎ (HoldsSome old × HoldsNone fault new) → status ≡ 8 → text ≡ no_configuration fault
       → RunsTo told set script old new handed status text
 
 -- ---- the inputs, in reading order
@@ -219,7 +221,7 @@ pub data RefusesInputs (folder name : List ℕ) (files : Option Files) (before a
   script_too_long : (set : SetView) → HasSet folder files set → HasTooMany files name
       → status ≡ 3 → text ≡ refused_input name (codes "toolong") → RefusesInputs folder name files before after status text
   -- 3: it is no script, for this first fault
-  no_script : (set : SetView) (bytes : List ℕ) (fault : ScriptFault) → HasSet folder files set → Has files name (Some bytes) → script_said bytes ≡ Err fault
+  no_script : (set : SetView) (bytes : List ℕ) (fault : ScriptFault) → HasSet folder files set → Has files name (Some bytes) → length bytes ≤ longest_file → script_said bytes ≡ Err fault
       → status ≡ 3 → text ≡ refused_input name (script_fault_text fault) → RefusesInputs folder name files before after status text
   -- 4: the host failed in this call
   host_failed : Rose before after → status ≡ 4 → text ≡ host_fault → RefusesInputs folder name files before after status text

@@ -10,6 +10,7 @@ mod build;
 mod check;
 mod command;
 mod inputs;
+pub mod laws;
 mod replay;
 mod show;
 mod text;

@@ -26,7 +26,7 @@ returns-in-Ok-clause-runs g c =
     let old = g.K.Disk.state c.args.disk.now in
     let new = g.K.Disk.state c.drive.new.disk in
     let is : (start : StandingView) (image : Image) → old.reads ≡ Some image → HoldsConfig image start → NeverBoots (steps_of run.trace.items) ⊎ IsSettled old → IsScriptRun set c.args.script start (run_seen run)
-    = λ start image told holds all. script_run set c.args.script start (run_seen run) c.drive.new.link (c.what_a_disk_holds_can_be_listed.ensures.fits image start holds)
+    = λ start image told holds all. script_run set c.args.script start (run_seen run) c.drive.new.link (c.what_a_disk_holds_can_be_listed.ensures.fits image start holds) c.in-Ok.ensures.ordered
     (subst (λ (began : LinkState). IsRun (setting_of set start) began c.drive.new.link (steps_of run.trace.items) (run_seen run).sessions (run_seen run).standing) c.new-link.ensures
     (c.in-Ok.ensures.run (setting_of set start) image (record { media = refl; accepts = λ fields answer said. said.says ∙ ap permits said.same; start = holds }) told all)) in
     let runs : RunsScript set c.args.script old new (run_seen run) = λ start image told holds. (
