@@ -27,7 +27,7 @@ use Rattle.session_rules.specs.declared.outcome.Outcome.TheVariants.{BadFile}
 use Rattle.session_rules.specs.BufferLaws.{SumsJoin}
 use Rattle.session_rules.specs.Buffers.{buffered, buffered_more}
 use Rattle.session_rules.specs.HeardLaws.{loader_takes_what_came}
-use Rattle.session_rules.specs.LoaderLog.{LoaderReading, SessionLog, loader_extended, loader_reading, newest}
+use Rattle.session_rules.specs.LoaderLog.{LoaderReading, loader_extended, loader_reading, newest}
 use Rattle.session_rules.specs.LoaderRoleLaws.{arrived_last, longer, whole_prefix}
 use Rattle.session_rules.specs.LoaderRoles.{loader_row}
 use Rattle.session_rules.specs.LoaderRows.{Comes_to, bytes_turn}
@@ -160,15 +160,20 @@ false_is_true e = cc
 
 -- The file that ended the session is one that the target gave or wrote.
 pub record EndedByTarget (set : Setting) (s : Step) (earlier : List Step) (outcome : Outcome) : Type 0 where
+  pub event : Event
+  pub comes : event_for sides.Loader (posted_in earlier) s.given ≡ Some event
+  pub alone : event_for sides.Target (posted_in earlier) s.given ≡ None
+  pub arrived : EndedByFile set.media (loader_at set earlier) event outcome
   pub bytes : List ℕ
   pub fit : IsBytes bytes
-  pub session : SessionLog
-  pub turn : bytes_turn (loader_row session) bytes ≡ Comes_to outcome
-  pub role : Role
+  pub turn : bytes_turn (loader_row arrived.ends.session) bytes ≡ Comes_to outcome
+  pub other : Transfer
+  pub port : arrived.ends.transfer.peer ≡ Some other.own
+  pub among : Among other (transfers_of (target_at set earlier) ++ former_at set earlier)
   pub file : List ℕ
-  pub sent : file_sent role ≡ Some file
-  pub cause : IsToldCause set earlier role
-  pub whole : TellsLength role → bytes ≡ file
+  pub sent : file_sent other.role ≡ Some file
+  pub cause : IsToldCause set earlier other.role
+  pub whole : TellsLength other.role → bytes ≡ file
 
 module _ (joins : SumsJoin) (payloads : PayloadsAreBytes) (arrives : WhatArrivesWasSent) (set : Setting) (hw : BeginsWell set.start.identity.hw) (s : Step) (earlier : List Step) (is : IsUninjected set (s ∷ earlier)) (changes : AllStayOrAreNew set earlier)
     (outcome : Outcome) (none_bad : (kind : FileKind) (offset : ℕ) → BadFile kind offset ≡ outcome → ⊥) where
@@ -213,11 +218,16 @@ module _ (joins : SumsJoin) (payloads : PayloadsAreBytes) (arrives : WhatArrives
     by : ComesFromEnd (target_transfers set s earlier) ended → EndedByTarget set s earlier outcome
     by (of_none none not) = absurd (false_is_true (sym not ∙ receives.1))
     by (of_end u b brings) = record {
+      event = e;
+      comes = comes;
+      alone = alone;
+      arrived = h;
       bytes = arrived_of ended;
       fit = file_fits;
-      session = h.ends.session;
       turn = turned;
-      role = u.role;
+      other = u;
+      port = brings.ends.port;
+      among = subst (λ (ts : List Transfer). Among u ts) target_is b;
       file = brings.file;
       sent = brings.sent;
       cause = told_cause joins set hw earlier changes u (subst (λ (ts : List Transfer). Among u ts) target_is b);

@@ -7,3 +7,6 @@ pub mod Replies
 pub mod Arrived
 pub mod Outcomes
 pub mod ByCause
+pub mod StopsOver
+pub mod FirstAnswer
+pub mod OwnStops

@@ -150,6 +150,36 @@ module _ (bytes text : List ℕ) where
   row_stopped Takes_lcl e = lcl_stopped _ (answer lcl bytes) e
   row_stopped Writes_lur e = absurd cc
 
+-- ---- the rows in which a session is stopped
+
+-- the bytes are read so, as an LCS
+pub record ReadsStoppedLcs (bytes : List ℕ) : Type 0 where
+  pub v : Lcs
+  pub read : answer lcs bytes ≡ Ok v
+  pub status : v.status ≡ stopped
+
+abbrev pub IsStoppedIn : List ℕ → LoaderRow → Type 0
+IsStoppedIn bytes Takes_lus = Unit {0}
+IsStoppedIn bytes Serves_files = Unit {0}
+IsStoppedIn bytes Takes_lcs = ReadsStoppedLcs bytes
+IsStoppedIn bytes row = ⊥
+
+module _ (bytes text : List ℕ) where
+  lcs_read : (found : Result Lcs FileFault) → answer lcs bytes ≡ found → ComesAs (ReadsStoppedLcs bytes) (TargetStopped text) (lcs_turn found)
+  lcs_read (Ok v) is =
+      as_if _ (TargetStopped text) (v.status == in_progress) _ _ (λ b e. absurd cc)
+      (as_if _ (TargetStopped text) (v.status == stopped) _ _ (λ b e. record { v = v; read = is; status = eqb-true v.status stopped b }) (λ e. absurd cc))
+  lcs_read (Err fault) is = λ e. absurd cc
+
+  pub stopped_in : (row : LoaderRow) → bytes_turn row bytes ≡ Comes_to (TargetStopped text) → IsStoppedIn bytes row
+  stopped_in Takes_lus e = tt
+  stopped_in Serves_files e = tt
+  stopped_in Takes_lcs e = lcs_read (answer lcs bytes) refl e
+  stopped_in Reads_lci e = lci_stopped bytes text _ (answer lci bytes) e
+  stopped_in Reads_lui e = lui_stopped bytes text _ (answer lui bytes) e
+  stopped_in Takes_lcl e = lcl_stopped bytes text _ (answer lcl bytes) e
+  stopped_in Writes_lur e = absurd cc
+
 -- ---- what is read is spelled (`protocol_file_laws` of load_protocol_files)
 
 pub record FileLaws : Type 0 where
@@ -208,6 +238,9 @@ module _ (laws : FileLaws) (bytes : List ℕ) (fit : IsBytes bytes) where
   unfolding ReadsDenied
   denial text (inl (v, read, status, is)) = let s = lci_spelled v read in (lci_status_is v s status, subst (λ (x : List ℕ). Describes bytes x []) is (lci_describes v s))
   denial text (inr (v, read, status, is)) = let s = lui_spelled v read in (lui_status_is v s status, subst (λ (x : List ℕ). Describes bytes x []) is (lui_describes v s))
+
+  pub lcs_stop : ReadsStoppedLcs bytes → IsLcsStop bytes
+  lcs_stop h = lcs_status_is h.v (lcs_spelled h.v h.read) h.status
 
   -- what stops one
   pub stop : (text : List ℕ) → ReadsStopped bytes text → IsLcsStop bytes ⊎ (IsStop bytes × IsText text × ((rest : List ℕ) × Describes bytes text rest))

@@ -1,5 +1,5 @@
 -- What holds of each file that the target gives or writes in a run, whatever comes.
-use Rattle.std.proofs.Common.{◌≡◌, ℕ, ◌≤◌, List, [], ◌∷◌, ◌++◌, length, Option, Some, None, true, false, refl, sym, ap, subst, ◌∙◌, arith}
+use Rattle.std.proofs.Common.{◌≡◌, ℕ, ◌≤◌, List, [], ◌∷◌, ◌++◌, length, Option, Some, None, true, false, refl, sym, subst, arith}
 use Rattle.std.specs.List.{AllByRecursion}
 use Rattle.load_base.specs.Ident.{IsIdent, is_ident_byte}
 use Rattle.disk_layout.specs.declared.identity.Identity.{Identity}
@@ -14,23 +14,19 @@ use Rattle.transfer_end.specs.OtherEndLaws.{all_at, moves_roles}
 use Rattle.transfer_end.specs.OtherEnds.{Among, HaveRoles, MoveHasRole}
 use Rattle.transfer_end.specs.Readings.{Reading}
 use Rattle.transfer_end.specs.Transfers.{Reads, Role, ServesRead, ServesWrite, Transfer, Writes}
-use Rattle.session_rules.specs.declared.reason.Reason.{Reason}
 use Rattle.session_rules.specs.BufferLaws.{SumsJoin}
-use Rattle.session_rules.specs.NewConfigs.{stopped_by, verdict_in}
-use Rattle.session_rules.specs.Reports.{denying_lui, stopped_lus}
+use Rattle.session_rules.specs.Reports.{denying_lui}
 use Rattle.session_rules.specs.Target.{target_decision}
 use Rattle.session_rules.specs.TargetLaws.{end_stays}
-use Rattle.session_rules.specs.TargetLog.{TargetReading, target_extended, target_view}
-use Rattle.session_rules.specs.TargetRows.{UploadEnd}
+use Rattle.session_rules.specs.TargetLog.{TargetReading, target_view}
 use Rattle.replay_rules.specs.BothEnds.{Is_down, Is_up, Setting, TargetState, come_up, gone_down, noted, reached, target_at}
 use Rattle.replay_rules.specs.ChangeLaws.{HasTarget, has_target}
 use Rattle.replay_rules.specs.Changes.{AllStayOrAreNew}
 use Rattle.replay_rules.specs.OtherEndTraces.{former_at, transfers_of}
 use Rattle.replay_rules.specs.PlacedTraceLaws.{all_append}
 use Rattle.replay_rules.specs.TieLaws.{HasLive, target_is_live}
-use Rattle.outcome_causes.specs.Causes.{FailsFor}
 use Rattle.outcome_causes.proofs.Spent.{AllSpent, step_spent}
-use Rattle.outcome_causes.proofs.TargetFiles.{BeginsWell, IsDenial, IsLcsStop, IsStop, StopsNow, TellsCause, moves_tell}
+use Rattle.outcome_causes.proofs.TargetFiles.{BeginsWell, IsDenial, IsLcsStop, IsStop, TellsCause, moves_tell}
 
 -- ---- the target's hardware
 
@@ -46,17 +42,6 @@ ident_begins (b ∷ rest) is = record { first = b; rest = rest; is = refl; not_3
 
 -- ---- what holds of a file
 
--- after one of these steps the verdict of a session of the target was that it fails for a reason, and this LUS says so
-pub record FailedBefore (set : Setting) (steps : List Step) (file : List ℕ) : Type 0 where
-  pub since : List Step
-  pub failed : Step
-  pub before : List Step
-  pub reason : Reason
-  pub upload : UploadEnd
-  pub split : steps ≡ since ++ failed ∷ before
-  pub fails : FailsFor set (target_at set (failed ∷ before)) reason
-  pub writes : file ≡ stopped_lus upload.request upload.arrived upload.reports reason
-
 -- a reply that denies is given only where no sequence number is left
 pub record IsReply (state : TargetState) (file : List ℕ) : Type 0 where
   pub small : length file ≤ 4294967295
@@ -65,22 +50,17 @@ pub record IsReply (state : TargetState) (file : List ℕ) : Type 0 where
   pub no_lcs : IsLcsStop file → ⊥
   pub denies : IsDenial file → file ≡ denying_lui
 
-pub record IsWritten (set : Setting) (steps : List Step) (file : List ℕ) : Type 0 where
+pub record IsWritten (file : List ℕ) : Type 0 where
   pub no_denial : IsDenial file → ⊥
   pub no_lcs : IsLcsStop file → ⊥
-  pub failed : IsStop file → FailedBefore set steps file
 
 abbrev pub IsToldCause : Setting → List Step → Role → Type 0
-IsToldCause set steps (Writes name options file) = IsWritten set steps file
+IsToldCause set steps (Writes name options file) = IsWritten file
 IsToldCause set steps (ServesRead name options file) = IsReply (target_at set steps) file
 IsToldCause set steps role = Unit {0}
 
-still_failed : (set : Setting) (s : Step) (steps : List Step) (file : List ℕ) → FailedBefore set steps file → FailedBefore set (s ∷ steps) file
-still_failed set s steps file h =
-    record { since = s ∷ h.since; failed = h.failed; before = h.before; reason = h.reason; upload = h.upload; split = ap (λ (x : List Step). s ∷ x) h.split; fails = h.fails; writes = h.writes }
-
 still_told : (set : Setting) (s : Step) (steps : List Step) (role : Role) → IsToldCause set steps role → IsToldCause set (s ∷ steps) role
-still_told set s steps (Writes name o file) h = record { no_denial = h.no_denial; no_lcs = h.no_lcs; failed = λ stop. still_failed set s steps file (h.failed stop) }
+still_told set s steps (Writes name o file) h = record { no_denial = h.no_denial; no_lcs = h.no_lcs }
 still_told set s steps (ServesRead name o file) h = record { small = h.small; spent = λ denial. step_spent set s steps (h.spent denial); no_stop = h.no_stop; no_lcs = h.no_lcs; denies = h.denies }
 still_told set s steps (Reads name o) h = tt
 still_told set s steps (ServesWrite name o) h = tt
@@ -90,7 +70,7 @@ Told set steps t = IsToldCause set steps t.role
 
 -- ---- one step
 
-hardware_at : (set : Setting) (r : TargetReading) → BeginsWell set.start.identity.hw → HasTarget set (Is_up r) → BeginsWell r.active.identity.hw
+pub hardware_at : (set : Setting) (r : TargetReading) → BeginsWell set.start.identity.hw → HasTarget set (Is_up r) → BeginsWell r.active.identity.hw
 hardware_at set r hw same = subst (λ (id : Identity). BeginsWell id.hw) (sym same) hw
 
 module _ (joins : SumsJoin) (set : Setting) (hw : BeginsWell set.start.identity.hw) (given : HappeningView) (posts : List DatagramView) (earlier : List Step) where
@@ -98,23 +78,8 @@ module _ (joins : SumsJoin) (set : Setting) (hw : BeginsWell set.start.identity.
   quiet_step = record { given = given; posts = posts; notes = [] }
 
   module _ (r : TargetReading) (e : Event) (up : target_at set earlier ≡ Is_up r) (comes : event_for sides.Target (posted_in earlier) given ≡ Some e) where
-    state_is : target_at set (quiet_step ∷ earlier) ≡ Is_up (target_extended set.accepts r e)
-    state_is = ap (λ (state : TargetState). reached set (event_for sides.Target (posted_in earlier) given) state) up ∙ ap (λ (x : Option Event). reached set x (Is_up r)) comes
-
-    failed_now : (file : List ℕ) → StopsNow set.accepts (target_extended set.accepts r e) file → FailedBefore set (quiet_step ∷ earlier) file
-    failed_now file h = record {
-      since = [];
-      failed = quiet_step;
-      before = earlier;
-      reason = h.reason;
-      upload = h.upload;
-      split = refl;
-      fails = subst (λ (state : TargetState). FailsFor set state h.reason) (sym state_is) (h.session, h.live, ap verdict_in h.row ∙ ap stopped_by h.why);
-      writes = h.writes;
-    }
-
     told_role : (role : Role) → TellsCause set.accepts r e role → IsToldCause set (quiet_step ∷ earlier) role
-    told_role (Writes name o file) (no_denial, no_lcs, stops) = record { no_denial = no_denial; no_lcs = no_lcs; failed = λ stop. failed_now file (stops stop) }
+    told_role (Writes name o file) (no_denial, no_lcs, stops) = record { no_denial = no_denial; no_lcs = no_lcs }
     told_role (ServesRead name o file) h = record {
       small = h.small;
       spent = λ denial. step_spent set quiet_step earlier (subst AllSpent (sym up) (h.spent denial));

@@ -4,6 +4,7 @@ use Rattle.load_base.specs.Ident.{IsIdent}
 use Rattle.load_base.specs.Text.{IsText}
 use Rattle.load_header.specs.Header.{HeaderView}
 use Rattle.disk_layout.specs.Holds.{StandingView}
+use Rattle.exchange_trace.specs.Happenings.{Upload_started}
 use Rattle.exchange_trace.specs.Steps.{Step}
 use Rattle.accept_rules.specs.Permissions.{Permits}
 use Rattle.session_rules.specs.declared.outcome.Outcome.{Outcome}
@@ -17,6 +18,7 @@ use Rattle.session_rules.specs.TargetLog.{TargetSessionLog, row_in}
 use Rattle.replay_rules.specs.BothEnds.{Is_down, Is_up, Setting, TargetState, loader_at, target_at}
 use Rattle.replay_rules.specs.Histories.{active_at}
 use Rattle.replay_rules.specs.OtherEndTraces.{IsUninjected}
+use Rattle.replay_rules.specs.OwnSessionTraces.{NoneStarts}
 
 -- ---- how a session ended
 
@@ -79,15 +81,25 @@ abbrev pub FailsFor : Setting → TargetState → Reason → Type 0
 FailsFor set (Is_up r) reason = (session : TargetSessionLog) × (r.live ≡ Some session) × (verdict_in (row_in set.accepts r.active.identity session) ≡ Fails_for reason)
 FailsFor set (Is_down active interrupted) reason = ⊥
 
--- In one of these steps the verdict of a session of the target was that it fails for this reason; the text is that of the
--- reason, where that is a text, as it is where its numbers are those of files.
+-- The newest start is that of an upload, and the session that ended last is the one that ended since: so it is that upload.
+-- Since its start there was a step after which the verdict of a session of the target was that it fails for this reason; the
+-- text is that of the reason, where that is a text, as it is where its numbers are those of files.
 pub record IsStoppedByVerdict (set : Setting) (steps : List Step) (text : List ℕ) : Type 0 where
   pub since : List Step
   pub failed : Step
+  pub between : List Step
+  pub start : Step
   pub before : List Step
+  pub hw : List ℕ
+  pub pos : List ℕ
+  pub parts : List (List ℕ)
+  pub session : EndedSession
   pub reason : Reason
-  pub split : steps ≡ since ++ failed ∷ before
-  pub fails : FailsFor set (target_at set (failed ∷ before)) reason
+  pub split : steps ≡ since ++ failed ∷ (between ++ start ∷ before)
+  pub starts : start.given ≡ Upload_started hw pos parts
+  pub newest : NoneStarts (since ++ failed ∷ between)
+  pub one : (loader_at set steps).ended ≡ session ∷ (loader_at set (start ∷ before)).ended
+  pub fails : FailsFor set (target_at set (failed ∷ (between ++ start ∷ before))) reason
   pub tells : IsText (reason_text reason) → text ≡ reason_text reason
 
 abbrev pub StoppedWhereFailed : Setting → Step → List Step → Type 0
@@ -97,7 +109,7 @@ abbrev pub AllStoppedWhereFailed : Setting → List Step → Type 0
 AllStoppedWhereFailed set [] = ⊤
 AllStoppedWhereFailed set (s ∷ earlier) = StoppedWhereFailed set s earlier × AllStoppedWhereFailed set earlier
 
--- Under the same premises a session is stopped by the target only after the verdict of a session of the target gave the reason
--- that is told, with its numbers.
+-- Under the same premises a session is stopped by the target only after the verdict of a session of the target gave, since its
+-- own start, the reason that is told, with its numbers.
 abbrev pub StopsAreForVerdicts : Type 0
 StopsAreForVerdicts = (set : Setting) (steps : List Step) → ((h : HeaderView) → set.accepts h ≡ true → Permits h) → IsIdent set.start.identity.hw → IsUninjected set steps → AllStoppedWhereFailed set steps

@@ -7,6 +7,7 @@ use crc_fields::check_sum_laws;
 use load_protocol_files::protocol_file_laws;
 use replay_rules::laws::{the_configuration_changes_by_good_verdicts, what_arrives_was_sent};
 use tftp_packet::packet_laws;
+use transfer_end::laws::what_comes_was_sent;
 
 /// Each session whose outcome comes from a file ended in a step of the run, once those before it
 /// had, whatever comes.
@@ -23,8 +24,8 @@ pub fn each_session_ends_by_its_cause()
 
 /// Where nothing is injected, a session is denied only where no sequence number is left after that
 /// of the active configuration, and stopped by the target only for a reason that the verdict of a
-/// session of the target gave, with its numbers: through losses, repeats, other orders, power
-/// losses and boots.
+/// session of the target gave since its own start, with its numbers: through losses, repeats, other
+/// orders, power losses and boots.
 pub fn outcomes_have_their_causes()
     ensures denied { DenialsAreForSequence }
     ensures stopped { StopsAreForVerdicts }
@@ -34,4 +35,5 @@ pub fn outcomes_have_their_causes()
     protocol_file_laws();
     the_configuration_changes_by_good_verdicts();
     what_arrives_was_sent();
+    what_comes_was_sent();
 }

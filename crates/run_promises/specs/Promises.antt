@@ -114,7 +114,7 @@ pub record DenialIsTrue (set : Setting) (steps : List Step) (before : List Ended
   pub ended : EndsIn set steps before session
   pub denied : IsDeniedForSequence set (ended.step ∷ ended.earlier) text
 
--- the target stopped a session with this text, which is that of a verdict
+-- the target stopped a session with this text, which is that of a verdict since the session's start
 pub record StopIsTrue (set : Setting) (steps : List Step) (before : List EndedSession) (session : EndedSession) (text : List ℕ) : Type 0 where
   pub ended : EndsIn set steps before session
   pub stopped : IsStoppedByVerdict set (ended.step ∷ ended.earlier) text

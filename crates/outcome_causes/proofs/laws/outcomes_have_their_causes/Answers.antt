@@ -6,7 +6,7 @@ pub returns-clause-denied : goal.returns-clause-denied
 returns-clause-denied c = denials_are_for_sequence (record {
   crc16 = c.check_sum_laws.ensures.crc16_joined;
   crc32 = c.check_sum_laws.ensures.crc32_joined;
-}) (payloads_are_bytes c.packet_laws.ensures.decided c.packet_laws.ensures.spelled) c.what_arrives_was_sent.ensures.sent (record {
+}) c.what_comes_was_sent.ensures.moves (payloads_are_bytes c.packet_laws.ensures.decided c.packet_laws.ensures.spelled) c.what_arrives_was_sent.ensures.sent (record {
   lci_exact = c.protocol_file_laws.ensures.lci;
   lcs_exact = c.protocol_file_laws.ensures.lcs;
   lui_exact = c.protocol_file_laws.ensures.lui;
@@ -17,7 +17,7 @@ pub returns-clause-stopped : goal.returns-clause-stopped
 returns-clause-stopped c = stops_are_for_verdicts (record {
   crc16 = c.check_sum_laws.ensures.crc16_joined;
   crc32 = c.check_sum_laws.ensures.crc32_joined;
-}) (payloads_are_bytes c.packet_laws.ensures.decided c.packet_laws.ensures.spelled) c.what_arrives_was_sent.ensures.sent (record {
+}) c.what_comes_was_sent.ensures.moves (payloads_are_bytes c.packet_laws.ensures.decided c.packet_laws.ensures.spelled) c.what_arrives_was_sent.ensures.sent (record {
   lci_exact = c.protocol_file_laws.ensures.lci;
   lcs_exact = c.protocol_file_laws.ensures.lcs;
   lui_exact = c.protocol_file_laws.ensures.lui;
