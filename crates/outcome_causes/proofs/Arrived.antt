@@ -16,7 +16,7 @@ use Rattle.exchange_trace.specs.Logs.{Event, Learns, event_for, gets, logged, lo
 use Rattle.exchange_trace.specs.Posts.{numbered, posted_in}
 use Rattle.exchange_trace.specs.Steps.{Step}
 use Rattle.transfer_end.specs.Moves.{past_with}
-use Rattle.transfer_end.specs.OtherEnds.{Among, ComesFromEnd, TellsLength, file_sent, is_receiving, of_end, of_none}
+use Rattle.transfer_end.specs.OtherEnds.{Among, AnswersRequest, ComesFromEnd, TellsLength, file_sent, is_asking, is_receiving, of_end, of_none}
 use Rattle.transfer_end.specs.Readings.{Reading}
 use Rattle.transfer_end.specs.RfcLaws.{end_is_of_link}
 use Rattle.transfer_end.specs.Transfers.{LinkEnd, Reads, Role, ServesRead, ServesWrite, Transfer, Writes, arrived_of, arriving_in, end_answer, end_in, end_moved, end_of, is_received}
@@ -24,19 +24,20 @@ use Rattle.transfer_end.specs.ViewLaws.{end_of_more}
 use Rattle.session_rules.specs.declared.outcome.FileKind.{FileKind}
 use Rattle.session_rules.specs.declared.outcome.Outcome.{Outcome}
 use Rattle.session_rules.specs.declared.outcome.Outcome.TheVariants.{BadFile}
-use Rattle.session_rules.specs.BufferLaws.{SumsJoin}
-use Rattle.session_rules.specs.Buffers.{buffered, buffered_more}
+use Rattle.session_rules.specs.BufferLaws.{SumsJoin, buffered_on}
+use Rattle.session_rules.specs.Buffers.{Buffer, buffered, buffered_more}
 use Rattle.session_rules.specs.HeardLaws.{loader_takes_what_came}
 use Rattle.session_rules.specs.LoaderLog.{LoaderReading, loader_extended, loader_reading, newest}
 use Rattle.session_rules.specs.LoaderRoleLaws.{arrived_last, longer, whole_prefix}
 use Rattle.session_rules.specs.LoaderRoles.{loader_row}
-use Rattle.session_rules.specs.LoaderRows.{Comes_to, bytes_turn}
+use Rattle.session_rules.specs.LoaderRows.{Comes_to, bytes_turn, file_turn}
 use Rattle.session_rules.specs.SoundLogLaws.{PayloadsAreBytes, newest_bytes}
 use Rattle.session_rules.specs.SoundLogs.{LogIsBytes}
 use Rattle.replay_rules.specs.BothEnds.{Is_down, Is_up, Setting, TargetState, loader_at, reached, target_at}
 use Rattle.replay_rules.specs.ChangeLaws.{BringsBytes, bytes_if, got_bytes, numbered_bytes, posted_bytes}
 use Rattle.replay_rules.specs.Changes.{AllCarryBytes, AllStayOrAreNew, CarriesBytes, InjectsBytes}
 use Rattle.replay_rules.specs.OtherEndTraces.{AllArriveAsSent, IsUninjected, WhatArrivesWasSent, former_at, loader_transfers, target_transfers, transfers_of}
+use Rattle.replay_rules.proofs.NewestStart.{asks_not}
 use Rattle.outcome_causes.specs.Causes.{EndsAs, IsOfFile}
 use Rattle.outcome_causes.proofs.FileEnds.{EndedByFile, ended_by_file}
 use Rattle.outcome_causes.proofs.Replies.{not_too_long}
@@ -166,9 +167,11 @@ pub record EndedByTarget (set : Setting) (s : Step) (earlier : List Step) (outco
   pub arrived : EndedByFile set.media (loader_at set earlier) event outcome
   pub bytes : List ℕ
   pub fit : IsBytes bytes
-  pub turn : bytes_turn (loader_row arrived.ends.session) bytes ≡ Comes_to outcome
+  pub turn : ((kind : FileKind) (offset : ℕ) → BadFile kind offset ≡ outcome → ⊥) → bytes_turn (loader_row arrived.ends.session) bytes ≡ Comes_to outcome
+  pub comes_to : file_turn (loader_row arrived.ends.session) (buffered bytes) ≡ Comes_to outcome
   pub other : Transfer
   pub port : arrived.ends.transfer.peer ≡ Some other.own
+  pub serves : is_asking arrived.ends.live.role ≡ true → is_asking other.role ≡ false
   pub among : Among other (transfers_of (target_at set earlier) ++ former_at set earlier)
   pub file : List ℕ
   pub sent : file_sent other.role ≡ Some file
@@ -176,7 +179,7 @@ pub record EndedByTarget (set : Setting) (s : Step) (earlier : List Step) (outco
   pub whole : TellsLength other.role → bytes ≡ file
 
 module _ (joins : SumsJoin) (payloads : PayloadsAreBytes) (arrives : WhatArrivesWasSent) (set : Setting) (hw : BeginsWell set.start.identity.hw) (s : Step) (earlier : List Step) (is : IsUninjected set (s ∷ earlier)) (changes : AllStayOrAreNew set earlier)
-    (outcome : Outcome) (none_bad : (kind : FileKind) (offset : ℕ) → BadFile kind offset ≡ outcome → ⊥) where
+    (outcome : Outcome) where
   module _ (e : Event) (comes : event_for sides.Loader (posted_in earlier) s.given ≡ Some e) (alone : event_for sides.Target (posted_in earlier) s.given ≡ None) (h : EndedByFile set.media (loader_at set earlier) e outcome) where
     abbrev r : LoaderReading
     r = loader_at set earlier
@@ -204,8 +207,21 @@ module _ (joins : SumsJoin) (payloads : PayloadsAreBytes) (arrives : WhatArrives
         newest_bytes payloads (e ∷ loader_log earlier) then ended (subst (λ (x : Option Event). LogIsBytes (logged x (loader_log earlier))) comes (loader_log_bytes (s ∷ earlier) is.carries))
         (loader_takes_what_came set.media (e ∷ loader_log earlier)).0 (ap newest h.ends.past)
 
-    turned : bytes_turn (loader_row h.ends.session) (arrived_of ended) ≡ Comes_to outcome
-    turned =
+    arrived_now : arrived_of h.ends.live ++ h.more ≡ arrived_of ended
+    arrived_now = sym (arrived_last h.ends.live h.ends.from h.ends.packet h.more h.last) ∙ ap arrived_of (sym h.ends.is)
+
+    comes_now : file_turn (loader_row h.ends.session) (buffered (arrived_of ended)) ≡ Comes_to outcome
+    comes_now =
+        ap (λ (b : Buffer). file_turn (loader_row h.ends.session) b)
+        (ap buffered (sym arrived_now) ∙ (sym (buffered_on (arrived_of h.ends.live) h.more) ∙ ap (λ (x : List ℕ). buffered_more (buffered x) h.more) (sym (ap arriving_in h.ends.going))))
+        ∙ h.turn
+
+    serves_then : (u : Transfer) → AnswersRequest ended u ⊎ AnswersRequest u ended → is_asking h.ends.live.role ≡ true → is_asking u.role ≡ false
+    serves_then u (inl x) asks = asks_not _ h.ends.live.role asks (sym (ap (λ (t : Transfer). is_asking t.role) h.ends.is) ∙ x.serves)
+    serves_then u (inr x) asks = x.serves
+
+    turned : ((kind : FileKind) (offset : ℕ) → BadFile kind offset ≡ outcome → ⊥) → bytes_turn (loader_row h.ends.session) (arrived_of ended) ≡ Comes_to outcome
+    turned none_bad =
         let (short, turn) = not_too_long (loader_row h.ends.session) (buffered_more (buffered (arriving_in r.end.live)) h.more) outcome none_bad h.turn in
         let arriving : arriving_in r.end.live ≡ arrived_of h.ends.live = ap arriving_in h.ends.going in
         let bytes : (buffered_more (buffered (arriving_in r.end.live)) h.more).prefix ≡ arrived_of ended =
@@ -224,9 +240,11 @@ module _ (joins : SumsJoin) (payloads : PayloadsAreBytes) (arrives : WhatArrives
       arrived = h;
       bytes = arrived_of ended;
       fit = file_fits;
-      turn = turned;
+      turn = λ none_bad. turned none_bad;
+      comes_to = comes_now;
       other = u;
       port = brings.ends.port;
+      serves = serves_then u brings.ends.request;
       among = subst (λ (ts : List Transfer). Among u ts) target_is b;
       file = brings.file;
       sent = brings.sent;

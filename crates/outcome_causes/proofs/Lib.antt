@@ -10,3 +10,4 @@ pub mod ByCause
 pub mod StopsOver
 pub mod FirstAnswer
 pub mod OwnStops
+pub mod BadReplies

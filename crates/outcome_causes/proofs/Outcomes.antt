@@ -15,7 +15,8 @@ use Rattle.replay_rules.specs.Changes.{AllStayOrAreNew, ChangesAreNew}
 use Rattle.replay_rules.specs.OtherEndTraces.{IsUninjected, WhatArrivesWasSent, former_at, transfers_of}
 use Rattle.replay_rules.proofs.AnsweredLater.{one_before}
 use Rattle.replay_rules.proofs.EachBefore.{IsOver}
-use Rattle.outcome_causes.specs.Causes.{AllDeniedWhereSpent, AllStoppedWhereFailed, DenialsAreForSequence, EndsAs, IsDeniedForSequence, IsStoppedByVerdict, StopsAreForVerdicts}
+use Rattle.outcome_causes.proofs.BadReplies.{all_good}
+use Rattle.outcome_causes.specs.Causes.{AllDeniedWhereSpent, AllStoppedWhereFailed, DenialsAreForSequence, EndsAs, IsDeniedForSequence, IsStoppedByVerdict, RepliesAreGood, StopsAreForVerdicts}
 use Rattle.outcome_causes.proofs.Arrived.{EndedByTarget, ended_by_target}
 use Rattle.outcome_causes.proofs.OwnStops.{IsLusRow, over, stopped_in_session}
 use Rattle.outcome_causes.proofs.Replies.{Describes, FileLaws, IsStoppedIn, ReadsStoppedLcs, denial, denial_text, lcs_stop, row_denied, row_stopped, stop, stop_text, stopped_in}
@@ -66,7 +67,7 @@ module _ (joins : SumsJoin) (moves : MovesStayFair) (laws : FileLaws) (set : Set
   stopped_by (ServesWrite name o) sent told whole over stops = absurd cc
 
   stopped_lus_row : IsStoppedByVerdict set (s ∷ earlier) text
-  stopped_lus_row = stopped_by h.other.role h.sent h.cause h.whole over_now.over (stop laws h.bytes h.fit text (row_stopped h.bytes text (loader_row h.arrived.ends.session) h.turn))
+  stopped_lus_row = stopped_by h.other.role h.sent h.cause h.whole over_now.over (stop laws h.bytes h.fit text (row_stopped h.bytes text (loader_row h.arrived.ends.session) (h.turn (λ kind offset e. cc))))
 
 -- no LCS stops a session
 lcs_not : (set : Setting) (earlier : List Step) (role : Role) (bytes file : List ℕ) → file_sent role ≡ Some file → IsToldCause set earlier role → (TellsLength role → bytes ≡ file) → IsLcsStop bytes → ⊥
@@ -89,15 +90,15 @@ lus_row bytes Writes_lur stops not = absurd stops
 module _ (joins : SumsJoin) (moves : MovesStayFair) (payloads : PayloadsAreBytes) (arrives : WhatArrivesWasSent) (laws : FileLaws) (set : Setting) (hw : BeginsWell set.start.identity.hw) where
   denied : (s : Step) (earlier : List Step) → IsUninjected set (s ∷ earlier) → AllStayOrAreNew set earlier → (text : List ℕ) → EndsAs set s earlier (Denied text) → IsDeniedForSequence set (s ∷ earlier) text
   denied s earlier is changes text ends =
-      let h : EndedByTarget set s earlier (Denied text) = ended_by_target joins payloads arrives set hw s earlier is changes (Denied text) (λ kind offset e. cc) tt ends in
-      let (denies, says) = denial laws h.bytes h.fit text (row_denied h.bytes text (loader_row h.arrived.ends.session) h.turn) in
+      let h : EndedByTarget set s earlier (Denied text) = ended_by_target joins payloads arrives set hw s earlier is changes (Denied text) tt ends in
+      let (denies, says) = denial laws h.bytes h.fit text (row_denied h.bytes text (loader_row h.arrived.ends.session) (h.turn (λ kind offset e. cc))) in
       denied_by set s earlier h.other.role h.bytes h.file text h.sent h.cause h.whole denies says
 
   stopped : (s : Step) (earlier : List Step) → IsUninjected set (s ∷ earlier) → AllStayOrAreNew set earlier → (text : List ℕ) → EndsAs set s earlier (TargetStopped text) → IsStoppedByVerdict set (s ∷ earlier) text
   stopped s earlier is changes text ends =
-      let h : EndedByTarget set s earlier (TargetStopped text) = ended_by_target joins payloads arrives set hw s earlier is changes (TargetStopped text) (λ kind offset e. cc) tt ends in
+      let h : EndedByTarget set s earlier (TargetStopped text) = ended_by_target joins payloads arrives set hw s earlier is changes (TargetStopped text) tt ends in
       stopped_lus_row joins moves laws set hw s earlier is text ends.session ends.ended h
-      (lus_row h.bytes (loader_row h.arrived.ends.session) (stopped_in h.bytes text (loader_row h.arrived.ends.session) h.turn) (λ read. lcs_not set earlier h.other.role h.bytes h.file h.sent h.cause h.whole (lcs_stop laws h.bytes h.fit read)))
+      (lus_row h.bytes (loader_row h.arrived.ends.session) (stopped_in h.bytes text (loader_row h.arrived.ends.session) (h.turn (λ kind offset e. cc))) (λ read. lcs_not set earlier h.other.role h.bytes h.file h.sent h.cause h.whole (lcs_stop laws h.bytes h.fit read)))
 
   all_denied : (steps : List Step) → IsUninjected set steps → AllStayOrAreNew set steps → AllDeniedWhereSpent set steps
   all_denied [] is changes = tt
@@ -112,3 +113,6 @@ denials_are_for_sequence joins moves payloads arrives laws changes set steps per
 
 pub stops_are_for_verdicts : SumsJoin → MovesStayFair → PayloadsAreBytes → WhatArrivesWasSent → FileLaws → ChangesAreNew → StopsAreForVerdicts
 stops_are_for_verdicts joins moves payloads arrives laws changes set steps permits hw is = all_stopped joins moves payloads arrives laws set (ident_begins set.start.identity.hw hw) steps is (changes set steps permits is.carries)
+
+pub replies_are_good : SumsJoin → PayloadsAreBytes → WhatArrivesWasSent → FileLaws → ChangesAreNew → RepliesAreGood
+replies_are_good joins payloads arrives laws changes set steps permits hw is = all_good joins payloads arrives laws set (ident_begins set.start.identity.hw hw) steps is (changes set steps permits is.carries)

@@ -33,10 +33,10 @@ use Rattle.load_protocol_files.specs.declared.lur.Wanted.{Wanted}
 
 -- ---- turns
 
-abbrev ComesAs : Type 0 → Outcome → Turn → Type 0
+abbrev pub ComesAs : Type 0 → Outcome → Turn → Type 0
 ComesAs A outcome turn = turn ≡ Comes_to outcome → A
 
-as_if : (A : Type 0) (outcome : Outcome) (b : Bool) (x y : Turn) → (b ≡ true → ComesAs A outcome x) → ComesAs A outcome y → ComesAs A outcome (cond b x y)
+pub as_if : (A : Type 0) (outcome : Outcome) (b : Bool) (x y : Turn) → (b ≡ true → ComesAs A outcome x) → ComesAs A outcome y → ComesAs A outcome (cond b x y)
 as_if A outcome true x y p q = p refl
 as_if A outcome false x y p q = q
 

@@ -1,5 +1,5 @@
 -- Which files a target gives and writes at an event.
-use Rattle.std.proofs.Common.{◌≡◌, ℕ, Bool, true, false, cond, eqb, List, [], ◌∷◌, ◌++◌, length, Option, Some, None, refl, sym, ap, subst, ◌∙◌, arith, ◌≤◌}
+use Rattle.std.proofs.Common.{◌≡◌, ◌⊎◌, inl, inr, ℕ, Bool, true, false, cond, eqb, List, [], ◌∷◌, ◌++◌, length, Option, Some, None, refl, sym, ap, subst, ◌∙◌, arith, ◌≤◌}
 use Rattle.std.specs.Prelude.{drop, take}
 use Rattle.std.specs.List.{AllByRecursion}
 use Rattle.std.proofs.lemmas.Bool.{eqb-true}
@@ -174,6 +174,10 @@ pub record BeginsWell (hw : List ℕ) : Type 0 where
 
 -- ---- the two files that it gives
 
+-- it is one of these three
+abbrev pub IsGiven : List ℕ → Type 0
+IsGiven file = (file ≡ lci_file) ⊎ ((file ≡ accepting_lui) ⊎ (file ≡ denying_lui))
+
 -- a reply that denies is given only where no sequence number is left, and each has no more bytes than `tsize` can tell
 pub record IsOwnReply (sequence : ℕ) (file : List ℕ) : Type 0 where
   pub small : length file ≤ 4294967295
@@ -181,6 +185,7 @@ pub record IsOwnReply (sequence : ℕ) (file : List ℕ) : Type 0 where
   pub no_stop : IsStop file → ⊥
   pub no_lcs : IsLcsStop file → ⊥
   pub denies : IsDenial file → file ≡ denying_lui
+  pub given : IsGiven file
 
 lci_size : length lci_file ≤ 4294967295
 unfolding lci_file file_fields number_bytes
@@ -201,18 +206,20 @@ lci_reply sequence = record {
   no_stop = λ h. not_both _ lci_file 0 1 16 3 lci_status h (λ f. cc);
   no_lcs = λ h. shorter lci_file 0 16 3 lci_lcs h;
   denies = λ h. not_both _ lci_file 0 1 16 0 lci_status h (λ f. cc);
+  given = inl refl;
 }
 
 lui_reply : (sequence : ℕ) (b : Bool) → eqb sequence 4294967295 ≡ b → IsOwnReply sequence (cond b denying_lui accepting_lui)
 lui_reply sequence true e =
     let last : sequence ≡ 4294967295 = eqb-true sequence 4294967295 e in
-    record { small = denying_size; spent = λ h. omega (arith, last); no_stop = λ h. not_both _ denying_lui 16 0 16 3 denying_status h (λ f. cc); no_lcs = λ h. second_not denying_lui 3 65 denying_lcs h (λ f. cc); denies = λ h. refl }
+    record { small = denying_size; spent = λ h. omega (arith, last); no_stop = λ h. not_both _ denying_lui 16 0 16 3 denying_status h (λ f. cc); no_lcs = λ h. second_not denying_lui 3 65 denying_lcs h (λ f. cc); denies = λ h. refl; given = inr (inr refl) }
 lui_reply sequence false e = record {
   small = accepting_size;
   spent = λ h. not_both _ accepting_lui 0 1 16 0 accepting_status h (λ f. cc);
   no_stop = λ h. not_both _ accepting_lui 0 1 16 3 accepting_status h (λ f. cc);
   no_lcs = λ h. shorter accepting_lui 0 16 3 accepting_lcs h;
   denies = λ h. not_both _ accepting_lui 0 1 16 0 accepting_status h (λ f. cc);
+  given = inr (inl refl);
 }
 
 own_reply : (kind : FileKind) (sequence : ℕ) → IsOwnReply sequence (target.own_file kind sequence)

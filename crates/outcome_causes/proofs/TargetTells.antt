@@ -26,7 +26,7 @@ use Rattle.replay_rules.specs.OtherEndTraces.{former_at, transfers_of}
 use Rattle.replay_rules.specs.PlacedTraceLaws.{all_append}
 use Rattle.replay_rules.specs.TieLaws.{HasLive, target_is_live}
 use Rattle.outcome_causes.proofs.Spent.{AllSpent, step_spent}
-use Rattle.outcome_causes.proofs.TargetFiles.{BeginsWell, IsDenial, IsLcsStop, IsStop, TellsCause, moves_tell}
+use Rattle.outcome_causes.proofs.TargetFiles.{BeginsWell, IsDenial, IsGiven, IsLcsStop, IsStop, TellsCause, moves_tell}
 
 -- ---- the target's hardware
 
@@ -49,6 +49,7 @@ pub record IsReply (state : TargetState) (file : List ℕ) : Type 0 where
   pub no_stop : IsStop file → ⊥
   pub no_lcs : IsLcsStop file → ⊥
   pub denies : IsDenial file → file ≡ denying_lui
+  pub given : IsGiven file
 
 pub record IsWritten (file : List ℕ) : Type 0 where
   pub no_denial : IsDenial file → ⊥
@@ -61,7 +62,7 @@ IsToldCause set steps role = Unit {0}
 
 still_told : (set : Setting) (s : Step) (steps : List Step) (role : Role) → IsToldCause set steps role → IsToldCause set (s ∷ steps) role
 still_told set s steps (Writes name o file) h = record { no_denial = h.no_denial; no_lcs = h.no_lcs }
-still_told set s steps (ServesRead name o file) h = record { small = h.small; spent = λ denial. step_spent set s steps (h.spent denial); no_stop = h.no_stop; no_lcs = h.no_lcs; denies = h.denies }
+still_told set s steps (ServesRead name o file) h = record { small = h.small; spent = λ denial. step_spent set s steps (h.spent denial); no_stop = h.no_stop; no_lcs = h.no_lcs; denies = h.denies; given = h.given }
 still_told set s steps (Reads name o) h = tt
 still_told set s steps (ServesWrite name o) h = tt
 
@@ -86,6 +87,7 @@ module _ (joins : SumsJoin) (set : Setting) (hw : BeginsWell set.start.identity.
       no_stop = h.no_stop;
       no_lcs = h.no_lcs;
       denies = h.denies;
+      given = h.given;
     }
     told_role (Reads name o) h = tt
     told_role (ServesWrite name o) h = tt

@@ -7,6 +7,8 @@ use Rattle.disk_layout.specs.Holds.{StandingView}
 use Rattle.exchange_trace.specs.Happenings.{Upload_started}
 use Rattle.exchange_trace.specs.Steps.{Step}
 use Rattle.accept_rules.specs.Permissions.{Permits}
+use Rattle.session_rules.specs.declared.outcome.FileKind.{FileKind}
+use Rattle.session_rules.specs.declared.outcome.FileKind.TheVariants.{Lci, Lui}
 use Rattle.session_rules.specs.declared.outcome.Outcome.{Outcome}
 use Rattle.session_rules.specs.declared.outcome.Outcome.TheVariants.{BadFile, Completed, Denied, TargetStopped}
 use Rattle.session_rules.specs.declared.reason.Reason.{Reason}
@@ -113,3 +115,23 @@ AllStoppedWhereFailed set (s ∷ earlier) = StoppedWhereFailed set s earlier × 
 -- own start, the reason that is told, with its numbers.
 abbrev pub StopsAreForVerdicts : Type 0
 StopsAreForVerdicts = (set : Setting) (steps : List Step) → ((h : HeaderView) → set.accepts h ≡ true → Permits h) → IsIdent set.start.identity.hw → IsUninjected set steps → AllStoppedWhereFailed set steps
+
+-- ---- bad files
+
+-- the target gives a file of this kind to read, and writes the others
+abbrev pub IsGivenToRead : FileKind → Type 0
+IsGivenToRead Lci = ⊤
+IsGivenToRead Lui = ⊤
+IsGivenToRead kind = ⊥
+
+abbrev pub NoBadReply : Setting → Step → List Step → Type 0
+NoBadReply set s earlier = (kind : FileKind) (offset : ℕ) → IsGivenToRead kind → EndsAs set s earlier (BadFile kind offset) → ⊥
+
+abbrev pub NoBadReplies : Setting → List Step → Type 0
+NoBadReplies set [] = ⊤
+NoBadReplies set (s ∷ earlier) = NoBadReply set s earlier × NoBadReplies set earlier
+
+-- Under the same premises no session ends by a bad LCI or LUI: each that the loader reads is one, and has a status that is
+-- allowed.
+abbrev pub RepliesAreGood : Type 0
+RepliesAreGood = (set : Setting) (steps : List Step) → ((h : HeaderView) → set.accepts h ≡ true → Permits h) → IsIdent set.start.identity.hw → IsUninjected set steps → NoBadReplies set steps

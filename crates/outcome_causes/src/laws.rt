@@ -1,6 +1,6 @@
 //! What a session of a run came to and why. These functions do nothing; their clauses are the law.
 ghost use Rattle.outcome_causes.specs.Causes.{DenialsAreForSequence, SessionsEndInSteps};
-ghost use Rattle.outcome_causes.specs.Causes.{StopsAreForVerdicts};
+ghost use Rattle.outcome_causes.specs.Causes.{RepliesAreGood, StopsAreForVerdicts};
 ghost use Rattle.outcome_causes.specs.Outcomes.{OutcomesHaveCauses};
 
 use crc_fields::check_sum_laws;
@@ -29,6 +29,8 @@ pub fn each_session_ends_by_its_cause()
 pub fn outcomes_have_their_causes()
     ensures denied { DenialsAreForSequence }
     ensures stopped { StopsAreForVerdicts }
+    // And none ends by an LCI or LUI that isn't in its format, is too long or has another status.
+    ensures replies { RepliesAreGood }
 {
     check_sum_laws();
     packet_laws();

@@ -7,7 +7,7 @@ use Rattle.field_grammar.specs.Grammar.{IsBytes}
 use Rattle.disk_layout.specs.Holds.{StandingView}
 use Rattle.exchange_trace.specs.Steps.{Step}
 use Rattle.session_rules.specs.declared.outcome.Outcome.{Outcome}
-use Rattle.session_rules.specs.declared.outcome.Outcome.TheVariants.{Denied, TargetStopped}
+use Rattle.session_rules.specs.declared.outcome.Outcome.TheVariants.{BadFile, Denied, TargetStopped}
 use Rattle.session_rules.specs.declared.outcome.SessionKind.TheVariants.{Info, Upload}
 use Rattle.session_rules.specs.Loader.{EndedSession}
 use Rattle.session_rules.specs.LoaderLog.{loader_view}
@@ -29,7 +29,7 @@ use Rattle.replay_rules.specs.Promises.{IsTrace}
 use Rattle.replay_rules.specs.Runs.{Follows}
 use Rattle.exchange_trace.specs.Lines.{Line}
 use Rattle.completion_reports.specs.Reports.{ReportsAreTrue}
-use Rattle.outcome_causes.specs.Causes.{AllDeniedWhereSpent, AllStoppedWhereFailed, DenialsAreForSequence, DeniedWhereSpent, EndsAs, IsOfFile, SessionsEndInSteps, StoppedWhereFailed, StopsAreForVerdicts}
+use Rattle.outcome_causes.specs.Causes.{AllDeniedWhereSpent, AllStoppedWhereFailed, DenialsAreForSequence, DeniedWhereSpent, EndsAs, IsGivenToRead, IsOfFile, NoBadReplies, NoBadReply, RepliesAreGood, SessionsEndInSteps, StoppedWhereFailed, StopsAreForVerdicts}
 use Rattle.outcome_causes.specs.Outcomes.{OutcomesHaveCauses}
 use Rattle.finish_ends.specs.Scripts.{TracesAreBounded}
 use Rattle.session_completion.specs.FinishedRuns.{FinishCompletes, IsComplete}
@@ -53,11 +53,16 @@ stopped_at : (set : Setting) (since : List Step) (s : Step) (earlier : List Step
 stopped_at set [] s earlier (now, before) = now
 stopped_at set (x ∷ since) s earlier (now, before) = stopped_at set since s earlier before
 
+good_at : (set : Setting) (since : List Step) (s : Step) (earlier : List Step) → NoBadReplies set (since ++ s ∷ earlier) → NoBadReply set s earlier
+good_at set [] s earlier (now, before) = now
+good_at set (x ∷ since) s earlier (now, before) = good_at set since s earlier before
+
 -- what is said of how sessions ended
 pub record EndedLaws : Type 0 where
   pub ends : SessionsEndInSteps
   pub denials : DenialsAreForSequence
   pub stops : StopsAreForVerdicts
+  pub replies : RepliesAreGood
   pub causes : OutcomesHaveCauses
 
 module _ (ended : EndedLaws) (media : InstallsAreOfMedia) (lists : CompletedListsActive) (names : WhatFitsNamesItsFiles) (active : WhatIsActiveCanBeListed) (stays : CompletedStays) (set : Setting) (steps : List Step) (standing : Option StandingView) (accepts : AcceptsPermitted set) (can : CanBeTold set.media) (fits : StandingFits set.start) (is : IsUninjected set steps) where
@@ -99,8 +104,13 @@ module _ (ended : EndedLaws) (media : InstallsAreOfMedia) (lists : CompletedList
         stopped = stopped_at set e.since e.step e.earlier (subst (λ (list : List Step). AllStoppedWhereFailed set list) e.split (ended.stops set steps accepts fits.identity.hw is)) text (ends_as (TargetStopped text) told e);
       }
 
+  good_reply : (kind : FileKind) (offset : ℕ) → IsGivenToRead kind → IsToldAs (BadFile kind offset) sessions → ⊥
+  good_reply kind offset of told =
+      let e = told_ended told.session (subst IsOfFile (sym told.came_to) tt) ended.ends set steps told.before told.after told.place in
+      good_at set e.since e.step e.earlier (subst (λ (list : List Step). NoBadReplies set list) e.split (ended.replies set steps accepts fits.identity.hw is)) kind offset of (ends_as (BadFile kind offset) told e)
+
   tells : TellsTrue set steps sessions standing
-  tells = record { media = media set steps accepts can.lengths is; uploads = upload; lists = list; denials = denial; stops = stop }
+  tells = record { media = media set steps accepts can.lengths is; uploads = upload; lists = list; denials = denial; stops = stop; replies = good_reply }
 
 -- the files of loads that the media set has
 served_bytes : (media : Media) → CanBeTold media → (loads : List LoadView) → AreOfMedia media loads → AllByRecursion (λ (f : FileView). IsBytes f.bytes) (files_in loads)

@@ -9,8 +9,9 @@ use Rattle.exchange_trace.specs.Lines.{Line}
 use Rattle.exchange_trace.specs.Posts.{AllHonest}
 use Rattle.exchange_trace.specs.Steps.{Step}
 use Rattle.accept_rules.specs.Permissions.{Permits}
+use Rattle.session_rules.specs.declared.outcome.FileKind.{FileKind}
 use Rattle.session_rules.specs.declared.outcome.Outcome.{Outcome}
-use Rattle.session_rules.specs.declared.outcome.Outcome.TheVariants.{Completed, Denied, TargetStopped}
+use Rattle.session_rules.specs.declared.outcome.Outcome.TheVariants.{BadFile, Completed, Denied, TargetStopped}
 use Rattle.session_rules.specs.declared.outcome.SessionKind.{SessionKind}
 use Rattle.session_rules.specs.declared.outcome.SessionKind.TheVariants.{Info, Upload}
 use Rattle.session_rules.specs.Loader.{EndedSession}
@@ -29,7 +30,7 @@ use Rattle.replay_rules.specs.OwnSessionTraces.{StaysInstalled}
 use Rattle.replay_rules.specs.Promises.{AllOfMedia, IsTrace, NoneGoesDown}
 use Rattle.replay_rules.specs.Runs.{Follows, IsWithinMargin}
 use Rattle.completion_reports.specs.Reports.{AllReportsAreTrue}
-use Rattle.outcome_causes.specs.Causes.{IsDeniedForSequence, IsStoppedByVerdict}
+use Rattle.outcome_causes.specs.Causes.{IsDeniedForSequence, IsGivenToRead, IsStoppedByVerdict}
 use Rattle.outcome_causes.specs.Outcomes.{AllEndByCause}
 use Rattle.finish_ends.specs.Scripts.{most_of_lines}
 use Rattle.session_completion.specs.FinishedRuns.{FinishIsLeft, IsComplete}
@@ -121,13 +122,14 @@ pub record StopIsTrue (set : Setting) (steps : List Step) (before : List EndedSe
 
 -- What is told of the sessions is true: each file that is installed is the media set's file of its name, a completed upload
 -- is installed, a completed information session lists what was active, and one that is denied or stopped is so for the reason
--- of the target that is told.
+-- of the target that is told. None ended by a bad LCI or LUI.
 pub record TellsTrue (set : Setting) (steps : List Step) (sessions : List EndedSession) (standing : Option StandingView) : Type 0 where
   pub media : AllOfMedia set steps
   pub uploads : (told : IsTold Upload sessions) → UploadIsInstalled set steps standing told.before told.session
   pub lists : (told : IsTold Info sessions) → ListIsTrue set steps told.before told.session
   pub denials : (text : List ℕ) (told : IsToldAs (Denied text) sessions) → DenialIsTrue set steps told.before told.session text
   pub stops : (text : List ℕ) (told : IsToldAs (TargetStopped text) sessions) → StopIsTrue set steps told.before told.session text
+  pub replies : (kind : FileKind) (offset : ℕ) → IsGivenToRead kind → IsToldAs (BadFile kind offset) sessions → ⊥
 
 -- ---- what completes
 

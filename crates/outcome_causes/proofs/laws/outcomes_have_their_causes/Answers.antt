@@ -1,5 +1,5 @@
 use Rattle.session_rules.specs.SoundLogLaws.{payloads_are_bytes}
-use Rattle.outcome_causes.proofs.Outcomes.{denials_are_for_sequence, stops_are_for_verdicts}
+use Rattle.outcome_causes.proofs.Outcomes.{denials_are_for_sequence, replies_are_good, stops_are_for_verdicts}
 use Rattle.outcome_causes.proofs.laws.outcomes_have_their_causes.Goals as goal
 
 pub returns-clause-denied : goal.returns-clause-denied
@@ -18,6 +18,17 @@ returns-clause-stopped c = stops_are_for_verdicts (record {
   crc16 = c.check_sum_laws.ensures.crc16_joined;
   crc32 = c.check_sum_laws.ensures.crc32_joined;
 }) c.what_comes_was_sent.ensures.moves (payloads_are_bytes c.packet_laws.ensures.decided c.packet_laws.ensures.spelled) c.what_arrives_was_sent.ensures.sent (record {
+  lci_exact = c.protocol_file_laws.ensures.lci;
+  lcs_exact = c.protocol_file_laws.ensures.lcs;
+  lui_exact = c.protocol_file_laws.ensures.lui;
+  lus_exact = c.protocol_file_laws.ensures.lus;
+}) c.the_configuration_changes_by_good_verdicts.ensures.changes
+
+pub returns-clause-replies : goal.returns-clause-replies
+returns-clause-replies c = replies_are_good (record {
+  crc16 = c.check_sum_laws.ensures.crc16_joined;
+  crc32 = c.check_sum_laws.ensures.crc32_joined;
+}) (payloads_are_bytes c.packet_laws.ensures.decided c.packet_laws.ensures.spelled) c.what_arrives_was_sent.ensures.sent (record {
   lci_exact = c.protocol_file_laws.ensures.lci;
   lcs_exact = c.protocol_file_laws.ensures.lcs;
   lui_exact = c.protocol_file_laws.ensures.lui;
