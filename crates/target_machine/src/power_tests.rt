@@ -1,5 +1,5 @@
 //! What a loss of power may leave of an upload, at each of its moments.
-ghost use Rattle.std.specs.Prelude.{OnOk};
+ghost use Rattle.std.specs.Prelude.{◌≡◌, true};
 ghost use Rattle.bank_store.specs.DiskWrites.{IsRunning};
 ghost use Rattle.disk_model.specs.MemDisk.{state_of};
 
@@ -30,24 +30,11 @@ const HEADER: &[u8] = &[
 // Its file, as a datagram brings it.
 const FILE: &[u8] = b"\0\x03\0\x01123456789";
 
-// What the loader posts to the target in an upload of that load: from one port to another, these
-// bytes.
-const POSTS: [(u16, u16, &[u8]); 10] = [
-    (1024, 59, b"\0\x01HW1_L.LUI\0octet\0"),
-    (1024, 1024, ACK_1),
-    (1025, 1025, ACK_0),
-    (1025, 1025, ACK_1),
-    (1026, 59, b"\0\x02HW1_L.LUR\0octet\0"),
-    (
-        1026,
-        1026,
-        b"\0\x03\0\x01\0\0\0\x20\x41\x33\0\x01\x07APP.LUH\x0FABC41-0000-0001",
-    ),
-    (1027, 1027, HEADER),
-    (1028, 1028, FILE),
-    (1029, 1029, ACK_0),
-    (1029, 1029, ACK_1),
-];
+const ASKS_LUI: &[u8] = b"\0\x01HW1_L.LUI\0octet\0";
+
+const ASKS_LUR: &[u8] = b"\0\x02HW1_L.LUR\0octet\0";
+
+const LUR: &[u8] = b"\0\x03\0\x01\0\0\0\x20\x41\x33\0\x01\x07APP.LUH\x0FABC41-0000-0001";
 
 // Puts bytes at an offset, where they end within the disk.
 fn put(image: &mut [u8; WHOLE], at: usize, bytes: &[u8]) {
@@ -144,23 +131,45 @@ fn images_after(alloc: Global, before: &[u8; WHOLE], notes: &[Note]) -> Result<(
     Ok((images, new))
 }
 
-// An upload, to its end.
-fn upload(alloc: Global, disk: &mut MemDisk) -> Result<(), Fail>
+// The target hears this datagram, from one port to another.
+fn hears(
+    target: &mut Target<'_, PermitsAll>,
+    disk: &mut MemDisk,
+    datagram: (u16, u16, &[u8]),
+) -> bool
+    requires { IsRunning (state_of disk.old) }
+    ensures { result ≡ true → IsRunning (state_of disk.new) }
+{
+    target
+        .on_datagram(disk, datagram.0, datagram.1, datagram.2)
+        .is_ok()
+}
+
+// It hears what the loader posts in an upload of that load, after which its session is over.
+fn uploads(target: &mut Target<'_, PermitsAll>, disk: &mut MemDisk) -> bool
+    requires { IsRunning (state_of disk.old) }
+{
+    hears(target, disk, (1024, 59, ASKS_LUI))
+        && hears(target, disk, (1024, 1024, ACK_1))
+        && hears(target, disk, (1025, 1025, ACK_0))
+        && hears(target, disk, (1025, 1025, ACK_1))
+        && hears(target, disk, (1026, 59, ASKS_LUR))
+        && hears(target, disk, (1026, 1026, LUR))
+        && hears(target, disk, (1027, 1027, HEADER))
+        && hears(target, disk, (1028, 1028, FILE))
+        && hears(target, disk, (1029, 1029, ACK_0))
+        && hears(target, disk, (1029, 1029, ACK_1))
+        && !target.waits()
+}
+
+fn upload(alloc: Global, disk: &mut MemDisk) -> bool
     requires { IsRunning (state_of disk.old) }
 {
     let interlock = Interlock::new(PermitsAll);
-    let Ok(mut target) = Target::boot(alloc, disk, &interlock, 1024) else {
-        return Err(Fail::new("the target doesn't come up"));
-    };
-    for (from, to, bytes) in POSTS {
-        let Ok(_) = target.on_datagram(disk, from, to, bytes) else {
-            return Err(Fail::new("the target goes down"));
-        };
+    match Target::boot(alloc, disk, &interlock, 1024) {
+        Ok(mut target) => uploads(&mut target, disk),
+        Err(_) => false,
     }
-    if target.waits() {
-        return Err(Fail::new("the upload isn't over"));
-    }
-    Ok(())
 }
 
 // At each moment of an upload, told by the calls of the disk that have ended or begun. A moment
@@ -173,7 +182,7 @@ fn each_image_of_an_upload_is_old_or_new(rt: HostRuntime) -> Result<(), Fail> {
     let mut before = [0; WHOLE];
     put(&mut before, 0, formatted.as_slice());
     let mut disk = MemDisk::new(alloc, &before)?;
-    upload(alloc, &mut disk)?;
+    assert!(rt; upload(alloc, &mut disk));
     let wanted = [
         (1, 0),
         (1, 0),
