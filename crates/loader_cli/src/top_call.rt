@@ -79,8 +79,8 @@ pub fn run<H: Host, O: Sink, K: Power>(
     // The status with its cause, and exactly the text that goes out. Where neither host nor sink
     // fails, `check` of a set that can be read and has no finding, `build` of a recipe of which
     // nothing is refused, and `make` succeed, but for out of memory; and where neither sink nor disk
-    // fails, `trial` on a target that can take its set. After `build` and `make` with
-    // status 0 the folder has exactly their set, can be read and has no finding.
+    // fails, `trial` on a target that can take its set. After `build` and `make` with status 0 the
+    // folder has exactly their set, can be read and has no finding.
     ensures ends { EndsAsPromised (record {
       work = record {
         words = texts_of words.now;

@@ -27,7 +27,7 @@ abbrev pub HasBegun : List Step → Type 0
 HasBegun [] = ⊥
 HasBegun (s ∷ earlier) = s.notes ≡ []
 
--- the line has its place behind these steps: it begins a step, or belongs to the newest
+-- the line may come after these steps: it begins a step, or belongs to the newest
 abbrev pub HasPlace : List Step → TraceStep → Type 0
 HasPlace steps (lines.Given h) = ⊤
 HasPlace steps line = HasBegun steps
