@@ -45,17 +45,13 @@ module _ (file : List ℕ) (short : length file ≤ 16777215) where
   abbrev whole : HeaderView
   whole = header_of (always file) generated_load_view
 
-  start_size : header_size start ≡ 122
+  size_with : (crc : ℕ) → header_size (with_load_crc start crc) ≡ 122
   unfolding number_bytes pad_bytes listed_fields texts_fields user_fields entries_fields positions_fields file_body_fields type_fields header_size header_start
-  start_size = refl
+  size_with crc = refl
 
-  whole_size : header_size whole ≡ 122
-  unfolding number_bytes pad_bytes listed_fields texts_fields user_fields entries_fields positions_fields file_body_fields type_fields header_size header_start header_of
-  whole_size = refl
-
-  start_fits : IsHeader start
+  fits_with : (crc : ℕ) → crc < 2 ^ 32 → IsHeader (with_load_crc start crc)
   unfolding header_start
-  start_fits = record {
+  fits_with crc small = record {
     flags = omega arith;
     part = load_number;
     type_name = type_text;
@@ -68,32 +64,25 @@ module _ (file : List ℕ) (short : length file ≤ 16777215) where
     files = omega arith;
     user = λ i. omega arith;
     user_even = refl;
-    load_crc = omega arith;
-    size = omega (arith, start_size);
+    load_crc = small;
+    size = omega (arith, size_with crc);
   }
+
+  start_fits : IsHeader start
+  unfolding header_start
+  start_fits = fits_with 0 (omega arith)
 
   crc_fits : load_crc_of (always file) generated_load_view < 2 ^ 32
   unfolding load_crc_of
   crc_fits = crc32_fits _
 
+  whole_size : header_size whole ≡ 122
+  unfolding header_of
+  whole_size = size_with (load_crc_of (always file) generated_load_view)
+
   whole_fits : IsHeader whole
-  unfolding header_of header_start
-  whole_fits = record {
-    flags = omega arith;
-    part = load_number;
-    type_name = type_text;
-    type_id = omega arith;
-    hardware = (omega arith, (hardware_text, tt));
-    positions_count = omega arith;
-    positions = tt;
-    data_files = (record { name = file_name; part = type_text; size = short; sum = crc16_fits file }, tt);
-    support_files = tt;
-    files = omega arith;
-    user = λ i. omega arith;
-    user_even = refl;
-    load_crc = crc_fits;
-    size = omega (arith, whole_size);
-  }
+  unfolding header_of
+  whole_fits = fits_with (load_crc_of (always file) generated_load_view) crc_fits
 
   module _ (laws : HeaderLaws) where
     pub header_length : length (header_bytes whole) ≡ 122
