@@ -4,10 +4,12 @@
 
 mod fault;
 pub mod laws;
+mod number;
 mod printing;
 #[cfg(test)]
 mod tests;
 mod trace;
 
 pub use fault::ScriptFault;
+pub use number::decimal_in;
 pub use trace::{Datagram, Happening, Side, TraceStep};

@@ -1,4 +1,3 @@
-pub mod Digits
 pub mod Fates
 pub mod Gives
 pub mod Parts

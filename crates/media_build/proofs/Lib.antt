@@ -8,7 +8,6 @@ pub mod BuiltSet
 pub mod BuiltSizes
 pub mod Counts
 pub mod Cuts
-pub mod Digits
 pub mod FirstWrong
 pub mod GeneratedSets
 pub mod Generating

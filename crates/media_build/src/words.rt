@@ -1,10 +1,8 @@
 //! The words of a line of a recipe.
-ghost use Rattle.std.specs.Prelude.{◌≡◌, ◌≤◌, true, IfOk, IfSome};
-ghost use Rattle.std.specs.Char.{is_ascii_digit};
+ghost use Rattle.std.specs.Prelude.{◌≡◌, ◌≤◌, true, IfOk};
 ghost use Rattle.std.specs.List.{list_all};
 ghost use Rattle.field_grammar.specs.Answers.{Gives};
 ghost use Rattle.load_base.specs.PartText.{is_graphic as is_graphic_byte};
-ghost use Rattle.exchange_trace.specs.Scripts.{decimal_between, is_decimal as is_decimal_word};
 ghost use Rattle.media_build.specs.Recipes.{number_word, part_word, text_word, name_word};
 ghost use Rattle.media_build.specs.Recipes.{user_word, is_graphic_word};
 ghost use Rattle.media_build.specs.Recipes.{is_header_name as is_header, is_body_name as is_body};
@@ -13,6 +11,7 @@ ghost use Rattle.media_build.specs.declared.fault.RecipeFault.TheVariants.{Memor
 
 use crate::fault::RecipeFault;
 use crate::statements::UserData;
+use exchange_trace::decimal_in;
 use hex::FromHexError;
 use load_base::{Bytes, Name, NoMemory, Text};
 use part_number::PartNumber;
@@ -29,45 +28,10 @@ pub(crate) fn number(line: u64, word: &[u8], low: u16, high: u16) -> Result<u16,
     ensures said { Gives Memory (λ number. number) result (number_word line low high word.now) }
     ensures within { IfOk result (λ number. number ≤ high) }
 {
-    match decimal(word, low, high) {
-        Some(number) => Ok(number),
+    match decimal_in(word, u32::from(low), u32::from(high)) {
+        Some(number) => Ok(number as u16),
         None => Err(RecipeFault::Number(line)),
     }
-}
-
-// The number that these decimal digits write, without a sign or a leading zero; `None` where it
-// isn't in the range.
-#[tactic(auto, unfolding(exchange_trace::specs::Scripts::decimal_between))]
-fn decimal(word: &[u8], low: u16, high: u16) -> Option<u16>
-    ensures said { result ≡ decimal_between low high word.now }
-    ensures within { IfSome result (λ number. number ≤ high) }
-{
-    if !is_decimal(word) {
-        return None;
-    }
-    let mut number: u32 = 0;
-    for digit in word {
-        number = number * 10 + u32::from(digit.saturating_sub(b'0'));
-        if number > u32::from(high) {
-            return None;
-        }
-    }
-    if number < u32::from(low) {
-        return None;
-    }
-    Some(number as u16)
-}
-
-fn is_decimal(word: &[u8]) -> bool
-    ensures { result ≡ is_decimal_word word.now }
-{
-    are_digits(word) && (!word.is_empty() && (word.len() == 1 || word[0] != b'0'))
-}
-
-fn are_digits(word: &[u8]) -> bool
-    ensures { result ≡ list_all is_ascii_digit word.now }
-{
-    word.iter().all(|byte| byte.is_ascii_digit())
 }
 
 #[tactic(auto, unfolding(crate::specs::Recipes::part_word), using(load_base::specs::VerdictLaws::read_judged, load_base::specs::VerdictLaws::refused_judged))]
