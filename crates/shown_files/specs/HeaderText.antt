@@ -1,11 +1,10 @@
 -- The fields of a load header, as they are shown (docs/FORMATS.md, "Printed text").
-use Rattle.std.specs.Prelude.{ℕ, ◌-◌, ◌/◌, List, [], ◌∷◌, ◌++◌, length, take, codes}
+use Rattle.std.specs.Prelude.{ℕ, ◌-◌, ◌/◌, List, [], ◌∷◌, ◌++◌, length, take, drop, codes}
 use Rattle.std.specs.List.{flat_map}
 use Rattle.std.specs.Fmt.{decimal}
-use Rattle.crc_fields.specs.CheckSums.{crc16_of}
 use Rattle.load_header.specs.Header.{HeaderView, HardwareAtView}
 use Rattle.load_header.specs.declared.header.FileEntry.{FileEntry}
-use Rattle.printed_text.specs.Lines.{line, hex_16, hex_32}
+use Rattle.printed_text.specs.Lines.{line, hex_8, hex_16, hex_32}
 use Rattle.shown_files.specs.UserLine.{user_line}
 
 -- `header WORDS VERSION FLAGS`, `part PART` and `type ID NAME`
@@ -35,9 +34,9 @@ position_lines at = lines_of at.hardware at.positions
 unfoldable pub file_line : (kind : List ℕ) → FileEntry → List ℕ
 file_line kind file = kind ++ line (file.name ∷ decimal file.length ∷ hex_16 file.crc16 ∷ file.part ∷ [])
 
--- `headercrc CRC`
-unfoldable pub header_crc_line : ℕ → List ℕ
-header_crc_line sum = line (codes "headercrc" ∷ hex_16 sum ∷ [])
+-- `headercrc CRC`, the sum that stands before the last four bytes, which reading has tested
+unfoldable pub header_crc_line : (end : List ℕ) → List ℕ
+header_crc_line end = line (codes "headercrc" ∷ flat_map hex_8 (take (length end - 4) end) ∷ [])
 
 -- `loadcrc CRC`
 unfoldable pub load_crc_line : ℕ → List ℕ
@@ -52,5 +51,5 @@ shown_header bytes h =
     ++ flat_map (file_line (codes "data ")) h.data_files
     ++ flat_map (file_line (codes "support ")) h.support_files
     ++ user_line h.user
-    ++ header_crc_line (crc16_of (take (length bytes - 6) bytes))
+    ++ header_crc_line (drop (length bytes - 6) bytes)
     ++ load_crc_line h.load_crc

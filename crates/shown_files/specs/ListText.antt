@@ -1,13 +1,12 @@
 -- The fields of the lists of a media set, as they are shown (docs/FORMATS.md, "Printed text").
-use Rattle.std.specs.Prelude.{ℕ, ◌-◌, ◌/◌, List, [], ◌∷◌, ◌++◌, length, take, codes}
+use Rattle.std.specs.Prelude.{ℕ, ◌-◌, ◌/◌, List, [], ◌∷◌, ◌++◌, length, drop, codes}
 use Rattle.std.specs.List.{flat_map}
 use Rattle.std.specs.Fmt.{decimal}
-use Rattle.crc_fields.specs.CheckSums.{crc16_of}
 use Rattle.media_lists.specs.Files.{FilesListView}
 use Rattle.media_lists.specs.Loads.{LoadEntryView, LoadsListView}
 use Rattle.media_lists.specs.declared.lists.ListedFile.{ListedFile}
 use Rattle.media_lists.specs.declared.lists.TheConstants.{FILES_VERSION, LOADS_VERSION}
-use Rattle.printed_text.specs.Lines.{line, field_line, hex_16}
+use Rattle.printed_text.specs.Lines.{line, field_line, hex_8, hex_16}
 use Rattle.shown_files.specs.UserLine.{user_line}
 
 -- `member N of M`
@@ -22,9 +21,9 @@ kind_line kind words version = line (kind ∷ decimal words ∷ hex_16 version �
 unfoldable pub set_lines : (set : List ℕ) (member members : ℕ) → List ℕ
 set_lines set member members = field_line (codes "set") set ++ member_line member members
 
--- `crc XXXX`, of all bytes before it
+-- `crc XXXX`, the sum that stands at the end, which reading has tested
 unfoldable pub crc_line : List ℕ → List ℕ
-crc_line bytes = field_line (codes "crc") (hex_16 (crc16_of (take (length bytes - 2) bytes)))
+crc_line bytes = field_line (codes "crc") (flat_map hex_8 (drop (length bytes - 2) bytes))
 
 -- `file NAME PATH MEMBER CRC`
 unfoldable pub listed_file_line : ListedFile → List ℕ

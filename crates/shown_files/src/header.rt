@@ -2,7 +2,6 @@
 ghost use Rattle.std.specs.Prelude.{◌≡◌, ◌∷◌, ◌++◌, [], codes, length, map, OnOk, IfOk};
 ghost use Rattle.std.specs.List.{flat_map};
 ghost use Rattle.std.specs.Fmt.{decimal};
-ghost use Rattle.crc_fields.specs.CheckSums.{crc16_of};
 ghost use Rattle.load_header.specs.Header.{header_view, hardware_at_view};
 ghost use Rattle.shown_files.specs.HeaderText.{shown_header, head_lines, hardware_line};
 ghost use Rattle.shown_files.specs.HeaderText.{position_line, position_lines, file_line};
@@ -10,10 +9,9 @@ ghost use Rattle.shown_files.specs.HeaderText.{header_crc_line, load_crc_line};
 ghost use Rattle.printed_text.specs.Lines.{line, hex_16, hex_32};
 
 use crate::user::put_user;
-use crc_fields::crc16;
 use load_base::{Bytes, NoMemory, Text};
 use load_header::{FileEntry, HardwareAt, LoadHeader};
-use printed_text::{put_hex_16, put_line, put_number};
+use printed_text::{put_hex, put_hex_16, put_line, put_number};
 use std::alloc::Global;
 
 /// The fields of a load header that these bytes spell, and their check sums.
@@ -33,7 +31,7 @@ pub fn header_text(alloc: Global, bytes: &[u8], header: &LoadHeader) -> Result<B
         header.support_files.as_slice(),
     )?;
     put_user(&mut out, header.user.as_slice())?;
-    put_header_crc(&mut out, crc16(&bytes[..bytes.len().saturating_sub(6)]))?;
+    put_header_crc(&mut out, &bytes[bytes.len().saturating_sub(6)..])?;
     put_load_crc(&mut out, header.load_crc)?;
     Ok(out)
 }
@@ -162,12 +160,13 @@ fn put_file(alloc: Global, out: &mut Bytes, kind: &[u8], file: &FileEntry) -> Re
     put_line(out, b" ", file.part.as_slice())
 }
 
+// The sum that the reader of the header has tested.
 #[tactic(auto, unfolding(crate::specs::HeaderText::header_crc_line))]
-fn put_header_crc(out: &mut Bytes, sum: u16) -> Result<(), NoMemory>
-    ensures { OnOk result (out.new.items ≡ out.old.items ++ header_crc_line sum) }
+fn put_header_crc(out: &mut Bytes, end: &[u8]) -> Result<(), NoMemory>
+    ensures { OnOk result (out.new.items ≡ out.old.items ++ header_crc_line end.now) }
 {
     out.extend(b"headercrc ")?;
-    put_hex_16(out, sum)?;
+    put_hex(out, &end[..end.len().saturating_sub(4)])?;
     out.extend(b"\n")
 }
 

@@ -11,14 +11,13 @@ ghost use Rattle.shown_files.specs.ListText.{load_hardware_line, listed_load_lin
 ghost use Rattle.shown_files.specs.ListText.{shown_loads_list};
 
 use crate::user::put_user;
-use crc_fields::crc16;
 use load_base::{Bytes, NoMemory, Text};
 use media_lists::{FILES_VERSION, FilesList, LOADS_VERSION, ListedFile, LoadEntry, LoadsList};
 use part_number::PartNumber;
-use printed_text::{put_field, put_hex_16, put_number};
+use printed_text::{put_field, put_hex, put_hex_16, put_number};
 use std::alloc::Global;
 
-/// The fields of a list of files that these bytes spell, and its check sum.
+/// The fields of a list of files that these bytes spell, and the check sum at its end.
 #[tactic(auto, unfolding(crate::specs::ListText::shown_files_list))]
 pub fn files_list_text(alloc: Global, bytes: &[u8], list: &FilesList) -> Result<Bytes, NoMemory>
     ensures { IfOk result (λ text.
@@ -33,7 +32,7 @@ pub fn files_list_text(alloc: Global, bytes: &[u8], list: &FilesList) -> Result<
     Ok(out)
 }
 
-/// The fields of a list of loads that these bytes spell, and its check sum.
+/// The fields of a list of loads that these bytes spell, and the check sum at its end.
 #[tactic(auto, unfolding(crate::specs::ListText::shown_loads_list))]
 pub fn loads_list_text(alloc: Global, bytes: &[u8], list: &LoadsList) -> Result<Bytes, NoMemory>
     ensures { IfOk result (λ text.
@@ -180,11 +179,12 @@ fn put_hardware(out: &mut Bytes, hardware: &[Text]) -> Result<(), NoMemory>
     Ok(())
 }
 
+// The sum that the reader of these bytes has tested.
 #[tactic(auto, unfolding(crate::specs::ListText::crc_line, printed_text::specs::Lines::field_line))]
 fn put_crc(out: &mut Bytes, bytes: &[u8]) -> Result<(), NoMemory>
     ensures { OnOk result (out.new.items ≡ out.old.items ++ crc_line bytes.now) }
 {
     out.extend(b"crc ")?;
-    put_hex_16(out, crc16(&bytes[..bytes.len().saturating_sub(2)]))?;
+    put_hex(out, &bytes[bytes.len().saturating_sub(2)..])?;
     out.extend(b"\n")
 }
