@@ -22,11 +22,12 @@ use Rattle.session_rules.specs.TargetLaws.{end_stays as target_end_stays}
 use Rattle.session_rules.specs.TargetLog.{target_view}
 use Rattle.replay_rules.specs.BothEnds.{Is_down, Is_up, Setting, TargetState, loader_at, noted, reached, target_at}
 use Rattle.replay_rules.specs.Due.{due_of_loader, due_of_target}
+use Rattle.replay_rules.specs.ChangeLaws.{posted_bytes}
 use Rattle.replay_rules.specs.OtherEndTraces.{IsUninjected, former_at, loader_transfers, over_with, target_transfers, transfers_of}
 use Rattle.replay_rules.proofs.Growing.{GrowsTo, IsNewer, WasThere, grows_none, grows_on, moves_grow}
 use Rattle.replay_rules.proofs.ListedTraces.{one_noted}
 use Rattle.replay_rules.proofs.PortsApart.{PeerIsBelow, peer_below}
-use Rattle.replay_rules.proofs.SentTraces.{TargetHas, TargetIsFair, TraceIsFair, posted_bytes, target_before, target_now, trace_is_fair}
+use Rattle.replay_rules.proofs.SentTraces.{TargetHas, TargetIsFair, TraceIsFair, target_before, target_now, trace_is_fair}
 
 -- ---- one step
 

@@ -1,5 +1,5 @@
 -- What holds of each transfer of the target and of all before it, whatever comes.
-use Rattle.std.proofs.Common.{◌≡◌, inl, inr, ℕ, Bool, true, false, cond, eqb, List, [], ◌∷◌, ◌++◌, Option, Some, None, refl, sym, ap, subst}
+use Rattle.std.proofs.Common.{◌≡◌, inl, inr, ℕ, Bool, true, false, cond, eqb, List, [], ◌∷◌, ◌++◌, Option, Some, None, refl, sym, ap, subst, ◌∙◌}
 use Rattle.std.specs.Prelude.{bytes_eq}
 use Rattle.std.specs.List.{AllByRecursion}
 use Rattle.load_header.specs.Header.{HeaderView}
@@ -12,6 +12,7 @@ use Rattle.exchange_trace.specs.Happenings.{DatagramView, HappeningView}
 use Rattle.exchange_trace.specs.Logs.{Event, Gets, Learns, Starts_info, Starts_upload, Ticks, event_for}
 use Rattle.exchange_trace.specs.Posts.{posted_in}
 use Rattle.exchange_trace.specs.Steps.{Note, Step}
+use Rattle.transfer_end.specs.CameLaws.{all_mapped}
 use Rattle.transfer_end.specs.Moves.{Asks, Asks_size, Hears, Move, Recalls, Refuses, Repeats, Serves, Stops, past_with, reading_after, reading_answered, reading_unchanged, readings_after}
 use Rattle.transfer_end.specs.OtherEnds.{Among, MoveHasRole, all_of}
 use Rattle.transfer_end.specs.Packets.{belongs, has_port, heard_answer, is_busy, is_fresh, may_repeat, packet_in, transfer_moves}
@@ -25,7 +26,7 @@ use Rattle.session_rules.specs.TargetLaws.{end_stays}
 use Rattle.session_rules.specs.TargetLog.{TargetReading, target_extended, target_view}
 use Rattle.session_rules.specs.TargetRows.{Awaits_lur, RowMove, RowView, row_move, view_moved, with_bytes}
 use Rattle.replay_rules.specs.BothEnds.{Is_down, Is_up, Setting, TargetState, reached, target_at}
-use Rattle.replay_rules.specs.OtherEndTraces.{former_at, transfers_of}
+use Rattle.replay_rules.specs.OtherEndTraces.{former_at, target_transfers, transfers_of}
 use Rattle.replay_rules.proofs.ListedTraces.{one_noted}
 
 -- ---- what holds of each transfer and those before it
@@ -114,6 +115,20 @@ BeginsLast (move ∷ next ∷ moves) = BeginsNone move × BeginsLast (next ∷ m
 -- what holds of a role in which a transfer is live, over all that is over
 abbrev pub NewOver : (Role → List Transfer → Type 0) → (former : List Transfer) → Reading → Role → Type 0
 NewOver Over former end role = (t : Transfer) → end.live ≡ Some t → Over role (end.past ++ former)
+
+one_mapped : (P Q : Role → Type 0) → ((role : Role) → P role → Q role) → (move : Move) → MoveHasRole P move → MoveHasRole Q move
+one_mapped P Q f (Asks role) h = f role h
+one_mapped P Q f (Serves from role) h = f role h
+one_mapped P Q f (Hears from p) h = tt
+one_mapped P Q f (Recalls from p) h = tt
+one_mapped P Q f (Refuses from) h = tt
+one_mapped P Q f Repeats h = tt
+one_mapped P Q f Stops h = tt
+one_mapped P Q f (Asks_size n) h = tt
+
+-- what holds of each role that begins
+pub roles_mapped : (P Q : Role → Type 0) → ((role : Role) → P role → Q role) → (moves : List Move) → AllByRecursion (MoveHasRole P) moves → AllByRecursion (MoveHasRole Q) moves
+roles_mapped P Q f moves all = all_mapped (MoveHasRole P) (MoveHasRole Q) (one_mapped P Q f) moves all
 
 -- what began last is live then
 last_over : (Over : Role → List Transfer → Type 0) (side : Side) (former : List Transfer) (r : Reading) (moves : List Move) → BeginsLast moves → AllByRecursion (MoveHasRole (NewOver Over former (readings_after side r moves))) moves → MovesOver Over side former r moves
@@ -226,6 +241,13 @@ target_begins_last accepts v (Starts_info hw pos) = tt
 target_begins_last accepts v (Starts_upload hw pos parts) = tt
 
 -- ---- a trace
+
+-- what is live after an event is the newest of all
+pub newest_then : (set : Setting) (given : HappeningView) (posts : List DatagramView) (steps : List Step) (r : TargetReading) (e : Event) (t : Transfer) → target_at set steps ≡ Is_up r → event_for sides.Target (posted_in steps) given ≡ Some e → (target_extended set.accepts r e).end.live ≡ Some t
+    → target_transfers set (record { given = given; posts = posts; notes = [] }) steps ≡ t ∷ ((target_extended set.accepts r e).end.past ++ former_at set steps)
+newest_then set given posts steps r e t up comes live =
+    ap (λ (x : Option Event). transfers_of (reached set x (target_at set steps)) ++ former_at set steps) comes ∙ ap (λ (state : TargetState). transfers_of (reached set (Some e) state) ++ former_at set steps) up
+    ∙ ap (λ (x : Option Transfer). past_with x (target_extended set.accepts r e).end.past ++ former_at set steps) live
 
 -- What holds of all transfers of the target and those before them, where steps keep it, and where it holds of what begins in a
 -- step in which nothing is noted.

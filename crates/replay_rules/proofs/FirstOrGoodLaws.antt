@@ -1,5 +1,5 @@
 -- Proofs that what may be active is what was active at the start, or good.
-use Rattle.std.proofs.Common.{◌≡◌, ◌⊎◌, inl, inr, ℕ, ◌+◌, ◌≤◌, cond, List, [], ◌∷◌, ◌++◌, Bool, true, false, Option, Some, None, length, refl, sym, ap, subst, ◌∙◌, arith}
+use Rattle.std.proofs.Common.{◌≡◌, inl, inr, ℕ, ◌≤◌, cond, List, [], ◌∷◌, ◌++◌, Bool, true, false, Option, Some, None, length, refl, sym, subst, ◌∙◌, arith}
 use Rattle.std.specs.Prelude.{◌==◌}
 use Rattle.std.specs.List.{AllByRecursion}
 use Rattle.std.proofs.lemmas.List.{length-append}
@@ -11,17 +11,16 @@ use Rattle.exchange_trace.specs.declared.trace.Side.TheVariants as sides
 use Rattle.exchange_trace.specs.Logs.{Event, event_for}
 use Rattle.exchange_trace.specs.Posts.{posted_in}
 use Rattle.exchange_trace.specs.Steps.{Boot_refused, Came_up, Note, Step, Went_down}
-use Rattle.accept_rules.specs.Permissions.{Permits}
 use Rattle.session_rules.specs.NewConfigs.{IsGoodLoad}
 use Rattle.session_rules.specs.SoundLogs.{StaysOrIsNew}
 use Rattle.session_rules.specs.TargetLaws.{row_of_more}
-use Rattle.session_rules.specs.TargetLog.{TargetReading, row_in}
+use Rattle.session_rules.specs.TargetLog.{TargetReading}
 use Rattle.session_rules.specs.TargetRows.{Awaits_lur, Breaks_off, Gives_denial, Gives_lci, Gives_lui, Judges, Over, Passes, Reads_file, Refuses_request, Requests, RowMove, WholeRow, Writes_completion, Writes_lcl, Writes_lcs, Writes_progress, Writes_ready, Writes_stop, UploadEnd, load_of, placed, placed_if, row_judged, row_move, row_moved, row_of, row_view, transfer_end, with_file, with_header}
 use Rattle.session_rules.specs.Uploads.{Accepts_file, Accepts_header, Complete, Judgement, More_files, Next, Next_load, OpenLoad, Stops_for, Upload, next_name, next_wanted, upload_view}
 use Rattle.transfer_end.specs.Transfers.{Transfer, arrived_of}
-use Rattle.replay_rules.specs.BothEnds.{Is_down, Is_up, Setting, TargetState, changed, come_up, gone_down, noted, reached, settled, target_at}
+use Rattle.replay_rules.specs.BothEnds.{Is_down, Is_up, Setting, TargetState, come_up, gone_down, noted, reached, settled, target_at}
 use Rattle.replay_rules.specs.ChangeLaws.{HasTarget, has_target}
-use Rattle.replay_rules.specs.Changes.{AllCarryBytes, AllStayOrAreNew, AreGood, ChangesAreNew, TargetStaysOrIsNew}
+use Rattle.replay_rules.specs.Changes.{AllStayOrAreNew, AreGood, ChangesAreNew, TargetStaysOrIsNew}
 use Rattle.replay_rules.specs.FirstOrGood.{ActiveIsFirstOrGood, IsFirstOrGood}
 use Rattle.replay_rules.specs.Histories.{may_be_active}
 

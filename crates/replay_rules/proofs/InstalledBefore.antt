@@ -12,8 +12,7 @@ use Rattle.exchange_trace.specs.Logs.{Event, event_for}
 use Rattle.exchange_trace.specs.Posts.{posted_in}
 use Rattle.exchange_trace.specs.Steps.{Step}
 use Rattle.accept_rules.specs.Permissions.{Permits}
-use Rattle.transfer_end.specs.CameLaws.{all_mapped}
-use Rattle.transfer_end.specs.Moves.{Asks, Asks_size, Hears, Move, Recalls, Refuses, Repeats, Serves, Stops, past_with}
+use Rattle.transfer_end.specs.Moves.{past_with}
 use Rattle.transfer_end.specs.OtherEndLaws.{among_left, among_right}
 use Rattle.transfer_end.specs.OtherEnds.{Among, MoveHasRole, is_asking, is_receiving}
 use Rattle.transfer_end.specs.Transfers.{Reads, Role, ServesRead, ServesWrite, Transfer, Writes, arrived_of, end_in, is_received}
@@ -36,7 +35,7 @@ use Rattle.replay_rules.specs.OtherEndTraces.{former_at, target_transfers, trans
 use Rattle.replay_rules.specs.Promises.{HasParts}
 use Rattle.replay_rules.specs.TieLaws.{HasLive, target_is_live}
 use Rattle.replay_rules.proofs.AskedFor.{NewHas, parts_of, step_has, target_has}
-use Rattle.replay_rules.proofs.EachBefore.{AllOver, NewOver, trace_over}
+use Rattle.replay_rules.proofs.EachBefore.{AllOver, NewOver, roles_mapped, trace_over}
 use Rattle.replay_rules.proofs.ToldTraces.{changes}
 
 -- ---- what the target tells, and what it was asked for
@@ -156,16 +155,6 @@ module _ (joins : SumsJoin) (spells : HeadersAreSpelled) (payloads : PayloadsAre
     tells_role (ServesRead name o file) tells = λ t live. tt
     tells_role (ServesWrite name o) tells = λ t live. tt
 
-    tells_move : (move : Move) → MoveHasRole (TellsInstalled set.accepts r e) move → MoveHasRole (NewOver (TellsOver set (quiet_step ∷ earlier)) (former_at set earlier) then.end) move
-    tells_move (Asks role) h = tells_role role h
-    tells_move (Serves from role) h = tells_role role h
-    tells_move (Hears from p) h = tt
-    tells_move (Recalls from p) h = tt
-    tells_move (Refuses from) h = tt
-    tells_move Repeats h = tt
-    tells_move Stops h = tt
-    tells_move (Asks_size n) h = tt
-
   abbrev Fact : List Step → Type 0
   Fact steps = AllCarryBytes steps × AllStayOrAreNew set steps
 
@@ -178,8 +167,8 @@ module _ (joins : SumsJoin) (spells : HeadersAreSpelled) (payloads : PayloadsAre
       let now : TargetStaysOrIsNew set (target_at set steps) (reached set (event_for sides.Target (posted_in steps) given) (target_at set steps)) = stays.0 in
       let has : NewHas set (target_at set steps) (event_for sides.Target (posted_in steps) given) =
       (step_has joins spells payloads requests set permits (record { given = given; posts = posts; notes = [] }) steps bytes (target_has joins spells payloads requests set permits steps bytes.1)).1 in
-      all_mapped (MoveHasRole (TellsInstalled set.accepts r e)) (MoveHasRole (NewOver (TellsOver set (record { given = given; posts = posts; notes = [] } ∷ steps)) (former_at set steps) (target_extended set.accepts r e).end))
-      (tells_move given posts steps r e up comes (stays_at up comes now) (has_at up comes has)) _ (target_tells_installed joins set.accepts r e (subst (λ (state : TargetState). HasLive state) up (target_is_live joins set steps)))
+      roles_mapped (TellsInstalled set.accepts r e) (NewOver (TellsOver set (record { given = given; posts = posts; notes = [] } ∷ steps)) (former_at set steps) (target_extended set.accepts r e).end)
+      (tells_role given posts steps r e up comes (stays_at up comes now) (has_at up comes has)) _ (target_tells_installed joins set.accepts r e (subst (λ (state : TargetState). HasLive state) up (target_is_live joins set steps)))
     where
       stays_at : target_at set steps ≡ Is_up r → event_for sides.Target (posted_in steps) given ≡ Some e → TargetStaysOrIsNew set (target_at set steps) (reached set (event_for sides.Target (posted_in steps) given) (target_at set steps)) → StaysOrIsNew set.accepts r (target_extended set.accepts r e)
       stays_at up comes now =

@@ -47,6 +47,7 @@ use Rattle.replay_rules.specs.Changes.{AllCarryBytes, AllStayOrAreNew, TargetSta
 use Rattle.replay_rules.specs.Histories.{active_in}
 use Rattle.replay_rules.specs.MediaTraces.{InstallsAreOfMedia, LengthsAreTold}
 use Rattle.replay_rules.specs.OtherEndTraces.{AllArriveAsSent, ArrivesAsSent, former_at, loader_transfers, target_transfers, transfers_of}
+use Rattle.replay_rules.specs.PlacedTraceLaws.{all_append}
 use Rattle.replay_rules.specs.Promises.{AllOfMedia, BroughtIsOfMedia}
 use Rattle.replay_rules.specs.TieLaws.{HasLive, target_is_live}
 use Rattle.replay_rules.proofs.ListedTraces.{before_zero_same, false_is_true}
@@ -60,10 +61,6 @@ HasName file = IsName file.name
 entries_of_all : (entries : List FileEntry) → AllByRecursion IsHeaderFile entries → AllByRecursion (λ (f : FileEntry). IsName f.name) entries
 entries_of_all [] all = tt
 entries_of_all (f ∷ entries) (one, all) = (one.name, entries_of_all entries all)
-
-all_append : {A : Type 0} (P : A → Type 0) (xs ys : List A) → AllByRecursion P xs → AllByRecursion P ys → AllByRecursion P (xs ++ ys)
-all_append P [] ys all rest = rest
-all_append P (x ∷ xs) ys (one, all) rest = (one, all_append P xs ys all rest)
 
 said_named : (entries : List FileEntry) (files : List FileView) → AllByRecursion (λ (f : FileEntry). IsName f.name) entries → AllZip IsAsSaid entries files → AllByRecursion HasName files
 said_named [] [] named said = tt

@@ -8,8 +8,6 @@ use Rattle.exchange_trace.specs.Happenings.{DatagramView, HappeningView}
 use Rattle.exchange_trace.specs.Logs.{Event, event_for}
 use Rattle.exchange_trace.specs.Posts.{posted_in}
 use Rattle.exchange_trace.specs.Steps.{Step}
-use Rattle.transfer_end.specs.CameLaws.{all_mapped}
-use Rattle.transfer_end.specs.Moves.{Asks, Asks_size, Hears, Move, Recalls, Refuses, Repeats, Serves, Stops, past_with}
 use Rattle.transfer_end.specs.OtherEnds.{MoveHasRole}
 use Rattle.transfer_end.specs.Transfers.{Reads, Role, ServesRead, ServesWrite, Transfer, Writes}
 use Rattle.session_rules.specs.BufferLaws.{SumsJoin}
@@ -22,10 +20,11 @@ use Rattle.session_rules.specs.TargetLog.{TargetReading, target_extended, target
 use Rattle.replay_rules.specs.BothEnds.{Is_up, Setting, TargetState, reached, target_at}
 use Rattle.replay_rules.specs.ChangeLaws.{HasTarget}
 use Rattle.replay_rules.specs.Histories.{active_at, active_in}
+use Rattle.replay_rules.specs.ListTraces.{IsWrittenInTime, TargetWritesInTime}
 use Rattle.replay_rules.specs.OtherEndTraces.{former_at, target_transfers, transfers_of}
 use Rattle.replay_rules.specs.Promises.{ListIsDue}
 use Rattle.replay_rules.specs.TieLaws.{HasLive, target_is_live}
-use Rattle.replay_rules.proofs.EachBefore.{AllOver, NewOver, trace_over}
+use Rattle.replay_rules.proofs.EachBefore.{AllOver, NewOver, newest_then, over_at, roles_mapped, trace_over}
 use Rattle.replay_rules.proofs.ListedTraces.{IsWrittenAs, list_due, same_target}
 
 -- The file is the list of what was active before one of these steps, after which a session had its list to write; the transfer
@@ -61,11 +60,6 @@ module _ (joins : SumsJoin) (set : Setting) where
     abbrev then : TargetReading
     then = target_extended set.accepts r e
 
-    transfers_are : (t : Transfer) → then.end.live ≡ Some t → target_transfers set quiet_step steps ≡ t ∷ (then.end.past ++ former_at set steps)
-    transfers_are t live =
-        ap (λ (x : Option Event). transfers_of (reached set x (target_at set steps)) ++ former_at set steps) comes ∙ ap (λ (state : TargetState). transfers_of (reached set (Some e) state) ++ former_at set steps) up
-        ∙ ap (λ (x : Option Transfer). past_with x then.end.past ++ former_at set steps) live
-
     asked_over : (role : Role) → IsAskedRole set.accepts r e role → NewOver (WritesOver set (quiet_step ∷ steps)) (former_at set steps) then.end role
     asked_over (Writes name o file) (kind, named, lists) = λ t live. (
       kind,
@@ -78,22 +72,12 @@ module _ (joins : SumsJoin) (set : Setting) where
         due = subst (λ (x : Option Event). ListIsDue set (reached set x (target_at set steps))) (sym comes) (subst (λ (state : TargetState). ListIsDue set (reached set (Some e) state)) (sym up) (list_due set r e file asked));
         lists = asked.lists ∙ ap (λ (state : TargetState). lcl_file (outline_of (active_in state))) (sym up);
         newest = t;
-        transfers = transfers_are t live;
+        transfers = newest_then set given posts steps r e t up comes live;
       },
     )
     asked_over (Reads name o) h = λ t live. tt
     asked_over (ServesRead name o file) h = λ t live. tt
     asked_over (ServesWrite name o) h = λ t live. tt
-
-    asked_move : (move : Move) → MoveHasRole (IsAskedRole set.accepts r e) move → MoveHasRole (NewOver (WritesOver set (quiet_step ∷ steps)) (former_at set steps) then.end) move
-    asked_move (Asks role) h = asked_over role h
-    asked_move (Serves from role) h = asked_over role h
-    asked_move (Hears from p) h = tt
-    asked_move (Recalls from p) h = tt
-    asked_move (Refuses from) h = tt
-    asked_move Repeats h = tt
-    asked_move Stops h = tt
-    asked_move (Asks_size n) h = tt
 
   abbrev Fact : List Step → Type 0
   Fact steps = Unit {0}
@@ -101,9 +85,21 @@ module _ (joins : SumsJoin) (set : Setting) where
   begins : (given : HappeningView) (posts : List DatagramView) (steps : List Step) (r : TargetReading) (e : Event) → target_at set steps ≡ Is_up r → event_for sides.Target (posted_in steps) given ≡ Some e → Fact (record { given = given; posts = posts; notes = [] } ∷ steps)
       → AllByRecursion (MoveHasRole (NewOver (WritesOver set (record { given = given; posts = posts; notes = [] } ∷ steps)) (former_at set steps) (target_extended set.accepts r e).end)) (target_decision set.accepts (target_view set.accepts r) e).moves
   begins given posts steps r e up comes fact =
-      all_mapped (MoveHasRole (IsAskedRole set.accepts r e)) (MoveHasRole (NewOver (WritesOver set (record { given = given; posts = posts; notes = [] } ∷ steps)) (former_at set steps) (target_extended set.accepts r e).end))
-      (asked_move given posts steps r e up comes) _ (moves_ask joins set.accepts r e (subst (λ (state : TargetState). HasLive state) up (target_is_live joins set steps)))
+      roles_mapped (IsAskedRole set.accepts r e) (NewOver (WritesOver set (record { given = given; posts = posts; notes = [] } ∷ steps)) (former_at set steps) (target_extended set.accepts r e).end)
+      (asked_over given posts steps r e up comes) _ (moves_ask joins set.accepts r e (subst (λ (state : TargetState). HasLive state) up (target_is_live joins set steps)))
 
   -- whatever comes to the target
   pub target_lists_over : (steps : List Step) → AllOver (WritesOver set steps) (transfers_of (target_at set steps) ++ former_at set steps)
   target_lists_over steps = trace_over set (WritesOver set) Fact (λ s before fact. tt) (still_writes set) begins steps tt
+
+-- what is due so was due
+due_in_time : (set : Setting) (steps : List Step) (role : Role) (earlier : List Transfer) → WritesOver set steps role earlier → IsWrittenInTime set steps role
+due_in_time set steps (Writes name o file) earlier (kind, named, due) =
+    (kind, named, λ e. let h : ListWasDueAfter set steps earlier file = due e in record { since = h.since; made = h.made; before = h.before; split = h.split; due = h.due; lists = h.lists })
+due_in_time set steps (Reads name o) earlier h = tt
+due_in_time set steps (ServesRead name o file) earlier h = tt
+due_in_time set steps (ServesWrite name o) earlier h = tt
+
+pub target_writes_in_time : SumsJoin → TargetWritesInTime
+target_writes_in_time joins set steps t a =
+    let o = over_at (WritesOver set steps) (transfers_of (target_at set steps) ++ former_at set steps) t (target_lists_over joins set steps) a in due_in_time set steps t.role o.earlier o.over

@@ -1,7 +1,6 @@
 -- Proofs that completed information sessions list what was active.
 use Rattle.std.proofs.Common.{◌≡◌, inl, inr, ℕ, suc, Bool, true, false, cond, List, [], ◌∷◌, ◌++◌, length, ◌⊎◌, ◌↔◌, Option, Some, None, Ok, refl, sym, ap, subst, ◌∙◌, append_assoc, length-append, arith}
 use Rattle.std.specs.Prelude.{bytes_eq}
-use Rattle.std.specs.List.{AllByRecursion}
 use Rattle.std.proofs.lemmas.List.{append_cancel_left}
 use Rattle.field_grammar.specs.Answers.{answer}
 use Rattle.field_grammar.specs.ExactLaws.{answer-spelled, spelled_at_start}
@@ -14,43 +13,33 @@ use Rattle.tftp_packet.specs.declared.options.Options.{Options}
 use Rattle.tftp_packet.specs.Options.{ended_text}
 use Rattle.tftp_packet.specs.Packets.{PacketSpells, Wrq, packet_bytes}
 use Rattle.load_header.specs.Header.{HeaderView}
-use Rattle.disk_layout.specs.declared.identity.Identity.{Identity}
-use Rattle.disk_layout.specs.Holds.{outline_of}
 use Rattle.exchange_trace.specs.declared.trace.Side.TheVariants as sides
 use Rattle.exchange_trace.specs.declared.trace.Side.{Side}
 use Rattle.exchange_trace.specs.Happenings.{Booted, DatagramView, Delivered, Ended, HappeningView, Info_started, Injected, Lost, Power_cut, Size_told, Ticked, Upload_started, is_same_side}
 use Rattle.exchange_trace.specs.Logs.{Event, Learns, event_for, gets}
 use Rattle.exchange_trace.specs.Posts.{posted_in}
 use Rattle.exchange_trace.specs.Steps.{Boot_refused, Came_up, Note, Step, Went_down}
-use Rattle.transfer_end.specs.CameLaws.{all_mapped}
-use Rattle.transfer_end.specs.Moves.{Asks, Asks_size, Hears, Move, Recalls, Refuses, Repeats, Serves, Stops, past_with, readings_after}
-use Rattle.transfer_end.specs.OtherEndLaws.{all_at, moves_roles}
-use Rattle.transfer_end.specs.OtherEnds.{Among, HaveRoles, MoveHasRole, TellsLength, file_sent, is_asking, is_receiving, request_taken}
+use Rattle.transfer_end.specs.Moves.{past_with, readings_after}
+use Rattle.transfer_end.specs.OtherEnds.{Among, TellsLength, file_sent, is_asking, is_receiving, request_taken}
 use Rattle.transfer_end.specs.Packets.{packet_in}
 use Rattle.transfer_end.specs.SentPacketLaws.{read_is_spelled}
 use Rattle.transfer_end.specs.Readings.{Reading}
 use Rattle.transfer_end.specs.Transfers.{Reads, Role, ServesRead, ServesWrite, Transfer, Writes, first_packet}
 use Rattle.session_rules.specs.declared.outcome.FileKind.{FileKind}
 use Rattle.session_rules.specs.declared.outcome.FileKind.TheVariants as kinds
-use Rattle.session_rules.specs.BufferLaws.{SumsJoin}
 use Rattle.session_rules.specs.FileNames.{extension, file_name}
-use Rattle.session_rules.specs.ListLaws.{moves_ask}
-use Rattle.session_rules.specs.Lists.{IsAskedRole, ListIsAsked}
-use Rattle.session_rules.specs.Loader.{EndedSession}
+use Rattle.session_rules.specs.Lists.{ListIsAsked}
 use Rattle.session_rules.specs.LoaderLog.{newest}
 use Rattle.session_rules.specs.LoaderRoles.{TakesFile}
-use Rattle.session_rules.specs.Reports.{lcl_file}
 use Rattle.session_rules.specs.Target.{Begins, Continues, Ends, TargetChange, Turns, Turns_without_port, target_decision}
-use Rattle.session_rules.specs.TargetLaws.{end_stays, identity_stays}
+use Rattle.session_rules.specs.TargetLaws.{identity_stays}
 use Rattle.session_rules.specs.TargetLog.{TargetReading, TargetSessionLog, log_turned, reading_turned, reading_without_port, target_extended, target_reading_changed, target_view}
 use Rattle.replay_rules.specs.BothEnds.{Is_down, Is_up, Setting, TargetState, come_up, gone_down, noted, reached, target_at}
 use Rattle.replay_rules.specs.ChangeLaws.{HasTarget, noted_target}
-use Rattle.replay_rules.specs.Histories.{active_at, active_in}
-use Rattle.replay_rules.specs.ListTraces.{AllCanBeListed, CanBeListed, IsWrittenInTime, ListWasDue, OwnFilesAreNamed, TargetWritesInTime}
-use Rattle.replay_rules.specs.OtherEndTraces.{former_at, transfers_of}
-use Rattle.replay_rules.specs.PlacedTraceLaws.{all_append}
+use Rattle.replay_rules.specs.Histories.{active_at}
+use Rattle.replay_rules.specs.ListTraces.{AllCanBeListed, CanBeListed, OwnFilesAreNamed}
+use Rattle.replay_rules.specs.OtherEndTraces.{transfers_of}
 use Rattle.replay_rules.specs.Promises.{ListIsDue, SessionWritesList, WritesList}
-use Rattle.replay_rules.specs.TieLaws.{HasLive, target_is_live}
 
 -- ---- the target stays the same
 
@@ -102,89 +91,10 @@ one_noted (Boot_refused fault) notes before after = noted_none notes (gone_down 
 
 -- ---- what the target writes
 
-still_due : (set : Setting) (s : Step) (steps : List Step) (file : List ℕ) → ListWasDue set steps file → ListWasDue set (s ∷ steps) file
-still_due set s steps file h = record { since = s ∷ h.since; made = h.made; before = h.before; split = ap (λ (x : List Step). s ∷ x) h.split; due = h.due; lists = h.lists }
-
-still_written : (set : Setting) (s : Step) (steps : List Step) (role : Role) → IsWrittenInTime set steps role → IsWrittenInTime set (s ∷ steps) role
-still_written set s steps (Writes name o file) (kind, named, due) = (kind, named, λ e. still_due set s steps file (due e))
-still_written set s steps (Reads name o) h = tt
-still_written set s steps (ServesRead name o file) h = tt
-still_written set s steps (ServesWrite name o) h = tt
-
-abbrev InTime : Setting → List Step → Transfer → Type 0
-InTime set steps t = IsWrittenInTime set steps t.role
-
 -- the list is due once it is asked for
 pub list_due : (set : Setting) (r : TargetReading) (e : Event) (file : List ℕ) → ListIsAsked set.accepts r e file → ListIsDue set (Is_up (target_extended set.accepts r e))
 list_due set r e file h =
     subst (λ (live : Option TargetSessionLog). SessionWritesList set (target_extended set.accepts r e) live) (sym h.live) (subst WritesList (sym h.row) tt)
-
-module _ (joins : SumsJoin) (set : Setting) (given : HappeningView) (posts : List DatagramView) (earlier : List Step) where
-  abbrev quiet_step : Step
-  quiet_step = record { given = given; posts = posts; notes = [] }
-
-  -- a role that is asked for now
-  asked_in_time : (r : TargetReading) (e : Event) (role : Role) → target_at set earlier ≡ Is_up r → event_for sides.Target (posted_in earlier) given ≡ Some e → IsAskedRole set.accepts r e role → IsWrittenInTime set (quiet_step ∷ earlier) role
-  asked_in_time r e (Writes name o file) up comes (kind, named, lists) = (
-    kind,
-    named ∙ ap (λ (id : Identity). file_name id.hw id.pos kind) (subst (λ (state : TargetState). HasTarget set state) up (same_target set earlier)),
-    λ is. let asked = lists is in record {
-      since = [];
-      made = quiet_step;
-      before = earlier;
-      split = refl;
-      due = subst (λ (x : Option Event). ListIsDue set (reached set x (target_at set earlier))) (sym comes) (subst (λ (state : TargetState). ListIsDue set (reached set (Some e) state)) (sym up) (list_due set r e file asked));
-      lists = asked.lists ∙ ap (λ (state : TargetState). lcl_file (outline_of (active_in state))) (sym up);
-    },
-  )
-  asked_in_time r e (Reads name o) up comes h = tt
-  asked_in_time r e (ServesRead name o file) up comes h = tt
-  asked_in_time r e (ServesWrite name o) up comes h = tt
-
-  asked_moves : (r : TargetReading) (e : Event) → target_at set earlier ≡ Is_up r → event_for sides.Target (posted_in earlier) given ≡ Some e → (move : Move) → MoveHasRole (IsAskedRole set.accepts r e) move → MoveHasRole (IsWrittenInTime set (quiet_step ∷ earlier)) move
-  asked_moves r e up comes (Asks role) h = asked_in_time r e role up comes h
-  asked_moves r e up comes (Serves from role) h = asked_in_time r e role up comes h
-  asked_moves r e up comes (Hears from p) h = tt
-  asked_moves r e up comes (Recalls from p) h = tt
-  asked_moves r e up comes (Refuses from) h = tt
-  asked_moves r e up comes Repeats h = tt
-  asked_moves r e up comes Stops h = tt
-  asked_moves r e up comes (Asks_size n) h = tt
-
-  reached_in_time : (state : TargetState) (e : Option Event) → target_at set earlier ≡ state → event_for sides.Target (posted_in earlier) given ≡ e → AllByRecursion (InTime set earlier) (transfers_of state)
-      → AllByRecursion (InTime set (quiet_step ∷ earlier)) (transfers_of (reached set e state))
-  reached_in_time (Is_down active interrupted) None up comes h = tt
-  reached_in_time (Is_down active interrupted) (Some e) up comes h = tt
-  reached_in_time (Is_up r) None up comes h = all_mapped (InTime set earlier) (InTime set (quiet_step ∷ earlier)) (λ t. still_written set quiet_step earlier t.role) (past_with r.end.live r.end.past) h
-  reached_in_time (Is_up r) (Some e) up comes h =
-      let d = target_decision set.accepts (target_view set.accepts r) e in
-      subst (λ (x : Reading). HaveRoles (IsWrittenInTime set (quiet_step ∷ earlier)) x) (sym (end_stays set.accepts (readings_after sides.Target r.end d.moves) r d.change))
-      (moves_roles (IsWrittenInTime set (quiet_step ∷ earlier)) sides.Target r.end d.moves
-      (all_mapped (MoveHasRole (IsAskedRole set.accepts r e)) (MoveHasRole (IsWrittenInTime set (quiet_step ∷ earlier))) (asked_moves r e up comes) d.moves
-      (moves_ask joins set.accepts r e (subst (λ (state : TargetState). HasLive state) up (target_is_live joins set earlier))))
-      (all_mapped (InTime set earlier) (InTime set (quiet_step ∷ earlier)) (λ t. still_written set quiet_step earlier t.role) (past_with r.end.live r.end.past) h))
-
-step_in_time : SumsJoin → (set : Setting) (given : HappeningView) (posts : List DatagramView) (notes : List Note) (earlier : List Step) → AllByRecursion (InTime set earlier) (transfers_of (target_at set earlier)) → AllByRecursion (InTime set earlier) (former_at set earlier)
-    → AllByRecursion (InTime set (record { given = given; posts = posts; notes = notes } ∷ earlier)) (transfers_of (target_at set (record { given = given; posts = posts; notes = notes } ∷ earlier)))
-    × AllByRecursion (InTime set (record { given = given; posts = posts; notes = notes } ∷ earlier)) (former_at set (record { given = given; posts = posts; notes = notes } ∷ earlier))
-step_in_time joins set given posts [] earlier now former = (
-  reached_in_time joins set given posts earlier (target_at set earlier) (event_for sides.Target (posted_in earlier) given) refl refl now,
-  all_mapped (InTime set earlier) (InTime set (record { given = given; posts = posts; notes = [] } ∷ earlier)) (λ t. still_written set (record { given = given; posts = posts; notes = [] }) earlier t.role) (former_at set earlier) former,
-)
-step_in_time joins set given posts (note ∷ notes) earlier now former =
-    let s : Step = record { given = given; posts = posts; notes = note ∷ notes } in (
-      subst (λ (ts : List Transfer). AllByRecursion (InTime set (s ∷ earlier)) ts) (sym (one_noted note notes (target_at set earlier) (reached set (event_for sides.Target (posted_in earlier) given) (target_at set earlier)))) tt,
-      all_mapped (InTime set earlier) (InTime set (s ∷ earlier)) (λ t. still_written set s earlier t.role) (transfers_of (target_at set earlier) ++ former_at set earlier) (all_append (InTime set earlier) (transfers_of (target_at set earlier)) (former_at set earlier) now former),
-    )
-
-all_in_time : SumsJoin → (set : Setting) (steps : List Step) → AllByRecursion (InTime set steps) (transfers_of (target_at set steps)) × AllByRecursion (InTime set steps) (former_at set steps)
-all_in_time joins set [] = (tt, tt)
-all_in_time joins set (s ∷ earlier) = let before = all_in_time joins set earlier in step_in_time joins set s.given s.posts s.notes earlier before.0 before.1
-
-pub target_writes_in_time : SumsJoin → TargetWritesInTime
-target_writes_in_time joins set steps t a =
-    let all = all_in_time joins set steps in
-    all_at (InTime set steps) (transfers_of (target_at set steps) ++ former_at set steps) t (all_append (InTime set steps) (transfers_of (target_at set steps)) (former_at set steps) all.0 all.1) a
 
 -- ---- names
 
@@ -205,21 +115,29 @@ four_bytes kinds.Lus = refl
 pub false_is_true : false ≡ true → ⊥
 false_is_true e = cc
 
-list_extension : (kind : FileKind) → extension kind ≡ extension kinds.Lcl → kind ≡ kinds.Lcl
-list_extension kinds.Lcl e = refl
-list_extension kinds.Lci e = absurd (false_is_true (ap (λ (x : List ℕ). bytes_eq x (extension kinds.Lcl)) e))
-list_extension kinds.Lcs e = absurd (false_is_true (ap (λ (x : List ℕ). bytes_eq x (extension kinds.Lcl)) e))
-list_extension kinds.Lui e = absurd (false_is_true (ap (λ (x : List ℕ). bytes_eq x (extension kinds.Lcl)) e))
-list_extension kinds.Lur e = absurd (false_is_true (ap (λ (x : List ℕ). bytes_eq x (extension kinds.Lcl)) e))
-list_extension kinds.Lus e = absurd (false_is_true (ap (λ (x : List ℕ). bytes_eq x (extension kinds.Lcl)) e))
+-- the kind of file of which a name ends so
+abbrev kind_of : List ℕ → FileKind
+kind_of x =
+    cond (bytes_eq x (extension kinds.Lci)) kinds.Lci (cond (bytes_eq x (extension kinds.Lcl)) kinds.Lcl (cond (bytes_eq x (extension kinds.Lcs)) kinds.Lcs
+    (cond (bytes_eq x (extension kinds.Lui)) kinds.Lui (cond (bytes_eq x (extension kinds.Lur)) kinds.Lur kinds.Lus))))
+
+kind_again : (kind : FileKind) → kind_of (extension kind) ≡ kind
+kind_again kinds.Lci = refl
+kind_again kinds.Lcl = refl
+kind_again kinds.Lcs = refl
+kind_again kinds.Lui = refl
+kind_again kinds.Lur = refl
+kind_again kinds.Lus = refl
 
 name_ends : (hw pos : List ℕ) (kind : FileKind) → file_name hw pos kind ≡ (hw ++ 95 ∷ pos) ++ extension kind
 unfolding file_name
 name_ends hw pos kind = refl
 
-list_named : (hw pos one two : List ℕ) (kind : FileKind) → file_name hw pos kind ≡ file_name one two kinds.Lcl → kind ≡ kinds.Lcl
-list_named hw pos one two kind e =
-    list_extension kind (ends_same (hw ++ 95 ∷ pos) (one ++ 95 ∷ two) (extension kind) (extension kinds.Lcl) (four_bytes kind) (sym (name_ends hw pos kind) ∙ e ∙ name_ends one two kinds.Lcl))
+same_kind : (hw pos one two : List ℕ) (kind other : FileKind) → file_name hw pos kind ≡ file_name one two other → kind ≡ other
+same_kind hw pos one two kind other e =
+    let size : length (extension kind) ≡ length (extension other) = four_bytes kind ∙ sym (four_bytes other) in
+    let same : extension kind ≡ extension other = ends_same (hw ++ 95 ∷ pos) (one ++ 95 ∷ two) (extension kind) (extension other) size (sym (name_ends hw pos kind) ∙ e ∙ name_ends one two other) in
+    sym (kind_again kind) ∙ ap kind_of same ∙ kind_again other
 
 -- a name has no zero, so that it stands before the first one
 no_zero_at_0 : (b : ℕ) (bytes : List ℕ) → AllGood is_name_byte (b ∷ bytes) → b ≡ 0 → ⊥
@@ -262,27 +180,31 @@ takes_receives wanted (ServesRead name o file) takes = absurd takes
 takes_receives wanted (Reads name o) takes = absurd takes
 takes_receives wanted (Writes name o file) takes = absurd takes
 
--- a file that is asked to be written is one of the target's own, and a list is due so
-abbrev pub IsWrittenAs : Setting → (List ℕ → Type 0) → Role → Type 0
-IsWrittenAs set Due (Writes name options file) = (kind : FileKind) × (name ≡ file_name set.start.identity.hw set.start.identity.pos kind) × (kind ≡ kinds.Lcl → Due file)
-IsWrittenAs set Due role = Unit {0}
+-- a file that is asked to be written is one of the target's own, and this holds of it and of its kind
+abbrev pub IsNamedAs : Setting → (FileKind → List ℕ → Type 0) → Role → Type 0
+IsNamedAs set Is (Writes name options file) = (kind : FileKind) × (name ≡ file_name set.start.identity.hw set.start.identity.pos kind) × Is kind file
+IsNamedAs set Is role = Unit {0}
 
--- the file that the target wrote was due
-pub written_list : (set : Setting) (Due : List ℕ → Type 0) (one two : List ℕ) (role urole : Role) (file : List ℕ) → OwnFilesAreNamed set → TakesFile (file_name one two kinds.Lcl) role → is_asking urole ≡ true → file_sent urole ≡ Some file
-    → packet_in (packet_bytes (first_packet urole)) ≡ request_taken role → IsBytes (packet_bytes (first_packet urole)) → IsWrittenAs set Due urole → TellsLength urole × Due file
-written_list set Due one two (ServesWrite name asked) (Writes uname wanted f) file named takes asks sent request fit (kind, is, due) =
-    let same : name ≡ uname = written_name_is_read name uname asked _ (subst IsName (sym is) (named kind)) (read_is_spelled (packet_bytes (first_packet (Writes uname wanted f))) (Wrq name asked) fit request) in
-    let list : kind ≡ kinds.Lcl = list_named set.start.identity.hw set.start.identity.pos one two kind (sym is ∙ sym same ∙ takes) in
-    (tt, subst Due (some_file f file sent) (due list))
-  where
-    some_file : (a b : List ℕ) → Some a ≡ Some b → a ≡ b
-    some_file a b e = cc
-written_list set Due one two (ServesWrite name asked) (Reads uname o) file named takes asks sent request fit h = absurd cc
-written_list set Due one two (ServesWrite name asked) (ServesRead uname o f) file named takes asks sent request fit h = absurd cc
-written_list set Due one two (ServesWrite name asked) (ServesWrite uname o) file named takes asks sent request fit h = absurd cc
-written_list set Due one two (ServesRead name o f) urole file named takes asks sent request fit h = absurd takes
-written_list set Due one two (Reads name o) urole file named takes asks sent request fit h = absurd takes
-written_list set Due one two (Writes name o f) urole file named takes asks sent request fit h = absurd takes
+some_file : (a b : List ℕ) → Some a ≡ Some b → a ≡ b
+some_file a b e = cc
+
+-- the file that the target wrote under the name that the loader took is of that kind
+pub written_kind : (set : Setting) (Is : FileKind → List ℕ → Type 0) (wanted : FileKind) (one two : List ℕ) (role urole : Role) (file : List ℕ) → OwnFilesAreNamed set → TakesFile (file_name one two wanted) role → is_asking urole ≡ true → file_sent urole ≡ Some file
+    → packet_in (packet_bytes (first_packet urole)) ≡ request_taken role → IsBytes (packet_bytes (first_packet urole)) → IsNamedAs set Is urole → TellsLength urole × Is wanted file
+written_kind set Is wanted one two (ServesWrite name asked) (Writes uname o f) file named takes asks sent request fit (kind, is, holds) =
+    let same : name ≡ uname = written_name_is_read name uname asked _ (subst IsName (sym is) (named kind)) (read_is_spelled (packet_bytes (first_packet (Writes uname o f))) (Wrq name asked) fit request) in
+    let one_kind : kind ≡ wanted = same_kind set.start.identity.hw set.start.identity.pos one two kind wanted (sym is ∙ sym same ∙ takes) in
+    (tt, subst (λ (k : FileKind). Is k file) one_kind (subst (λ (x : List ℕ). Is kind x) (some_file f file sent) holds))
+written_kind set Is wanted one two (ServesWrite name asked) (Reads uname o) file named takes asks sent request fit h = absurd cc
+written_kind set Is wanted one two (ServesWrite name asked) (ServesRead uname o f) file named takes asks sent request fit h = absurd cc
+written_kind set Is wanted one two (ServesWrite name asked) (ServesWrite uname o) file named takes asks sent request fit h = absurd cc
+written_kind set Is wanted one two (ServesRead name o f) urole file named takes asks sent request fit h = absurd takes
+written_kind set Is wanted one two (Reads name o) urole file named takes asks sent request fit h = absurd takes
+written_kind set Is wanted one two (Writes name o f) urole file named takes asks sent request fit h = absurd takes
+
+-- a list is due so
+abbrev pub IsWrittenAs : Setting → (List ℕ → Type 0) → Role → Type 0
+IsWrittenAs set Due role = IsNamedAs set (λ (kind : FileKind) (file : List ℕ). kind ≡ kinds.Lcl → Due file) role
 
 -- ---- the step that completes a session
 
@@ -314,9 +236,6 @@ only_loader posted Ended e is = inl refl
 pub reached_none : (set : Setting) (state : TargetState) → reached set None state ≡ state
 reached_none set (Is_up r) = refl
 reached_none set (Is_down active interrupted) = refl
-
-pub longer : (xs : List EndedSession) (x : EndedSession) → xs ≡ x ∷ xs → ⊥
-longer xs x e = let same : length xs ≡ length (x ∷ xs) = ap length e in omega (arith, same)
 
 pub among_past : (live : Option Transfer) (past : List Transfer) (t : Transfer) → newest past ≡ t ∷ [] → Among t (past_with live past)
 among_past None [] t e = absurd cc

@@ -13,11 +13,12 @@ use Rattle.transfer_end.specs.OtherEnds.{Among, Brought, BroughtFrom, HasBegun, 
 use Rattle.transfer_end.specs.Packets.{packet_in}
 use Rattle.transfer_end.specs.Readings.{mark_in, raised_by}
 use Rattle.transfer_end.specs.SentPacketLaws.{written_is_read}
-use Rattle.transfer_end.specs.Transfers.{Role, Transfer, bound_to}
+use Rattle.transfer_end.specs.Transfers.{Reads, Role, ServesRead, ServesWrite, Transfer, Writes, bound_to}
 use Rattle.session_rules.specs.BufferLaws.{SumsJoin}
+use Rattle.session_rules.specs.Loader.{Start}
 use Rattle.session_rules.specs.LoaderLog.{LoaderReading, SessionLog, loader_extended, loader_reading}
 use Rattle.session_rules.specs.LoaderRoleLaws.{loader_roles_fit}
-use Rattle.session_rules.specs.LoaderRoles.{EndsWithLive, IsAboveMark, IsNoError, LoaderRoleFits, ServedIsFresh}
+use Rattle.session_rules.specs.LoaderRoles.{EndsWithLive, IsAboveMark, IsNoError, LoaderRoleFits, ServedIsFresh, WritesLur}
 use Rattle.session_rules.specs.MediaFiles.{Media}
 use Rattle.session_rules.specs.OwnSessionLaws.{sessions_are_of_newest_starts}
 use Rattle.session_rules.specs.OwnSessions.{IsOfNewestStart, LiveIsOfNewestStart, HasNoStart}
@@ -33,6 +34,12 @@ use Rattle.replay_rules.proofs.SentTraces.{TargetIsFair}
 
 pub some_is : (p q : ℕ) → Some p ≡ Some q → p ≡ q
 some_is p q e = cc
+
+pub writes_asks : (start : Start) (role : Role) → WritesLur start role → is_asking role ≡ true
+writes_asks start (Writes name o file) is = refl
+writes_asks start (Reads name o) is = absurd is
+writes_asks start (ServesRead name o file) is = absurd is
+writes_asks start (ServesWrite name o) is = absurd is
 
 pub asks_not : (A : Type 0) (role : Role) → is_asking role ≡ true → is_asking role ≡ false → A
 asks_not A role asks serves = absurd (let wrong : true ≡ false = sym asks ∙ serves in cc)
@@ -74,7 +81,7 @@ below_mark (t ∷ past) w port (inr a) e = by t.peer (below_mark past w port a e
 no_bytes : IsBytes []
 no_bytes i = omega arith
 
-error_is_read : packet_in (packet_bytes (Error 1 [])) ≡ Some (Error 1 [])
+pub error_is_read : packet_in (packet_bytes (Error 1 [])) ≡ Some (Error 1 [])
 error_is_read = written_is_read (Error 1 []) (omega arith, no_bytes) refl
 
 -- the other end of a transfer that got a packet that is no ERROR
@@ -118,6 +125,9 @@ no_start_given posted (Power_cut calls pick) none = tt
 no_start_given posted Booted none = tt
 no_start_given posted Ended none = tt
 
+pub event_is : (x y : Event) (xs ys : List Event) → x ∷ xs ≡ y ∷ ys → (x ≡ y) × (xs ≡ ys)
+event_is x y xs ys f = (cc, cc)
+
 -- the step of an event of the loader's log after which nothing was started
 pub record StartedAt (steps : List Step) (event : Event) (log : List Event) : Type 0 where
   pub since : List Step
@@ -139,17 +149,14 @@ started_at (s ∷ earlier) since event log e none = by (event_for sides.Loader (
     given : (x : Option Event) → event_for sides.Loader (posted_in earlier) s.given ≡ x → IsNoStartEvent x → IsNoStart s.given
     given x comes h = no_start_given (posted_in earlier) s.given (subst IsNoStartEvent (sym comes) h)
 
-    head_is : (x y : Event) (xs ys : List Event) → x ∷ xs ≡ y ∷ ys → (x ≡ y) × (xs ≡ ys)
-    head_is x y xs ys f = (cc, cc)
-
     by : (x : Option Event) → ((before : List Event) → loader_log earlier ≡ before ++ event ∷ log → HasNoStart before → StartedAt earlier event log) → event_for sides.Loader (posted_in earlier) s.given ≡ x → (since : List Event) → logged x (loader_log earlier) ≡ since ++ event ∷ log
         → HasNoStart since → StartedAt (s ∷ earlier) event log
     by None rest comes since e none = later (given None comes tt) (rest since e none)
     by (Some x) rest comes [] e none =
-        let (head, tail) = head_is x event (loader_log earlier) log e in
+        let (head, tail) = event_is x event (loader_log earlier) log e in
         record { since = []; start = s; before = earlier; split = refl; newest = tt; comes = comes ∙ ap (λ (y : Event). Some y) head; is = tail }
     by (Some x) rest comes (y ∷ since) e (first, none) =
-        let (head, tail) = head_is x y (loader_log earlier) (since ++ event ∷ log) e in later (given (Some x) comes (ap started_by head ∙ first)) (rest since tail none)
+        let (head, tail) = event_is x y (loader_log earlier) (since ++ event ∷ log) e in later (given (Some x) comes (ap started_by head ∙ first)) (rest since tail none)
 
 -- of two steps of a trace, which is the earlier one
 pub data Order (one two : Step) (since before since_two before_two : List Step) : Type 0 where

@@ -1,5 +1,5 @@
 -- Proofs that completed information sessions list what was active in their own sessions.
-use Rattle.std.proofs.Common.{◌≡◌, ◌⊎◌, inl, inr, ⊎_elim, ℕ, ◌<◌, false, true, List, [], ◌∷◌, ◌++◌, Option, Some, None, Result, refl, sym, ap, subst, ◌∙◌, arith, cond, Bool}
+use Rattle.std.proofs.Common.{◌≡◌, ◌⊎◌, inl, inr, ⊎_elim, ℕ, false, true, List, [], ◌∷◌, ◌++◌, Option, Some, None, Result, refl, sym, ap, subst, ◌∙◌, cond, Bool}
 use Rattle.std.specs.Result.{result_ok}
 use Rattle.field_grammar.specs.Answers.{answer}
 use Rattle.load_protocol_files.specs.declared.fault.FileFault.{FileFault}
@@ -10,15 +10,16 @@ use Rattle.exchange_trace.specs.Happenings.{Booted, DatagramView, Delivered, End
 use Rattle.exchange_trace.specs.Logs.{Event, Gets, Learns, Starts_info, Starts_upload, Ticks, event_for, gets, logged, loader_log}
 use Rattle.exchange_trace.specs.Posts.{numbered, posted_in}
 use Rattle.exchange_trace.specs.Steps.{Step}
-use Rattle.transfer_end.specs.OtherEndLaws.{among_left, own_not_59}
 use Rattle.transfer_end.specs.OtherEnds.{Among, AnswersRequest, ComesFromEnd, MovesStayFair, OwnPortsRise, is_asking, of_end, of_none}
 use Rattle.transfer_end.specs.Transfers.{Transfer, arrived_of}
+use Rattle.session_rules.specs.declared.outcome.FileKind.{FileKind}
+use Rattle.session_rules.specs.declared.outcome.FileKind.TheVariants.{Lcl}
 use Rattle.session_rules.specs.declared.outcome.Outcome.TheVariants.{Completed}
 use Rattle.session_rules.specs.declared.outcome.SessionKind.TheVariants.{Info, Upload}
 use Rattle.session_rules.specs.BufferLaws.{SumsJoin}
 use Rattle.session_rules.specs.Loader.{EndedSession, Start}
 use Rattle.session_rules.specs.LoaderLog.{loader_extended, loader_reading}
-use Rattle.session_rules.specs.LoaderRoleLaws.{completed_lists_arrived}
+use Rattle.session_rules.specs.LoaderRoleLaws.{completed_lists_arrived, longer}
 use Rattle.session_rules.specs.LoaderRoles.{ListsArrived}
 use Rattle.session_rules.specs.LoaderRows.{LoaderRow}
 use Rattle.session_rules.specs.MediaFiles.{Media}
@@ -29,13 +30,13 @@ use Rattle.replay_rules.specs.Histories.{active_at}
 use Rattle.replay_rules.specs.ListTraces.{AllCanBeListed, AllListInSession, CompletedListsActive, ListsInSession, OwnFilesAreNamed}
 use Rattle.replay_rules.specs.OtherEndTraces.{IsUninjected, former_at, loader_transfers, target_transfers, transfers_of}
 use Rattle.replay_rules.specs.OwnSessionTraces.{NoneStarts}
-use Rattle.replay_rules.proofs.AnsweredLater.{TookOne, after, loader_grows_over, posted_then, took_one, one_before, all_before}
+use Rattle.replay_rules.proofs.AnsweredLater.{after, posted_then, one_before}
 use Rattle.replay_rules.proofs.EachBefore.{IsOver, over_at}
-use Rattle.replay_rules.proofs.Growing.{GrowsTo, grows_none}
 use Rattle.replay_rules.proofs.ListedBefore.{ListWasDueAfter, WritesOver, target_lists_over}
-use Rattle.replay_rules.proofs.ListedTraces.{ListsAreRead, can_be_listed, false_is_true, longer, only_loader, reached_none, takes_receives, written_list}
-use Rattle.replay_rules.proofs.NewestStart.{AnsweredBelow, EndsNewest, Order, StartedAt, asks_not, ends_newest, older_ones, older_than, one_first, order_of, rise_apart, same_step, some_is, two_first}
-use Rattle.replay_rules.proofs.SentTraces.{TargetIsFair, TraceIsFair, trace_is_fair, what_arrives_was_sent}
+use Rattle.replay_rules.proofs.ListedTraces.{ListsAreRead, can_be_listed, false_is_true, only_loader, reached_none, takes_receives, written_kind}
+use Rattle.replay_rules.proofs.NewestStart.{AnsweredBelow, EndsNewest, StartedAt, asks_not, ends_newest, older_ones, older_than}
+use Rattle.replay_rules.proofs.SinceStart.{CameSince, came_since}
+use Rattle.replay_rules.proofs.SentTraces.{TargetIsFair, what_arrives_was_sent}
 use Rattle.replay_rules.specs.Promises.{ListIsDue}
 
 -- ---- the start of an information session
@@ -144,14 +145,14 @@ module _ (joins : SumsJoin) (moves : MovesStayFair) (reads : ListsAreRead) (set 
         by (of_end u b brings) =
             let o : IsOver (WritesOver set earlier) before_now u = over_at (WritesOver set earlier) before_now u (target_lists_over joins set earlier) (subst (λ (ts : List Transfer). Among u ts) target_is b) in
             let request : AnswersRequest ended u = ⊎_elim (λ (x : AnswersRequest ended u). x) (λ (x : AnswersRequest u ended). asks_not _ ended.role x.asks (takes_receives _ ended.role h.role).1) brings.ends.request in
-            let (tells, due) = written_list set (ListWasDueAfter set earlier o.earlier) h.ends.session.start.hw h.ends.session.start.pos ended.role u.role brings.file named h.role request.asks brings.sent request.request request.are_bytes o.over in
+            let (tells, due) = written_kind set (λ (kind : FileKind) (file : List ℕ). kind ≡ Lcl → ListWasDueAfter set earlier o.earlier file) Lcl h.ends.session.start.hw h.ends.session.start.pos ended.role u.role brings.file named h.role request.asks brings.sent request.request request.are_bytes o.over in
             record {
               u = u;
               port = brings.ends.port;
               newer = o.newer;
               earlier_ones = o.earlier;
               split = target_is ∙ o.split;
-              due = subst (λ (file : List ℕ). ListWasDueAfter set earlier o.earlier file) (sym (brings.whole tells h.received)) due;
+              due = subst (λ (file : List ℕ). ListWasDueAfter set earlier o.earlier file) (sym (brings.whole tells h.received)) (due refl);
             }
 
     abbrev due : ListWasDueAfter set earlier listed.earlier_ones (arrived_of ended)
@@ -171,49 +172,11 @@ module _ (joins : SumsJoin) (moves : MovesStayFair) (reads : ListsAreRead) (set 
     comes_at : event_for sides.Loader (posted_in start_at.before) start_at.start.given ≡ Some (Starts_info info.hw info.pos)
     comes_at = start_at.comes ∙ ap (λ (x : Event). Some x) info.is
 
-    -- the answer took no request from before the start
-    not_from : (theirs : List Transfer) → GrowsTo theirs (loader_transfers set start_at.before) → TookOne theirs f → ⊥
-    not_from theirs grown took = by took.from
-      where
-        same : took.peer ≡ request.own
-        same = some_is took.peer request.own (sym took.bound ∙ taken.answers.back)
+    starts_not : (size : Option ℕ) → n.own.event ≡ Learns size → ⊥
+    starts_not size learns = let wrong : Starts_info info.hw info.pos ≡ Learns size = sym info.is ∙ learns in cc
 
-        by : (took.peer ≡ 59) ⊎ ((w : Transfer) × Among w theirs × (w.own ≡ took.peer)) → ⊥
-        by (inl is_59) = own_not_59 (ended ∷ (n.own.mine ++ older)) request n.rises (inr (among_left request n.own.mine older asked.among)) (sym same ∙ is_59)
-        by (inr (w, b, own_is)) =
-            let (z, c, also) = grown.kept w b in
-            let less : z.own < request.own = rise_apart n.own.mine older request z n.rises.2 asked.among (n.before_start z c) in
-            omega (arith, less, also, own_is, same)
-
-    before_start : IsUninjected set start_at.before
-    before_start = one_before set start_at.start start_at.before (all_before set start_at.since (start_at.start ∷ start_at.before) (subst (λ (x : List Step). IsUninjected set x) start_at.split (one_before set s earlier is)))
-
-    at_made : IsUninjected set (due.made ∷ due.before)
-    at_made = all_before set due.since (due.made ∷ due.before) (subst (λ (x : List Step). IsUninjected set x) due.split (one_before set s earlier is))
-
-    not_before : (between : List Step) → start_at.before ≡ between ++ due.made ∷ due.before → ⊥
-    not_before between same =
-        not_from (loader_transfers set (due.made ∷ due.before)) (subst (λ (x : List Step). GrowsTo (loader_transfers set (due.made ∷ due.before)) (loader_transfers set x)) (sym same) (loader_grows_over set between (due.made ∷ due.before)))
-        (took_one sides.Target sides.Loader (target_transfers set due.made due.before) (loader_transfers set (due.made ∷ due.before)) (posted_then joins moves set due.made due.before at_made) f (after joins moves set due.made due.before at_made).one
-        (after joins moves set due.made due.before at_made).other_one f_made taken.answers.serves)
-
-    not_at : due.made ≡ start_at.start → due.before ≡ start_at.before → ⊥
-    not_at same same_before =
-        not_from (loader_transfers set start_at.before) (grows_none (loader_transfers set start_at.before))
-        (took_one sides.Target sides.Loader (transfers_of (target_at set start_at.before) ++ former_at set start_at.before) (loader_transfers set start_at.before) (posted_in start_at.before) f fair_there.target.one fair_there.target.other_one there taken.answers.serves)
-      where
-        fair_there : TraceIsFair set start_at.before
-        fair_there = trace_is_fair joins moves set start_at.before before_start
-
-        only : (event_for sides.Target (posted_in start_at.before) start_at.start.given ≡ None) ⊎ ((size : Option ℕ) × (Starts_info info.hw info.pos ≡ Learns size)) → event_for sides.Target (posted_in start_at.before) start_at.start.given ≡ None
-        only (inl none) = none
-        only (inr (size, learns)) = absurd cc
-
-        there : Among f (transfers_of (target_at set start_at.before) ++ former_at set start_at.before)
-        there =
-            subst (λ (state : TargetState). Among f (transfers_of state ++ former_at set start_at.before)) (reached_none set (target_at set start_at.before))
-            (subst (λ (x : Option Event). Among f (transfers_of (reached set x (target_at set start_at.before)) ++ former_at set start_at.before)) (only (only_loader (posted_in start_at.before) start_at.start.given (Starts_info info.hw info.pos) comes_at))
-            (subst (λ (x : List Step). Among f (target_transfers set start_at.start x)) same_before (subst (λ (x : Step). Among f (target_transfers set x due.before)) same f_made)))
+    came : CameSince earlier start_at.start start_at.before start_at.since due.since due.made due.before
+    came = came_since joins moves set s earlier is h.ends.session h.ends.live ended n request asked.among taken starts_not due.since due.made due.before due.split f_made
 
     listed_is : session.listed ≡ Some (lcl_of (outline_of (active_at set due.before)))
     listed_is =
@@ -222,26 +185,21 @@ module _ (joins : SumsJoin) (moves : MovesStayFair) (reads : ListsAreRead) (set 
         h.listed ∙ ap (λ (bytes : List ℕ). result_ok (answer lcl bytes)) due.lists ∙ ap (λ (x : Result LclView FileFault). result_ok x) (reads (lcl_of o) (lcl_file o) spelled)
 
     pub lists_in_session : ListsInSession set (s ∷ earlier) session
-    lists_in_session = by (order_of due.since start_at.since due.made start_at.start due.before start_at.before (sym due.split ∙ start_at.split))
-      where
-        by : Order due.made start_at.start due.since due.before start_at.since start_at.before → ListsInSession set (s ∷ earlier) session
-        by (one_first between x) = absurd (not_before between x)
-        by (same_step x y) = absurd (not_at x y)
-        by (two_first between x y) = record {
-          since = s ∷ due.since;
-          made = due.made;
-          between = between;
-          start = start_at.start;
-          before = start_at.before;
-          hw = info.hw;
-          pos = info.pos;
-          split = ap (λ (z : List Step). s ∷ z) (due.split ∙ ap (λ (z : List Step). due.since ++ due.made ∷ z) x);
-          starts = given_info (posted_in start_at.before) start_at.start.given info.hw info.pos comes_at;
-          newest = (n.no_start, subst NoneStarts y start_at.newest);
-          one = grows ∙ ap (λ (z : List EndedSession). session ∷ z) (sym n.ended_then);
-          due = subst (λ (z : List Step). ListIsDue set (target_at set (due.made ∷ z))) x due.due;
-          listed = subst (λ (z : List Step). session.listed ≡ Some (lcl_of (outline_of (active_at set z)))) x listed_is;
-        }
+    lists_in_session = record {
+      since = s ∷ due.since;
+      made = due.made;
+      between = came.between;
+      start = start_at.start;
+      before = start_at.before;
+      hw = info.hw;
+      pos = info.pos;
+      split = ap (λ (z : List Step). s ∷ z) (due.split ∙ ap (λ (z : List Step). due.since ++ due.made ∷ z) came.split);
+      starts = given_info (posted_in start_at.before) start_at.start.given info.hw info.pos comes_at;
+      newest = (n.no_start, subst NoneStarts came.newest start_at.newest);
+      one = grows ∙ ap (λ (z : List EndedSession). session ∷ z) (sym n.ended_then);
+      due = subst (λ (z : List Step). ListIsDue set (target_at set (due.made ∷ z))) came.split due.due;
+      listed = subst (λ (z : List Step). session.listed ≡ Some (lcl_of (outline_of (active_at set z)))) came.split listed_is;
+    }
 
   lists_where_completed : (s : Step) (earlier : List Step) → IsUninjected set (s ∷ earlier) → AllCanBeListed set (s ∷ earlier) → (session : EndedSession) → (loader_at set (s ∷ earlier)).ended ≡ session ∷ (loader_at set earlier).ended → session.kind ≡ Info → session.outcome ≡ Completed
       → ListsInSession set (s ∷ earlier) session

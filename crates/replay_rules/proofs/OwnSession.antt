@@ -31,6 +31,7 @@ use Rattle.session_rules.specs.Reports.{lur_file}
 use Rattle.session_rules.specs.SoundLogLaws.{PayloadsAreBytes, newest_bytes}
 use Rattle.session_rules.specs.SoundLogs.{LogIsBytes}
 use Rattle.session_rules.specs.SoundnessLaws.{HeadersAreSpelled}
+use Rattle.session_rules.specs.LoaderRoleLaws.{longer}
 use Rattle.replay_rules.specs.AskedTraces.{EntriesFit}
 use Rattle.replay_rules.specs.BothEnds.{Is_down, Is_up, Setting, TargetState, changed, loader_at, reached, target_at}
 use Rattle.replay_rules.specs.CompletedTraces.{IsToldInTime}
@@ -42,8 +43,8 @@ use Rattle.replay_rules.proofs.AnsweredLater.{after, answer_rises, answers_rise,
 use Rattle.replay_rules.proofs.AskedFor.{RequestsAreRead, found_fits, given_starts, one_request, started_spells}
 use Rattle.replay_rules.proofs.EachBefore.{IsOver, over_at}
 use Rattle.replay_rules.proofs.InstalledBefore.{IsInstalledBefore, TellsOver, target_tells_over}
-use Rattle.replay_rules.proofs.ListedTraces.{false_is_true, longer, only_loader, reached_none}
-use Rattle.replay_rules.proofs.NewestStart.{AnsweredBelow, EndsNewest, Order, StartedAt, asks_not, ends_newest, older_ones, older_than, one_first, order_of, rise_after, same_step, some_is, two_first}
+use Rattle.replay_rules.proofs.ListedTraces.{false_is_true, only_loader, reached_none}
+use Rattle.replay_rules.proofs.NewestStart.{AnsweredBelow, EndsNewest, Order, StartedAt, asks_not, ends_newest, older_ones, older_than, one_first, order_of, rise_after, same_step, some_is, two_first, writes_asks}
 use Rattle.replay_rules.proofs.PortsApart.{PeerIsBelow}
 use Rattle.replay_rules.proofs.SentTraces.{TargetIsFair, what_arrives_was_sent}
 use Rattle.replay_rules.proofs.ToldTraces.{StatusesAreSpelled, loader_log_bytes, target_tells_in_time}
@@ -64,12 +65,6 @@ upload_started media (Starts_info hw pos) start info upload = absurd (let wrong 
 upload_started media (Gets from to bytes) start h upload = absurd h
 upload_started media Ticks start h upload = absurd h
 upload_started media (Learns size) start h upload = absurd h
-
-writes_asks : (start : Start) (role : Role) → WritesLur start role → is_asking role ≡ true
-writes_asks start (Writes name o file) is = refl
-writes_asks start (Reads name o) is = absurd is
-writes_asks start (ServesRead name o file) is = absurd is
-writes_asks start (ServesWrite name o) is = absurd is
 
 -- what arrives from it is the request
 request_file : (start : Start) (role : Role) (file arrived : List ℕ) → WritesLur start role → file_sent role ≡ Some file → (TellsLength role → arrived ≡ file) → arrived ≡ lur_file start.loads

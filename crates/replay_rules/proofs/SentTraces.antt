@@ -20,18 +20,14 @@ use Rattle.session_rules.specs.FairLaws.{loader_gives_media_files, loader_ports_
 use Rattle.session_rules.specs.LoaderLog.{loader_reading}
 use Rattle.session_rules.specs.ViewLaws.{loader_live}
 use Rattle.replay_rules.specs.BothEnds.{Is_down, Is_up, Setting, TargetState, come_up, gone_down, loader_at, noted, reached, target_at}
-use Rattle.replay_rules.specs.Changes.{AllCarryBytes, CarriesBytes}
+use Rattle.replay_rules.specs.ChangeLaws.{posted_bytes}
+use Rattle.replay_rules.specs.Changes.{CarriesBytes}
 use Rattle.replay_rules.specs.Due.{IsBooted, IsCut, MayBeNoted, MayGoDown, due, due_of_loader, due_of_target, goes_down, is_up}
 use Rattle.replay_rules.specs.FaultFree.{IsNoInjection}
 use Rattle.replay_rules.specs.OtherEndTraces.{AllArriveAsSent, ArrivesAsSent, IsUninjected, LoaderGivesMedia, WhatArrivesWasSent, former_at, loader_transfers, over_with, target_transfers, transfers_of}
-use Rattle.replay_rules.specs.PlacedTraceLaws.{all_append}
 use Rattle.replay_rules.specs.TieLaws.{HasLive, target_is_live}
 
 -- ---- what reaches a side was posted by the other
-
-pub posted_bytes : (steps : List Step) → AllCarryBytes steps → AllByRecursion CarriesBytes (posted_in steps)
-posted_bytes [] all = tt
-posted_bytes (s ∷ earlier) ((posts, given), all) = all_append CarriesBytes (posted_in earlier) s.posts (posted_bytes earlier all) posts
 
 found_among : (posted : List DatagramView) (n : ℕ) (d : DatagramView) → slice_get posted n ≡ Some d → Among d posted
 found_among [] n d e = absurd cc

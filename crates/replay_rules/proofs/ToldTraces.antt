@@ -11,12 +11,9 @@ use Rattle.exchange_trace.specs.declared.trace.Side.TheVariants as sides
 use Rattle.exchange_trace.specs.Happenings.{Booted, DatagramView, Delivered, Ended, HappeningView, Info_started, Injected, Lost, Power_cut, Size_told, Ticked, Upload_started, is_same_side}
 use Rattle.exchange_trace.specs.Logs.{Event, Learns, event_for, gets, logged, loader_log}
 use Rattle.exchange_trace.specs.Posts.{numbered, posted_in}
-use Rattle.exchange_trace.specs.Steps.{Note, Step}
-use Rattle.transfer_end.specs.CameLaws.{all_mapped}
-use Rattle.transfer_end.specs.Moves.{Asks, Asks_size, Hears, Move, Recalls, Refuses, Repeats, Serves, Stops, past_with, readings_after}
-use Rattle.transfer_end.specs.OtherEndLaws.{all_at, among_left, moves_roles}
-use Rattle.transfer_end.specs.OtherEnds.{Among, ComesFromEnd, HaveRoles, MoveHasRole, MovesStayFair, TellsLength, all_of, file_sent, of_end, of_none}
-use Rattle.transfer_end.specs.Readings.{Reading}
+use Rattle.exchange_trace.specs.Steps.{Step}
+use Rattle.transfer_end.specs.OtherEndLaws.{among_left}
+use Rattle.transfer_end.specs.OtherEnds.{Among, ComesFromEnd, MoveHasRole, MovesStayFair, TellsLength, all_of, file_sent, of_end, of_none}
 use Rattle.transfer_end.specs.Transfers.{Reads, Role, ServesRead, ServesWrite, Transfer, Writes, arrived_of}
 use Rattle.session_rules.specs.declared.outcome.Outcome.TheVariants.{Completed}
 use Rattle.session_rules.specs.declared.outcome.SessionKind.TheVariants.{Upload}
@@ -30,17 +27,17 @@ use Rattle.session_rules.specs.SoundLogLaws.{PayloadsAreBytes, newest_bytes}
 use Rattle.session_rules.specs.SoundLogs.{LogIsBytes}
 use Rattle.session_rules.specs.SoundnessLaws.{read_is_spelled}
 use Rattle.session_rules.specs.Target.{target_decision}
-use Rattle.session_rules.specs.TargetLaws.{end_stays}
 use Rattle.session_rules.specs.TargetLog.{TargetReading, standing_after, target_extended, target_view}
-use Rattle.replay_rules.specs.BothEnds.{Is_down, Is_up, Setting, TargetState, changed, loader_at, reached, target_at}
+use Rattle.session_rules.specs.LoaderRoleLaws.{longer}
+use Rattle.replay_rules.specs.BothEnds.{Is_up, Setting, TargetState, changed, loader_at, reached, target_at}
 use Rattle.replay_rules.specs.ChangeLaws.{BringsBytes, bytes_if, got_bytes, numbered_bytes, posted_bytes}
 use Rattle.replay_rules.specs.Changes.{AllCarryBytes, CarriesBytes, InjectsBytes}
 use Rattle.replay_rules.specs.CompletedTraces.{AllBroughtWhereCompleted, CompletedWasBrought, IsToldInTime, TargetTellsInTime, WasBrought}
 use Rattle.replay_rules.specs.Histories.{active_in, brings}
 use Rattle.replay_rules.specs.OtherEndTraces.{AllArriveAsSent, ArrivesAsSent, former_at, loader_transfers, target_transfers, transfers_of}
-use Rattle.replay_rules.specs.PlacedTraceLaws.{all_append}
 use Rattle.replay_rules.specs.TieLaws.{HasLive, target_is_live}
-use Rattle.replay_rules.proofs.ListedTraces.{among_past, false_is_true, longer, one_noted, only_loader, reached_none}
+use Rattle.replay_rules.proofs.EachBefore.{AllOver, NewOver, over_at, roles_mapped, trace_over}
+use Rattle.replay_rules.proofs.ListedTraces.{among_past, false_is_true, only_loader, reached_none}
 use Rattle.replay_rules.proofs.SentTraces.{what_arrives_was_sent}
 
 -- ---- what the target tells
@@ -55,8 +52,9 @@ still_told set s steps (ServesRead name o file) told = told
 still_told set s steps (Reads name o) told = tt
 still_told set s steps (ServesWrite name o) told = tt
 
-abbrev InTime : Setting → List Step → Transfer → Type 0
-InTime set steps t = IsToldInTime set steps t.role
+-- whatever was before it
+abbrev ToldOver : Setting → List Step → Role → List Transfer → Type 0
+ToldOver set steps role earlier = IsToldInTime set steps role
 
 one_more : (n : ℕ) (b : Bool) → (n == n + 1) ≡ b → b ≡ false
 one_more n true e = let same : n ≡ n + 1 = eqb-true n (n + 1) e in absurd (omega (arith, same))
@@ -89,50 +87,21 @@ module _ (joins : SumsJoin) (set : Setting) (given : HappeningView) (posts : Lis
   told_role r e (Reads name o) up comes tells = tt
   told_role r e (ServesWrite name o) up comes tells = tt
 
-  told_moves : (r : TargetReading) (e : Event) → target_at set earlier ≡ Is_up r → event_for sides.Target (posted_in earlier) given ≡ Some e → (move : Move) → MoveHasRole (TellsInstalled set.accepts r e) move → MoveHasRole (IsToldInTime set (quiet_step ∷ earlier)) move
-  told_moves r e up comes (Asks role) h = told_role r e role up comes h
-  told_moves r e up comes (Serves from role) h = told_role r e role up comes h
-  told_moves r e up comes (Hears from p) h = tt
-  told_moves r e up comes (Recalls from p) h = tt
-  told_moves r e up comes (Refuses from) h = tt
-  told_moves r e up comes Repeats h = tt
-  told_moves r e up comes Stops h = tt
-  told_moves r e up comes (Asks_size n) h = tt
+module _ (joins : SumsJoin) (set : Setting) where
+  abbrev Fact : List Step → Type 0
+  Fact steps = Unit {0}
 
-  reached_in_time : (state : TargetState) (e : Option Event) → target_at set earlier ≡ state → event_for sides.Target (posted_in earlier) given ≡ e → AllByRecursion (InTime set earlier) (transfers_of state)
-      → AllByRecursion (InTime set (quiet_step ∷ earlier)) (transfers_of (reached set e state))
-  reached_in_time (Is_down active interrupted) None up comes h = tt
-  reached_in_time (Is_down active interrupted) (Some e) up comes h = tt
-  reached_in_time (Is_up r) None up comes h = all_mapped (InTime set earlier) (InTime set (quiet_step ∷ earlier)) (λ t. still_told set quiet_step earlier t.role) (past_with r.end.live r.end.past) h
-  reached_in_time (Is_up r) (Some e) up comes h =
-      let d = target_decision set.accepts (target_view set.accepts r) e in
-      subst (λ (x : Reading). HaveRoles (IsToldInTime set (quiet_step ∷ earlier)) x) (sym (end_stays set.accepts (readings_after sides.Target r.end d.moves) r d.change))
-      (moves_roles (IsToldInTime set (quiet_step ∷ earlier)) sides.Target r.end d.moves
-      (all_mapped (MoveHasRole (TellsInstalled set.accepts r e)) (MoveHasRole (IsToldInTime set (quiet_step ∷ earlier))) (told_moves r e up comes) d.moves
-      (target_tells_installed joins set.accepts r e (subst (λ (state : TargetState). HasLive state) up (target_is_live joins set earlier))))
-      (all_mapped (InTime set earlier) (InTime set (quiet_step ∷ earlier)) (λ t. still_told set quiet_step earlier t.role) (past_with r.end.live r.end.past) h))
+  begins : (given : HappeningView) (posts : List DatagramView) (steps : List Step) (r : TargetReading) (e : Event) → target_at set steps ≡ Is_up r → event_for sides.Target (posted_in steps) given ≡ Some e → Fact (record { given = given; posts = posts; notes = [] } ∷ steps)
+      → AllByRecursion (MoveHasRole (NewOver (ToldOver set (record { given = given; posts = posts; notes = [] } ∷ steps)) (former_at set steps) (target_extended set.accepts r e).end)) (target_decision set.accepts (target_view set.accepts r) e).moves
+  begins given posts steps r e up comes fact =
+      roles_mapped (TellsInstalled set.accepts r e) (NewOver (ToldOver set (record { given = given; posts = posts; notes = [] } ∷ steps)) (former_at set steps) (target_extended set.accepts r e).end)
+      (λ role h t live. told_role joins set given posts steps r e role up comes h) _ (target_tells_installed joins set.accepts r e (subst (λ (state : TargetState). HasLive state) up (target_is_live joins set steps)))
 
-step_in_time : SumsJoin → (set : Setting) (given : HappeningView) (posts : List DatagramView) (notes : List Note) (earlier : List Step) → AllByRecursion (InTime set earlier) (transfers_of (target_at set earlier)) → AllByRecursion (InTime set earlier) (former_at set earlier)
-    → AllByRecursion (InTime set (record { given = given; posts = posts; notes = notes } ∷ earlier)) (transfers_of (target_at set (record { given = given; posts = posts; notes = notes } ∷ earlier)))
-    × AllByRecursion (InTime set (record { given = given; posts = posts; notes = notes } ∷ earlier)) (former_at set (record { given = given; posts = posts; notes = notes } ∷ earlier))
-step_in_time joins set given posts [] earlier now former = (
-  reached_in_time joins set given posts earlier (target_at set earlier) (event_for sides.Target (posted_in earlier) given) refl refl now,
-  all_mapped (InTime set earlier) (InTime set (record { given = given; posts = posts; notes = [] } ∷ earlier)) (λ t. still_told set (record { given = given; posts = posts; notes = [] }) earlier t.role) (former_at set earlier) former,
-)
-step_in_time joins set given posts (note ∷ notes) earlier now former =
-    let s : Step = record { given = given; posts = posts; notes = note ∷ notes } in (
-      subst (λ (ts : List Transfer). AllByRecursion (InTime set (s ∷ earlier)) ts) (sym (one_noted note notes (target_at set earlier) (reached set (event_for sides.Target (posted_in earlier) given) (target_at set earlier)))) tt,
-      all_mapped (InTime set earlier) (InTime set (s ∷ earlier)) (λ t. still_told set s earlier t.role) (transfers_of (target_at set earlier) ++ former_at set earlier) (all_append (InTime set earlier) (transfers_of (target_at set earlier)) (former_at set earlier) now former),
-    )
-
-all_in_time : SumsJoin → (set : Setting) (steps : List Step) → AllByRecursion (InTime set steps) (transfers_of (target_at set steps)) × AllByRecursion (InTime set steps) (former_at set steps)
-all_in_time joins set [] = (tt, tt)
-all_in_time joins set (s ∷ earlier) = let before = all_in_time joins set earlier in step_in_time joins set s.given s.posts s.notes earlier before.0 before.1
+  told_over : (steps : List Step) → AllOver (ToldOver set steps) (transfers_of (target_at set steps) ++ former_at set steps)
+  told_over steps = trace_over set (ToldOver set) Fact (λ s before fact. tt) (λ s before role earlier. still_told set s before role) begins steps tt
 
 pub target_tells_in_time : SumsJoin → TargetTellsInTime
-target_tells_in_time joins set steps t a =
-    let all = all_in_time joins set steps in
-    all_at (InTime set steps) (transfers_of (target_at set steps) ++ former_at set steps) t (all_append (InTime set steps) (transfers_of (target_at set steps)) (former_at set steps) all.0 all.1) a
+target_tells_in_time joins set steps t a = (over_at (ToldOver set steps) (transfers_of (target_at set steps) ++ former_at set steps) t (told_over joins set steps) a).over
 
 -- ---- what reaches the loader is bytes
 

@@ -22,3 +22,5 @@ pub mod PortTraces
 pub mod ContentTraces
 pub mod FirstOrGood
 pub mod OwnSessionTraces
+pub mod Causes
+pub mod Outcomes

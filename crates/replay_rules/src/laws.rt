@@ -1,6 +1,8 @@
 //! What ties both ends to the trace. These functions do nothing; their clauses are the law.
 ghost use Rattle.replay_rules.specs.AskedTraces.{InstallsAreAsked};
 ghost use Rattle.replay_rules.specs.CameTraces.{BothTakeWhatCame, DueIsAcked};
+ghost use Rattle.replay_rules.specs.Causes.{DenialsAreForSequence, FilesAreGood};
+ghost use Rattle.replay_rules.specs.Causes.{SessionsEndInSteps, StopsAreForVerdicts};
 ghost use Rattle.replay_rules.specs.Changes.{ChangesAreNew, InstallsAreGood};
 ghost use Rattle.replay_rules.specs.ContentTraces.{ContentsFollowTraces};
 ghost use Rattle.replay_rules.specs.CompletedTraces.{CompletedWasBrought, TargetTellsInTime};
@@ -8,6 +10,7 @@ ghost use Rattle.replay_rules.specs.FirstOrGood.{ActiveIsFirstOrGood};
 ghost use Rattle.replay_rules.specs.FirstPostTraces.{LoaderPostsInOrder, TargetPostsInOrder};
 ghost use Rattle.replay_rules.specs.ListTraces.{CompletedListsActive, TargetWritesInTime};
 ghost use Rattle.replay_rules.specs.MediaTraces.{InstallsAreOfMedia};
+ghost use Rattle.replay_rules.specs.Outcomes.{OutcomesHaveCauses};
 ghost use Rattle.replay_rules.specs.OtherEndTraces.{LoaderGivesMedia, WhatArrivesWasSent};
 ghost use Rattle.replay_rules.specs.OwnSessionTraces.{CompletedInSession, CompletedStays};
 ghost use Rattle.replay_rules.specs.PlacedTraces.{DueIsPlaced, DueIsTwoAtMost, PortsRise};
@@ -151,4 +154,36 @@ pub fn the_configuration_changes_by_good_verdicts()
     check_sum_laws();
     header_laws();
     packet_laws();
+}
+
+/// Each session whose outcome comes from a file ended in a step of the run, once those before it
+/// had, whatever comes.
+pub fn sessions_end_in_steps()
+    ensures { SessionsEndInSteps }
+{}
+
+/// Each session that ends in a step of a run comes to its outcome by its cause, whatever comes: by a
+/// file that arrived whole, an ERROR, a tick after five retries, a start, the parts of its own
+/// start, or since no port was left.
+pub fn each_session_ends_by_its_cause()
+    ensures { OutcomesHaveCauses }
+{}
+
+/// Where nothing is injected, a session is denied only where no sequence number is left after that
+/// of the active configuration, and stopped by the target only for a reason that the verdict of a
+/// session of the target gave since its own start, with its numbers: through losses, repeats, other
+/// orders, power losses and boots.
+pub fn outcomes_have_their_causes()
+    ensures denied { DenialsAreForSequence }
+    ensures stopped { StopsAreForVerdicts }
+    // And none ends by a file that isn't in its format, is too long or has another status.
+    ensures files { FilesAreGood }
+{
+    check_sum_laws();
+    header_laws();
+    packet_laws();
+    protocol_file_laws();
+    the_configuration_changes_by_good_verdicts();
+    what_arrives_was_sent();
+    what_comes_was_sent();
 }

@@ -1,9 +1,11 @@
 -- Proofs that a run keeps what is promised of it.
-use Rattle.std.proofs.Common.{◌≡◌, ℕ, List, [], ◌∷◌, ◌++◌, Option, Some, sym, ap, subst, ◌∙◌}
+use Rattle.std.proofs.Common.{◌≡◌, ℕ, ◌≤◌, List, [], ◌∷◌, ◌++◌, length, Option, Some, sym, ap, subst, ◌∙◌, arith}
 use Rattle.std.specs.List.{AllByRecursion}
+use Rattle.std.proofs.lemmas.List.{length-map}
 use Rattle.load_base.specs.Config.{FileView, LoadView}
 use Rattle.load_base.specs.Name.{IsName}
 use Rattle.field_grammar.specs.Grammar.{IsBytes}
+use Rattle.disk_layout.specs.Contents.{entries_of, entry_of}
 use Rattle.disk_layout.specs.Holds.{StandingView}
 use Rattle.exchange_trace.specs.Steps.{Step}
 use Rattle.session_rules.specs.declared.outcome.Outcome.{Outcome}
@@ -29,8 +31,8 @@ use Rattle.replay_rules.specs.Promises.{IsTrace}
 use Rattle.replay_rules.specs.Runs.{Follows}
 use Rattle.exchange_trace.specs.Lines.{Line}
 use Rattle.completion_reports.specs.Reports.{ReportsAreTrue}
-use Rattle.outcome_causes.specs.Causes.{AllDeniedWhereSpent, AllStoppedWhereFailed, DenialsAreForSequence, DeniedWhereSpent, EndsAs, IsGivenToRead, IsOfFile, NoBadReplies, NoBadReply, RepliesAreGood, SessionsEndInSteps, StoppedWhereFailed, StopsAreForVerdicts}
-use Rattle.outcome_causes.specs.Outcomes.{OutcomesHaveCauses}
+use Rattle.replay_rules.specs.Causes.{AllDeniedWhereSpent, AllStoppedWhereFailed, DenialsAreForSequence, DeniedWhereSpent, BeginsSmall, EndsAs, FilesAreGood, IsOfFile, NoBadFile, NoBadFiles, SessionsEndInSteps, StoppedWhereFailed, StopsAreForVerdicts}
+use Rattle.replay_rules.specs.Outcomes.{OutcomesHaveCauses}
 use Rattle.finish_ends.specs.Scripts.{TracesAreBounded}
 use Rattle.session_completion.specs.FinishedRuns.{FinishCompletes, IsComplete}
 use Rattle.run_promises.specs.Listing.{StandingFits, WhatFitsNamesItsFiles, WhatIsActiveCanBeListed}
@@ -53,7 +55,7 @@ stopped_at : (set : Setting) (since : List Step) (s : Step) (earlier : List Step
 stopped_at set [] s earlier (now, before) = now
 stopped_at set (x ∷ since) s earlier (now, before) = stopped_at set since s earlier before
 
-good_at : (set : Setting) (since : List Step) (s : Step) (earlier : List Step) → NoBadReplies set (since ++ s ∷ earlier) → NoBadReply set s earlier
+good_at : (set : Setting) (since : List Step) (s : Step) (earlier : List Step) → NoBadFiles set (since ++ s ∷ earlier) → NoBadFile set s earlier
 good_at set [] s earlier (now, before) = now
 good_at set (x ∷ since) s earlier (now, before) = good_at set since s earlier before
 
@@ -62,7 +64,7 @@ pub record EndedLaws : Type 0 where
   pub ends : SessionsEndInSteps
   pub denials : DenialsAreForSequence
   pub stops : StopsAreForVerdicts
-  pub replies : RepliesAreGood
+  pub files : FilesAreGood
   pub causes : OutcomesHaveCauses
 
 module _ (ended : EndedLaws) (media : InstallsAreOfMedia) (lists : CompletedListsActive) (names : WhatFitsNamesItsFiles) (active : WhatIsActiveCanBeListed) (stays : CompletedStays) (set : Setting) (steps : List Step) (standing : Option StandingView) (accepts : AcceptsPermitted set) (can : CanBeTold set.media) (fits : StandingFits set.start) (is : IsUninjected set steps) where
@@ -104,13 +106,20 @@ module _ (ended : EndedLaws) (media : InstallsAreOfMedia) (lists : CompletedList
         stopped = stopped_at set e.since e.step e.earlier (subst (λ (list : List Step). AllStoppedWhereFailed set list) e.split (ended.stops set steps accepts fits.identity.hw is)) text (ends_as (TargetStopped text) told e);
       }
 
-  good_reply : (kind : FileKind) (offset : ℕ) → IsGivenToRead kind → IsToldAs (BadFile kind offset) sessions → ⊥
-  good_reply kind offset of told =
+  begins_small : BeginsSmall set.start
+  begins_small =
+      let count : length (entries_of set.start.loads) ≡ length set.start.loads = length-map set.start.loads entry_of in
+      let few = fits.loads.count in
+      let bank = fits.identity.bank in
+      record { bank = omega (arith, bank.1); few = omega (arith, count, few) }
+
+  good_file : (kind : FileKind) (offset : ℕ) → IsToldAs (BadFile kind offset) sessions → ⊥
+  good_file kind offset told =
       let e = told_ended told.session (subst IsOfFile (sym told.came_to) tt) ended.ends set steps told.before told.after told.place in
-      good_at set e.since e.step e.earlier (subst (λ (list : List Step). NoBadReplies set list) e.split (ended.replies set steps accepts fits.identity.hw is)) kind offset of (ends_as (BadFile kind offset) told e)
+      good_at set e.since e.step e.earlier (subst (λ (list : List Step). NoBadFiles set list) e.split (ended.files set steps accepts fits.identity.hw (names set.start fits) begins_small can.lengths (active set steps accepts is.carries fits) is)) kind offset (ends_as (BadFile kind offset) told e)
 
   tells : TellsTrue set steps sessions standing
-  tells = record { media = media set steps accepts can.lengths is; uploads = upload; lists = list; denials = denial; stops = stop; replies = good_reply }
+  tells = record { media = media set steps accepts can.lengths is; uploads = upload; lists = list; denials = denial; stops = stop; files = good_file }
 
 -- the files of loads that the media set has
 served_bytes : (media : Media) → CanBeTold media → (loads : List LoadView) → AreOfMedia media loads → AllByRecursion (λ (f : FileView). IsBytes f.bytes) (files_in loads)

@@ -7,7 +7,7 @@ use Rattle.session_rules.specs.Loader.{EndedSession, LoaderSession}
 use Rattle.session_rules.specs.LoaderLog.{loader_view}
 use Rattle.loader_machine.specs.Machine.{all_sessions, open_session, open_sessions}
 use Rattle.replay_rules.specs.BothEnds.{Setting, loader_at}
-use Rattle.outcome_causes.specs.Causes.{IsOfFile, SessionsEndInSteps}
+use Rattle.replay_rules.specs.Causes.{IsOfFile, SessionsEndInSteps}
 use Rattle.run_promises.specs.Promises.{EndsIn}
 
 module _ (session : EndedSession) (of_file : IsOfFile session.outcome) where

@@ -30,8 +30,8 @@ use Rattle.replay_rules.specs.OwnSessionTraces.{StaysInstalled}
 use Rattle.replay_rules.specs.Promises.{AllOfMedia, IsTrace, NoneGoesDown}
 use Rattle.replay_rules.specs.Runs.{Follows, IsWithinMargin}
 use Rattle.completion_reports.specs.Reports.{AllReportsAreTrue}
-use Rattle.outcome_causes.specs.Causes.{IsDeniedForSequence, IsGivenToRead, IsStoppedByVerdict}
-use Rattle.outcome_causes.specs.Outcomes.{AllEndByCause}
+use Rattle.replay_rules.specs.Causes.{IsDeniedForSequence, IsStoppedByVerdict}
+use Rattle.replay_rules.specs.Outcomes.{AllEndByCause}
 use Rattle.finish_ends.specs.Scripts.{most_of_lines}
 use Rattle.session_completion.specs.FinishedRuns.{FinishIsLeft, IsComplete}
 use Rattle.run_promises.specs.Listing.{StandingFits}
@@ -122,14 +122,14 @@ pub record StopIsTrue (set : Setting) (steps : List Step) (before : List EndedSe
 
 -- What is told of the sessions is true: each file that is installed is the media set's file of its name, a completed upload
 -- is installed, a completed information session lists what was active, and one that is denied or stopped is so for the reason
--- of the target that is told. None ended by a bad LCI or LUI.
+-- of the target that is told. None ended by a bad file.
 pub record TellsTrue (set : Setting) (steps : List Step) (sessions : List EndedSession) (standing : Option StandingView) : Type 0 where
   pub media : AllOfMedia set steps
   pub uploads : (told : IsTold Upload sessions) → UploadIsInstalled set steps standing told.before told.session
   pub lists : (told : IsTold Info sessions) → ListIsTrue set steps told.before told.session
   pub denials : (text : List ℕ) (told : IsToldAs (Denied text) sessions) → DenialIsTrue set steps told.before told.session text
   pub stops : (text : List ℕ) (told : IsToldAs (TargetStopped text) sessions) → StopIsTrue set steps told.before told.session text
-  pub replies : (kind : FileKind) (offset : ℕ) → IsGivenToRead kind → IsToldAs (BadFile kind offset) sessions → ⊥
+  pub files : (kind : FileKind) (offset : ℕ) → IsToldAs (BadFile kind offset) sessions → ⊥
 
 -- ---- what completes
 

@@ -10,11 +10,9 @@ use finish_ends::laws::every_script_ends;
 use load_header::header_laws;
 use load_protocol_files::protocol_file_laws;
 use media_lists::loads_list_laws;
-use outcome_causes::laws::{
-    each_session_ends_by_its_cause, outcomes_have_their_causes, sessions_end_in_steps,
-};
 use replay_rules::laws::{
     a_completed_session_lists_what_was_active, a_completed_upload_is_installed,
+    each_session_ends_by_its_cause, outcomes_have_their_causes, sessions_end_in_steps,
     the_configuration_changes_by_good_verdicts, what_is_installed_is_of_the_media_set,
 };
 use session_completion::laws::a_run_left_to_finish_completes;

@@ -1,4 +1,5 @@
-use Rattle.replay_rules.proofs.ListedTraces.{lists_are_read, target_writes_in_time}
+use Rattle.replay_rules.proofs.ListedBefore.{target_writes_in_time}
+use Rattle.replay_rules.proofs.ListedTraces.{lists_are_read}
 use Rattle.replay_rules.proofs.OwnList.{completed_lists_active}
 use Rattle.replay_rules.proofs.laws.a_completed_session_lists_what_was_active.Goals as goal
 

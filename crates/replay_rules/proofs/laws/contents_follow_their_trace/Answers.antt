@@ -1,5 +1,4 @@
-use Rattle.std.proofs.Common.{List, sym}
-use Rattle.exchange_trace.specs.Steps.{Step}
+use Rattle.std.proofs.Common.{sym}
 use Rattle.session_rules.specs.BufferLaws.{SumsJoin}
 use Rattle.session_rules.specs.ContentLaws.{are_kept, contents_extended}
 use Rattle.session_rules.specs.TargetLaws.{target_follows}

@@ -1,5 +1,0 @@
-use Rattle.outcome_causes.proofs.ByCause.{outcomes_have_causes}
-use Rattle.outcome_causes.proofs.laws.each_session_ends_by_its_cause.Goals as goal
-
-pub returns : goal.returns
-returns c = outcomes_have_causes

@@ -1,0 +1,221 @@
+-- The file that ends a session of the loader arrived whole, from a transfer of the target.
+use Rattle.std.proofs.Common.{◌≡◌, ◌⊎◌, inl, inr, ℕ, Bool, true, false, cond, List, [], ◌∷◌, ◌++◌, Option, Some, None, refl, sym, ap, subst, ◌∙◌, append-nil}
+use Rattle.std.specs.Prelude.{◌==◌}
+use Rattle.field_grammar.specs.Grammar.{IsBytes}
+use Rattle.tftp_packet.specs.declared.options.Options.{Options}
+use Rattle.tftp_packet.specs.Packets.{Ack, Data, Error, Oack, PacketView, Rrq, Wrq}
+use Rattle.tftp_link.specs.declared.phase.Phase.{Phase}
+use Rattle.tftp_link.specs.declared.phase.Phase.TheVariants.{Failed, Finished, Running, Waiting}
+use Rattle.tftp_link.specs.Answers.{Answer, Completes, Dropped, Grants, Proceeds, TakesLast, error_answer}
+use Rattle.tftp_link.specs.Sender.{Sender, ack_answer, awaited_answer, last_of, sender_answer, sender_oack_answer}
+use Rattle.exchange_trace.specs.declared.trace.Side.TheVariants as sides
+use Rattle.exchange_trace.specs.Logs.{Event, Learns, event_for, logged, loader_log}
+use Rattle.exchange_trace.specs.Posts.{posted_in}
+use Rattle.exchange_trace.specs.Steps.{Step}
+use Rattle.transfer_end.specs.Moves.{past_with}
+use Rattle.transfer_end.specs.OtherEnds.{Among, AnswersRequest, ComesFromEnd, TellsLength, file_sent, is_asking, is_receiving, of_end, of_none}
+use Rattle.transfer_end.specs.Readings.{Reading}
+use Rattle.transfer_end.specs.RfcLaws.{end_is_of_link}
+use Rattle.transfer_end.specs.Transfers.{LinkEnd, Reads, Role, ServesRead, ServesWrite, Transfer, Writes, arrived_of, arriving_in, end_answer, end_in, end_moved, end_of, is_received}
+use Rattle.transfer_end.specs.ViewLaws.{end_of_more}
+use Rattle.session_rules.specs.declared.outcome.FileKind.{FileKind}
+use Rattle.session_rules.specs.declared.outcome.Outcome.{Outcome}
+use Rattle.session_rules.specs.declared.outcome.Outcome.TheVariants.{BadFile}
+use Rattle.session_rules.specs.BufferLaws.{SumsJoin, buffered_on}
+use Rattle.session_rules.specs.Buffers.{Buffer, buffered, buffered_more}
+use Rattle.session_rules.specs.HeardLaws.{loader_takes_what_came}
+use Rattle.session_rules.specs.LoaderLog.{LoaderReading, loader_extended, loader_reading, newest}
+use Rattle.session_rules.specs.LoaderRoleLaws.{arrived_last, longer, whole_prefix}
+use Rattle.session_rules.specs.LoaderRoles.{loader_row}
+use Rattle.session_rules.specs.LoaderRows.{Comes_to, bytes_turn, file_turn}
+use Rattle.session_rules.specs.SoundLogLaws.{PayloadsAreBytes, newest_bytes}
+use Rattle.session_rules.specs.SoundLogs.{LogIsBytes}
+use Rattle.replay_rules.specs.BothEnds.{Setting, TargetState, loader_at, reached, target_at}
+use Rattle.replay_rules.specs.Changes.{AllStayOrAreNew}
+use Rattle.replay_rules.specs.OtherEndTraces.{AllArriveAsSent, IsUninjected, WhatArrivesWasSent, former_at, loader_transfers, target_transfers, transfers_of}
+use Rattle.replay_rules.proofs.NewestStart.{asks_not}
+use Rattle.replay_rules.specs.Causes.{EndsAs, IsOfFile}
+use Rattle.replay_rules.proofs.FileEnds.{EndedByFile, ended_by_file}
+use Rattle.replay_rules.proofs.ListedTraces.{false_is_true, only_loader, reached_none}
+use Rattle.replay_rules.proofs.Replies.{not_too_long}
+use Rattle.replay_rules.proofs.TargetFiles.{BeginsWell}
+use Rattle.replay_rules.proofs.TargetTells.{IsToldCause, told_cause}
+use Rattle.replay_rules.proofs.ToldTraces.{loader_log_bytes}
+
+-- ---- an end that takes the last block of a file receives it
+
+abbrev IsNotLast : Answer → Type 0
+IsNotLast answer = (more : List ℕ) → answer ≡ TakesLast more → ⊥
+
+not_last_if : (b : Bool) (x y : Answer) → IsNotLast x → IsNotLast y → IsNotLast (cond b x y)
+not_last_if true x y p q = p
+not_last_if false x y p q = q
+
+dropped_not : IsNotLast Dropped
+dropped_not more e = cc
+
+proceeds_not : IsNotLast Proceeds
+proceeds_not more e = cc
+
+awaited_not : (s : Sender) → IsNotLast (awaited_answer s)
+awaited_not s = not_last_if (s.sent == last_of s) Completes Proceeds (λ more e. cc) proceeds_not
+
+ack_not : (phase : Phase) (s : Sender) (k : ℕ) → IsNotLast (ack_answer phase s k)
+ack_not Waiting s k = not_last_if (k == 0) Proceeds Dropped proceeds_not dropped_not
+ack_not Running s k = not_last_if (k == s.sent) (awaited_answer s) Dropped (awaited_not s) dropped_not
+ack_not Finished s k = dropped_not
+ack_not (Failed code) s k = dropped_not
+
+oack_not : (phase : Phase) (s : Sender) (o : Options) → IsNotLast (sender_oack_answer phase s o)
+oack_not Waiting s o = not_last_if _ (Grants o) Dropped (λ more e. cc) dropped_not
+oack_not Running s o = dropped_not
+oack_not Finished s o = dropped_not
+oack_not (Failed code) s o = dropped_not
+
+error_not : (phase : Phase) (code : ℕ) → IsNotLast (error_answer phase code)
+error_not Waiting code more e = cc
+error_not Running code more e = cc
+error_not Finished code more e = cc
+error_not (Failed other) code more e = cc
+
+sender_not : (s : Sender) (p : PacketView) → IsNotLast (sender_answer s p)
+sender_not s (Ack k) = ack_not s.phase s k
+sender_not s (Oack o) = oack_not s.phase s o
+sender_not s (Error code m) = error_not s.phase code
+sender_not s (Data k b) = dropped_not
+sender_not s (Rrq name o) = dropped_not
+sender_not s (Wrq name o) = dropped_not
+
+last_received : (role : Role) (got : List PacketView) (p : PacketView) (more : List ℕ) → end_answer (end_of role got) p ≡ TakesLast more → (is_receiving role ≡ true) × (is_received (end_of role (got ++ p ∷ [])) ≡ true)
+last_received (ServesWrite name o) got p more e = (
+  refl,
+  ap is_received (end_of_more (ServesWrite name o) got p) ∙ ap (λ (answer : Answer). is_received (end_moved (end_of (ServesWrite name o) got) answer)) e
+      ∙ ap (λ (end : LinkEnd). is_received (end_moved end (TakesLast more))) (end_is_of_link name [] o got).1,
+)
+last_received (Reads name o) got p more e = (
+  refl,
+  ap is_received (end_of_more (Reads name o) got p) ∙ ap (λ (answer : Answer). is_received (end_moved (end_of (Reads name o) got) answer)) e
+      ∙ ap (λ (end : LinkEnd). is_received (end_moved end (TakesLast more))) (end_is_of_link name [] o got).0,
+)
+last_received (Writes name o f) got p more e = absurd (sender_not _ p more (sym (ap (λ (end : LinkEnd). end_answer end p) (end_is_of_link name f o got).2) ∙ e))
+last_received (ServesRead name o f) got p more e = absurd (sender_not _ p more (sym (ap (λ (end : LinkEnd). end_answer end p) (end_is_of_link name f o got).3) ∙ e))
+
+-- ---- the file that ends a session
+
+-- The file that ended the session is one that the target gave or wrote.
+pub record EndedByTarget (set : Setting) (s : Step) (earlier : List Step) (outcome : Outcome) : Type 0 where
+  pub event : Event
+  pub comes : event_for sides.Loader (posted_in earlier) s.given ≡ Some event
+  pub alone : event_for sides.Target (posted_in earlier) s.given ≡ None
+  pub arrived : EndedByFile set.media (loader_at set earlier) event outcome
+  pub bytes : List ℕ
+  pub fit : IsBytes bytes
+  pub turn : ((kind : FileKind) (offset : ℕ) → BadFile kind offset ≡ outcome → ⊥) → bytes_turn (loader_row arrived.ends.session) bytes ≡ Comes_to outcome
+  pub comes_to : file_turn (loader_row arrived.ends.session) (buffered bytes) ≡ Comes_to outcome
+  pub other : Transfer
+  pub port : arrived.ends.transfer.peer ≡ Some other.own
+  pub receives : is_receiving arrived.ends.live.role ≡ true
+  pub serves : is_asking arrived.ends.live.role ≡ true → is_asking other.role ≡ false
+  pub answers : is_asking arrived.ends.live.role ≡ false → AnswersRequest arrived.ends.transfer other
+  pub among : Among other (transfers_of (target_at set earlier) ++ former_at set earlier)
+  pub file : List ℕ
+  pub sent : file_sent other.role ≡ Some file
+  pub cause : IsToldCause set earlier other.role
+  pub whole : TellsLength other.role → bytes ≡ file
+
+module _ (joins : SumsJoin) (payloads : PayloadsAreBytes) (arrives : WhatArrivesWasSent) (set : Setting) (hw : BeginsWell set.start.identity.hw) (s : Step) (earlier : List Step) (is : IsUninjected set (s ∷ earlier)) (changes : AllStayOrAreNew set earlier)
+    (outcome : Outcome) where
+  module _ (e : Event) (comes : event_for sides.Loader (posted_in earlier) s.given ≡ Some e) (alone : event_for sides.Target (posted_in earlier) s.given ≡ None) (h : EndedByFile set.media (loader_at set earlier) e outcome) where
+    abbrev r : LoaderReading
+    r = loader_at set earlier
+
+    abbrev ended : Transfer
+    ended = h.ends.transfer
+
+    receives : (is_receiving ended.role ≡ true) × (is_received (end_in ended) ≡ true)
+    receives = subst (λ (t : Transfer). (is_receiving t.role ≡ true) × (is_received (end_in t) ≡ true)) (sym h.ends.is) (last_received h.ends.live.role h.ends.live.got h.ends.packet h.more h.last)
+
+    sent : AllArriveAsSent set (s ∷ earlier)
+    sent = arrives set (s ∷ earlier) is
+
+    abbrev then : Reading
+    then = (loader_extended set.media r e).end
+
+    among_then : Among ended (past_with then.live then.past ++ [])
+    among_then = subst (λ (ts : List Transfer). Among ended ts) (sym (append-nil (past_with then.live then.past))) (subst (λ (live : Option Transfer). Among ended (past_with live then.past)) (sym h.ends.free) (subst (λ (ts : List Transfer). Among ended ts) (sym h.ends.past) (inl refl)))
+
+    among : Among ended (loader_transfers set (s ∷ earlier))
+    among = subst (λ (x : Option Event). Among ended (past_with (loader_reading set.media (logged x (loader_log earlier))).end.live (loader_reading set.media (logged x (loader_log earlier))).end.past ++ [])) (sym comes) among_then
+
+    file_fits : IsBytes (arrived_of ended)
+    file_fits =
+        newest_bytes payloads (e ∷ loader_log earlier) then ended (subst (λ (x : Option Event). LogIsBytes (logged x (loader_log earlier))) comes (loader_log_bytes (s ∷ earlier) is.carries))
+        (loader_takes_what_came set.media (e ∷ loader_log earlier)).0 (ap newest h.ends.past)
+
+    arrived_now : arrived_of h.ends.live ++ h.more ≡ arrived_of ended
+    arrived_now = sym (arrived_last h.ends.live h.ends.from h.ends.packet h.more h.last) ∙ ap arrived_of (sym h.ends.is)
+
+    comes_now : file_turn (loader_row h.ends.session) (buffered (arrived_of ended)) ≡ Comes_to outcome
+    comes_now =
+        ap (λ (b : Buffer). file_turn (loader_row h.ends.session) b)
+        (ap buffered (sym arrived_now) ∙ (sym (buffered_on (arrived_of h.ends.live) h.more) ∙ ap (λ (x : List ℕ). buffered_more (buffered x) h.more) (sym (ap arriving_in h.ends.going))))
+        ∙ h.turn
+
+    serves_then : (u : Transfer) → AnswersRequest ended u ⊎ AnswersRequest u ended → is_asking h.ends.live.role ≡ true → is_asking u.role ≡ false
+    serves_then u (inl x) asks = asks_not _ h.ends.live.role asks (sym (ap (λ (t : Transfer). is_asking t.role) h.ends.is) ∙ x.serves)
+    serves_then u (inr x) asks = x.serves
+
+    answers_then : (u : Transfer) → AnswersRequest ended u ⊎ AnswersRequest u ended → is_asking h.ends.live.role ≡ false → AnswersRequest ended u
+    answers_then u (inl x) serves = x
+    answers_then u (inr x) serves = asks_not _ ended.role x.asks (ap (λ (t : Transfer). is_asking t.role) h.ends.is ∙ serves)
+
+    turned : ((kind : FileKind) (offset : ℕ) → BadFile kind offset ≡ outcome → ⊥) → bytes_turn (loader_row h.ends.session) (arrived_of ended) ≡ Comes_to outcome
+    turned none_bad =
+        let (short, turn) = not_too_long (loader_row h.ends.session) (buffered_more (buffered (arriving_in r.end.live)) h.more) outcome none_bad h.turn in
+        let arriving : arriving_in r.end.live ≡ arrived_of h.ends.live = ap arriving_in h.ends.going in
+        let bytes : (buffered_more (buffered (arriving_in r.end.live)) h.more).prefix ≡ arrived_of ended =
+        whole_prefix (arriving_in r.end.live) h.more short ∙ (ap (λ (x : List ℕ). x ++ h.more) arriving ∙ (sym (arrived_last h.ends.live h.ends.from h.ends.packet h.more h.last) ∙ ap arrived_of (sym h.ends.is))) in
+        ap (λ (x : List ℕ). bytes_turn (loader_row h.ends.session) x) (sym bytes) ∙ turn
+
+    target_is : target_transfers set s earlier ≡ transfers_of (target_at set earlier) ++ former_at set earlier
+    target_is = ap (λ (state : TargetState). transfers_of state ++ former_at set earlier) (ap (λ (x : Option Event). reached set x (target_at set earlier)) alone ∙ reached_none set (target_at set earlier))
+
+    by : ComesFromEnd (target_transfers set s earlier) ended → EndedByTarget set s earlier outcome
+    by (of_none none not) = absurd (false_is_true (sym not ∙ receives.1))
+    by (of_end u b brings) = record {
+      event = e;
+      comes = comes;
+      alone = alone;
+      arrived = h;
+      bytes = arrived_of ended;
+      fit = file_fits;
+      turn = λ none_bad. turned none_bad;
+      comes_to = comes_now;
+      other = u;
+      port = brings.ends.port;
+      receives = sym (ap (λ (t : Transfer). is_receiving t.role) h.ends.is) ∙ receives.0;
+      serves = serves_then u brings.ends.request;
+      answers = answers_then u brings.ends.request;
+      among = subst (λ (ts : List Transfer). Among u ts) target_is b;
+      file = brings.file;
+      sent = brings.sent;
+      cause = told_cause joins set hw earlier changes u (subst (λ (ts : List Transfer). Among u ts) target_is b);
+      whole = λ tells. brings.whole tells receives.1;
+    }
+
+    by_event : EndedByTarget set s earlier outcome
+    by_event = by (sent.0.at_loader ended among receives.0)
+
+  pub ended_by_target : IsOfFile outcome → EndsAs set s earlier outcome → EndedByTarget set s earlier outcome
+  ended_by_target of_file h = by (event_for sides.Loader (posted_in earlier) s.given) refl h.ended
+    where
+      by : (e : Option Event) → event_for sides.Loader (posted_in earlier) s.given ≡ e → (loader_reading set.media (logged e (loader_log earlier))).ended ≡ h.session ∷ (loader_at set earlier).ended → EndedByTarget set s earlier outcome
+      by None comes grew = absurd (longer (loader_at set earlier).ended h.session grew)
+      by (Some e) comes grew = alone (only_loader (posted_in earlier) s.given e comes)
+        where
+          ended_now : EndedByFile set.media (loader_at set earlier) e outcome
+          ended_now = subst (λ (x : Outcome). EndedByFile set.media (loader_at set earlier) e x) h.came_to (ended_by_file set.media (loader_log earlier) e h.session grew (subst IsOfFile (sym h.came_to) of_file))
+
+          alone : (event_for sides.Target (posted_in earlier) s.given ≡ None) ⊎ ((size : Option ℕ) × (e ≡ Learns size)) → EndedByTarget set s earlier outcome
+          alone (inl none) = by_event e comes none ended_now
+          alone (inr (size, learns)) = absurd (longer (loader_at set earlier).ended h.session (subst (λ (x : Event). (loader_extended set.media (loader_at set earlier) x).ended ≡ h.session ∷ (loader_at set earlier).ended) learns grew))

@@ -1,0 +1,109 @@
+-- Where the target writes that it stops, the verdict said so in the step in which the transfer began.
+use Rattle.std.proofs.Common.{◌≡◌, ℕ, List, [], ◌∷◌, ◌++◌, Option, Some, refl, sym, ap, subst, ◌∙◌}
+use Rattle.std.specs.List.{AllByRecursion}
+use Rattle.exchange_trace.specs.declared.trace.Side.TheVariants as sides
+use Rattle.exchange_trace.specs.Happenings.{DatagramView, HappeningView}
+use Rattle.exchange_trace.specs.Logs.{Event, event_for}
+use Rattle.exchange_trace.specs.Posts.{posted_in}
+use Rattle.exchange_trace.specs.Steps.{Step}
+use Rattle.transfer_end.specs.OtherEnds.{MoveHasRole}
+use Rattle.transfer_end.specs.Transfers.{Reads, Role, ServesRead, ServesWrite, Transfer, Writes}
+use Rattle.session_rules.specs.declared.reason.Reason.{Reason}
+use Rattle.session_rules.specs.BufferLaws.{SumsJoin}
+use Rattle.session_rules.specs.NewConfigs.{stopped_by, verdict_in}
+use Rattle.session_rules.specs.Reports.{stopped_lus}
+use Rattle.session_rules.specs.Target.{target_decision}
+use Rattle.session_rules.specs.TargetLog.{TargetReading, target_extended, target_view}
+use Rattle.session_rules.specs.TargetRows.{UploadEnd}
+use Rattle.replay_rules.specs.BothEnds.{Is_up, Setting, TargetState, reached, target_at}
+use Rattle.replay_rules.specs.ChangeLaws.{HasTarget}
+use Rattle.replay_rules.specs.OtherEndTraces.{former_at, target_transfers, transfers_of}
+use Rattle.replay_rules.specs.TieLaws.{HasLive, target_is_live}
+use Rattle.replay_rules.proofs.EachBefore.{AllOver, NewOver, newest_then, roles_mapped, trace_over}
+use Rattle.replay_rules.proofs.ListedTraces.{same_target}
+use Rattle.replay_rules.specs.Causes.{FailsFor}
+use Rattle.replay_rules.proofs.TargetFiles.{BeginsWell, IsStop, StopsNow, TellsCause, moves_tell}
+use Rattle.replay_rules.proofs.TargetTells.{hardware_at}
+
+-- After one of these steps the verdict of a session of the target was that it fails for a reason, and this LUS says so; the
+-- transfer that was the newest then came after these.
+pub record FailedAfter (set : Setting) (steps : List Step) (earlier : List Transfer) (file : List ℕ) : Type 0 where
+  pub since : List Step
+  pub failed : Step
+  pub before : List Step
+  pub reason : Reason
+  pub upload : UploadEnd
+  pub split : steps ≡ since ++ failed ∷ before
+  pub fails : FailsFor set (target_at set (failed ∷ before)) reason
+  pub writes : file ≡ stopped_lus upload.request upload.arrived upload.reports reason
+  pub newest : Transfer
+  pub transfers : target_transfers set failed before ≡ newest ∷ earlier
+
+abbrev pub StopsOver : Setting → List Step → Role → List Transfer → Type 0
+StopsOver set steps (Writes name options file) earlier = IsStop file → FailedAfter set steps earlier file
+StopsOver set steps role earlier = Unit {0}
+
+still_failed : (set : Setting) (s : Step) (steps : List Step) (earlier : List Transfer) (file : List ℕ) → FailedAfter set steps earlier file → FailedAfter set (s ∷ steps) earlier file
+still_failed set s steps earlier file h = record {
+  since = s ∷ h.since;
+  failed = h.failed;
+  before = h.before;
+  reason = h.reason;
+  upload = h.upload;
+  split = ap (λ (x : List Step). s ∷ x) h.split;
+  fails = h.fails;
+  writes = h.writes;
+  newest = h.newest;
+  transfers = h.transfers;
+}
+
+still_stops : (set : Setting) (s : Step) (steps : List Step) (role : Role) (earlier : List Transfer) → StopsOver set steps role earlier → StopsOver set (s ∷ steps) role earlier
+still_stops set s steps (Writes name o file) earlier h = λ stop. still_failed set s steps earlier file (h stop)
+still_stops set s steps (Reads name o) earlier h = tt
+still_stops set s steps (ServesRead name o file) earlier h = tt
+still_stops set s steps (ServesWrite name o) earlier h = tt
+
+module _ (joins : SumsJoin) (set : Setting) (hw : BeginsWell set.start.identity.hw) where
+  module _ (given : HappeningView) (posts : List DatagramView) (steps : List Step) (r : TargetReading) (e : Event) (up : target_at set steps ≡ Is_up r) (comes : event_for sides.Target (posted_in steps) given ≡ Some e) where
+    abbrev quiet_step : Step
+    quiet_step = record { given = given; posts = posts; notes = [] }
+
+    abbrev then : TargetReading
+    then = target_extended set.accepts r e
+
+    state_is : target_at set (quiet_step ∷ steps) ≡ Is_up then
+    state_is = ap (λ (state : TargetState). reached set (event_for sides.Target (posted_in steps) given) state) up ∙ ap (λ (x : Option Event). reached set x (Is_up r)) comes
+
+    stops_over : (role : Role) → TellsCause set.accepts r e role → NewOver (StopsOver set (quiet_step ∷ steps)) (former_at set steps) then.end role
+    stops_over (Writes name o file) (no_denial, no_lcs, stops) = λ t live stop. (
+        let h : StopsNow set.accepts then file = stops stop in
+        record {
+          since = [];
+          failed = quiet_step;
+          before = steps;
+          reason = h.reason;
+          upload = h.upload;
+          split = refl;
+          fails = subst (λ (state : TargetState). FailsFor set state h.reason) (sym state_is) (h.session, h.live, ap verdict_in h.row ∙ ap stopped_by h.why);
+          writes = h.writes;
+          newest = t;
+          transfers = newest_then set given posts steps r e t up comes live;
+        }
+        )
+    stops_over (Reads name o) h = λ t live. tt
+    stops_over (ServesRead name o file) h = λ t live. tt
+    stops_over (ServesWrite name o) h = λ t live. tt
+
+  abbrev Fact : List Step → Type 0
+  Fact steps = Unit {0}
+
+  begins : (given : HappeningView) (posts : List DatagramView) (steps : List Step) (r : TargetReading) (e : Event) → target_at set steps ≡ Is_up r → event_for sides.Target (posted_in steps) given ≡ Some e → Fact (record { given = given; posts = posts; notes = [] } ∷ steps)
+      → AllByRecursion (MoveHasRole (NewOver (StopsOver set (record { given = given; posts = posts; notes = [] } ∷ steps)) (former_at set steps) (target_extended set.accepts r e).end)) (target_decision set.accepts (target_view set.accepts r) e).moves
+  begins given posts steps r e up comes fact =
+      roles_mapped (TellsCause set.accepts r e) (NewOver (StopsOver set (record { given = given; posts = posts; notes = [] } ∷ steps)) (former_at set steps) (target_extended set.accepts r e).end)
+      (stops_over given posts steps r e up comes) _
+      (moves_tell joins set.accepts r e (subst (λ (state : TargetState). HasLive state) up (target_is_live joins set steps)) (hardware_at set r hw (subst (λ (state : TargetState). HasTarget set state) up (same_target set steps))))
+
+  -- whatever comes to the target
+  pub target_stops_over : (steps : List Step) → AllOver (StopsOver set steps) (transfers_of (target_at set steps) ++ former_at set steps)
+  target_stops_over steps = trace_over set (StopsOver set) Fact (λ s before fact. tt) (still_stops set) begins steps tt

@@ -1,0 +1,144 @@
+-- Why sessions of a run are denied or stopped where nothing is injected (docs/EXCHANGE.md, "Operations").
+use Rattle.std.specs.Prelude.{◌≡◌, ℕ, ◌≤◌, List, [], ◌∷◌, ◌++◌, length, true, Some, ⊤}
+use Rattle.load_base.specs.Ident.{IsIdent}
+use Rattle.load_base.specs.Text.{IsText}
+use Rattle.load_header.specs.Header.{HeaderView}
+use Rattle.disk_layout.specs.Holds.{StandingView}
+use Rattle.exchange_trace.specs.Happenings.{Upload_started}
+use Rattle.exchange_trace.specs.Steps.{Step}
+use Rattle.accept_rules.specs.Permissions.{Permits}
+use Rattle.session_rules.specs.declared.outcome.FileKind.{FileKind}
+use Rattle.session_rules.specs.declared.outcome.Outcome.{Outcome}
+use Rattle.session_rules.specs.declared.outcome.Outcome.TheVariants.{BadFile, Completed, Denied, TargetStopped}
+use Rattle.session_rules.specs.declared.reason.Reason.{Reason}
+use Rattle.session_rules.specs.declared.reason.Reason.TheVariants.{SequenceSpent}
+use Rattle.session_rules.specs.Loader.{EndedSession}
+use Rattle.session_rules.specs.NewConfigs.{Fails_for, verdict_in}
+use Rattle.session_rules.specs.Reports.{reason_text}
+use Rattle.session_rules.specs.TargetLog.{TargetSessionLog, row_in}
+use Rattle.replay_rules.specs.BothEnds.{Is_down, Is_up, Setting, TargetState, loader_at, target_at}
+use Rattle.replay_rules.specs.Histories.{active_at}
+use Rattle.replay_rules.specs.ListTraces.{AllCanBeListed, OwnFilesAreNamed}
+use Rattle.replay_rules.specs.MediaTraces.{LengthsAreTold}
+use Rattle.replay_rules.specs.OtherEndTraces.{IsUninjected}
+use Rattle.replay_rules.specs.OwnSessionTraces.{NoneStarts}
+
+-- ---- how a session ended
+
+-- an outcome that comes from a file which arrived
+abbrev pub IsOfFile : Outcome → Type 0
+IsOfFile Completed = ⊤
+IsOfFile (Denied text) = ⊤
+IsOfFile (TargetStopped text) = ⊤
+IsOfFile (BadFile kind offset) = ⊤
+IsOfFile outcome = ⊥
+
+-- The session ended in one of these steps: those before it, the newest first, had ended then, and no other.
+pub record EndedInStep (set : Setting) (steps : List Step) (session : EndedSession) (before : List EndedSession) : Type 0 where
+  pub since : List Step
+  pub step : Step
+  pub earlier : List Step
+  pub split : steps ≡ since ++ step ∷ earlier
+  pub others : (loader_at set earlier).ended ≡ before
+  pub ends : (loader_at set (step ∷ earlier)).ended ≡ session ∷ before
+
+-- Each session whose outcome comes from a file ended in a step of the run, once those before it had.
+abbrev pub SessionsEndInSteps : Type 0
+SessionsEndInSteps = (set : Setting) (steps : List Step) (newer : List EndedSession) (session : EndedSession) (before : List EndedSession) → (loader_at set steps).ended ≡ newer ++ session ∷ before → IsOfFile session.outcome
+    → EndedInStep set steps session before
+
+-- a session ended in the newest step, and came to this
+pub record EndsAs (set : Setting) (s : Step) (earlier : List Step) (outcome : Outcome) : Type 0 where
+  pub session : EndedSession
+  pub ended : (loader_at set (s ∷ earlier)).ended ≡ session ∷ (loader_at set earlier).ended
+  pub came_to : session.outcome ≡ outcome
+
+-- ---- denied
+
+-- no sequence number is left after that of the configuration
+abbrev pub IsSpent : StandingView → Type 0
+IsSpent active = 4294967295 ≤ active.sequence
+
+-- The target denied it since no sequence number was left, and what is active has the last one; the text is that reason.
+pub record IsDeniedForSequence (set : Setting) (steps : List Step) (text : List ℕ) : Type 0 where
+  pub spent : IsSpent (active_at set steps)
+  pub tells : text ≡ reason_text SequenceSpent
+
+abbrev pub DeniedWhereSpent : Setting → Step → List Step → Type 0
+DeniedWhereSpent set s earlier = (text : List ℕ) → EndsAs set s earlier (Denied text) → IsDeniedForSequence set (s ∷ earlier) text
+
+-- so it is of each session that ends in one of these steps
+abbrev pub AllDeniedWhereSpent : Setting → List Step → Type 0
+AllDeniedWhereSpent set [] = ⊤
+AllDeniedWhereSpent set (s ∷ earlier) = DeniedWhereSpent set s earlier × AllDeniedWhereSpent set earlier
+
+-- Where nothing is injected a session is denied only where the configuration that is active has the last sequence number, and
+-- for that reason: through losses, repeats, other orders, power losses and boots. The target's hardware is an Ident.
+abbrev pub DenialsAreForSequence : Type 0
+DenialsAreForSequence = (set : Setting) (steps : List Step) → ((h : HeaderView) → set.accepts h ≡ true → Permits h) → IsIdent set.start.identity.hw → IsUninjected set steps → AllDeniedWhereSpent set steps
+
+-- ---- stopped
+
+-- the verdict on what arrived in the target's live session is that it fails for this reason
+abbrev pub FailsFor : Setting → TargetState → Reason → Type 0
+FailsFor set (Is_up r) reason = (session : TargetSessionLog) × (r.live ≡ Some session) × (verdict_in (row_in set.accepts r.active.identity session) ≡ Fails_for reason)
+FailsFor set (Is_down active interrupted) reason = ⊥
+
+-- The newest start is that of an upload, and the session that ended last is the one that ended since: so it is that upload.
+-- Since its start there was a step after which the verdict of a session of the target was that it fails for this reason; the
+-- text is that of the reason, where that is a text, as it is where its numbers are those of files.
+pub record IsStoppedByVerdict (set : Setting) (steps : List Step) (text : List ℕ) : Type 0 where
+  pub since : List Step
+  pub failed : Step
+  pub between : List Step
+  pub start : Step
+  pub before : List Step
+  pub hw : List ℕ
+  pub pos : List ℕ
+  pub parts : List (List ℕ)
+  pub session : EndedSession
+  pub reason : Reason
+  pub split : steps ≡ since ++ failed ∷ (between ++ start ∷ before)
+  pub starts : start.given ≡ Upload_started hw pos parts
+  pub newest : NoneStarts (since ++ failed ∷ between)
+  pub one : (loader_at set steps).ended ≡ session ∷ (loader_at set (start ∷ before)).ended
+  pub fails : FailsFor set (target_at set (failed ∷ (between ++ start ∷ before))) reason
+  pub tells : IsText (reason_text reason) → text ≡ reason_text reason
+
+abbrev pub StoppedWhereFailed : Setting → Step → List Step → Type 0
+StoppedWhereFailed set s earlier = (text : List ℕ) → EndsAs set s earlier (TargetStopped text) → IsStoppedByVerdict set (s ∷ earlier) text
+
+abbrev pub AllStoppedWhereFailed : Setting → List Step → Type 0
+AllStoppedWhereFailed set [] = ⊤
+AllStoppedWhereFailed set (s ∷ earlier) = StoppedWhereFailed set s earlier × AllStoppedWhereFailed set earlier
+
+-- Under the same premises a session is stopped by the target only after the verdict of a session of the target gave, since its
+-- own start, the reason that is told, with its numbers.
+abbrev pub StopsAreForVerdicts : Type 0
+StopsAreForVerdicts = (set : Setting) (steps : List Step) → ((h : HeaderView) → set.accepts h ≡ true → Permits h) → IsIdent set.start.identity.hw → IsUninjected set steps → AllStoppedWhereFailed set steps
+
+-- ---- bad files
+
+-- at most as many loads as an upload may ask for
+abbrev pub HasFewLoads : StandingView → Type 0
+HasFewLoads s = length s.loads ≤ 32
+
+-- The run began with what a disk can hold: its bank has a length of four bytes, and few loads are on it.
+pub record BeginsSmall (s : StandingView) : Type 0 where
+  pub bank : s.identity.bank ≤ 4294967295
+  pub few : HasFewLoads s
+
+abbrev pub NoBadFile : Setting → Step → List Step → Type 0
+NoBadFile set s earlier = (kind : FileKind) (offset : ℕ) → EndsAs set s earlier (BadFile kind offset) → ⊥
+
+-- so it is of each session that ends in one of these steps
+abbrev pub NoBadFiles : Setting → List Step → Type 0
+NoBadFiles set [] = ⊤
+NoBadFiles set (s ∷ earlier) = NoBadFile set s earlier × NoBadFiles set earlier
+
+-- Under the same premises, and where the target's own files have names, the run began with what a disk can hold, what is active
+-- can be listed and no file of the media set is too long to be told, no session ends by a bad file: each LCI, LCS, LCL, LUI and
+-- LUS that comes to the loader is one, of at most 65,536 bytes, and has a status that is allowed in its row. No LUR comes to it.
+abbrev pub FilesAreGood : Type 0
+FilesAreGood = (set : Setting) (steps : List Step) → ((h : HeaderView) → set.accepts h ≡ true → Permits h) → IsIdent set.start.identity.hw → OwnFilesAreNamed set → BeginsSmall set.start → LengthsAreTold set.media → AllCanBeListed set steps
+    → IsUninjected set steps → NoBadFiles set steps
