@@ -1,9 +1,8 @@
 -- What a command leaves on the disk, whatever it answers.
-use Rattle.std.proofs.Common.{◌≡◌, inl, inr, ℕ, ◌≤◌, List, Bool, true, false, Some, refl, sym, ap, subst, ◌∙◌}
+use Rattle.std.proofs.Common.{◌≡◌, inl, ℕ, ◌≤◌, true, false, Some, refl, sym, ap, subst, ◌∙◌}
 use Rattle.std.specs.Prelude.{is_some, not, ◌==◌}
 use Rattle.disk_model.specs.Image.{Image}
 use Rattle.disk_model.specs.MomentLaws.{leaves_more, read_goes_on, settled_stays, started}
-use Rattle.disk_model.specs.Moments.{LeavesOnly}
 use Rattle.disk_model.specs.State.{DiskState, IsSettled, OnlyReads}
 use Rattle.disk_layout.specs.Holds.{HoldsConfig, StandingView}
 use Rattle.accept_rules.specs.Permissions.{Permits, permits}

@@ -1,6 +1,6 @@
 -- What is read of the inputs of a run, from what the host told.
-use Rattle.std.proofs.Common.{◌≡◌, ◌≤◌, ℕ, List, [], ◌∷◌, length, Option, Some, None, Result, Ok, Err, refl, sym, ap, subst, ◌∙◌}
-use Rattle.std.specs.Prelude.{All, codes}
+use Rattle.std.proofs.Common.{◌≡◌, ◌≤◌, ℕ, List, [], length, Option, Some, None, Result, Ok, Err, refl, sym, subst, ◌∙◌}
+use Rattle.std.specs.Prelude.{codes}
 use Rattle.std.specs.Option.{ForSome}
 use Rattle.std.proofs.lemmas.List.Elements.{All-head}
 use Rattle.load_base.specs.Host.{Files, longest_file}
@@ -12,7 +12,7 @@ use Rattle.media_lists.specs.declared.fault.ListFault.{ListFault}
 use Rattle.media_lists.specs.ListFaultText.{list_fault_text}
 use Rattle.media_check.specs.HostNames.{files_name, further_reading, host_media, loads_name}
 use Rattle.media_check.specs.Openings.{CanRead, IsShort, IsTooLong, OpensRest, ReadsList}
-use Rattle.media_check.specs.Sets.{MemberView, SetView, found_as, found_in, found_view, lists_in, set_in, set_view, set_with}
+use Rattle.media_check.specs.Sets.{MemberView, SetView, found_as, found_in, lists_in, set_view, set_with}
 use Rattle.media_check.specs.declared.found.Found.{Found}
 use Rattle.media_check.specs.declared.found.Found.TheVariants.{Missing, Refused, Read}
 use Rattle.media_check.specs.declared.fault.OpenFault.TheVariants.{TooLong}
@@ -20,7 +20,7 @@ use Rattle.media_check.specs.declared.set.MediaSet.{MediaSet}
 use Rattle.load_base.specs.Listed.{Listed}
 use Rattle.loader_cli.specs.HostFiles.{Has}
 use Rattle.loader_cli.specs.Inputs.{HasListed, HasLoads, IsRefusal, ReadsInputs, SaysScript, list_name}
-use Rattle.loader_cli.specs.Replays.{HasList, HasLists, HasSet, IsRead, RefusesInputs, RefusesList, rest_of}
+use Rattle.loader_cli.specs.Replays.{HasList, HasSet, IsRead, RefusesInputs, RefusesList, rest_of}
 use Rattle.loader_cli.specs.Replays.RefusesInputs.{loads_refused, files_refused, large_set, no_script}
 use Rattle.loader_cli.specs.Replays.RefusesList.{list_absent, list_faulty}
 use Rattle.loader_cli.specs.Texts.{refused_input}

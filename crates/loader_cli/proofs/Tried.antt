@@ -1,8 +1,6 @@
 -- A run after a survey of its disk.
 use Rattle.std.proofs.Common.{◌≡◌, ℕ, ◌+◌, ◌≤◌, ◌⊎◌, inl, inr, List, Option, ap, subst, ◌∙◌, arith}
-use Rattle.std.specs.Prelude.{◌-◌, ◌^◌, min}
 use Rattle.std.specs.Option.{ForSome}
-use Rattle.load_base.specs.Counts.{Rose}
 use Rattle.disk_model.specs.Image.{Image}
 use Rattle.disk_model.specs.MomentLaws.{settled_stays}
 use Rattle.disk_model.specs.State.{DiskState, KeepsPower, OnlyReads}

@@ -18,14 +18,14 @@ use Rattle.tftp_link.specs.Receiver.{Receiver, receiver_answer, receiver_packet}
 use Rattle.tftp_link.specs.Sender.{Sender, sender_packet}
 use Rattle.transfer_end.specs.Moves.{Move, Recalls, all_posts, datagram, kept_post, recalled_post}
 use Rattle.transfer_end.specs.Packets.{belongs, heard_answer, packet_in, transfer_moves}
-use Rattle.transfer_end.specs.Transfers.{LinkEnd, Receives, Sends, end_answer, end_packet}
+use Rattle.transfer_end.specs.Transfers.{LinkEnd, Receives, Sends, end_packet}
 use Rattle.transfer_end.specs.Views.{EndView, TransferView}
 use Rattle.session_rules.specs.BufferLaws.{SumsJoin}
 use Rattle.session_rules.specs.Loader as loader
-use Rattle.session_rules.specs.Loader.{LoaderDecision, LoaderSession, LoaderView, loader_decision, loader_posts}
+use Rattle.session_rules.specs.Loader.{LoaderDecision, LoaderSession, LoaderView, loader_posts}
 use Rattle.session_rules.specs.MediaFiles.{Media}
 use Rattle.session_rules.specs.Target as target
-use Rattle.session_rules.specs.Target.{TargetDecision, TargetSession, TargetView, target_decision, target_posts}
+use Rattle.session_rules.specs.Target.{TargetDecision, TargetSession, TargetView, target_posts}
 use Rattle.session_rules.specs.TargetRows.{RowView, Gives_lci, Writes_lcs, Writes_lcl, Gives_lui, Gives_denial, Writes_ready, Awaits_lur, Reads_file, Writes_progress, Writes_stop, Writes_completion, Over}
 use Rattle.replay_rules.specs.BothEnds.{Setting}
 use Rattle.transfer_completion.specs.BlockLaws.{block_small, eq_false, eq_true, lt_true}

@@ -1,6 +1,6 @@
 -- Good loads lead from row to row.
 use Rattle.std.proofs.Common.{◌≡◌, ℕ, suc, ◌+◌, ◌<◌, ◌≤◌, Bool, true, false, cond, List, [], ◌∷◌, ◌++◌, length, map, take, Option, Some, None, Ok, refl, sym, ap, subst, ◌∙◌, arith, append-nil, append_assoc, length-append}
-use Rattle.std.specs.Prelude.{slice_get, nat_lt, nat_le, bytes_eq, unwrap_or, ◌==◌, ◌||◌, ◌↔◌}
+use Rattle.std.specs.Prelude.{slice_get, nat_lt, nat_le, unwrap_or, ◌↔◌}
 use Rattle.std.specs.List.{AllByRecursion, AllZip, flat_map, concat, sum_by}
 use Rattle.std.proofs.lemmas.List.{take_all}
 use Rattle.std.proofs.lemmas.List.Sums.{sum_by-append}

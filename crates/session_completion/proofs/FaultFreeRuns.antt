@@ -15,7 +15,7 @@ use Rattle.session_rules.specs.TargetLog.{TargetReading, target_view, TargetSess
 use Rattle.replay_rules.specs.BothEnds.{Is_down, Is_up, Setting, TargetState, loader_at, target_at, waiting, waits_in}
 use Rattle.replay_rules.specs.Due.{AllDue, due_of_loader, due_of_target}
 use Rattle.replay_rules.specs.FaultFree.{IsNoInjection, IsReadyFor, IsSmooth, NothingInjected, IsNoStart, IsUndisturbed, ports_for}
-use Rattle.replay_rules.specs.Ties.{IsTied, Reacts, StepKeepsTie, kept_by, loader_next, loader_says, target_next, target_says}
+use Rattle.replay_rules.specs.Ties.{IsTied, StepKeepsTie, kept_by, loader_next, loader_says, target_next, target_says}
 use Rattle.session_completion.specs.FaultFreeRuns.{FaultFreeRunsComplete, FaultFreeRunsLead, GivesNoneUp, IsWorldOf, NoneGivesUp, retries_after, QuietIsIdle}
 use Rattle.session_completion.specs.GoodUploads.{GoodUploadsComplete, Leads, begins, delivers, retries_at, started, tells, ticks}
 use Rattle.session_completion.specs.Worlds.{World, at_loader, at_target, delivered, told, waits, delivered_to}

@@ -1,6 +1,6 @@
 -- Each delivery brings a clean upload to its next stage.
 use Rattle.std.proofs.Common.{◌≡◌, ℕ, zero, suc, ◌+◌, ◌*◌, ◌<◌, ◌≤◌, true, false, List, [], ◌∷◌, ◌++◌, length, Option, Some, None, refl, sym, ap, subst, ◌∙◌, arith, append-nil, inl, inr}
-use Rattle.std.specs.Prelude.{Contains, ◌==◌}
+use Rattle.std.specs.Prelude.{◌==◌}
 use Rattle.disk_layout.specs.Holds.{Outline}
 use Rattle.load_base.specs.Config.{LoadView}
 use Rattle.load_base.specs.Name.{IsName}
@@ -23,11 +23,11 @@ use Rattle.session_rules.specs.Buffers.{buffered, buffered_more}
 use Rattle.session_rules.specs.BufferLaws.{SumsJoin, buffered_on}
 use Rattle.session_rules.specs.FileNames.{file_name}
 use Rattle.session_rules.specs.Loader as loader
-use Rattle.session_rules.specs.Loader.{LoaderSession, LoaderView, loader_after, loader_changed}
+use Rattle.session_rules.specs.Loader.{LoaderSession, LoaderView, loader_after}
 use Rattle.session_rules.specs.LoaderRows.{kind_taken, serves_files, Goes_on, file_turn, row_after}
 use Rattle.session_rules.specs.Target as target
-use Rattle.session_rules.specs.Target.{TargetSession, TargetView, active_in, own_name, target_after, target_changed}
-use Rattle.session_rules.specs.TargetRows.{RowView, Gives_lci, Writes_lcs, Writes_lcl, Gives_lui, Gives_denial, Writes_ready, Awaits_lur, Reads_file, Writes_progress, Writes_stop, Writes_completion, Over, arriving_of}
+use Rattle.session_rules.specs.Target.{TargetSession, TargetView, active_in, own_name, target_after}
+use Rattle.session_rules.specs.TargetRows.{RowView, Gives_lci, Writes_lcs, Writes_lcl, Gives_lui, Gives_denial, Writes_ready, Awaits_lur, Reads_file, Writes_progress, Writes_stop, Writes_completion, Over}
 use Rattle.replay_rules.specs.BothEnds.{Setting}
 use Rattle.transfer_completion.specs.BlockLaws.{eq_false, lt_true, take_none, eq_true}
 use Rattle.transfer_completion.specs.Laws.{GoesOnAtReceiver, GoesOnAtSender, IsWhole, MovesReceiver, MovesSender}
@@ -35,9 +35,9 @@ use Rattle.transfer_completion.specs.Positions.{HasAsked, IsBehind, IsIn, IsRunn
 use Rattle.transfer_completion.specs.Steps.{IsGoing}
 use Rattle.transfer_completion.specs.TalkLaws.{reading_begins, requests_are_read, taken_is_small, writing_begins, finished_is_whole}
 use Rattle.transfer_completion.specs.Talks.{Talk, left_down, left_up, taken_of}
-use Rattle.session_completion.specs.Course.{Course, IsFine, IsInUpload, IsLater, IsStep, asker, cost, cost_behind, file_in, loader_row, name_in, next_row, own_file_name, role_in, sender_in, IsAfterRequest, arrives_in}
+use Rattle.session_completion.specs.Course.{Course, IsFine, IsInUpload, IsLater, IsStep, asker, cost, cost_behind, file_in, loader_row, next_row, own_file_name, role_in, sender_in, IsAfterRequest, arrives_in}
 use Rattle.session_completion.specs.Requests.{is_own_file}
-use Rattle.session_completion.specs.Stages.{Came, HasRoom, HoldsReceiver, HoldsSender, InRow, IsPosted, KeepsWhole, LoaderIsDone, Meets, Opposite, TargetBefore, Where, as_request, asked, closing, down, early, end_at, ending, here, loader_session, may_ask, over, target_session, to_loader, to_target, up}
+use Rattle.session_completion.specs.Stages.{Came, HasRoom, HoldsReceiver, HoldsSender, InRow, KeepsWhole, LoaderIsDone, Meets, Opposite, TargetBefore, Where, as_request, asked, closing, down, early, end_at, ending, here, loader_session, may_ask, over, target_session, to_loader, to_target, up}
 use Rattle.session_completion.specs.Worlds.{World, delivered_to, waits}
 use Rattle.session_completion.proofs.Holding.{Holds, answers_so, goes, holds_receiver, holds_sender, is_mine, next_port, takes_last}
 use Rattle.session_completion.proofs.LoaderSteps as at_loader

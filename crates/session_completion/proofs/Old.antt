@@ -26,7 +26,7 @@ use Rattle.session_rules.specs.LoaderRows.{kind_taken, serves_files}
 use Rattle.session_rules.specs.MediaFiles.{Media}
 use Rattle.session_rules.specs.TargetRows.{Arriving, Kept_bytes, Kept_sums, with_bytes, RowView, Awaits_lur, Gives_lci, Writes_lcs, Writes_lcl, Gives_lui, Gives_denial, Writes_ready, Reads_file, Writes_progress, Writes_stop, Writes_completion, Over}
 use Rattle.session_rules.specs.Target as target
-use Rattle.session_rules.specs.Target.{TargetView, TargetSession, TargetDecision, TargetChange, target_posts, target_after, target_changed}
+use Rattle.session_rules.specs.Target.{TargetView, TargetSession, TargetDecision, target_posts, target_after, target_changed}
 use Rattle.transfer_completion.specs.Replies.{Replies, IsOldPacket, AreQuiet}
 use Rattle.transfer_completion.specs.ReplyLaws.{IsDroppedOrAgain, old_is_quiet, old_is_not_awaited}
 use Rattle.session_completion.specs.Requests.{is_there, is_own_file, is_write, SumFits, SessionFits, NoMoreSums}

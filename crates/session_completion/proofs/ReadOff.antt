@@ -16,20 +16,19 @@ use Rattle.transfer_end.specs.Transfers.{Sends, first_packet}
 use Rattle.session_rules.specs.BufferLaws.{SumsJoin}
 use Rattle.session_rules.specs.TargetRows.{RowView, Gives_lci, Writes_lcs, Writes_lcl, Gives_lui, Gives_denial, Writes_ready, Awaits_lur, Reads_file, Writes_progress, Writes_stop, Writes_completion, Over}
 use Rattle.replay_rules.specs.BothEnds.{Setting}
-use Rattle.transfer_completion.specs.Positions.{HasAsked, IsIn, IsPast, Position, Rests, StandsIn}
+use Rattle.transfer_completion.specs.Positions.{IsIn, IsPast, Position, Rests}
 use Rattle.transfer_completion.specs.Positions as positions
 use Rattle.session_completion.specs.Clean.{IsDone, IsNext}
 use Rattle.session_completion.specs.Laws.{AllComeOut, ComesOut, FewAreAhead, LastIsDone, LastWasPosted, TwoAreQuiet}
 use Rattle.session_completion.specs.Requests.{is_write}
 use Rattle.session_completion.specs.Shapes.{HasShape, NextResets, ResetsAt, always}
 use Rattle.session_completion.specs.Stages as stages
-use Rattle.session_completion.specs.Stages.{Came, IsPosted, Meets, Opposite, Where, asked, closing, down, early, end_at, ending, may_ask, over, to_loader, to_target, up}
+use Rattle.session_completion.specs.Stages.{Came, IsPosted, Meets, Opposite, Where, asked, closing, down, early, ending, may_ask, over, to_loader, to_target, up}
 use Rattle.session_completion.specs.Worlds.{World, delivered, last_of, waits}
 use Rattle.session_completion.proofs.Next as next
-use Rattle.session_completion.proofs.Next.{Leads}
 use Rattle.session_completion.proofs.Queues.{first_or_none, next_drop, none_drop}
 use Rattle.session_completion.proofs.Reacts.{Resets}
-use Rattle.session_completion.proofs.Stands.{StandsSomewhere, all_stand, drop_before, leads_on, next_is}
+use Rattle.session_completion.proofs.Stands.{all_stand, drop_before, leads_on, next_is}
 use Rattle.session_completion.specs.Course.{Course, IsFine, IsInUpload, IsLater, asker, file_in, next_row, own_file_name, role_in}
 use Rattle.session_rules.specs.declared.outcome.FileKind.TheVariants.{Lui, Lur, Lus}
 use Rattle.session_rules.specs.Uploads.{next_name}

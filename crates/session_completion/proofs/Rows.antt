@@ -14,7 +14,7 @@ use Rattle.session_rules.specs.FileNames.{extension, file_name}
 use Rattle.session_rules.specs.Loader.{LoaderSession}
 use Rattle.session_rules.specs.Loader as loader
 use Rattle.session_rules.specs.Target as target
-use Rattle.session_rules.specs.Target.{TargetSession, TargetView, active_in, own_name}
+use Rattle.session_rules.specs.Target.{TargetSession, TargetView, active_in}
 use Rattle.session_rules.specs.TargetRows.{Arriving, Kept_bytes, Kept_sums, RowView, Gives_lci, Writes_lcs, Writes_lcl, Gives_lui, Gives_denial, Writes_ready, Awaits_lur, Reads_file, Writes_progress, Writes_stop, Writes_completion, Over, arriving_load, arriving_of, row_move, said_length, view_moved, with_bytes}
 use Rattle.session_rules.specs.Uploads.{OpenLoadView, next_entry}
 use Rattle.replay_rules.specs.BothEnds.{Setting}

@@ -18,12 +18,12 @@ use Rattle.session_rules.specs.declared.outcome.SessionKind.TheVariants.{Info, U
 use Rattle.session_rules.specs.Buffers.{buffered_more}
 use Rattle.session_rules.specs.FileNames.{file_name}
 use Rattle.session_rules.specs.Loader as loader
-use Rattle.session_rules.specs.Loader.{LoaderView, LoaderSession, Start, LoaderDecision, LoaderChange, loader_decision, loader_posts, loader_after, loader_changed}
+use Rattle.session_rules.specs.Loader.{LoaderView, LoaderSession, Start, LoaderDecision, LoaderChange, loader_decision, loader_changed}
 use Rattle.session_rules.specs.LoaderRows.{Turn, Goes_on, Comes_to, kind_taken, serves_files, first_row, row_after, file_turn}
 use Rattle.session_rules.specs.MediaFiles.{Media, wanted_of}
 use Rattle.session_rules.specs.TargetRows.{RowView, RowMove, row_move, view_moved, with_bytes, Awaits_lur, Gives_lci, Writes_lcs, Writes_lcl, Gives_lui, Gives_denial, Writes_ready, Reads_file, Writes_progress, Writes_stop, Writes_completion, Over}
 use Rattle.session_rules.specs.Target as target
-use Rattle.session_rules.specs.Target.{TargetView, TargetSession, TargetDecision, TargetChange, target_decision, target_posts, target_after, target_changed}
+use Rattle.session_rules.specs.Target.{TargetView, TargetSession, TargetDecision, TargetChange, target_decision, target_changed}
 use Rattle.transfer_completion.specs.Retries.{with_retries, IsNoTick, NoTicks}
 use Rattle.transfer_completion.specs.RetryLaws.{moves_do_the_same}
 use Rattle.session_completion.specs.Retries.{IsNoTicking, loader_retries, target_retries, LoaderDoesTheSame, TargetDoesTheSame}

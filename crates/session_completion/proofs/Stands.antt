@@ -19,7 +19,7 @@ use Rattle.session_rules.specs.declared.outcome.FileKind.TheVariants.{Lui}
 use Rattle.session_rules.specs.BufferLaws.{SumsJoin}
 use Rattle.session_rules.specs.Buffers.{Buffer, buffer_size, buffered, empty_buffer}
 use Rattle.session_rules.specs.Loader as loader
-use Rattle.session_rules.specs.Loader.{LoaderDecision, LoaderSession, LoaderView, loader_after, loader_posts}
+use Rattle.session_rules.specs.Loader.{LoaderDecision, LoaderSession, LoaderView, loader_posts}
 use Rattle.session_rules.specs.LoaderRows.{Reads_lui}
 use Rattle.session_rules.specs.MediaFiles.{wanted_of}
 use Rattle.session_rules.specs.Target.{TargetSession, TargetView}

@@ -1,6 +1,6 @@
 -- What the disk of a run holds once the target was switched off and on, and at its end.
-use Rattle.std.proofs.Common.{◌≡◌, ◌⊎◌, inl, inr, ℕ, ◌≤◌, cond, List, [], ◌∷◌, ◌++◌, Bool, true, false, Option, Some, None, Result, refl, sym, ap, subst, ◌∙◌, arith}
-use Rattle.std.specs.Prelude.{◌==◌, is_some}
+use Rattle.std.proofs.Common.{◌≡◌, inl, inr, ℕ, cond, true, Option, Some, None, Result, refl, sym, ap, subst, ◌∙◌, arith}
+use Rattle.std.specs.Prelude.{◌==◌}
 use Rattle.std.proofs.lemmas.Bool.Decides.{nat_tests}
 use Rattle.disk_model.specs.Image.{Image}
 use Rattle.disk_model.specs.State.{DiskState, Elapses, IsSettled, OnlyReads}
@@ -8,22 +8,20 @@ use Rattle.disk_model.specs.declared.disk.DiskFault.{DiskFault}
 use Rattle.disk_layout.specs.Holds.{HasDiskFault, HoldsConfig, StandingView, outline_of}
 use Rattle.disk_layout.specs.declared.fault.RecoverFault.{RecoverFault}
 use Rattle.disk_layout.specs.declared.fault.RecoverFault.TheVariants.{BadManifest, BadSlot, DiskFailed, Memory, NoOpenSlot, NotFormatted}
-use Rattle.bank_store.specs.declared.store.Store.{Store}
 use Rattle.session_rules.specs.Target.{TargetView, new_target}
 use Rattle.session_rules.specs.TargetLog.{new_target_reading, target_view}
 use Rattle.replay_rules.specs.BothEnds.{Is_down, Is_up, Setting, TargetState, come_up, gone_down, noted, reached, settled}
 use Rattle.replay_rules.specs.ContentTraces.{ContentsFollowAt}
 use Rattle.replay_rules.specs.Histories.{active_by, may_be_active}
 use Rattle.replay_rules.specs.Promises.{HoldsOneOf}
-use Rattle.replay_rules.specs.Ties.{kept_by}
 use Rattle.target_machine.specs.Boots.{BootFails, ComesUp}
 use Rattle.target_machine.specs.declared.boot.BootFault.TheVariants.{Recover}
 use Rattle.target_machine.specs.Decisions as machine
-use Rattle.target_machine.specs.Disks.{HoldsContents, StartsOn}
+use Rattle.target_machine.specs.Disks.{StartsOn}
 use Rattle.upload_replay.specs.declared.powering.PowerNote.{PowerNote}
 use Rattle.upload_replay.specs.declared.powering.PowerNote.TheVariants as power
-use Rattle.upload_replay.specs.Moments.{AreApart, HoldsRun, LeftAtEnd}
-use Rattle.upload_replay.specs.Turns.{notes_of, target_kept}
+use Rattle.upload_replay.specs.Moments.{AreApart, HoldsRun}
+use Rattle.upload_replay.specs.Turns.{notes_of}
 use Rattle.upload_replay.proofs.Held.{NeverBoth, OneStanding, gone_holds, one_left, which}
 
 -- ---- which configuration is settled

@@ -1,16 +1,14 @@
 -- What the disk of a run holds, step after step.
-use Rattle.std.proofs.Common.{◌≡◌, ◌⊎◌, inl, inr, ℕ, ◌+◌, ◌<◌, ◌≤◌, cond, List, [], ◌∷◌, ◌++◌, Bool, true, false, Option, Some, None, Result, Ok, Err, OnOk, refl, sym, ap, subst, ◌∙◌, arith}
+use Rattle.std.proofs.Common.{◌≡◌, ◌⊎◌, inl, inr, ℕ, ◌+◌, ◌<◌, ◌≤◌, cond, List, [], ◌∷◌, ◌++◌, Bool, true, false, Option, Some, None, Result, refl, sym, ap, subst, ◌∙◌, arith}
 use Rattle.std.specs.Prelude.{◌==◌, is_some, nat_lt}
 use Rattle.std.proofs.lemmas.Bool.Decides.{nat_tests}
 use Rattle.disk_model.specs.Image.{Image}
-use Rattle.disk_model.specs.State.{DiskState, Elapses, IsSettled, OnlyReads}
+use Rattle.disk_model.specs.State.{DiskState, Elapses, OnlyReads}
 use Rattle.disk_model.specs.Arming.{Arms}
 use Rattle.disk_model.specs.declared.disk.DiskFault.{DiskFault}
 use Rattle.disk_layout.specs.Holds.{HasDiskFault, HoldsConfig, StandingView}
 use Rattle.disk_layout.specs.declared.fault.RecoverFault.{RecoverFault}
-use Rattle.bank_store.specs.declared.store.Store.{Store}
 use Rattle.bank_store.specs.DiskWrites.{TimeGoesOn}
-use Rattle.load_header.specs.Header.{HeaderView}
 use Rattle.exchange_trace.specs.declared.trace.Side.TheVariants as sides
 use Rattle.exchange_trace.specs.Logs.{Event, event_for}
 use Rattle.exchange_trace.specs.Posts.{posted_in}
@@ -32,7 +30,6 @@ use Rattle.target_machine.specs.Decisions as machine
 use Rattle.target_machine.specs.Disks.{HoldsContents, KeepsDisk}
 use Rattle.upload_replay.specs.Drives.{TargetTurns}
 use Rattle.upload_replay.specs.Moments.{AddsInStep, AreApart, AreClocks, BootIsTold, HasContents, HeldSoFar, HoldsAsBefore, HoldsRun, LeavesNoMore, WorksOn, contents_then}
-use Rattle.upload_replay.specs.Turns.{target_kept}
 use Rattle.upload_replay.proofs.Turning.{gone_keeps_none}
 
 -- ---- one of these configurations

@@ -1,5 +1,5 @@
 -- What one step adds and leaves, however it ends.
-use Rattle.std.proofs.Common.{◌≡◌, ◌⊎◌, inl, inr, ℕ, List, [], ◌∷◌, ◌++◌, Bool, Option, Some, None, Result, Ok, Err, IfOk, OnOk, refl, sym, ap, subst, ◌∙◌, arith}
+use Rattle.std.proofs.Common.{◌≡◌, inl, ℕ, List, [], ◌∷◌, Bool, Option, Some, None, Result, Ok, Err, IfOk, refl, sym, ap, subst, ◌∙◌}
 use Rattle.std.specs.Prelude.{is_some}
 use Rattle.disk_model.specs.Image.{Image}
 use Rattle.disk_model.specs.State.{DiskState, Elapses, OnlyReads}
@@ -16,16 +16,14 @@ use Rattle.exchange_trace.specs.Logs.{Event, Learns}
 use Rattle.exchange_trace.specs.Happenings.{DatagramView}
 use Rattle.exchange_trace.specs.Steps.{Note, Went_down}
 use Rattle.session_rules.specs.Contents.{TargetContents, contents_after, contents_of}
-use Rattle.session_rules.specs.TargetLog.{TargetReading, target_view}
+use Rattle.session_rules.specs.TargetLog.{target_view}
 use Rattle.load_intake.specs.declared.down.Down.{Down}
 use Rattle.replay_rules.specs.BothEnds.{Is_down, Is_up, Setting, TargetState, noted, reached}
-use Rattle.replay_rules.specs.ContentTraces.{ContentsFollowAt}
 use Rattle.replay_rules.specs.Due.{IsBooted}
-use Rattle.replay_rules.specs.Histories.{may_be_active}
 use Rattle.replay_rules.specs.Ties.{target_next}
 use Rattle.target_machine.specs.Decisions as machine
 use Rattle.target_machine.specs.DiskLaws.{learns_on}
-use Rattle.target_machine.specs.Disks.{HoldsContents, KeepsDisk}
+use Rattle.target_machine.specs.Disks.{KeepsDisk}
 use Rattle.upload_replay.specs.declared.powering.PowerNote.{PowerNote}
 use Rattle.upload_replay.specs.declared.powering.PowerNote.TheVariants as power
 use Rattle.upload_replay.specs.Drives.{TargetTurns}

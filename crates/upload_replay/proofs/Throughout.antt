@@ -9,9 +9,8 @@ use Rattle.disk_layout.specs.declared.fault.RecoverFault.{RecoverFault}
 use Rattle.disk_layout.specs.declared.fault.RecoverFault.TheVariants.{BadManifest, BadSlot, DiskFailed, Memory, NoOpenSlot, NotFormatted}
 use Rattle.disk_layout.specs.declared.standing.Standing.{Standing}
 use Rattle.exchange_trace.specs.Steps.{Step}
-use Rattle.session_rules.specs.TargetLog.{target_view}
 use Rattle.replay_rules.specs.BothEnds.{Is_down, Is_up, Setting, TargetState, target_at}
-use Rattle.replay_rules.specs.Histories.{active_by, may_be_active}
+use Rattle.replay_rules.specs.Histories.{active_by}
 use Rattle.replay_rules.specs.Promises.{HoldsOneOf}
 use Rattle.target_machine.specs.Boots.{ComesUp}
 use Rattle.target_machine.specs.Decisions as machine

@@ -1,13 +1,13 @@
 -- Laws of the order of lines in a trace.
 use Rattle.std.proofs.Common.{◌≡◌, ℕ, ◌+◌, List, [], ◌∷◌, ◌++◌, length, map, cond, refl, sym, ap, ◌∙◌, arith}
 use Rattle.std.specs.List.{count_by}
-use Rattle.std.proofs.lemmas.List.{length-append, map-append}
+use Rattle.std.proofs.lemmas.List.{length-append}
 use Rattle.std.proofs.lemmas.List.Recursion.{is_count_by}
 use Rattle.exchange_trace.specs.declared.trace.TraceStep.{TraceStep}
 use Rattle.exchange_trace.specs.declared.trace.TraceStep.TheVariants as lines
 use Rattle.exchange_trace.specs.Happenings.{DatagramView}
 use Rattle.exchange_trace.specs.Posts.{posted_in}
-use Rattle.exchange_trace.specs.Steps.{Boot_refused, Came_up, Note, Step, Went_down, steps_of}
+use Rattle.exchange_trace.specs.Steps.{Note, Step, steps_of}
 use Rattle.upload_replay.specs.Orders.{Happens, IsInOrder, Notes, Posts, SeenLine, lines_of, seen_from, seen_line, seen_text, seen_with, wire_of_steps}
 use Rattle.upload_replay.specs.Texts.{is_post, posted_with, step_line, wire, wire_from}
 

@@ -1,10 +1,9 @@
 -- What a turn of a run does (docs/EXCHANGE.md, "Runs").
-use Rattle.std.specs.Prelude.{◌≡◌, ℕ, ◌≤◌, List, [], ◌∷◌, ◌++◌, Bool, false, option_map, Option, Some, None, Result, IsErrOf, OnOk, ⊤}
+use Rattle.std.specs.Prelude.{◌≡◌, ℕ, ◌≤◌, List, [], ◌∷◌, ◌++◌, Bool, option_map, Option, Some, None, Result, IsErrOf, ⊤}
 use Rattle.load_base.specs.Counts.{Rose}
 use Rattle.accept_rules.specs.Interlocks.{Follows}
 use Rattle.bank_store.specs.DiskWrites.{IsRunning}
-use Rattle.disk_layout.specs.DiskReads.{HasDiskCause}
-use Rattle.disk_model.specs.State.{DiskState, KeepsPower}
+use Rattle.disk_model.specs.State.{DiskState}
 use Rattle.exchange_trace.specs.Happenings.{DatagramView, HappeningView}
 use Rattle.exchange_trace.specs.Logs.{Event}
 use Rattle.exchange_trace.specs.Steps.{Note, Step, Boot_refused, Came_up, Went_down, with_note}

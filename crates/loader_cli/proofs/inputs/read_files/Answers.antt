@@ -1,4 +1,4 @@
-use Rattle.std.proofs.Common.{List, ℕ, Option, refl, ap, subst, arith}
+use Rattle.std.proofs.Common.{ℕ, Option, refl, ap, subst, arith}
 use Rattle.std.specs.Prelude.{IfOk, codes}
 use Rattle.std.proofs.lemmas.Result.{IfOk-weaker}
 use Rattle.load_base.specs.Host.{Files}

@@ -1,11 +1,10 @@
-use Rattle.std.proofs.Common.{List, ℕ, Option, refl, ap, subst, arith}
+use Rattle.std.proofs.Common.{ℕ, Option, refl, ap, subst, arith}
 use Rattle.std.specs.Prelude.{IfOk, codes}
 use Rattle.std.proofs.lemmas.Result.{IfOk-weaker}
 use Rattle.load_base.specs.Host.{Files}
 use Rattle.load_base.specs.Listed.{Listed}
-use Rattle.media_check.specs.HostNames.{files_name, loads_name}
+use Rattle.media_check.specs.HostNames.{loads_name}
 use Rattle.media_lists.specs.ListFaultText.{list_fault_text}
-use Rattle.media_lists.specs.Files.{files_list, files_list_view}
 use Rattle.media_lists.specs.Loads.{loads_list, loads_list_view}
 use Rattle.loader_cli.specs.Inputs.{ReadsInputs}
 use Rattle.loader_cli.specs.Replays.RefusesInputs.{loads_too_long}

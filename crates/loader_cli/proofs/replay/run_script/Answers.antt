@@ -1,10 +1,7 @@
 use Rattle.std.proofs.Common.{◌≡◌, ◌⊎◌, inr, [], None, Some, refl, sym, ap, subst, ◌∙◌}
-use Rattle.std.specs.Prelude.{map}
-use Rattle.std.proofs.lemmas.Result.{IfOk-weaker}
 use Rattle.disk_layout.specs.declared.fault.RecoverFault.{RecoverFault}
 use Rattle.exchange_trace.specs.Steps.{steps_of}
 use Rattle.link_net.specs.Links.{LinkState}
-use Rattle.loader_machine.specs.Machine.{session_view}
 use Rattle.media_check.specs.Sets.{set_view}
 use Rattle.accept_rules.specs.Permissions.{permits}
 use Rattle.disk_model.specs.Image.{Image}

@@ -1,10 +1,6 @@
-use Rattle.std.proofs.Common.{◌≡◌, List, None, refl, sym, subst}
+use Rattle.std.proofs.Common.{refl}
 use Rattle.std.proofs.lemmas.Result.{IfOk-weaker}
-use Rattle.disk_layout.specs.declared.fault.RecoverFault.{RecoverFault}
-use Rattle.exchange_trace.specs.Lines.{Line}
 use Rattle.media_check.specs.Sets.{set_view}
-use Rattle.loader_cli.specs.Answers.{status_of, text_of}
-use Rattle.loader_cli.specs.Replays.{RunsTo, run_seen}
 use Rattle.loader_cli.specs.Trials.Trials.{tried, no_target}
 use Rattle.loader_cli.specs.declared.replay.Telling.TheVariants.{Report}
 use Rattle.loader_cli.proofs.Left.{leaves_since, reads_leave}

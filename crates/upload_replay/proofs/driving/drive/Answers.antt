@@ -1,4 +1,4 @@
-use Rattle.std.proofs.Common.{◌≡◌, inl, inr, List, [], ◌++◌, Some, sym, ap, subst, ◌∙◌}
+use Rattle.std.proofs.Common.{◌≡◌, inl, inr, List, ◌++◌, Some, sym, ap, subst, ◌∙◌}
 use Rattle.std.specs.Prelude.{is_some, map, option_map}
 use Rattle.disk_layout.specs.Holds.{standing_view}
 use Rattle.exchange_trace.specs.Posts.{happenings_of, posted_in}

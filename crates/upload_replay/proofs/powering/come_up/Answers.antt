@@ -1,4 +1,4 @@
-use Rattle.std.proofs.Common.{◌≡◌, Some, None, sym, subst}
+use Rattle.std.proofs.Common.{sym, subst}
 use Rattle.accept_rules.specs.Interlocks.{Follows}
 use Rattle.replay_rules.specs.BothEnds.{Is_down}
 use Rattle.upload_replay.specs.Moments.{HoldsRun}

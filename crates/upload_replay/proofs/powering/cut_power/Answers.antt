@@ -1,4 +1,4 @@
-use Rattle.std.proofs.Common.{◌≡◌, ◌<◌, None, Some, is_none, sym, ap, subst, ◌∙◌, true, false, arith}
+use Rattle.std.proofs.Common.{◌≡◌, ◌<◌, is_none, sym, ap, subst, ◌∙◌, true, false, arith}
 use Rattle.std.specs.Prelude.{is_some, not}
 use Rattle.upload_replay.specs.Turns.{RunsWhileUp}
 use Rattle.upload_replay.proofs.Stepping.{armed_steps, cut_steps}

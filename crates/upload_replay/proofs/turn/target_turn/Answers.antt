@@ -1,7 +1,7 @@
 use Rattle.std.proofs.Common.{refl}
 use Rattle.exchange_trace.specs.Posts.{first_port_after}
 use Rattle.upload_replay.specs.Turns.{notes_of}
-use Rattle.upload_replay.proofs.Stepping.{booted_turns, steps_as}
+use Rattle.upload_replay.proofs.Stepping.{steps_as}
 use Rattle.upload_replay.proofs.turn.target_turn.Goals as goal
 
 pub returns-in-Power-clause-turns : goal.returns-in-Power-clause-turns
