@@ -153,3 +153,46 @@ fn sessions_go_by_their_rows(rt: HostRuntime) -> Result<(), Fail> {
     assert_eq!(rt; spoken(rt.alloc(), &mut disk), (true, true, true, true));
     Ok(())
 }
+
+// Of a target that boots at this port: whether these datagrams are answered so, and whether its last
+// reason is that no port was left, or it has none.
+fn boots_at(
+    alloc: Global,
+    disk: &mut MemDisk,
+    first_port: u32,
+    first: Row<'_>,
+    second: Row<'_>,
+) -> (bool, bool, bool)
+    requires { IsRunning (state_of disk.old) }
+{
+    let interlock = Interlock::new(PermitsAll);
+    let Ok(mut target) = Target::boot(alloc, disk, &interlock, first_port) else {
+        return (false, false, false);
+    };
+    let answered = answers(&mut target, disk, first) && answers(&mut target, disk, second);
+    let spent = target.last_reason() == Some(&Reason::PortsSpent);
+    (answered, spent, target.last_reason().is_none())
+}
+
+// The last port serves the LCI, and none is left for the LCS.
+#[test]
+fn a_session_ends_where_no_port_is_left(rt: HostRuntime) -> Result<(), Fail> {
+    let (hw, pos, serial) = (ident(b"HW1")?, ident(b"L")?, ident(b"SN1")?);
+    let mut disk = formatted(rt.alloc(), hw, pos, serial)?;
+    let asks = (1024, 59, ASKS_LCI, (65_535, 1024, LCI));
+    let acknowledges = (1024, 65_535, ACK_1, NONE);
+    let found = boots_at(rt.alloc(), &mut disk, 65_535, asks, acknowledges);
+    assert_eq!(rt; found, (true, true, false));
+    Ok(())
+}
+
+// A request that finds no port is dropped and raises no mark, so that it can come again.
+#[test]
+fn requests_are_dropped_where_no_port_is_left(rt: HostRuntime) -> Result<(), Fail> {
+    let (hw, pos, serial) = (ident(b"HW1")?, ident(b"L")?, ident(b"SN1")?);
+    let mut disk = formatted(rt.alloc(), hw, pos, serial)?;
+    let asks = (1024, 59, ASKS_LCI, NONE);
+    let found = boots_at(rt.alloc(), &mut disk, 65_536, asks, asks);
+    assert_eq!(rt; found, (true, false, true));
+    Ok(())
+}
