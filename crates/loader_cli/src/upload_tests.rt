@@ -2,6 +2,7 @@
 use crate::check_tests::{app_set, write};
 use crate::set_vectors::APP_HEADER;
 use crate::tests::{disk_with, formatted, run_over};
+use disk_model::{Fused, MemDisk};
 use load_base::{Bytes, MemHost};
 use std::alloc::Global;
 use std::test::Fail;
@@ -314,5 +315,59 @@ fn a_changed_set_stops_an_upload(rt: HostRuntime) -> Result<(), Fail> {
         let said = reported_with(rt.alloc(), name, bytes)?;
         assert!(rt; is_report(&said, sessions, NOT_INSTALLED));
     }
+    Ok(())
+}
+
+// What is found after the script where one call fails, of the host or of the disk: a host's fault, a
+// disk's fault, the old listing or the new one.
+fn found_failing(alloc: Global, script: &[u8], of_host: u32, of_disk: u32) -> Result<u8, Fail> {
+    let mut host = app_set(alloc)?;
+    write(&mut host, b"P/1/APP.BIN", APP)?;
+    write(&mut host, b"S", script)?;
+    host.fail_at(of_host)?;
+    let mut disk = MemDisk::new(alloc, &formatted(0, b""))?;
+    disk.fail_at(of_disk)?;
+    let said = run_over(alloc, REPLAY, &mut host, &mut Fused::new(disk))?;
+    let said = said.as_slice();
+    if said == b"4 host fault\n".as_slice() {
+        return Ok(b'h');
+    }
+    if said == b"5 disk fault\n".as_slice() {
+        return Ok(b'd');
+    }
+    if said.ends_with(NOT_INSTALLED) {
+        return Ok(b'o');
+    }
+    Ok(if said.ends_with(INSTALLED) {
+        b'n'
+    } else {
+        b'?'
+    })
+}
+
+const NEVER: u32 = 1000;
+
+// The set and the script were written by calls 1 to 5.
+#[test]
+fn each_host_call_of_an_upload_fails_in_turn(rt: HostRuntime) -> Result<(), Fail> {
+    for call in 6..=11u32 {
+        let found = found_failing(rt.alloc(), UPLOAD, call, NEVER)?;
+        assert_eq!(rt; found, if call <= 10 { b'h' } else { b'n' }, "call {call}");
+    }
+    Ok(())
+}
+
+// The target boots with the first calls; where one fails in a step it goes down, and the last calls
+// recover what the disk holds then.
+#[test]
+fn each_disk_call_of_an_upload_fails_in_turn(rt: HostRuntime) -> Result<(), Fail> {
+    let mut found = [0; 30];
+    for call in 0..30usize {
+        found[call] = found_failing(rt.alloc(), UPLOAD, NEVER, 1 + call as u32)?;
+    }
+    assert_eq!(rt;
+        found.as_slice(),
+        b"ddddoooooooonddddddnnnnnnnnnnn".as_slice()
+    );
     Ok(())
 }
