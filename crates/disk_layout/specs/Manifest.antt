@@ -1,11 +1,12 @@
 -- The manifest of a configuration (docs/DISK.md).
-use Rattle.std.specs.Prelude.{ℕ, ◌≤◌, List, [], ◌∷◌, ◌++◌, length, map, nat_le, ◌&&◌, is_none}
+use Rattle.std.specs.Prelude.{◌≡◌, ℕ, ◌≤◌, List, [], ◌∷◌, ◌++◌, length, map, nat_le, ◌&&◌, is_none, Result, Ok}
 use Rattle.std.specs.List.{All, flat_map, sum_by}
 use Rattle.load_base.specs.Host.{longest_file}
 use Rattle.load_base.specs.Name.{IsName}
 use Rattle.load_base.specs.PartText.{IsPartText}
 use Rattle.load_base.specs.Verdicts.{name_fault_of, part_text_fault_of}
-use Rattle.field_grammar.specs.Grammar.{Grammar, Fault, give, pair, mapped, ended, times, ◌>>=◌, ◌>>◌}
+use Rattle.field_grammar.specs.Cursor.{Cursor}
+use Rattle.field_grammar.specs.Grammar.{Grammar, Fault, read, give, pair, mapped, ended, times, ◌>>=◌, ◌>>◌, ◌then◌}
 use Rattle.field_grammar.specs.Fields.{number, raw, short, number_fields, short_fields}
 use Rattle.disk_layout.specs.Offsets.{most_loads, most_files}
 use Rattle.disk_layout.specs.Fields.{sound}
@@ -14,6 +15,7 @@ use Rattle.disk_layout.specs.declared.manifest.ManifestFault.{ManifestFault}
 use Rattle.disk_layout.specs.declared.manifest.ManifestFault.TheVariants.{Wrong, Memory}
 use Rattle.disk_layout.specs.declared.manifest.ManifestFile.{ManifestFile}
 use Rattle.disk_layout.specs.declared.manifest.ManifestLoad.{ManifestLoad}
+use Rattle.disk_layout.specs.declared.manifest.ManifestReader.{ManifestReader}
 
 -- a load of a manifest, without the room of its list
 pub record LoadEntry : Type 0 where
@@ -90,6 +92,31 @@ manifest = do
   loads ← counted_loads
   ended Wrong
   give loads
+
+-- ---- as it is read load by load
+
+-- so many loads, and nothing more
+abbrev pub loads_only : ℕ → Grammar ManifestFault (List LoadEntry)
+loads_only n = do
+  loads ← times n load_entry
+  ended Wrong
+  give loads
+
+-- so many loads from a position on, or the first fault
+abbrev pub loads_from : ℕ → Cursor → Result (List LoadEntry) ManifestFault
+loads_from n c = read (loads_only n) c then (λ x. Ok x.0)
+
+-- the loads that a reader has left, or the first fault
+abbrev pub left_in : ManifestReader → Result (List LoadEntry) ManifestFault
+left_in r = loads_from r.left r.reader
+
+-- so many loads are left, where nothing is wrong
+abbrev pub AreLeftIn : ManifestReader → ℕ → Type 0
+AreLeftIn r n = (loads : List LoadEntry) → left_in r ≡ Ok loads → length loads ≡ n
+
+-- these loads before those
+abbrev pub with_these : List LoadEntry → Result (List LoadEntry) ManifestFault → Result (List LoadEntry) ManifestFault
+with_these loads r = r then (λ more. Ok (loads ++ more))
 
 -- ---- as it is written
 

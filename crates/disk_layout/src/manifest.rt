@@ -1,11 +1,12 @@
 //! What a manifest says of the contents of its bank.
-ghost use Rattle.std.specs.Prelude.{◌≡◌, map, IfOk, IfErr};
+ghost use Rattle.std.specs.Prelude.{◌≡◌, ◌+◌, ◌≤◌, ◌⊎◌, [], ◌∷◌, Ok, Err, map};
+ghost use Rattle.std.specs.Prelude.{IfOk, IfErr, OnOk};
 ghost use Rattle.field_grammar.specs.Grammar.{Spelled, times, ended};
 ghost use Rattle.field_grammar.specs.Answers.{answer, Decodes, Gives};
 ghost use Rattle.disk_layout.specs.Manifest.{ManifestFits, RefusesManifestBytes, entry_view};
 ghost use Rattle.disk_layout.specs.Manifest.{manifest_view, load_count, part, file_count};
 ghost use Rattle.disk_layout.specs.Manifest.{file_name, file_length, file_entry, load_entry};
-ghost use Rattle.disk_layout.specs.Manifest.{manifest};
+ghost use Rattle.disk_layout.specs.Manifest.{manifest, left_in, AreLeftIn, with_these};
 ghost use Rattle.disk_layout.specs.declared.manifest.ManifestFault.TheVariants.{Wrong, Memory};
 
 use crate::offsets::{MOST_FILES, MOST_LOADS};
@@ -43,6 +44,58 @@ impl Manifest {
         ensures refused { IfErr result (λ fault. RefusesManifestBytes bytes.now fault) }
     {
         read_manifest(alloc, bytes)
+    }
+}
+
+/// A manifest that is read load by load, so that no more than one of them takes memory.
+#[derive(Drop)]
+pub struct ManifestReader<'a> {
+    reader: Reader<'a>,
+    left: u16,
+}
+
+impl<'a> ManifestReader<'a> {
+    /// Reads how many loads there are, 32 at most.
+    pub fn new(bytes: &'a [u8]) -> Result<ManifestReader<'a>, ManifestFault>
+        ensures begun { IfOk result (λ loads. left_in loads ≡ answer manifest bytes.now) }
+        ensures refused { IfErr result
+            (λ fault. (fault ≡ Memory) ⊎ (answer manifest bytes.now ≡ Err fault)) }
+    {
+        let mut reader = Reader::new(bytes);
+        let left = read_load_count(&mut reader)?;
+        Ok(ManifestReader { reader, left })
+    }
+
+    /// How many loads are left.
+    pub fn left(&self) -> u16
+        ensures is { result ≡ self.now.left }
+        ensures counts { AreLeftIn self.now result }
+    {
+        self.left
+    }
+
+    /// The next load, or the first byte offset at which the bytes can't go on.
+    pub fn load(&mut self, alloc: Global) -> Result<ManifestLoad, ManifestFault>
+        requires { 1 ≤ self.old.left }
+        ensures first { IfOk result
+            (λ load. left_in self.old ≡ with_these (entry_view load ∷ []) (left_in self.new)) }
+        ensures left { OnOk result (self.new.left + 1 ≡ self.old.left) }
+        ensures refused { IfErr result
+            (λ fault. (fault ≡ Memory) ⊎ (left_in self.old ≡ Err fault)) }
+    {
+        let load = read_load(alloc, &mut self.reader)?;
+        self.left -= 1;
+        Ok(load)
+    }
+
+    /// Nothing follows the last load.
+    pub fn end(&mut self) -> Result<(), ManifestFault>
+        requires { self.old.left ≡ 0 }
+        ensures ended { OnOk result (left_in self.old ≡ Ok []) }
+        ensures refused { IfErr result
+            (λ fault. (fault ≡ Memory) ⊎ (left_in self.old ≡ Err fault)) }
+    {
+        read_end(&mut self.reader)
     }
 }
 

@@ -75,3 +75,20 @@ look_ends {T = T} a b c fault last result is told so_far look =
       };
     }
     )
+
+-- what was read is refused
+pub refused_after : {S T : Type 0} (a b : DiskState) (x : S) (fault : RecoverFault) → ¬ (fault ≡ DiskFailed) → ReadsDisk a b (Ok x) → ReadsDisk {T = T} a b (Err fault)
+refused_after a b x fault other look = record {
+  only_reads = look.only_reads;
+  ok = tt;
+  err = runs_on fault look.ok;
+  cause = record { failed = λ e. absurd (other cc) };
+}
+  where
+    runs_on : (f : RecoverFault) → RunsOn a b → RunsOnAfter a b f
+    runs_on RecoverFault.DiskFailed runs = tt
+    runs_on RecoverFault.Memory runs = tt
+    runs_on (RecoverFault.NotFormatted offset) runs = runs
+    runs_on RecoverFault.NoOpenSlot runs = runs
+    runs_on (RecoverFault.BadSlot offset) runs = runs
+    runs_on (RecoverFault.BadManifest offset) runs = runs

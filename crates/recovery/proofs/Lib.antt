@@ -2,6 +2,7 @@ pub mod DiskReads
 pub mod Files
 pub mod Lines
 pub mod Loads
+pub mod Outlined
 pub mod Ranges
 pub mod Refusals
 pub mod Rulings

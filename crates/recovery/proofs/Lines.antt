@@ -2,7 +2,7 @@
 use Rattle.std.proofs.Common.{◌≡◌, ℕ, ◌+◌, ◌<◌, ◌≤◌, List, [], ◌∷◌, ◌++◌, length, take, get_or, refl, sym, ap, ap₂, arith, ◌∙◌}
 use Rattle.std.specs.Prelude.{map, Option}
 use Rattle.std.specs.List.{flat_map}
-use Rattle.std.proofs.lemmas.List.{append-nil, append_assoc, length-map, take_more, map_push, map_more}
+use Rattle.std.proofs.lemmas.List.{append-nil, append_assoc, length-map, take_more, map_push}
 use Rattle.std.proofs.lemmas.List.Concat.{flat_map-append, flat_map-cons}
 use Rattle.std.proofs.lemmas.List.Elements.{All-nil, All-push}
 use Rattle.load_base.specs.Config.{FileView, LoadView}
@@ -18,7 +18,7 @@ use Rattle.listing.specs.Listing.{bank_line, file_line, file_line_of, listing, l
 use Rattle.recovery.specs.Listings.{ListsFile, ListsFiles, ListsLoad, ListsLoads}
 use Rattle.recovery.specs.Parts.{HasFiles, HasRead}
 use Rattle.recovery.proofs.Files.{bytes_with, size_more}
-use Rattle.recovery.proofs.Loads.{contents_with, total_more}
+use Rattle.recovery.proofs.Loads.{contents_with, total_with}
 
 -- a text and one more line of those of a list
 pushed : {T : Type 0} (line : T → List ℕ) (xs : List T) (x : T) (before middle after : List ℕ) → middle ≡ before ++ flat_map line xs → after ≡ middle ++ line x
@@ -89,32 +89,28 @@ pub no_loads : (reads : Option Image) (at : ℕ) (text : List ℕ) → ListsLoad
 unfolding range
 no_loads reads at text = record { loads = []; entries_are = refl; headers = All-nil (λ (l : LoadView). HeaderIsFirst l); contents = λ image told. refl; text = sym (append-nil text) }
 
-pub one_more_load : (reads : Option Image) (start at : ℕ) (entries : List ManifestLoad) (i : ℕ) (e : ManifestLoad) (before middle after : List ℕ) → i < length entries → e ≡ get_or entries i e
-    → at ≡ start + total_length (map entry_view (take i entries)) → ListsLoads reads start (map entry_view (take i entries)) before middle → ListsLoad reads at (entry_view e) middle after
-    → ListsLoads reads start (map entry_view (take (i + 1) entries)) before after
-one_more_load reads start at entries i e before middle after within is follows so_far now = record {
+pub one_more_load : (reads : Option Image) (start at : ℕ) (entries : List LoadEntry) (e : LoadEntry) (before middle after : List ℕ) → at ≡ start + total_length entries
+    → ListsLoads reads start entries before middle → ListsLoad reads at e middle after → ListsLoads reads start (entries ++ e ∷ []) before after
+one_more_load reads start at entries e before middle after follows so_far now = record {
   loads = so_far.loads ++ now.load ∷ [];
-  entries_are =
-      map_push entry_of so_far.loads now.load
-      ∙ ap₂ (λ (l : List LoadEntry) (x : LoadEntry). l ++ x ∷ []) so_far.entries_are (now.entry_is ∙ ap entry_view is) ∙ sym (map_more entry_view entries i e within);
+  entries_are = map_push entry_of so_far.loads now.load ∙ ap₂ (λ (l : List LoadEntry) (x : LoadEntry). l ++ x ∷ []) so_far.entries_are now.entry_is;
   headers = All-push (λ (l : LoadView). HeaderIsFirst l) so_far.loads now.load so_far.headers now.header;
-  contents = λ image told. rw (total_more entries i e within is) (
+  contents = λ image told. rw (total_with entries e) (
       contents_with so_far.loads now.load ∙ ap₂ (λ (a : List ℕ) (b : List ℕ). a ++ b) (so_far.contents image told) (now.contents image told)
-      ∙ ranges_joined image start (total_length (map entry_view (take i entries))) at (size_of e.files.items) follows);
+      ∙ ranges_joined image start (total_length entries) at (size_of e.files) follows);
   text = pushed load_lines so_far.loads now.load before middle after so_far.text now.text;
 }
 
 -- ---- the listing
 
 -- the lines of a target, of its bank and of the number of its loads, and those of the loads
-pub whole_listing : (s : StandingView) (entries : List ManifestLoad) (nothing first second third all : List ℕ) → nothing ≡ [] → entries_of s.loads ≡ map entry_view entries
-    → first ≡ nothing ++ target_line s.identity → second ≡ first ++ bank_line s.bank s.sequence → third ≡ second ++ loads_line (length entries)
+pub whole_listing : (s : StandingView) (entries : List LoadEntry) (count : ℕ) (nothing first second third all : List ℕ) → nothing ≡ [] → entries_of s.loads ≡ entries → length entries ≡ count
+    → first ≡ nothing ++ target_line s.identity → second ≡ first ++ bank_line s.bank s.sequence → third ≡ second ++ loads_line count
     → all ≡ third ++ flat_map load_lines s.loads → all ≡ listing s
-whole_listing s entries nothing first second third all none are is_first is_second is_third is_all =
-    let count : length entries ≡ length s.loads =
-    sym (sym (length-map s.loads entry_of) ∙ ap length are ∙ length-map entries entry_view) in
+whole_listing s entries count nothing first second third all none are many is_first is_second is_third is_all =
+    let so_many : count ≡ length s.loads = sym many ∙ sym (ap length are) ∙ length-map s.loads entry_of in
     let one : first ≡ target_line s.identity = is_first ∙ ap (λ (l : List ℕ). l ++ target_line s.identity) none in
     let two : second ≡ target_line s.identity ++ bank_line s.bank s.sequence = is_second ∙ ap (λ (l : List ℕ). l ++ bank_line s.bank s.sequence) one in
     let three : third ≡ target_line s.identity ++ bank_line s.bank s.sequence ++ loads_line (length s.loads) =
-    is_third ∙ ap₂ (λ (l : List ℕ) (n : ℕ). l ++ loads_line n) two count in
+    is_third ∙ ap₂ (λ (l : List ℕ) (n : ℕ). l ++ loads_line n) two so_many in
     is_all ∙ ap (λ (l : List ℕ). l ++ flat_map load_lines s.loads) three

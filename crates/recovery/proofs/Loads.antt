@@ -18,12 +18,12 @@ use Rattle.disk_layout.specs.RangeLaws.{ranges_joined}
 
 -- ---- lengths
 
-total_joined : (ls ms : List LoadEntry) → total_length (ls ++ ms) ≡ total_length ls + total_length ms
+pub total_joined : (ls ms : List LoadEntry) → total_length (ls ++ ms) ≡ total_length ls + total_length ms
 total_joined ls ms =
     ap size_of (flat_map-append (λ (l : LoadEntry). l.files) ls ms)
     ∙ sum_by-append (λ (f : ManifestFile). f.length) (flat_map (λ (l : LoadEntry). l.files) ls) (flat_map (λ (l : LoadEntry). l.files) ms)
 
-total_of_one : (l : LoadEntry) → total_length (l ∷ []) ≡ size_of l.files
+pub total_of_one : (l : LoadEntry) → total_length (l ∷ []) ≡ size_of l.files
 total_of_one l = ap size_of (flat_map-cons (λ (e : LoadEntry). e.files) l [] ∙ append-nil l.files)
 
 pub total_more : (entries : List ManifestLoad) (i : ℕ) (e : ManifestLoad) → i < length entries → e ≡ get_or entries i e
@@ -84,3 +84,6 @@ has_files entries i e within is all =
     let here : i < length (map entry_view entries) = omega (arith, within, length-map entries entry_view) in
     let each : HasFiles (get_or (map entry_view entries) i (entry_view e)) = All-get_or (λ (x : LoadEntry). HasFiles x) (map entry_view entries) i (entry_view e) here all in
     subst (λ (x : LoadEntry). HasFiles x) (get_or-map entry_view entries i e (entry_view e) within ∙ ap entry_view (sym is)) each
+
+pub total_with : (ls : List LoadEntry) (l : LoadEntry) → total_length (ls ++ l ∷ []) ≡ total_length ls + size_of l.files
+total_with ls l = total_joined ls (l ∷ []) ∙ ap (λ (n : ℕ). total_length ls + n) (total_of_one l)

@@ -41,7 +41,7 @@ store_holds image s found size standing by is =
     }
 
 -- over plain numbers
-same_outline : (image : Image) (id : Identity) (loads : List LoadEntry) (slot at bank names sequence says : ℕ) → slot ≡ at → bank ≡ names → sequence ≡ says
+pub same_outline : (image : Image) (id : Identity) (loads : List LoadEntry) (slot at bank names sequence says : ℕ) → slot ≡ at → bank ≡ names → sequence ≡ says
     → HasOutline image at (record { identity = id; bank = names; sequence = says; loads = loads })
     → HasOutline image slot (record { identity = id; bank = bank; sequence = sequence; loads = loads })
 same_outline image id loads slot at bank names sequence says here same next outline = rw (here, same, next) outline

@@ -1,3 +1,4 @@
 pub mod Listings
+pub mod Outlines
 pub mod Parts
 pub mod Surveys

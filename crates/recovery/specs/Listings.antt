@@ -1,5 +1,5 @@
 -- What is listed of a disk, whose files are read and not kept.
-use Rattle.std.specs.Prelude.{◌≡◌, ℕ, ◌<◌, List, ◌++◌, map, Option}
+use Rattle.std.specs.Prelude.{◌≡◌, ℕ, ◌<◌, List, ◌++◌, map, Option, Result, Ok}
 use Rattle.std.specs.List.{flat_map}
 use Rattle.std.specs.Option.{ForSome}
 use Rattle.load_base.specs.Config.{FileView, LoadView}
@@ -8,6 +8,7 @@ use Rattle.disk_layout.specs.Contents.{HeaderIsFirst, HeadersAreFirst, bytes_of,
 use Rattle.disk_layout.specs.Holds.{HoldsConfig, StandingView}
 use Rattle.disk_layout.specs.Manifest.{LoadEntry, size_of, total_length}
 use Rattle.disk_layout.specs.Offsets.{IsBankSize}
+use Rattle.disk_layout.specs.declared.manifest.ManifestFault.{ManifestFault}
 use Rattle.disk_layout.specs.declared.manifest.ManifestFile.{ManifestFile}
 use Rattle.listing.specs.Listing.{file_line, listing, load_lines}
 
@@ -48,3 +49,7 @@ pub record ListsLoads (reads : Option Image) (at : ℕ) (entries : List LoadEntr
   pub headers : HeadersAreFirst loads
   pub contents : ForSome reads (λ image. contents_of_loads loads ≡ range image at (total_length entries))
   pub text : after ≡ before ++ flat_map load_lines loads
+
+-- the same of loads that are left
+abbrev pub ListsAll : Option Image → ℕ → Result (List LoadEntry) ManifestFault → (before after : List ℕ) → Type 0
+ListsAll reads at left before after = (loads : List LoadEntry) → left ≡ Ok loads → ListsLoads reads at loads before after

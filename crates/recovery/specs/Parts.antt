@@ -7,6 +7,8 @@ use Rattle.disk_layout.specs.Offsets.{slot_a, slot_b, longest_manifest}
 use Rattle.disk_layout.specs.Slots.{slot_offset, IsOpen, IsSlot, IsActiveSlot, IsSlotAt, IsSound}
 use Rattle.disk_layout.specs.Manifest.{LoadEntry, manifest, total_length}
 use Rattle.disk_layout.specs.DiskReads.{IsOfDisk}
+use Rattle.disk_layout.specs.Holds.{HasActiveSlot}
+use Rattle.disk_layout.specs.declared.identity.Identity.{Identity}
 use Rattle.disk_layout.specs.declared.fault.RecoverFault.{RecoverFault}
 use Rattle.disk_layout.specs.declared.fault.RecoverFault.TheVariants.{NoOpenSlot, BadSlot, BadManifest}
 use Rattle.disk_layout.specs.declared.manifest.ManifestFault.TheVariants.{Wrong}
@@ -38,6 +40,12 @@ pub record IsActiveSlotOn (image : Image) (active_slot : ActiveSlot) : Type 0 wh
 abbrev pub RefusesSlots : Image → RecoverFault → Type 0
 RefusesSlots image fault = IsOfDisk fault ⊎ (¬ IsOpen image slot_a × ¬ IsOpen image slot_b × (fault ≡ NoOpenSlot))
 
+-- this slot is active on the disk of this target
+pub record IsSoundSlotOn (image : Image) (id : Identity) (active_slot : ActiveSlot) : Type 0 where
+  pub has_active : HasActiveSlot image id (slot_offset active_slot.slot)
+  pub says : IsSlotAt image (slot_offset active_slot.slot) active_slot.says
+  pub other : TellsOther image (slot_offset active_slot.slot) active_slot.other_is_open
+
 -- what the slot says can be on a disk with banks of this size
 abbrev pub IsSoundAt : (size : ℕ) → SlotFields → Type 0
 IsSoundAt size slot = IsSound size slot.bank slot.manifest.offset slot.manifest.length
@@ -54,16 +62,24 @@ pub data RefusesSlot (size at : ℕ) (slot : SlotFields) (fault : RecoverFault) 
 abbrev pub HasFiles : LoadEntry → Type 0
 HasFiles entry = 1 ≤ length entry.files
 
--- these bytes are no manifest from one offset on, or the disk or memory failed
-abbrev pub RefusesBytes : Image → (start size : ℕ) → RecoverFault → Type 0
-RefusesBytes image start size fault = IsOfDisk fault ⊎ ((offset : ℕ) × Fault manifest (range image start size) (Wrong offset) × (fault ≡ BadManifest (start + offset)))
+-- these bytes, which begin at an offset of the disk, are no manifest from one offset on, or the disk or memory failed
+abbrev pub IsNoManifest : List ℕ → (start : ℕ) → RecoverFault → Type 0
+IsNoManifest bytes start fault = IsOfDisk fault ⊎ ((offset : ℕ) × Fault manifest bytes (Wrong offset) × (fault ≡ BadManifest (start + offset)))
 
--- the lengths of its files don't add up to its offset
-pub record HasOtherLengths (image : Image) (start size offset : ℕ) (fault : RecoverFault) : Type 0 where
+-- the lengths of its files don't add up to its offset in the bank
+pub record HasOtherLengths (bytes : List ℕ) (start offset : ℕ) (fault : RecoverFault) : Type 0 where
   pub loads : List LoadEntry
-  pub spelled : Spelled manifest (range image start size) loads
+  pub spelled : Spelled manifest bytes loads
   pub differ : total_length loads ≢ offset
   pub is : fault ≡ BadManifest start
 
+-- either of both
+abbrev pub RefusesLoads : List ℕ → (start offset : ℕ) → RecoverFault → Type 0
+RefusesLoads bytes start offset fault = IsNoManifest bytes start fault ⊎ HasOtherLengths bytes start offset fault
+
+-- the same of bytes of the disk
+abbrev pub RefusesBytes : Image → (start size : ℕ) → RecoverFault → Type 0
+RefusesBytes image start size fault = IsNoManifest (range image start size) start fault
+
 abbrev pub RefusesManifest : Image → (start size offset : ℕ) → RecoverFault → Type 0
-RefusesManifest image start size offset fault = RefusesBytes image start size fault ⊎ HasOtherLengths image start size offset fault
+RefusesManifest image start size offset fault = RefusesLoads (range image start size) start offset fault

@@ -4,6 +4,7 @@
 mod contents;
 mod listed;
 mod looking;
+mod manifests;
 mod pieces;
 mod recovering;
 mod surveying;

@@ -1,19 +1,19 @@
 //! The listing of a disk, of whose files no contents are kept.
-ghost use Rattle.std.specs.Prelude.{◌≡◌, ◌+◌, ◌≤◌, Some, false, map, length, IfOk, IfErr, OnOk};
+ghost use Rattle.std.specs.Prelude.{◌≡◌, ◌+◌, ◌≤◌, Ok, Some, false, length, IfOk, IfErr, OnOk};
 ghost use Rattle.std.specs.Option.{ForSome};
-ghost use Rattle.std.specs.List.{All};
 ghost use Rattle.disk_model.specs.Image.{Image};
 ghost use Rattle.bank_store.specs.DiskWrites.{IsRunning};
 ghost use Rattle.disk_layout.specs.DiskReads.{IsOfDisk, ReadsDisk};
 ghost use Rattle.disk_layout.specs.Holds.{Refuses};
-ghost use Rattle.disk_layout.specs.Manifest.{entry_view, size_of, total_length};
-ghost use Rattle.recovery.specs.Listings.{IsListing, ListsFile, ListsFiles, ListsLoad, ListsLoads};
+ghost use Rattle.disk_layout.specs.Manifest.{LoadEntry, entry_view, left_in, size_of};
+ghost use Rattle.recovery.specs.Listings.{IsListing, ListsFile, ListsFiles, ListsLoad, ListsAll};
+ghost use Rattle.recovery.specs.Outlines.{AreLoadsAt};
 ghost use Rattle.recovery.specs.Parts.{HasFiles};
 
 use crate::looking::{PIECE, pieces_on};
-use crate::surveying::active_on;
+use crate::manifests::outline_on;
 use crc_fields::Crc16;
-use disk_layout::{ManifestFile, ManifestLoad, RecoverFault};
+use disk_layout::{ManifestFile, ManifestLoad, ManifestReader, RecoverFault};
 use disk_model::{Disk, SIZE};
 use listing::{put_bank, put_count, put_file_line, put_load_line, put_target};
 use load_base::Bytes;
@@ -21,7 +21,7 @@ use std::alloc::Global;
 
 /// The listing of the configuration that a disk holds, the same text as [`listing::listing_text`]
 /// of what [`crate::recover`] gives. Nothing is written. Each file's contents are read, and only
-/// their check sum is kept; besides the text this takes the manifest's memory. The first condition
+/// their check sum is kept; the manifest is kept as bytes, and read load by load. The first condition
 /// that fails is the refusal; after it the disk runs on.
 pub fn list<K: Disk>(alloc: Global, disk: &mut K) -> Result<Bytes, RecoverFault>
     requires { IsRunning (K.state disk.old) }
@@ -30,9 +30,13 @@ pub fn list<K: Disk>(alloc: Global, disk: &mut K) -> Result<Bytes, RecoverFault>
         (λ image. Refuses image fault)) }
     ensures reads_disk { ReadsDisk (K.state disk.old) (K.state disk.new) result }
 {
-    let found = active_on(alloc, disk)?;
+    let mut buffer = [0; PIECE];
+    let found = outline_on(alloc, disk, &mut buffer)?;
     let start = found.active.bank.offset(found.identity.bank);
-    let loads = found.manifest.loads.as_slice();
+    // It was read before, so that only memory can be short.
+    let Ok(mut loads) = ManifestReader::new(found.manifest.as_slice()) else {
+        return Err(RecoverFault::Memory);
+    };
     let mut out = Bytes::new(alloc);
     put_target(&mut out, &found.identity)?;
     put_bank(
@@ -41,35 +45,40 @@ pub fn list<K: Disk>(alloc: Global, disk: &mut K) -> Result<Bytes, RecoverFault>
         found.active.bank.number(),
         found.active.sequence,
     )?;
-    put_count(alloc, &mut out, loads.len())?;
-    let mut buffer = [0; PIECE];
-    put_loads(alloc, disk, start, loads, &mut buffer, &mut out)?;
+    put_count(alloc, &mut out, usize::from(loads.left()))?;
+    put_loads(alloc, disk, start, &mut loads, &mut buffer, &mut out)?;
     Ok(out)
 }
 
-// These loads, whose files stand back to back from `start` on.
+// The loads that are left, whose files stand back to back from `start` on.
 fn put_loads<K: Disk>(
     alloc: Global,
     disk: &mut K,
     start: u32,
-    entries: &[ManifestLoad],
+    loads: &mut ManifestReader<'_>,
     buffer: &mut [u8],
     out: &mut Bytes,
 ) -> Result<(), RecoverFault>
     requires running { (K.state disk.old).stopped ≡ false }
-    requires within { start + total_length (map entry_view entries.now) ≤ SIZE }
-    requires files { All (λ entry. HasFiles entry) (map entry_view entries.now) }
+    requires loads { AreLoadsAt (left_in loads.old) start SIZE }
     requires buffer { 1 ≤ length buffer.old }
-    ensures listed { OnOk result (ListsLoads (K.state disk.old).reads start
-        (map entry_view entries.now) out.old.items out.new.items) }
+    ensures listed { OnOk result (ListsAll (K.state disk.old).reads start (left_in loads.old)
+        out.old.items out.new.items) }
     ensures refused { IfErr result (λ fault. IsOfDisk fault) }
     ensures reads_disk { ReadsDisk (K.state disk.old) (K.state disk.new) result }
 {
     let mut at = start;
-    for entry in entries {
-        at = put_load(alloc, disk, at, entry, buffer, out)?;
+    let count = loads.left();
+    for _ in 0..count {
+        let Ok(load) = loads.load(alloc) else {
+            return Err(RecoverFault::Memory);
+        };
+        at = put_load(alloc, disk, at, &load, buffer, out)?;
     }
-    Ok(())
+    match loads.end() {
+        Ok(()) => Ok(()),
+        Err(_) => Err(RecoverFault::Memory),
+    }
 }
 
 // This load, whose files stand from `at` on. The offset after them.

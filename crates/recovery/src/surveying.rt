@@ -18,6 +18,7 @@ ghost use Rattle.bank_store.specs.DiskWrites.{IsRunning};
 ghost use Rattle.bank_store.specs.Fits.{HoldsFor, Fits, Works};
 ghost use Rattle.recovery.specs.Parts.{IsActiveSlotOn, RefusesSlots, IsSoundAt, RefusesSlot};
 ghost use Rattle.recovery.specs.Parts.{RefusesBytes, RefusesManifest};
+ghost use Rattle.recovery.specs.Parts.{IsSoundSlotOn};
 ghost use Rattle.recovery.specs.Surveys.{IsSurveyed, IsSurveyInRange, FindsActive, IsFoundInRange};
 ghost use Rattle.recovery.specs.Surveys.{outline_of_survey};
 
@@ -104,20 +105,45 @@ pub(crate) fn active_on<K: Disk>(alloc: Global, disk: &mut K) -> Result<Found, R
         (λ found. IsFoundInRange found.identity found.manifest found.active) }
     ensures reads_disk { ReadsDisk (K.state disk.old) (K.state disk.new) result }
 {
+    let sound = sound_slot_on(disk)?;
+    let manifest = manifest_of_slot(alloc, disk, sound.identity.bank, &sound.active_slot.says)?;
+    Ok(Found {
+        identity: sound.identity,
+        manifest,
+        active: active_by(&sound.active_slot),
+        other_is_open: sound.active_slot.other_is_open,
+    })
+}
+
+// The identity of a disk, and its active slot.
+#[derive(Clone, Copy)]
+pub(crate) struct SoundSlot {
+    pub(crate) identity: Identity,
+    pub(crate) active_slot: ActiveSlot,
+}
+
+// Finds the active slot, and that what it says can be on the disk.
+pub(crate) fn sound_slot_on<K: Disk>(disk: &mut K) -> Result<SoundSlot, RecoverFault>
+    requires { IsRunning (K.state disk.old) }
+    ensures found { IfOk result (λ sound. ForSome (K.state disk.old).reads
+        (λ image. IsSoundSlotOn image sound.identity sound.active_slot)) }
+    ensures size { IfOk result (λ sound. IsBankSize sound.identity.bank) }
+    ensures can_be { IfOk result (λ sound. IsSoundAt sound.identity.bank sound.active_slot.says) }
+    ensures refused { IfErr result (λ fault. ForSome (K.state disk.old).reads
+        (λ image. Refuses image fault)) }
+    ensures reads_disk { ReadsDisk (K.state disk.old) (K.state disk.new) result }
+{
     let identity = identity_on(disk)?;
     let active_slot = active_slot_on(disk)?;
     check_slot(identity.bank, active_slot.slot, &active_slot.says)?;
-    let manifest = manifest_of_slot(alloc, disk, identity.bank, &active_slot.says)?;
-    Ok(Found {
+    Ok(SoundSlot {
         identity,
-        manifest,
-        active: active_by(&active_slot),
-        other_is_open: active_slot.other_is_open,
+        active_slot,
     })
 }
 
 // What is active where this slot is.
-fn active_by(active_slot: &ActiveSlot) -> Active
+pub(crate) fn active_by(active_slot: &ActiveSlot) -> Active
     requires { active_slot.now.says.bank < 2 }
     ensures slot { result.slot ≡ active_slot.now.slot }
     ensures bank { bank_number result.bank ≡ active_slot.now.says.bank }
@@ -164,10 +190,10 @@ fn slot_on<K: Disk>(disk: &mut K, at: u32) -> Result<SlotFields, RecoverFault>
 
 // The active slot, what it says, and whether the other is open too.
 #[derive(Clone, Copy)]
-struct ActiveSlot {
-    slot: Slot,
-    says: SlotFields,
-    other_is_open: bool,
+pub(crate) struct ActiveSlot {
+    pub(crate) slot: Slot,
+    pub(crate) says: SlotFields,
+    pub(crate) other_is_open: bool,
 }
 
 fn active_slot_on<K: Disk>(disk: &mut K) -> Result<ActiveSlot, RecoverFault>
@@ -293,7 +319,7 @@ fn behind_loads(loads: &[ManifestLoad], bytes: u32) -> Option<u32>
     Some(rest)
 }
 
-fn behind_files(files: &[ManifestFile], bytes: u32) -> Option<u32>
+pub(crate) fn behind_files(files: &[ManifestFile], bytes: u32) -> Option<u32>
     ensures some { IfSome result (λ rest. size_of files.now + rest ≡ bytes) }
     ensures none { IfNone result (bytes < size_of files.now) }
 {

@@ -1,14 +1,12 @@
-use Rattle.std.proofs.Common.{◌≡◌, ◌+◌, ◌≤◌, length, take}
-use Rattle.std.specs.Prelude.{map}
-use Rattle.disk_layout.specs.Manifest.{entry_view, total_length}
-use Rattle.recovery.specs.Listings.{ListsLoads}
+use Rattle.std.proofs.Common.{◌≤◌, length}
+use Rattle.disk_layout.specs.Manifest.{left_in}
 use Rattle.recovery.proofs.DiskReads.{Looked}
+use Rattle.recovery.proofs.Outlined.{LinesSoFar}
 use Rattle.recovery.proofs.listed.put_loads.Given as goal
 
-abbrev pub invariant-loop-entry : goal.invariant-loop-entry
-invariant-loop-entry g l = record {
+abbrev pub invariant-loop : goal.invariant-loop
+invariant-loop g l = record {
   looked : Looked (g.K.Disk.state l.fn.disk) (g.K.Disk.state l.disk);
-  offset : l.at ≡ l.start + total_length (map entry_view (take l.entry-index l.entries));
   buffer : 1 ≤ length l.buffer;
-  listed : ListsLoads (g.K.Disk.state l.fn.disk).reads l.start (map entry_view (take l.entry-index l.entries)) l.fn.out.items l.out.items;
+  lines : LinesSoFar (g.K.Disk.state l.fn.disk).reads l.start (left_in l.fn.loads) l.fn.out.items l.count l.counter l.loads l.at l.out.items;
 }

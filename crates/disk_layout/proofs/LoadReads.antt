@@ -1,0 +1,114 @@
+-- A manifest that is read load by load.
+use Rattle.std.proofs.Common.{◌≡◌, ℕ, ◌+◌, suc, zero, List, [], ◌∷◌, length, Result, Ok, Err, OnOk, ◌⊎◌, inl, inr, refl, sym, ap, ◌∙◌, arith}
+use Rattle.std.specs.Prelude.{IfErr}
+use Rattle.field_grammar.specs.Cursor.{Cursor, start}
+use Rattle.field_grammar.specs.Grammar.{Grammar, read, times, ended, ◌then◌}
+use Rattle.field_grammar.specs.Answers.{answer, Decodes}
+use Rattle.field_grammar.specs.StepLaws.{then_ok}
+use Rattle.disk_layout.specs.Manifest.{LoadEntry, load_count, load_entry, loads_from, manifest, with_these}
+use Rattle.disk_layout.specs.declared.manifest.ManifestFault.{ManifestFault}
+use Rattle.disk_layout.specs.declared.manifest.ManifestFault.TheVariants.{Wrong, Memory}
+
+-- a fault, or out of memory
+abbrev Refused : {A : Type 0} → Result A ManifestFault → ManifestFault → Type 0
+Refused r fault = (fault ≡ Memory) ⊎ (r ≡ Err fault)
+
+instead : {A B : Type 0} (r : Result A ManifestFault) (s : Result B ManifestFault) (fault : ManifestFault) → (r ≡ Err fault → s ≡ Err fault) → Refused r fault → Refused s fault
+instead r s fault then_so (inl wants) = inl wants
+instead r s fault then_so (inr is) = inr (then_so is)
+
+-- ---- the count
+
+pub begun : (bytes : List ℕ) (count : ℕ) (c d : Cursor) → c ≡ start bytes → read load_count c ≡ Ok (count, d) → loads_from count d ≡ answer manifest bytes
+unfolding manifest
+begun bytes count c d at here = let first : read load_count (start bytes) ≡ Ok (count, d) = rw (← at) here in rw first refl
+
+not_begun : (bytes : List ℕ) (fault : ManifestFault) → read load_count (start bytes) ≡ Err fault → answer manifest bytes ≡ Err fault
+unfolding manifest
+not_begun bytes fault here = rw here refl
+
+pub begin_refused : (bytes : List ℕ) (c : Cursor) (fault : ManifestFault) → c ≡ start bytes → Refused (read load_count c) fault → Refused (answer manifest bytes) fault
+begin_refused bytes c fault at refused = instead (read load_count c) (answer manifest bytes) fault (λ is. not_begun bytes fault (rw (← at) is)) refused
+
+-- ---- one load
+
+abbrev first_of : Result (List LoadEntry × Cursor) ManifestFault → Result (List LoadEntry) ManifestFault
+first_of r = r then (λ z. Ok z.0)
+
+abbrev ended_with : List LoadEntry → Result (Unit {0} × Cursor) ManifestFault → Result (List LoadEntry × Cursor) ManifestFault
+ended_with xs k = k then (λ u. Ok (xs, u.1))
+
+abbrev put_before : LoadEntry → Result (List LoadEntry × Cursor) ManifestFault → Result (List LoadEntry × Cursor) ManifestFault
+put_before x r = r then (λ xs. Ok (x ∷ xs.0, xs.1))
+
+abbrev then_end : Result (List LoadEntry × Cursor) ManifestFault → Result (List LoadEntry × Cursor) ManifestFault
+then_end r = r then (λ y. ended_with y.0 (read (ended Wrong) y.1))
+
+-- what an end makes of the loads before it
+ends : (k : Result (Unit {0} × Cursor) ManifestFault) (x : LoadEntry) (xs : List LoadEntry) → first_of (ended_with (x ∷ xs) k) ≡ with_these (x ∷ []) (first_of (ended_with xs k))
+ends (Ok u) x xs = refl
+ends (Err f) x xs = refl
+
+behind : (r : Result (List LoadEntry × Cursor) ManifestFault) (x : LoadEntry) → first_of (then_end (put_before x r)) ≡ with_these (x ∷ []) (first_of (then_end r))
+behind (Ok y) x = ends (read (ended Wrong) y.1) x y.0
+behind (Err f) x = refl
+
+one_load : (n : ℕ) (c d : Cursor) (x : LoadEntry) → read load_entry c ≡ Ok (x, d) → loads_from (suc n) c ≡ with_these (x ∷ []) (loads_from n d)
+unfolding times
+one_load n c d x here = rw here (behind (read (times n load_entry) d) x)
+
+no_load : (n : ℕ) (c : Cursor) (fault : ManifestFault) → read load_entry c ≡ Err fault → loads_from (suc n) c ≡ Err fault
+unfolding times
+no_load n c fault here = rw here refl
+
+pub first_is : (n m : ℕ) (c d : Cursor) (x : LoadEntry) → n ≡ suc m → read load_entry c ≡ Ok (x, d) → loads_from n c ≡ with_these (x ∷ []) (loads_from m d)
+first_is n m c d x more here = rw more (one_load m c d x here)
+
+pub load_refused : (n m : ℕ) (c : Cursor) (fault : ManifestFault) → n ≡ suc m → Refused (read load_entry c) fault → Refused (loads_from n c) fault
+load_refused n m c fault more refused = instead (read load_entry c) (loads_from n c) fault (λ is. rw more (no_load m c fault is)) refused
+
+-- ---- the end
+
+at_end : (c d : Cursor) (u : Unit {0}) → read (ended Wrong) c ≡ Ok (u, d) → loads_from 0 c ≡ Ok []
+unfolding times
+at_end c d u here = rw here refl
+
+not_at_end : (c : Cursor) (fault : ManifestFault) → read (ended Wrong) c ≡ Err fault → loads_from 0 c ≡ Err fault
+unfolding times
+not_at_end c fault here = rw here refl
+
+abbrev Ends : Cursor → Result (Unit {0}) ManifestFault → Cursor → Type 0
+Ends c result d = Decodes Memory (λ (u : Unit {0}). u) (ended Wrong) c result d
+
+pub end_is : (n : ℕ) (c d : Cursor) (result : Result (Unit {0}) ManifestFault) → n ≡ 0 → Ends c result d → OnOk result (loads_from n c ≡ Ok [])
+end_is n c d (Ok u) none here = rw none (at_end c d u here)
+end_is n c d (Err fault) none here = tt
+
+pub end_refused : (n : ℕ) (c d : Cursor) (result : Result (Unit {0}) ManifestFault) → n ≡ 0 → Ends c result d → IfErr result (λ fault. (fault ≡ Memory) ⊎ (loads_from n c ≡ Err fault))
+end_refused n c d (Ok u) none here = tt
+end_refused n c d (Err fault) none refused = instead (read (ended Wrong) c) (loads_from n c) fault (λ is. rw none (not_at_end c fault is)) refused
+
+-- ---- how many
+
+abbrev Reads : Type 0 → Type 0
+Reads A = Result (A × Cursor) ManifestFault
+
+-- the first of two values that were read together
+same_first : {A : Type 0} (x y : A × Cursor) (r : Reads A) → r ≡ Ok x → r ≡ Ok y → x.0 ≡ y.0
+same_first {A} x y r e f = let same : x ≡ y = cc in ap (λ (z : A × Cursor). z.0) same
+
+as_many : {A : Type 0} (g : Grammar ManifestFault A) (n : ℕ) (c : Cursor) (x : List A × Cursor) → read (times n g) c ≡ Ok x → length x.0 ≡ n
+unfolding times
+as_many g zero c x e = ap length (same_first x ([], c) (Ok ([], c)) e refl)
+as_many {A} g (suc n) c x e =
+    let (y, one, others) = then_ok (read g c) (λ (y : A × Cursor). read (times n g) y.1 then (λ (ys : List A × Cursor). Ok (y.0 ∷ ys.0, ys.1))) x e in
+    let (ys, more, is) = then_ok (read (times n g) y.1) (λ (ys : List A × Cursor). Ok (y.0 ∷ ys.0, ys.1)) x others in
+    ap length (same_first x (y.0 ∷ ys.0, ys.1) (Ok (y.0 ∷ ys.0, ys.1)) is refl) ∙ ap suc (as_many g n y.1 ys more)
+
+pub counted : (n : ℕ) (c : Cursor) (loads : List LoadEntry) → loads_from n c ≡ Ok loads → length loads ≡ n
+counted n c loads e =
+    let (x, all, is) = then_ok (then_end (read (times n load_entry) c)) (λ (z : List LoadEntry × Cursor). Ok z.0) loads e in
+    let (y, some, rest) = then_ok (read (times n load_entry) c) (λ (y : List LoadEntry × Cursor). ended_with y.0 (read (ended Wrong) y.1)) x all in
+    let (u, end, whole) = then_ok (read (ended Wrong) y.1) (λ (u : Unit {0} × Cursor). Ok (y.0, u.1)) x rest in
+    let last : loads ≡ x.0 = cc in
+    ap length (last ∙ same_first x (y.0, u.1) (Ok (y.0, u.1)) whole refl) ∙ as_many load_entry n c y some

@@ -1,0 +1,133 @@
+//! The manifest of a disk as bytes, whose loads are read one at a time.
+ghost use Rattle.std.specs.Prelude.{◌≡◌, ◌+◌, ◌≤◌, ℕ, length, OnOk, IfOk, IfErr, IsErrOf};
+ghost use Rattle.std.specs.Option.{ForSome};
+ghost use Rattle.disk_model.specs.Image.{Image, range};
+ghost use Rattle.disk_layout.specs.Offsets.{IsBankSize, bank_at};
+ghost use Rattle.disk_layout.specs.Manifest.{RefusesManifestBytes, size_of};
+ghost use Rattle.disk_layout.specs.Holds.{Refuses};
+ghost use Rattle.disk_layout.specs.DiskReads.{ReadsDisk};
+ghost use Rattle.disk_layout.specs.declared.fault.RecoverFault.TheVariants.{DiskFailed};
+ghost use Rattle.bank_store.specs.DiskWrites.{IsRunning};
+ghost use Rattle.recovery.specs.Parts.{IsSoundAt, RefusesLoads, RefusesManifest};
+ghost use Rattle.recovery.specs.Outlines.{FindsOutline, HasRoom, IsBehind, IsOutlineInRange};
+ghost use Rattle.recovery.specs.Outlines.{TellsLoads};
+
+use crate::looking::bytes_on;
+use crate::surveying::{active_by, behind_files, sound_slot_on};
+use disk_layout::{
+    Active, Bank, Identity, ManifestFault, ManifestFile, ManifestReader, RecoverFault, SlotFields,
+};
+use disk_model::Disk;
+use load_base::Bytes;
+use std::alloc::Global;
+
+/// What is active on a disk, with its manifest as the bytes that the disk has.
+#[derive(Drop)]
+pub(crate) struct Outlined {
+    pub(crate) identity: Identity,
+    pub(crate) active: Active,
+    pub(crate) manifest: Bytes,
+}
+
+/// Finds what is active on a disk. Each load of the manifest is read and tested, and none is kept.
+pub(crate) fn outline_on<K: Disk>(
+    alloc: Global,
+    disk: &mut K,
+    buffer: &mut [u8],
+) -> Result<Outlined, RecoverFault>
+    requires running { IsRunning (K.state disk.old) }
+    requires buffer { 1 ≤ length buffer.old }
+    ensures found { IfOk result (λ found. ForSome (K.state disk.old).reads
+        (λ image. FindsOutline image found.identity found.active found.manifest.items)) }
+    ensures in_range { IfOk result
+        (λ found. IsOutlineInRange found.identity found.manifest.items) }
+    ensures refused { IfErr result (λ fault. ForSome (K.state disk.old).reads
+        (λ image. Refuses image fault)) }
+    ensures reads_disk { ReadsDisk (K.state disk.old) (K.state disk.new) result }
+{
+    let sound = sound_slot_on(disk)?;
+    let size = sound.identity.bank;
+    let manifest = manifest_bytes_on(alloc, disk, size, &sound.active_slot.says, buffer)?;
+    Ok(Outlined {
+        identity: sound.identity,
+        active: active_by(&sound.active_slot),
+        manifest,
+    })
+}
+
+// The bytes of the manifest that the slot names, whose files have as many bytes as stand before it.
+fn manifest_bytes_on<K: Disk>(
+    alloc: Global,
+    disk: &mut K,
+    bank_size: u32,
+    slot: &SlotFields,
+    buffer: &mut [u8],
+) -> Result<Bytes, RecoverFault>
+    requires running { IsRunning (K.state disk.old) }
+    requires size { IsBankSize bank_size }
+    requires can_be { IsSoundAt bank_size slot.now }
+    requires buffer { 1 ≤ length buffer.old }
+    ensures bytes { IfOk result (λ bytes. ForSome (K.state disk.old).reads
+        (λ image. bytes.items ≡ range image
+        (bank_at bank_size slot.now.bank + slot.now.manifest.offset) slot.now.manifest.length)) }
+    ensures tells { IfOk result (λ bytes. TellsLoads bytes.items slot.now.manifest.offset) }
+    ensures refused { IfErr result (λ fault. ForSome (K.state disk.old).reads
+        (λ image. RefusesManifest image (bank_at bank_size slot.now.bank + slot.now.manifest.offset)
+        slot.now.manifest.length slot.now.manifest.offset fault)) }
+    ensures reads_disk { ReadsDisk (K.state disk.old) (K.state disk.new) result }
+{
+    let start = Bank::numbered(slot.bank).offset(bank_size) + slot.manifest.offset;
+    let bytes = bytes_on(alloc, disk, start, slot.manifest.length, buffer)?;
+    check_manifest(alloc, bytes.as_slice(), start, slot.manifest.offset)?;
+    Ok(bytes)
+}
+
+// These bytes, which begin at an offset of the disk, are a manifest, and the files of its loads have
+// so many bytes together.
+fn check_manifest(
+    alloc: Global,
+    bytes: &[u8],
+    start: u32,
+    contents: u32,
+) -> Result<(), RecoverFault>
+    ensures tells { OnOk result (TellsLoads bytes.now contents) }
+    ensures refused { IfErr result (λ fault. RefusesLoads bytes.now start contents fault) }
+    ensures not_disk { ¬ IsErrOf result DiskFailed }
+{
+    match room_behind(alloc, bytes, contents) {
+        Ok(left) if left == Some(0) => Ok(()),
+        Ok(_) => Err(RecoverFault::BadManifest(u64::from(start))),
+        Err(ManifestFault::Wrong(offset)) => {
+            Err(RecoverFault::BadManifest(u64::from(start) + offset))
+        }
+        Err(ManifestFault::Memory) => Err(RecoverFault::Memory),
+    }
+}
+
+// How many of so many bytes are left after the files of a manifest's loads; `None` where they have
+// more.
+fn room_behind(alloc: Global, bytes: &[u8], room: u32) -> Result<Option<u32>, ManifestFault>
+    ensures room { IfOk result (λ left. HasRoom bytes.now room left) }
+    ensures refused { IfErr result (λ fault. RefusesManifestBytes bytes.now fault) }
+{
+    let mut loads = ManifestReader::new(bytes)?;
+    let mut left = Some(room);
+    let count = loads.left();
+    for _ in 0..count {
+        let load = loads.load(alloc)?;
+        left = behind_load(left, load.files.as_slice());
+    }
+    loads.end()?;
+    Ok(left)
+}
+
+// How many are left after these files too.
+fn behind_load(left: Option<u32>, files: &[ManifestFile]) -> Option<u32>
+    ensures { (room total : ℕ) → IsBehind room total left
+        → IsBehind room (total + size_of files.now) result }
+{
+    match left {
+        Some(room) => behind_files(files, room),
+        None => None,
+    }
+}
