@@ -5,6 +5,7 @@ use disk_layout::{Active, Bank, ManifestRange, Slot};
 use disk_model::{Call, Disk, FileDisk, MemDisk, Note};
 use load_base::{Ident, Name, PartText};
 use printed_text::Printed;
+use std::alloc::Global;
 use std::fs;
 use std::test::Fail;
 
@@ -34,6 +35,18 @@ fn written(note: &Note) -> (u32, &[u8]) {
     }
 }
 
+// A disk of these bytes after these writes.
+fn after(before: &[u8; 9000], writes: &[(u32, &[u8])]) -> [u8; 9000] {
+    let mut disk = *before;
+    for (at, bytes) in writes {
+        let at = *at as usize;
+        if at <= disk.len() && bytes.len() <= disk.len() - at {
+            disk[at..at + bytes.len()].copy_from_slice(bytes);
+        }
+    }
+    disk
+}
+
 #[test]
 fn a_disk_with_both_gates_open_is_formatted_in_four_steps(rt: HostRuntime) -> Result<(), Fail> {
     let mut junk = [0x5A; 9000];
@@ -53,44 +66,32 @@ fn a_disk_with_both_gates_open_is_formatted_in_four_steps(rt: HostRuntime) -> Re
         (4096, &[0xA5]),
         (0, &[]),
     ];
-    assert_eq!(rt; disk.notes().len(), steps.len());
+    let mut made = disk.notes().len() == steps.len();
     for (note, step) in disk.notes().iter().zip(steps) {
-        assert_eq!(rt; written(note), step);
-        assert!(rt; note.done);
+        made = made && note.done && written(note) == step;
     }
-    let mut wanted = junk;
-    for (at, bytes) in steps {
-        for (i, byte) in bytes.iter().enumerate() {
-            if let Some(cell) = wanted.get_mut((at as usize).wrapping_add(i)) {
-                *cell = *byte;
-            }
-        }
-    }
-    assert_eq!(rt; disk.as_slice(), wanted.as_slice());
+    assert!(rt; made && disk.as_slice() == after(&junk, &steps).as_slice());
     Ok(())
+}
+
+// What formatting an empty disk answers where this call fails, and how many writes and syncs were
+// noted, that call among them.
+fn format_failing(alloc: Global, call: u32) -> Result<(Result<(), StoreFault>, usize), Fail> {
+    let mut disk = MemDisk::new(alloc, &[])?;
+    disk.fail_at(call)?;
+    let answer = format(&mut disk, &target(67_108_864)?);
+    Ok((answer, disk.notes().len()))
 }
 
 // It reads both slots, and finds no gate open.
 #[test]
 fn each_failing_call_stops_formatting(rt: HostRuntime) -> Result<(), Fail> {
     for call in 1..=9u32 {
-        let mut disk = MemDisk::new(rt.alloc(), &[])?;
-        disk.fail_at(call)?;
-        assert_eq!(rt;
-            format(&mut disk, &target(67_108_864)?),
-            Err(StoreFault::DiskFailed),
-            "at call {call}"
-        );
-        assert_eq!(rt;
-            disk.notes().len(),
-            call.saturating_sub(2) as usize,
-            "at call {call}"
-        );
-        disk.restart()?;
+        let made = call.saturating_sub(2) as usize;
+        let wanted = (Err(StoreFault::DiskFailed), made);
+        assert_eq!(rt; format_failing(rt.alloc(), call)?, wanted, "at call {call}");
     }
-    let mut disk = MemDisk::new(rt.alloc(), &[])?;
-    disk.fail_at(10)?;
-    assert_eq!(rt; format(&mut disk, &target(67_108_864)?), Ok(()));
+    assert_eq!(rt; format_failing(rt.alloc(), 10)?, (Ok(()), 7));
     Ok(())
 }
 
@@ -112,10 +113,10 @@ fn a_file_is_formatted(rt: HostRuntime) -> Result<(), Fail> {
     Ok(())
 }
 
-#[test]
-fn a_load_is_installed_beside_what_is_active(rt: HostRuntime) -> Result<(), Fail> {
-    let mut disk = MemDisk::new(rt.alloc(), &[])?;
-    format(&mut disk, &target(4096)?)?;
+// A disk that was formatted for the target, on which one load was installed, and the store's
+// sequence number and bank then.
+fn installed(alloc: Global) -> Result<(MemDisk, u32, u8), Fail> {
+    let (part, name) = (PartText::read(b"MMM12-0001-ABCD")?, Name::read(b"H.LUH")?);
     let active = Active {
         slot: Slot::A,
         bank: Bank::Zero,
@@ -125,16 +126,24 @@ fn a_load_is_installed_beside_what_is_active(rt: HostRuntime) -> Result<(), Fail
             length: 2,
         },
     };
-    let mut store = Store::new(rt.alloc(), 4096, active, false);
+    let mut disk = MemDisk::new(alloc, &[])?;
+    format(&mut disk, &target(4096)?)?;
+    let mut store = Store::new(alloc, 4096, active, false);
     store.prepare()?;
     store.begin(&mut disk)?;
-    store.start_load(PartText::read(b"MMM12-0001-ABCD")?, 1)?;
+    store.start_load(part, 1)?;
     store.append(&mut disk, b"ab")?;
     store.append(&mut disk, b"c")?;
-    store.end_file(Name::read(b"H.LUH")?)?;
+    store.end_file(name)?;
     store.seal(&mut disk)?;
     store.activate(&mut disk)?;
-    assert_eq!(rt; (store.sequence(), store.bank()), (2, 1));
+    let (sequence, bank) = (store.sequence(), store.bank());
+    Ok((disk, sequence, bank))
+}
+
+#[test]
+fn a_load_is_installed_beside_what_is_active(rt: HostRuntime) -> Result<(), Fail> {
+    let (disk, sequence, bank) = installed(rt.alloc())?;
     let offsets: [(usize, &[u8]); 5] = [
         (4096, &[0xA5]),
         (4608, &[0xA5]),
@@ -145,11 +154,12 @@ fn a_load_is_installed_beside_what_is_active(rt: HostRuntime) -> Result<(), Fail
             b"abc\x00\x01MMM12-0001-ABCD\x00\x01\x05H.LUH\x00\x00\x00\x03",
         ),
     ];
+    let mut written = (sequence, bank, disk.as_slice().len()) == (2, 1, 12320);
     for (at, bytes) in offsets {
         let held = disk.as_slice().get(at..).unwrap_or(&[]);
-        assert!(rt; held.starts_with(bytes), "at {at}");
+        written = written && held.starts_with(bytes);
     }
-    assert_eq!(rt; disk.as_slice().len(), 12320);
+    assert!(rt; written);
     Ok(())
 }
 

@@ -60,14 +60,24 @@ fn five_calls<K: Disk>(disk: &mut K) -> Result<(), DiskFault>
     Ok(())
 }
 
-#[test]
-fn a_disk_in_memory_keeps_what_was_written(rt: HostRuntime) -> Result<(), Fail> {
-    let mut disk = MemDisk::new(rt.alloc(), &[1, 2, 3])?;
+// The first bytes of a disk in memory after five calls and a restart, and whether it tells those that
+// it was made of and those that it has then.
+fn after_five_calls(alloc: Global) -> Result<([u8; 8], bool), Fail> {
+    let mut disk = MemDisk::new(alloc, &[1, 2, 3])?;
     five_calls(&mut disk)?;
     disk.restart()?;
-    assert_eq!(rt; prefix(&mut disk)?, [1, 7, 3, 0, 8, 9, 0, 0]);
-    assert_eq!(rt; disk.first_bytes(), [1, 2, 3].as_slice());
-    assert_eq!(rt; disk.as_slice(), [1, 7, 3, 0, 8, 9].as_slice());
+    let first = prefix(&mut disk)?;
+    let before = disk.first_bytes() == [1, 2, 3].as_slice();
+    Ok((
+        first,
+        before && disk.as_slice() == [1, 7, 3, 0, 8, 9].as_slice(),
+    ))
+}
+
+#[test]
+fn a_disk_in_memory_keeps_what_was_written(rt: HostRuntime) -> Result<(), Fail> {
+    let wanted = ([1, 7, 3, 0, 8, 9, 0, 0], true);
+    assert_eq!(rt; after_five_calls(rt.alloc())?, wanted);
     Ok(())
 }
 
@@ -99,13 +109,18 @@ fn each_call_of_a_disk_in_memory_fails_in_turn(rt: HostRuntime) -> Result<(), Fa
     Ok(())
 }
 
-#[test]
-fn a_torn_range_is_zeros(rt: HostRuntime) -> Result<(), Fail> {
-    let mut disk = Tearing::new(MemDisk::new(rt.alloc(), &[1, 2, 3, 4, 5])?);
+// Three bytes of five are written before a restart, which tears the last two, of one call.
+fn torn(alloc: Global) -> Result<[u8; 8], Fail> {
+    let mut disk = Tearing::new(MemDisk::new(alloc, &[1, 2, 3, 4, 5])?);
     disk.write(3, &[9])?;
     disk.write(1, &[7, 8])?;
     disk.restart()?;
-    assert_eq!(rt; prefix(&mut disk)?, [1, 0, 0, 9, 5, 0, 0, 0]);
+    Ok(prefix(&mut disk)?)
+}
+
+#[test]
+fn a_torn_range_is_zeros(rt: HostRuntime) -> Result<(), Fail> {
+    assert_eq!(rt; torn(rt.alloc())?, [1, 0, 0, 9, 5, 0, 0, 0]);
     Ok(())
 }
 
@@ -209,14 +224,19 @@ fn a_seventeenth_range_is_synced_before(rt: HostRuntime) -> Result<(), Fail> {
     Ok(())
 }
 
-#[test]
-fn power_that_is_lost_isnt_lost_again(rt: HostRuntime) -> Result<(), Fail> {
-    let mut disk = fused(rt.alloc(), &[1, 2, 3])?;
+// The first bytes after a restart, where power is lost twice before it.
+fn lost_twice(alloc: Global) -> Result<[u8; 8], Fail> {
+    let mut disk = fused(alloc, &[1, 2, 3])?;
     disk.write(1, &[7])?;
     disk.arm(0, 0);
     disk.arm(0, 1);
     disk.restart()?;
-    assert_eq!(rt; prefix(&mut disk)?, [1, 7, 3, 0, 0, 0, 0, 0]);
+    Ok(prefix(&mut disk)?)
+}
+
+#[test]
+fn power_that_is_lost_isnt_lost_again(rt: HostRuntime) -> Result<(), Fail> {
+    assert_eq!(rt; lost_twice(rt.alloc())?, [1, 7, 3, 0, 0, 0, 0, 0]);
     Ok(())
 }
 
@@ -289,13 +309,20 @@ fn back_to_back(rt: &HostRuntime, name: &str) -> Result<[[u8; 2]; 5], DiskFault>
     ])
 }
 
+// What a disk in a file that isn't there reads; whether the file is there after a sync; and what it
+// has after writes over two openings.
+fn made_by_a_write(rt: &HostRuntime, name: &str) -> Result<([u8; 8], bool, [u8; 8]), Fail> {
+    let read = prefix(&mut FileDisk::new(rt, name))?;
+    FileDisk::new(rt, name).sync()?;
+    let is_there = fs::read(rt, name).is_ok();
+    Ok((read, is_there, write_file(rt, name)?))
+}
+
 #[test]
 fn a_disk_in_a_file_reads_what_was_written(rt: HostRuntime) -> Result<(), Fail> {
     let name = "a_disk_in_a_file.disk";
-    assert_eq!(rt; prefix(&mut FileDisk::new(&rt, name))?, [0; 8]);
-    assert_eq!(rt; FileDisk::new(&rt, name).sync(), Ok(()));
-    assert!(rt; fs::read(&rt, name).is_err());
-    assert_eq!(rt; write_file(&rt, name)?, [1, 0, 0, 5, 6, 0, 0, 0]);
+    let wanted = ([0; 8], false, [1, 0, 0, 5, 6, 0, 0, 0]);
+    assert_eq!(rt; made_by_a_write(&rt, name)?, wanted);
     assert_eq!(rt; ends(&rt, name)?, [6, 0, 0, 0, 0, 0]);
     assert_eq!(rt; fs::read(&rt, name)?.as_slice(), [1, 0, 0, 5, 6].as_slice());
     fs::remove_file(&rt, name)?;
@@ -315,15 +342,23 @@ fn fused_file<'r>(rt: &'r HostRuntime, name: &'r str) -> Fused<FileDisk<'r, Host
     Fused::new(FileDisk::new(rt, name))
 }
 
+// Whether a write fails at which power is lost over a file, and the first bytes after another one.
+fn lost_over_a_file(rt: &HostRuntime, name: &str) -> Result<(bool, [u8; 8]), Fail> {
+    let mut disk = fused_file(rt, name);
+    disk.arm(1, 1);
+    let lost = disk.write(1, &[7, 8]) == Err(DiskFault::Failed);
+    disk.restart()?;
+    disk.write(4, &[5])?;
+    Ok((lost, prefix(&mut disk)?))
+}
+
 #[test]
 fn power_is_lost_over_a_file(rt: HostRuntime) -> Result<(), Fail> {
     let name = "power_is_lost.disk";
-    let mut disk = fused_file(&rt, name);
-    disk.arm(1, 1);
-    assert_eq!(rt; disk.write(1, &[7, 8]), Err(DiskFault::Failed));
-    disk.restart()?;
-    disk.write(4, &[5])?;
-    assert_eq!(rt; prefix(&mut disk)?, [0, 0, 0, 0, 5, 0, 0, 0]);
+    assert_eq!(rt;
+        lost_over_a_file(&rt, name)?,
+        (true, [0, 0, 0, 0, 5, 0, 0, 0])
+    );
     fs::remove_file(&rt, name)?;
     Ok(())
 }

@@ -106,18 +106,6 @@ fn files_there_and_back(alloc: Global, list: &FilesList) -> Result<Bytes, ListFa
     Ok(bytes)
 }
 
-#[test]
-fn the_files_of_a_set_are_written(rt: HostRuntime) -> Result<(), ListFault> {
-    let mut files = List::new(rt.alloc());
-    for (title, crc16) in [(b"APP.LUH", 0x248A), (b"APP.BIN", 0x29B1)] {
-        files.push(file(rt.alloc(), title, b"\\", 1, crc16)?)?;
-    }
-    let list = files_list(rt.alloc(), files, 0)?;
-    let bytes = files_there_and_back(rt.alloc(), &list)?;
-    assert_eq!(rt; bytes.as_slice(), FILES.as_slice());
-    Ok(())
-}
-
 /// How many files with which path and how many bytes of user data a list has, and how many bytes it
 /// takes, or 0 where it doesn't fit: 46, those of the user data, and 16 for each file and those of
 /// its path, an even number.
@@ -149,17 +137,11 @@ fn a_list_of_files_keeps_its_limits(rt: HostRuntime) -> Result<(), ListFault> {
 
 // ---- lists of loads
 
-/// A load for N kinds of hardware, each of `size` bytes.
-fn load_for(
-    alloc: Global,
-    title: &[u8],
-    kinds: usize,
-    size: usize,
-) -> Result<LoadEntry, ListFault> {
-    let kind = [b'K'; 255];
+/// A load for N kinds of hardware, each of 255 bytes.
+fn load_for(alloc: Global, title: &[u8], kinds: usize) -> Result<LoadEntry, ListFault> {
     let mut hardware = List::new(alloc);
     for _ in 0..kinds {
-        hardware.push(text(alloc, &kind[..size.min(255)])?)?;
+        hardware.push(text(alloc, &[b'K'; 255])?)?;
     }
     Ok(LoadEntry {
         part: part(b"ABC41-0000-0001")?,
@@ -184,7 +166,7 @@ fn loads_list(alloc: Global, loads: List<LoadEntry>, user: usize) -> Result<Load
 fn many_loads(alloc: Global, count: usize, kinds: usize) -> Result<List<LoadEntry>, ListFault> {
     let mut loads = List::new(alloc);
     for number in 0..count {
-        loads.push(load_for(alloc, &numbered(number), kinds, 255)?)?;
+        loads.push(load_for(alloc, &numbered(number), kinds)?)?;
     }
     Ok(loads)
 }
@@ -201,18 +183,6 @@ fn loads_there_and_back(alloc: Global, list: &LoadsList) -> Result<Bytes, ListFa
         return Err(ListFault::Rest(again.loads.len() as u64));
     }
     Ok(bytes)
-}
-
-#[test]
-fn the_loads_of_a_set_are_written(rt: HostRuntime) -> Result<(), ListFault> {
-    let mut loads = List::new(rt.alloc());
-    let mut load = load_for(rt.alloc(), b"APP.LUH", 0, 0)?;
-    load.hardware.push(text(rt.alloc(), b"HW1")?)?;
-    loads.push(load)?;
-    let list = loads_list(rt.alloc(), loads, 0)?;
-    let bytes = loads_there_and_back(rt.alloc(), &list)?;
-    assert_eq!(rt; bytes.as_slice(), LOADS.as_slice());
-    Ok(())
 }
 
 /// How many loads, each for how many kinds of hardware of 255 bytes, and how many bytes of user
@@ -235,6 +205,16 @@ fn a_list_of_loads_keeps_its_limits(rt: HostRuntime) -> Result<(), ListFault> {
 }
 
 // ---- both
+
+#[test]
+fn lists_are_written_as_they_were_read(rt: HostRuntime) -> Result<(), ListFault> {
+    let alloc = rt.alloc();
+    let files = files_there_and_back(alloc, &FilesList::decode(alloc, &FILES)?)?;
+    let loads = loads_there_and_back(alloc, &LoadsList::decode(alloc, &LOADS)?)?;
+    let same = files.as_slice() == FILES.as_slice() && loads.as_slice() == LOADS.as_slice();
+    assert!(rt; same);
+    Ok(())
+}
 
 /// The refusal of N zeros as a list of files.
 fn zeros_refused(alloc: Global, size: usize) -> Result<Text, NoMemory> {

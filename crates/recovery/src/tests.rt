@@ -55,33 +55,39 @@ fn first_and_last(notes: &[Note]) -> (u32, u32) {
     offsets
 }
 
+// What a survey of these bytes tells: how many loads, the active bank and its sequence number; how
+// many calls changed the disk; and where the first and the last write of an installation without
+// loads begin then.
+type Told = (usize, u8, u32, usize, (u32, u32));
+
+fn surveyed(alloc: Global, bytes: &[u8; 12_290]) -> Result<Told, Fail> {
+    let mut disk = MemDisk::new(alloc, bytes)?;
+    let surveyed = survey(alloc, &mut disk)?;
+    let (loads, calls) = (surveyed.manifest.loads.len(), disk.notes().len());
+    let mut store = surveyed.store;
+    let (bank, sequence) = (store.bank(), store.sequence());
+    store.prepare()?;
+    store.begin(&mut disk)?;
+    store.seal(&mut disk)?;
+    store.activate(&mut disk)?;
+    Ok((loads, bank, sequence, calls, first_and_last(disk.notes())))
+}
+
 // An installation shuts the other slot first where it is open, and else begins with the other bank;
 // its last write opens the other slot.
 #[test]
 fn a_survey_tells_what_is_active(rt: HostRuntime) -> Result<(), Fail> {
-    let alloc = rt.alloc();
-    for (gate_a, gate_b, sequence_b, bank, sequence, loads, offsets) in [
-        (0xA5, 0xA5, 8, 1, 8, 0, (4096, 4096)),
-        (0x5A, 0xA5, 8, 1, 8, 0, (8192, 4096)),
-        (0xA5, 0xA5, 7, 0, 7, 1, (4608, 4608)),
-        (0xA5, 0x00, 8, 0, 7, 1, (12_288, 4608)),
+    for (gate_a, gate_b, sequence_b, wanted) in [
+        (0xA5, 0xA5, 8, (0, 1, 8, 0, (4096, 4096))),
+        (0x5A, 0xA5, 8, (0, 1, 8, 0, (8192, 4096))),
+        (0xA5, 0xA5, 7, (1, 0, 7, 0, (4608, 4608))),
+        (0xA5, 0x00, 8, (1, 0, 7, 0, (12_288, 4608))),
     ] {
         let mut bytes = two_slots();
         put(&mut bytes, 4096, &[gate_a]);
         put(&mut bytes, 4608, &[gate_b]);
         put(&mut bytes, 4627, &[sequence_b]);
-        let mut disk = MemDisk::new(alloc, &bytes)?;
-        let surveyed = survey(alloc, &mut disk)?;
-        assert_eq!(rt; surveyed.identity.hw.as_slice(), b"HW1".as_slice());
-        assert_eq!(rt; surveyed.manifest.loads.len(), loads);
-        assert_eq!(rt; disk.notes().len(), 0);
-        let mut store = surveyed.store;
-        assert_eq!(rt; (store.bank(), store.sequence()), (bank, sequence));
-        store.prepare()?;
-        store.begin(&mut disk)?;
-        store.seal(&mut disk)?;
-        store.activate(&mut disk)?;
-        assert_eq!(rt; first_and_last(disk.notes()), offsets);
+        assert_eq!(rt; surveyed(rt.alloc(), &bytes)?, wanted);
     }
     Ok(())
 }
@@ -259,28 +265,33 @@ fn new_names() -> Result<[Name; 5], Fail> {
     ])
 }
 
-// After a restart the disk has the old configuration, or, where that may be, the new one.
-fn restarts_as_promised(alloc: Global, disk: &mut MemDisk, may_be_new: bool) -> Result<bool, Fail> {
+// A disk with the old configuration, where this call of the installation failed, and what that
+// answered; a survey makes four calls before it.
+fn failing(alloc: Global, call: u32) -> Result<(MemDisk, Result<(), StoreFault>), Fail> {
+    let (parts, names) = (new_parts()?, new_names()?);
+    let mut disk = MemDisk::new(alloc, &old_disk())?;
+    disk.fail_at(call.saturating_add(4))?;
+    let mut store = survey(alloc, &mut disk)?.store;
+    let answer = install_new(&mut store, &mut disk, parts, names);
+    Ok((disk, answer))
+}
+
+// Whether a restart leaves the old configuration, and whether the new.
+fn left_on(alloc: Global, disk: &mut MemDisk) -> Result<(bool, bool), Fail> {
     disk.restart()?;
     let standing = recover(alloc, disk)?;
-    Ok(is_old(&standing) || may_be_new && is_new(&standing))
+    Ok((is_old(&standing), is_new(&standing)))
 }
 
 // Shutting the other slot makes two calls; the contents, the manifest, the slot and their sync
 // eight; opening the other slot two, a write and a sync.
 #[test]
 fn an_installation_that_fails_leaves_the_old_configuration(rt: HostRuntime) -> Result<(), Fail> {
-    let alloc = rt.alloc();
-    let old = old_disk();
-    let (parts, names) = (new_parts()?, new_names()?);
     for call in 1..=12u32 {
-        let mut disk = MemDisk::new(alloc, &old)?;
-        let mut store = survey(alloc, &mut disk)?.store;
-        disk.fail_at(4 + call)?;
-        let installed = install_new(&mut store, &mut disk, parts, names);
-        assert_eq!(rt; installed, Err(StoreFault::DiskFailed), "at call {call}");
-        let kept = restarts_as_promised(alloc, &mut disk, call > 10)?;
-        assert!(rt; kept, "at call {call}");
+        let (mut disk, answer) = failing(rt.alloc(), call)?;
+        let (is_old, is_new) = left_on(rt.alloc(), &mut disk)?;
+        let failed = answer == Err(StoreFault::DiskFailed);
+        assert!(rt; failed && (is_old || call > 10 && is_new), "at call {call}");
     }
     Ok(())
 }
@@ -370,16 +381,36 @@ fn images_after(alloc: Global, before: &[u8; WHOLE], notes: &[Note]) -> Result<(
     Ok((images, new))
 }
 
+// A disk on which the new configuration was installed beside the old.
+fn installed(alloc: Global) -> Result<MemDisk, Fail> {
+    let (parts, names) = (new_parts()?, new_names()?);
+    let mut disk = MemDisk::new(alloc, &old_disk())?;
+    let mut store = survey(alloc, &mut disk)?.store;
+    install_new(&mut store, &mut disk, parts, names)?;
+    Ok(disk)
+}
+
+// At how many moments of these calls there are as many images, and as many of the new configuration,
+// as are wanted; and how many images there are.
+fn agree(alloc: Global, notes: &[Note], wanted: &[(u32, u32)]) -> Result<(usize, u32), Fail> {
+    let (mut moments, mut images) = (0usize, 0u32);
+    for (calls, wanted) in wanted.iter().enumerate() {
+        let made = notes.get(..calls).unwrap_or(&[]);
+        let found = images_after(alloc, &old_disk(), made)?;
+        if found == *wanted {
+            moments = moments.saturating_add(1);
+        }
+        images = images.saturating_add(found.0);
+    }
+    Ok((moments, images))
+}
+
 // At each moment of an installation, told by the calls that have ended or begun. A moment inside a
 // write has the images from before it and those after it, and one inside a sync those from before
 // it.
 #[test]
 fn each_image_of_an_installation_is_old_or_new(rt: HostRuntime) -> Result<(), Fail> {
-    let alloc = rt.alloc();
-    let old = old_disk();
-    let mut disk = MemDisk::new(alloc, &old)?;
-    let mut store = survey(alloc, &mut disk)?.store;
-    install_new(&mut store, &mut disk, new_parts()?, new_names()?)?;
+    let disk = installed(rt.alloc())?;
     let wanted = [
         (1, 0),
         (3, 0),
@@ -395,14 +426,10 @@ fn each_image_of_an_installation_is_old_or_new(rt: HostRuntime) -> Result<(), Fa
         (3, 1),
         (1, 1),
     ];
-    assert_eq!(rt; disk.notes().len(), wanted.len() - 1);
-    let mut images = 0u32;
-    for (calls, wanted) in wanted.into_iter().enumerate() {
-        let made = disk.notes().get(..calls).unwrap_or(&[]);
-        let found = images_after(alloc, &old, made)?;
-        assert_eq!(rt; found, wanted, "after {calls} calls");
-        images = images.saturating_add(found.0);
-    }
-    assert_eq!(rt; images, 3289);
+    let found = (
+        disk.notes().len(),
+        agree(rt.alloc(), disk.notes(), &wanted)?,
+    );
+    assert_eq!(rt; found, (12, (13, 3289)));
     Ok(())
 }

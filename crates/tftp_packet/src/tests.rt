@@ -2,7 +2,9 @@
 //! sends, and bytes with one thing wrong.
 
 use crate::{Options, Packet, PacketFault, packet_laws};
-use load_base::{Name, NameFault, NoMemory};
+use load_base::{Name, NameFault};
+use std::alloc::Global;
+use std::test::Fail;
 
 const NONE: Options = Options {
     blksize: None,
@@ -10,254 +12,171 @@ const NONE: Options = Options {
     tsize: None,
 };
 
-// Requests in their one spelling that is sent, and what they ask for.
-const REQUESTS: [(&[u8], &[u8], Options); 5] = [
-    (b"\0\x01HW1_L.LCI\0octet\0", b"HW1_L.LCI", NONE),
-    (
-        b"\0\x01foobar\0octet\0blksize\x001428\0",
-        b"foobar",
-        Options {
-            blksize: Some(1428),
-            timeout: None,
-            tsize: None,
-        },
-    ),
-    (
-        b"\0\x01foobar\0octet\0timeout\x001\0",
-        b"foobar",
-        Options {
-            blksize: None,
-            timeout: Some(1),
-            tsize: None,
-        },
-    ),
-    (
-        b"\0\x01HW1_L.LUI\0octet\0blksize\x001024\0tsize\x000\0",
-        b"HW1_L.LUI",
-        Options {
-            blksize: Some(1024),
-            timeout: None,
-            tsize: Some(0),
-        },
-    ),
-    (
-        b"\0\x01A\0octet\0blksize\x0065464\0timeout\x00255\0tsize\x004294967295\0",
-        b"A",
-        Options {
-            blksize: Some(65_464),
-            timeout: Some(255),
-            tsize: Some(4_294_967_295),
-        },
-    ),
-];
-
-// The file that a packet asks for, and its options.
-fn name_in<'a>(packet: &'a Packet<'_>) -> &'a [u8] {
-    match packet {
-        Packet::Rrq { name, options: _ } | Packet::Wrq { name, options: _ } => name.as_slice(),
-        _ => &[],
+fn options(blksize: Option<u16>, timeout: Option<u8>, tsize: Option<u32>) -> Options {
+    Options {
+        blksize,
+        timeout,
+        tsize,
     }
 }
 
-fn options_in(packet: &Packet<'_>) -> Options {
+// The letter of a packet; its file, payload or text; its block or code; and its options.
+type Parts<'a> = (u8, &'a [u8], u16, Options);
+
+fn parts<'a>(packet: &'a Packet<'_>) -> Parts<'a> {
     match packet {
-        Packet::Rrq { name: _, options }
-        | Packet::Wrq { name: _, options }
-        | Packet::Oack { options } => *options,
-        _ => NONE,
+        Packet::Rrq { name, options } => (b'r', name.as_slice(), 0, *options),
+        Packet::Wrq { name, options } => (b'w', name.as_slice(), 0, *options),
+        Packet::Data { block, payload } => (b'd', *payload, *block, NONE),
+        Packet::Ack { block } => (b'a', &[], *block, NONE),
+        Packet::Error { code, text } => (b'e', *text, *code, NONE),
+        Packet::Oack { options } => (b'o', &[], 0, *options),
     }
 }
 
+// Whether the bytes are a packet of these parts, and how many bytes it is written in, where these
+// are the same.
+fn there_and_back(alloc: Global, bytes: &[u8], wanted: Parts<'_>) -> Result<(bool, usize), Fail> {
+    let Ok(packet) = Packet::decode(bytes) else {
+        return Ok((false, 0));
+    };
+    let written = packet.encode(alloc)?;
+    let same = written.as_slice() == bytes;
+    Ok((parts(&packet) == wanted, if same { bytes.len() } else { 0 }))
+}
+
+// Packets in their one spelling that is sent.
 #[test]
-fn requests_are_read_and_written(rt: HostRuntime) -> Result<(), NoMemory> {
-    for (bytes, file, asked) in REQUESTS {
-        match Packet::decode(bytes) {
-            Ok(packet) => {
-                assert!(rt; matches!(&packet, Packet::Rrq { .. }));
-                assert_eq!(rt; name_in(&packet), file);
-                assert_eq!(rt; options_in(&packet), asked);
-                let again = packet.encode(rt.alloc())?;
-                assert_eq!(rt; again.as_slice(), bytes);
-            }
-            Err(_) => assert!(rt; false),
-        }
+fn packets_are_read_and_written(rt: HostRuntime) -> Result<(), Fail> {
+    let lui = options(Some(1024), None, Some(0));
+    let all = options(Some(65_464), Some(255), Some(4_294_967_295));
+    let rows: [(&[u8], Parts<'_>); 11] = [
+        (b"\0\x01HW1_L.LCI\0octet\0", (b'r', b"HW1_L.LCI", 0, NONE)),
+        (
+            b"\0\x01foobar\0octet\0blksize\x001428\0",
+            (b'r', b"foobar", 0, options(Some(1428), None, None)),
+        ),
+        (
+            b"\0\x01foobar\0octet\0timeout\x001\0",
+            (b'r', b"foobar", 0, options(None, Some(1), None)),
+        ),
+        (
+            b"\0\x01HW1_L.LUI\0octet\0blksize\x001024\0tsize\x000\0",
+            (b'r', b"HW1_L.LUI", 0, lui),
+        ),
+        (
+            b"\0\x01A\0octet\0blksize\x0065464\0timeout\x00255\0tsize\x004294967295\0",
+            (b'r', b"A", 0, all),
+        ),
+        (
+            b"\0\x06blksize\x001024\0tsize\x009\0",
+            (b'o', b"", 0, options(Some(1024), None, Some(9))),
+        ),
+        (
+            b"\0\x03\0\x01\0\0\0\x09\x41\x33\0\x01\0",
+            (b'd', b"\0\0\0\x09\x41\x33\0\x01\0", 1, NONE),
+        ),
+        // The empty block with the greatest number, which ends a file.
+        (b"\0\x03\xFF\xFF", (b'd', b"", 65_535, NONE)),
+        (b"\0\x04\x12\x34", (b'a', b"", 0x1234, NONE)),
+        (b"\0\x05\0\x01\0", (b'e', b"", 1, NONE)),
+        (
+            b"\0\x05\x01\x08no \xFF file\0",
+            (b'e', b"no \xFF file", 0x0108, NONE),
+        ),
+    ];
+    for (bytes, wanted) in rows {
+        let found = there_and_back(rt.alloc(), bytes, wanted)?;
+        assert_eq!(rt; found, (true, bytes.len()), "of {bytes:?}");
     }
     Ok(())
 }
 
 #[test]
-fn a_request_is_written_as_it_is_sent(rt: HostRuntime) -> Result<(), NoMemory> {
-    match Name::read(b"HW1_L.LUI") {
-        Ok(name) => {
-            let options = Options {
-                blksize: Some(1024),
-                timeout: None,
-                tsize: Some(0),
-            };
-            let bytes = Packet::Rrq { name, options }.encode(rt.alloc())?;
-            let sent = b"\0\x01HW1_L.LUI\0octet\0blksize\x001024\0tsize\x000\0";
-            assert_eq!(rt; bytes.as_slice(), sent.as_slice());
-        }
-        Err(_) => assert!(rt; false),
-    }
+fn a_request_is_written_as_it_is_sent(rt: HostRuntime) -> Result<(), Fail> {
+    let name = Name::read(b"HW1_L.LUI")?;
+    let options = Options {
+        blksize: Some(1024),
+        timeout: None,
+        tsize: Some(0),
+    };
+    let bytes = Packet::Rrq { name, options }.encode(rt.alloc())?;
+    let sent = b"\0\x01HW1_L.LUI\0octet\0blksize\x001024\0tsize\x000\0";
+    assert_eq!(rt; bytes.as_slice(), sent.as_slice());
     Ok(())
 }
 
-// Other spellings of requests for a file A, and what they ask for: letter case, leading zeros, and
-// options that are passed over.
-const SPELLINGS: [(&[u8], Options); 8] = [
-    (b"\0\x02A\0oCTeT\0", NONE),
-    (
-        b"\0\x02A\0OCTET\0BLKSIZE\x0000000000000000512\0",
-        Options {
-            blksize: Some(512),
-            timeout: None,
-            tsize: None,
-        },
-    ),
-    (
-        b"\0\x02A\0octet\0tSize\x00007\0multicast\0\0TimeOut\x0010\0BlkSize\x008\0",
-        Options {
-            blksize: Some(8),
-            timeout: Some(10),
-            tsize: Some(7),
-        },
-    ),
-    (
-        b"\0\x02A\0octet\0windowsize\x004\0windowsize\x005\0tsize\x000\0",
-        Options {
-            blksize: None,
-            timeout: None,
-            tsize: Some(0),
-        },
-    ),
-    (
-        b"\0\x02A\0octet\0blksize\x007\0timeout\x000\0tsize\x00\0",
-        NONE,
-    ),
-    (
-        b"\0\x02A\0octet\0blksize\x0065465\0timeout\x00256\0tsize\x004294967296\0",
-        NONE,
-    ),
-    (
-        b"\0\x02A\0octet\0blksize\x00+512\0timeout\x00-1\0tsize\x00 1\0",
-        NONE,
-    ),
-    (
-        b"\0\x02A\0octet\0blksize \x00512\0tsize\x001 \0blk\x009\0",
-        NONE,
-    ),
-];
+// The packet of these bytes has these parts.
+fn is_read(bytes: &[u8], wanted: Parts<'_>) -> bool {
+    match Packet::decode(bytes) {
+        Ok(packet) => parts(&packet) == wanted,
+        Err(_) => false,
+    }
+}
 
+// Other spellings of requests for a file A and of answers, and what they ask for: letter case,
+// leading zeros, and options that are passed over.
 #[test]
-fn requests_have_other_spellings(rt: HostRuntime) {
-    for (bytes, asked) in SPELLINGS {
-        match Packet::decode(bytes) {
-            Ok(packet) => {
-                assert!(rt; matches!(&packet, Packet::Wrq { .. }));
-                assert_eq!(rt; name_in(&packet), b"A".as_slice());
-                assert_eq!(rt; options_in(&packet), asked);
-            }
-            Err(_) => assert!(rt; false),
-        }
+fn packets_have_other_spellings(rt: HostRuntime) {
+    let rows: [(&[u8], u8, Options); 10] = [
+        (b"\0\x02A\0oCTeT\0", b'w', NONE),
+        (
+            b"\0\x02A\0OCTET\0BLKSIZE\x0000000000000000512\0",
+            b'w',
+            options(Some(512), None, None),
+        ),
+        (
+            b"\0\x02A\0octet\0tSize\x00007\0multicast\0\0TimeOut\x0010\0BlkSize\x008\0",
+            b'w',
+            options(Some(8), Some(10), Some(7)),
+        ),
+        (
+            b"\0\x02A\0octet\0windowsize\x004\0windowsize\x005\0tsize\x000\0",
+            b'w',
+            options(None, None, Some(0)),
+        ),
+        (
+            b"\0\x02A\0octet\0blksize\x007\0timeout\x000\0tsize\x00\0",
+            b'w',
+            NONE,
+        ),
+        (
+            b"\0\x02A\0octet\0blksize\x0065465\0timeout\x00256\0tsize\x004294967296\0",
+            b'w',
+            NONE,
+        ),
+        (
+            b"\0\x02A\0octet\0blksize\x00+512\0timeout\x00-1\0tsize\x00 1\0",
+            b'w',
+            NONE,
+        ),
+        (
+            b"\0\x02A\0octet\0blksize \x00512\0tsize\x001 \0blk\x009\0",
+            b'w',
+            NONE,
+        ),
+        (
+            b"\0\x06TIMEOUT\x00001\0",
+            b'o',
+            options(None, Some(1), None),
+        ),
+        (b"\0\x06", b'o', NONE),
+    ];
+    for (bytes, letter, asked) in rows {
+        let file = if letter == b'w' { b"A".as_slice() } else { &[] };
+        assert!(rt; is_read(bytes, (letter, file, 0, asked)), "of {bytes:?}");
     }
     packet_laws();
 }
 
 #[test]
-fn an_answer_is_read_and_written(rt: HostRuntime) -> Result<(), NoMemory> {
-    let bytes = b"\0\x06blksize\x001024\0tsize\x009\0".as_slice();
-    match Packet::decode(bytes) {
-        Ok(Packet::Oack { options }) => {
-            let granted = Options {
-                blksize: Some(1024),
-                timeout: None,
-                tsize: Some(9),
-            };
-            assert_eq!(rt; options, granted);
-            let again = Packet::Oack { options }.encode(rt.alloc())?;
-            assert_eq!(rt; again.as_slice(), bytes);
-        }
-        _ => assert!(rt; false),
-    }
-    match Packet::decode(b"\0\x06TIMEOUT\x00001\0") {
-        Ok(Packet::Oack { options }) => assert_eq!(rt; options.timeout, Some(1)),
-        _ => assert!(rt; false),
-    }
-    match Packet::decode(b"\0\x06") {
-        Ok(Packet::Oack { options }) => assert_eq!(rt; options, NONE),
-        _ => assert!(rt; false),
-    }
-    Ok(())
-}
-
-#[test]
-fn a_block_and_its_acknowledgement_are_read_and_written(rt: HostRuntime) -> Result<(), NoMemory> {
-    let bytes = b"\0\x03\0\x01\0\0\0\x09\x41\x33\0\x01\0".as_slice();
-    match Packet::decode(bytes) {
-        Ok(Packet::Data { block, payload }) => {
-            assert_eq!(rt; block, 1);
-            assert_eq!(rt; payload, b"\0\0\0\x09\x41\x33\0\x01\0".as_slice());
-            let again = Packet::Data { block, payload }.encode(rt.alloc())?;
-            assert_eq!(rt; again.as_slice(), bytes);
-        }
-        _ => assert!(rt; false),
-    }
-    // The empty block with the greatest number, which ends a file.
-    match Packet::decode(b"\0\x03\xFF\xFF") {
-        Ok(Packet::Data { block, payload }) => assert_eq!(rt; (block, payload.len()), (65_535, 0)),
-        _ => assert!(rt; false),
-    }
-    let bytes = b"\0\x04\x12\x34".as_slice();
-    match Packet::decode(bytes) {
-        Ok(Packet::Ack { block }) => {
-            assert_eq!(rt; block, 0x1234);
-            let again = Packet::Ack { block }.encode(rt.alloc())?;
-            assert_eq!(rt; again.as_slice(), bytes);
-        }
-        _ => assert!(rt; false),
-    }
-    Ok(())
-}
-
-#[test]
-fn an_error_is_read_and_written(rt: HostRuntime) -> Result<(), NoMemory> {
-    let bytes = b"\0\x05\0\x01\0".as_slice();
-    match Packet::decode(bytes) {
-        Ok(Packet::Error { code, text }) => {
-            assert_eq!(rt; code, 1);
-            assert_eq!(rt; text, b"".as_slice());
-            let again = Packet::Error { code, text }.encode(rt.alloc())?;
-            assert_eq!(rt; again.as_slice(), bytes);
-        }
-        _ => assert!(rt; false),
-    }
-    let bytes = b"\0\x05\x01\x08no \xFF file\0".as_slice();
-    match Packet::decode(bytes) {
-        Ok(Packet::Error { code, text }) => {
-            assert_eq!(rt; code, 0x0108);
-            assert_eq!(rt; text, b"no \xFF file".as_slice());
-            let again = Packet::Error { code, text }.encode(rt.alloc())?;
-            assert_eq!(rt; again.as_slice(), bytes);
-        }
-        _ => assert!(rt; false),
-    }
-    Ok(())
-}
-
-#[test]
-fn a_payload_has_at_most_65_464_bytes(rt: HostRuntime) -> Result<(), NoMemory> {
+fn a_payload_has_at_most_65_464_bytes(rt: HostRuntime) -> Result<(), Fail> {
     let mut bytes = [7; 65_469];
     bytes[0] = 0;
     bytes[1] = 3;
-    match Packet::decode(&bytes[..65_468]) {
-        Ok(Packet::Data { block, payload }) => {
-            assert_eq!(rt; payload.len(), 65_464);
-            let again = Packet::Data { block, payload }.encode(rt.alloc())?;
-            assert_eq!(rt; again.as_slice(), &bytes[..65_468]);
-        }
-        _ => assert!(rt; false),
-    }
+    let longest = &bytes[..65_468];
+    let found = there_and_back(rt.alloc(), longest, (b'd', &longest[4..], 0x0707, NONE))?;
+    assert_eq!(rt; found, (true, 65_468));
     assert_eq!(rt; fault_of(&bytes), Some(PacketFault::Rest(65_468)));
     Ok(())
 }
