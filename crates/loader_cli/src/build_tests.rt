@@ -3,7 +3,7 @@ use crate::set_vectors::{
     APP_FILES, APP_HEADER, APP_LOADS, CFG, CFG_HEADER, FILES_1, FILES_2, LOADS_1, LOADS_2, NAV_TXT,
     NAV1, NAV2, OPS, OPS_HEADER,
 };
-use crate::tests::{NAV, disk_with, run_over};
+use crate::tests::{NAV, disk_with, formatted, run_over};
 use load_base::{Bytes, Host, MemHost, ReadFault, StdHost, WriteFault};
 use std::alloc::Global;
 use std::fs;
@@ -273,20 +273,79 @@ headercrc 7042
 loadcrc ADC08C7F
 ";
 
+static UPLOAD_REPORT: &[u8] = b"0 session 1 upload completed
+datagrams 21
+target HW1 L SN1
+bank 1 sequence 2
+loads 1
+load ABC41-0000-0001 APP.LUH 2
+file APP.LUH 122 248A
+file APP.BIN 9 29B1
+";
+
+static UPLOAD_TRACE: &[u8] = b"0 start upload HW1 L ABC41-0000-0001
+post 1 l 1024 59 00014857315f4c2e4c5549006f6374657400
+give 1
+post 2 t 1024 1024 00030001000000094133000100
+give 2
+post 3 l 1024 1024 00040001
+give 3
+post 4 t 1025 59 00024857315f4c2e4c5553006f6374657400
+give 4
+post 5 l 1025 1025 00040000
+give 5
+post 6 t 1025 1025 000300010000001441330001000001000000003030300000
+give 6
+post 7 l 1025 1025 00040001
+post 8 l 1026 59 00024857315f4c2e4c5552006f6374657400
+give 7
+give 8
+post 9 t 1026 1026 00040000
+give 9
+post 10 l 1026 1026 000300010000002041330001074150502e4c55480f41424334312d303030302d30303031
+give 10
+post 11 t 1026 1026 00040001
+post 12 t 1027 59 00014150502e4c5548006f6374657400
+give 11
+give 12
+post 13 l 1027 1027 000300010000003d80040000000000140000001d000000210000002500000026000000370000003800000039000f41424334312d303030302d30303031000003415050000007000100034857310000000001000000074150502e42494e0000044150503100000005000000000000000929b10000000000007042adc08c7f
+give 13
+post 14 t 1027 1027 00040001
+post 15 t 1028 59 00014150502e42494e006f6374657400
+give 14
+give 15
+post 16 l 1028 1028 00030001313233343536373839
+give 16
+post 17 t 1028 1028 00040001
+post 18 t 1029 59 00024857315f4c2e4c5553006f6374657400
+give 17
+give 18
+post 19 l 1029 1029 00040000
+give 19
+post 20 t 1029 1029 000300010000003241330003000002000000003130300001074150502e4c55480f41424334312d303030302d30303031313030000300
+give 20
+post 21 l 1029 1029 00040001
+give 21
+end
+";
+
 // The names that a run asks for are those of the system's files.
 #[test]
 fn sets_over_the_real_host(rt: HostRuntime) -> Result<(), Fail> {
     fs::write(&rt, "R", APP)?;
     fs::write(&rt, "app.bin", b"123456789")?;
-    let rows: [(&[&str], &[u8]); 5] = [
+    fs::write(&rt, "S", b"upload HW1 L ABC41-0000-0001\nfinish\n")?;
+    let rows: [(&[&str], &[u8]); 7] = [
         (BUILD, b"0 built 1 loads 2 files\n"),
         (&["check", "P"], b"0 findings 0\n"),
         (&["show", "P/1/APP.LUH"], APP_TEXT),
         (&["make", "7", "M"], b"0 built 1 loads 2 files\n"),
         (&["check", "M"], b"0 findings 0\n"),
+        (&["replay", "P", "S"], UPLOAD_REPORT),
+        (&["wire", "P", "S"], UPLOAD_TRACE),
     ];
     for (words, wanted) in rows {
-        let mut disk = disk_with(rt.alloc(), b"")?;
+        let mut disk = disk_with(rt.alloc(), &formatted(0, b""))?;
         let text = run_over(rt.alloc(), words, &mut StdHost::new(&rt), &mut disk)?;
         assert_eq!(rt; text.as_slice(), wanted);
     }

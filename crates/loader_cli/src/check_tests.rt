@@ -77,8 +77,8 @@ fn an_empty_folder_lacks_both_lists(rt: HostRuntime) -> Result<(), Fail> {
     Ok(())
 }
 
-// A host with a set of three loads on two members.
-fn three_loads(alloc: Global) -> Result<MemHost, Fail> {
+// A host with a set of three loads on two members; it made 12 calls.
+pub(crate) fn three_loads(alloc: Global) -> Result<MemHost, Fail> {
     let mut host = MemHost::new(alloc);
     write(&mut host, b"P/1/LOADS.LUM", &LOADS_1)?;
     write(&mut host, b"P/1/FILES.LUM", &FILES_1)?;

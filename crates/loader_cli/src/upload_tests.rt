@@ -1,9 +1,10 @@
 //! Uploads by the command `replay`, as another program reported them.
-use crate::check_tests::{app_set, write};
+use crate::check_tests::{app_set, three_loads, write};
+use crate::run;
 use crate::set_vectors::APP_HEADER;
-use crate::tests::{disk_with, formatted, run_over};
-use disk_model::{Fused, MemDisk};
-use load_base::{Bytes, MemHost};
+use crate::tests::{disk_with, formatted, run_over, words_of};
+use disk_model::{Disk, Fused, MemDisk};
+use load_base::{Bytes, MemHost, MemSink};
 use std::alloc::Global;
 use std::test::Fail;
 
@@ -106,7 +107,7 @@ fn an_upload_is_completed(rt: HostRuntime) -> Result<(), Fail> {
 
 #[test]
 fn an_upload_ends_without_an_installation(rt: HostRuntime) -> Result<(), Fail> {
-    let rows: [(&[u8], &[u8], &[u8], &[u8]); 8] = [
+    let rows: [(&[u8], &[u8], &[u8], &[u8]); 9] = [
         (
             FOR_OTHER_HARDWARE,
             APP,
@@ -146,6 +147,12 @@ fn an_upload_ends_without_an_installation(rt: HostRuntime) -> Result<(), Fail> {
         (
             RECIPE,
             APP,
+            b"upload HW1 L XYZ5A-0000-0001 XYZ5A-0000-0001 XYZ5A-0000-0001 XYZ5A-0000-0001 XYZ5A-0000-0001 XYZ5A-0000-0001 XYZ5A-0000-0001 XYZ5A-0000-0001 XYZ5A-0000-0001 XYZ5A-0000-0001 XYZ5A-0000-0001 XYZ5A-0000-0001 XYZ5A-0000-0001 XYZ5A-0000-0001 XYZ5A-0000-0001 XYZ5A-0000-0001 XYZ5A-0000-0001 XYZ5A-0000-0001 XYZ5A-0000-0001 XYZ5A-0000-0001 XYZ5A-0000-0001 XYZ5A-0000-0001 XYZ5A-0000-0001 XYZ5A-0000-0001 XYZ5A-0000-0001 XYZ5A-0000-0001 XYZ5A-0000-0001 XYZ5A-0000-0001 XYZ5A-0000-0001 XYZ5A-0000-0001 XYZ5A-0000-0001 XYZ5A-0000-0001 XYZ5A-0000-0001\n",
+            b"1 session 1 upload toomany\ndatagrams 0\n",
+        ),
+        (
+            RECIPE,
+            APP,
             b"inject target 40000 59 00014857315f4c2e4c5549006f6374657400\nfinish\n",
             b"0 datagrams 6\n",
         ),
@@ -159,6 +166,73 @@ fn an_upload_ends_without_an_installation(rt: HostRuntime) -> Result<(), Fail> {
     for (recipe, source, script, sessions) in rows {
         let said = reported(rt.alloc(), recipe, source, script)?;
         assert!(rt; is_report(&said, sessions, NOT_INSTALLED));
+    }
+    Ok(())
+}
+
+// The target FMC-1 at position R, serial number SN77, with banks of 65,536 bytes.
+static FMC: &[u8] = b"A615\x00\x01\x00\x01\x00\x00\x05FMC-1\x01R\x04SN77\xA3\x3E";
+
+#[test]
+fn three_loads_of_two_members_are_completed(rt: HostRuntime) -> Result<(), Fail> {
+    let mut host = three_loads(rt.alloc())?;
+    let script = b"upload FMC-1 R ABC41-0000-0001 ABC42-0000-0002 ABC43-0000-0003\nfinish\n";
+    write(&mut host, b"S", script)?;
+    let mut disk = disk_with(rt.alloc(), &formatted(0, FMC))?;
+    let said = run_over(rt.alloc(), REPLAY, &mut host, &mut disk)?;
+    let wanted = b"0 session 1 upload completed
+datagrams 47
+target FMC-1 R SN77
+bank 1 sequence 2
+loads 3
+load ABC41-0000-0001 NAV.LUH 4
+file NAV.LUH 210 FE2E
+file NAV1.BIN 511 D3B3
+file NAV2.BIN 10 171B
+file NAV.TXT 1 48FA
+load ABC42-0000-0002 OPS.LUH 2
+file OPS.LUH 124 D9B4
+file OPS.BIN 200 EE99
+load ABC43-0000-0003 CFG.LUH 2
+file CFG.LUH 124 3E9C
+file CFG.BIN 13 5EA3
+";
+    assert_eq!(rt; said.as_slice(), wanted.as_slice());
+    Ok(())
+}
+
+#[test]
+fn an_upload_is_denied_after_the_last_sequence_number(rt: HostRuntime) -> Result<(), Fail> {
+    let rows: [(&[&str], &[u8]); 2] = [
+        (
+            REPLAY,
+            b"1 session 1 upload denied A10
+datagrams 3
+target HW1 L SN1
+bank 0 sequence 4294967295
+loads 0
+",
+        ),
+        (
+            &["wire", "P", "S"],
+            b"1 start upload HW1 L ABC41-0000-0001
+post 1 l 1024 59 00014857315f4c2e4c5549006f6374657400
+give 1
+post 2 t 1024 1024 000300010000000c4133100003413130
+give 2
+post 3 l 1024 1024 00040001
+give 3
+end
+",
+        ),
+    ];
+    let spent = formatted(4112, &[0xFF; 4]);
+    for (words, wanted) in rows {
+        let mut host = app_set(rt.alloc())?;
+        write(&mut host, b"S", UPLOAD)?;
+        let mut disk = disk_with(rt.alloc(), &spent)?;
+        let said = run_over(rt.alloc(), words, &mut host, &mut disk)?;
+        assert_eq!(rt; said.as_slice(), wanted);
     }
     Ok(())
 }
@@ -369,5 +443,47 @@ fn each_disk_call_of_an_upload_fails_in_turn(rt: HostRuntime) -> Result<(), Fail
         found.as_slice(),
         b"ddddoooooooonddddddnnnnnnnnnnn".as_slice()
     );
+    Ok(())
+}
+
+// The status of an upload over a sink whose only call fails, and what the disk holds then.
+fn without_output(alloc: Global) -> Result<(u8, Bytes), Fail> {
+    let mut host = app_set(alloc)?;
+    write(&mut host, b"P/1/APP.BIN", APP)?;
+    write(&mut host, b"S", UPLOAD)?;
+    let mut disk = disk_with(alloc, &formatted(0, b""))?;
+    let words = words_of(alloc, REPLAY)?;
+    let mut out = MemSink::new(alloc);
+    out.fail_at(1)?;
+    let ended = run(alloc, &words, &mut host, &mut out, &mut disk);
+    disk.restart()?;
+    Ok((
+        ended.status,
+        run_over(alloc, &["list"], &mut host, &mut disk)?,
+    ))
+}
+
+#[test]
+fn an_upload_whose_report_fails_is_installed(rt: HostRuntime) -> Result<(), Fail> {
+    let (status, listing) = without_output(rt.alloc())?;
+    assert_eq!(rt; status, 7);
+    assert!(rt; is_report(&listing, b"0 ", INSTALLED));
+    Ok(())
+}
+
+const INFORMATION: &[u8] = b"info HW1 L\nfinish\n";
+
+// First what is found where a call of the host fails, from the sixth on, and then where one of the
+// disk does.
+#[test]
+fn each_call_of_an_information_session_fails_in_turn(rt: HostRuntime) -> Result<(), Fail> {
+    let mut found = [0; 18];
+    for call in 0..6usize {
+        found[call] = found_failing(rt.alloc(), INFORMATION, 6 + call as u32, NEVER)?;
+    }
+    for call in 0..12usize {
+        found[6 + call] = found_failing(rt.alloc(), INFORMATION, NEVER, 1 + call as u32)?;
+    }
+    assert_eq!(rt; found.as_slice(), b"hhhhhoddddddddoooo".as_slice());
     Ok(())
 }
