@@ -1,6 +1,6 @@
 -- A manifest that is read load by load.
-use Rattle.std.proofs.Common.{◌≡◌, ℕ, ◌+◌, suc, zero, List, [], ◌∷◌, length, Result, Ok, Err, OnOk, ◌⊎◌, inl, inr, refl, sym, ap, ◌∙◌, arith}
-use Rattle.std.specs.Prelude.{IfErr}
+use Rattle.std.proofs.Common.{◌≡◌, ℕ, suc, zero, List, [], ◌∷◌, length, Result, Ok, Err, OnOk, ◌⊎◌, inl, inr, refl, ap, ◌∙◌}
+use Rattle.std.specs.Prelude.{IfErr, IsErrOf}
 use Rattle.field_grammar.specs.Cursor.{Cursor, start}
 use Rattle.field_grammar.specs.Grammar.{Grammar, read, times, ended, ◌then◌}
 use Rattle.field_grammar.specs.Answers.{answer, Decodes}
@@ -27,8 +27,9 @@ not_begun : (bytes : List ℕ) (fault : ManifestFault) → read load_count (star
 unfolding manifest
 not_begun bytes fault here = rw here refl
 
-pub begin_refused : (bytes : List ℕ) (c : Cursor) (fault : ManifestFault) → c ≡ start bytes → Refused (read load_count c) fault → Refused (answer manifest bytes) fault
-begin_refused bytes c fault at refused = instead (read load_count c) (answer manifest bytes) fault (λ is. not_begun bytes fault (rw (← at) is)) refused
+pub begin_refused : (bytes : List ℕ) (c : Cursor) (fault : ManifestFault) → c ≡ start bytes → ¬ (fault ≡ Memory) → Refused (read load_count c) fault → answer manifest bytes ≡ Err fault
+begin_refused bytes c fault at other (inl wants) = absurd (other wants)
+begin_refused bytes c fault at other (inr is) = not_begun bytes fault (rw (← at) is)
 
 -- ---- one load
 
@@ -84,9 +85,10 @@ pub end_is : (n : ℕ) (c d : Cursor) (result : Result (Unit {0}) ManifestFault)
 end_is n c d (Ok u) none here = rw none (at_end c d u here)
 end_is n c d (Err fault) none here = tt
 
-pub end_refused : (n : ℕ) (c d : Cursor) (result : Result (Unit {0}) ManifestFault) → n ≡ 0 → Ends c result d → IfErr result (λ fault. (fault ≡ Memory) ⊎ (loads_from n c ≡ Err fault))
-end_refused n c d (Ok u) none here = tt
-end_refused n c d (Err fault) none refused = instead (read (ended Wrong) c) (loads_from n c) fault (λ is. rw none (not_at_end c fault is)) refused
+pub end_refused : (n : ℕ) (c d : Cursor) (result : Result (Unit {0}) ManifestFault) → n ≡ 0 → Ends c result d → ¬ IsErrOf result Memory → IfErr result (λ fault. loads_from n c ≡ Err fault)
+end_refused n c d (Ok u) none here other = tt
+end_refused n c d (Err fault) none (inl wants) other = absurd (other (ap (λ (f : ManifestFault). Err f) wants))
+end_refused n c d (Err fault) none (inr is) other = rw none (not_at_end c fault is)
 
 -- ---- how many
 

@@ -1,9 +1,10 @@
 //! What a manifest says of the contents of its bank.
 ghost use Rattle.std.specs.Prelude.{◌≡◌, ◌+◌, ◌≤◌, ◌⊎◌, [], ◌∷◌, Ok, Err, map};
-ghost use Rattle.std.specs.Prelude.{IfOk, IfErr, OnOk};
+ghost use Rattle.std.specs.Prelude.{IfOk, IfErr, OnOk, IsErrOf};
 ghost use Rattle.field_grammar.specs.Grammar.{Spelled, times, ended};
 ghost use Rattle.field_grammar.specs.Answers.{answer, Decodes, Gives};
 ghost use Rattle.disk_layout.specs.Manifest.{ManifestFits, RefusesManifestBytes, entry_view};
+ghost use Rattle.disk_layout.specs.Offsets.{most_loads};
 ghost use Rattle.disk_layout.specs.Manifest.{manifest_view, load_count, part, file_count};
 ghost use Rattle.disk_layout.specs.Manifest.{file_name, file_length, file_entry, load_entry};
 ghost use Rattle.disk_layout.specs.Manifest.{manifest, left_in, AreLeftIn, with_these};
@@ -47,7 +48,8 @@ impl Manifest {
     }
 }
 
-/// A manifest that is read load by load, so that no more than one of them takes memory.
+/// A manifest that is read load by load, so that no more than one of them takes memory. After a
+/// refusal it isn't read on.
 #[derive(Drop)]
 pub struct ManifestReader<'a> {
     reader: Reader<'a>,
@@ -55,11 +57,11 @@ pub struct ManifestReader<'a> {
 }
 
 impl<'a> ManifestReader<'a> {
-    /// Reads how many loads there are, 32 at most.
+    /// Reads how many loads there are, or gives the fault of the offset where that stands.
     pub fn new(bytes: &'a [u8]) -> Result<ManifestReader<'a>, ManifestFault>
         ensures begun { IfOk result (λ loads. left_in loads ≡ answer manifest bytes.now) }
-        ensures refused { IfErr result
-            (λ fault. (fault ≡ Memory) ⊎ (answer manifest bytes.now ≡ Err fault)) }
+        ensures count { IfOk result (λ loads. loads.left ≤ most_loads) }
+        ensures refused { IfErr result (λ fault. answer manifest bytes.now ≡ Err fault) }
     {
         let mut reader = Reader::new(bytes);
         let left = read_load_count(&mut reader)?;
@@ -74,9 +76,12 @@ impl<'a> ManifestReader<'a> {
         self.left
     }
 
-    /// The next load, or the first byte offset at which the bytes can't go on.
-    pub fn load(&mut self, alloc: Global) -> Result<ManifestLoad, ManifestFault>
+    /// Reads the next load, where one is left, or gives the first byte offset at which its bytes
+    /// can't go on.
+    pub fn next_load(&mut self, alloc: Global) -> Result<ManifestLoad, ManifestFault>
         requires { 1 ≤ self.old.left }
+        ensures reads { Decodes Memory entry_view load_entry self.old.reader result
+            self.new.reader }
         ensures first { IfOk result
             (λ load. left_in self.old ≡ with_these (entry_view load ∷ []) (left_in self.new)) }
         ensures left { OnOk result (self.new.left + 1 ≡ self.old.left) }
@@ -88,12 +93,12 @@ impl<'a> ManifestReader<'a> {
         Ok(load)
     }
 
-    /// Nothing follows the last load.
+    /// Tests that nothing follows, where no load is left, or gives the offset of the first byte that
+    /// does.
     pub fn end(&mut self) -> Result<(), ManifestFault>
         requires { self.old.left ≡ 0 }
         ensures ended { OnOk result (left_in self.old ≡ Ok []) }
-        ensures refused { IfErr result
-            (λ fault. (fault ≡ Memory) ⊎ (left_in self.old ≡ Err fault)) }
+        ensures refused { IfErr result (λ fault. left_in self.old ≡ Err fault) }
     {
         read_end(&mut self.reader)
     }
@@ -182,7 +187,9 @@ fn read_file(reader: &mut Reader) -> Result<ManifestFile, ManifestFault>
 
 #[tactic(auto, unfolding(crate::specs::Manifest::load_count))]
 fn read_load_count(reader: &mut Reader) -> Result<u16, ManifestFault>
-    ensures { Decodes Memory (λ count. count) load_count reader.old result reader.new }
+    ensures reads { Decodes Memory (λ count. count) load_count reader.old result reader.new }
+    ensures count { IfOk result (λ count. count ≤ most_loads) }
+    ensures no_want { ¬ IsErrOf result Memory }
 {
     let wrong = ManifestFault::Wrong(reader.place() as u64);
     match reader.take_u16() {
@@ -242,7 +249,8 @@ fn read_length(reader: &mut Reader) -> Result<u32, ManifestFault>
 }
 
 fn read_end(reader: &mut Reader) -> Result<(), ManifestFault>
-    ensures { Decodes Memory (λ unit. unit) (ended Wrong) reader.old result reader.new }
+    ensures reads { Decodes Memory (λ unit. unit) (ended Wrong) reader.old result reader.new }
+    ensures no_want { ¬ IsErrOf result Memory }
 {
     if reader.left() != 0 {
         return Err(ManifestFault::Wrong(reader.place() as u64));

@@ -16,8 +16,8 @@ use Rattle.disk_layout.specs.declared.manifest.ManifestFault.TheVariants.{Wrong,
 use Rattle.disk_layout.specs.declared.manifest.ManifestReader.{ManifestReader}
 use Rattle.disk_layout.specs.declared.fault.RecoverFault.{RecoverFault}
 use Rattle.disk_layout.specs.declared.fault.RecoverFault.TheVariants.{BadManifest}
-use Rattle.recovery.specs.Listings.{ListsLoad, ListsLoads}
-use Rattle.recovery.specs.Outlines.{AreLoadsAt, HasRoom, IsBehind, TellsLoads}
+use Rattle.recovery.specs.Listings.{ListsAll, ListsLoad, ListsLoads}
+use Rattle.recovery.specs.Outlines.{HasRoom, IsBehind, TellsLoads}
 use Rattle.recovery.specs.Parts.{HasFiles, HasOtherLengths}
 use Rattle.recovery.proofs.Lines.{no_loads, one_more_load}
 use Rattle.recovery.proofs.Loads.{total_joined, total_of_one, total_with}
@@ -120,6 +120,7 @@ spells bytes loads fit read = manifest_found bytes loads fit read
 
 pub tells : (bytes : List ℕ) (room : ℕ) → IsBytes bytes → HasRoom bytes room (Some 0) → TellsLoads bytes room
 tells bytes room fit has = record {
+  are_bytes = fit;
   loads = has.loads;
   read = has.read;
   spelled = spells bytes has.loads fit has.read;
@@ -184,10 +185,7 @@ lines_more reads start whole before count counter old new at next middle after e
   listed = one_more_load reads start at was.seen e before middle after was.offset was.listed now;
 }
 
--- where the loads that are left have been told
-pub lines_of_all : (reads : Option Image) (start : ℕ) (whole : Result (List LoadEntry) ManifestFault) (before : List ℕ) (count counter : ℕ) (reader : ManifestReader) (at : ℕ) (text : List ℕ) (loads : List LoadEntry)
-    → left_in reader ≡ Ok [] → LinesSoFar reads start whole before count counter reader at text → whole ≡ Ok loads → ListsLoads reads start loads before text
-lines_of_all reads start whole before count counter reader at text loads none was are =
-    let seen : whole ≡ Ok was.seen = all_seen was.seen (left_in reader) whole none was.yet in
-    let same : was.seen ≡ loads = cc in
-    subst (λ (l : List LoadEntry). ListsLoads reads start l before text) same was.listed
+-- where the loads that were left have been told
+pub lines_of_all : (reads : Option Image) (start : ℕ) (whole : Result (List LoadEntry) ManifestFault) (before : List ℕ) (count counter : ℕ) (reader : ManifestReader) (at : ℕ) (text : List ℕ)
+    → left_in reader ≡ Ok [] → LinesSoFar reads start whole before count counter reader at text → ListsAll reads start whole before text
+lines_of_all reads start whole before count counter reader at text none was = record { entries = was.seen; are = all_seen was.seen (left_in reader) whole none was.yet; lists = was.listed }

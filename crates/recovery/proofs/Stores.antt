@@ -2,7 +2,7 @@
 use Rattle.std.proofs.Common.{◌≡◌, ◌≢◌, ℕ, List, Bool, true, false, inl, inr, sym, ap, ◌∙◌, subst, arith}
 use Rattle.disk_model.specs.Image.{Image}
 use Rattle.disk_layout.specs.Slots.{IsSlot, IsSlotAt, slot_offset, bank_number, other_slot, manifest_offset_of, manifest_length_of}
-use Rattle.disk_layout.specs.Manifest.{LoadEntry, manifest_view}
+use Rattle.disk_layout.specs.Manifest.{LoadEntry}
 use Rattle.disk_layout.specs.Holds.{Outline, StandingView, HasOutline, HoldsBy, outline_of}
 use Rattle.disk_layout.specs.declared.active.Active.{Active}
 use Rattle.disk_layout.specs.declared.active.ManifestRange.{ManifestRange}
@@ -12,8 +12,8 @@ use Rattle.bank_store.specs.Store.{active_slot, bank_size_of, active_of, is_othe
 use Rattle.bank_store.specs.Fits.{HoldsFor}
 use Rattle.bank_store.specs.declared.store.Store.{Store}
 use Rattle.recovery.specs.Parts.{TellsOther}
-use Rattle.recovery.specs.Surveys.{FindsActive, IsSurveyed, outline_of_survey}
-use Rattle.recovery.specs.declared.surveying.ActiveSlot.{ActiveSlot}
+use Rattle.recovery.specs.Surveys.{FindsActive, FindsOutline, IsSurveyed, outline_of_survey}
+use Rattle.recovery.specs.declared.slots.ActiveSlot.{ActiveSlot}
 use Rattle.recovery.specs.declared.surveying.Surveyed.{Surveyed}
 
 -- the other slot is one, and another
@@ -41,20 +41,20 @@ store_holds image s found size standing by is =
     }
 
 -- over plain numbers
-pub same_outline : (image : Image) (id : Identity) (loads : List LoadEntry) (slot at bank names sequence says : ℕ) → slot ≡ at → bank ≡ names → sequence ≡ says
+same_outline : (image : Image) (id : Identity) (loads : List LoadEntry) (slot at bank names sequence says : ℕ) → slot ≡ at → bank ≡ names → sequence ≡ says
     → HasOutline image at (record { identity = id; bank = names; sequence = says; loads = loads })
     → HasOutline image slot (record { identity = id; bank = bank; sequence = sequence; loads = loads })
 same_outline image id loads slot at bank names sequence says here same next outline = rw (here, same, next) outline
 
 -- What the slot says is what is active.
-pub finds : (image : Image) (id : Identity) (m : Manifest) (active : Active) (active_slot : ActiveSlot) → active.slot ≡ active_slot.slot → bank_number active.bank ≡ active_slot.says.bank
+pub finds : (image : Image) (id : Identity) (loads : List LoadEntry) (active : Active) (active_slot : ActiveSlot) → active.slot ≡ active_slot.slot → bank_number active.bank ≡ active_slot.says.bank
     → active.sequence ≡ active_slot.says.sequence → active.manifest ≡ active_slot.says.manifest
-    → HasOutline image (slot_offset active_slot.slot) (record { identity = id; bank = active_slot.says.bank; sequence = active_slot.says.sequence; loads = manifest_view m })
-    → IsSlotAt image (slot_offset active_slot.slot) active_slot.says → TellsOther image (slot_offset active_slot.slot) active_slot.other_is_open → FindsActive image id m active active_slot.other_is_open
-finds image id m active active_slot slot bank sequence manifest outline says other =
+    → HasOutline image (slot_offset active_slot.slot) (record { identity = id; bank = active_slot.says.bank; sequence = active_slot.says.sequence; loads = loads })
+    → IsSlotAt image (slot_offset active_slot.slot) active_slot.says → TellsOther image (slot_offset active_slot.slot) active_slot.other_is_open → FindsOutline image id loads active active_slot.other_is_open
+finds image id loads active active_slot slot bank sequence manifest outline says other =
     let at : slot_offset active.slot ≡ slot_offset active_slot.slot = ap slot_offset slot in
     record {
-      outline = same_outline image id (manifest_view m) (slot_offset active.slot) (slot_offset active_slot.slot) (bank_number active.bank) active_slot.says.bank active.sequence active_slot.says.sequence at bank sequence outline;
+      outline = same_outline image id loads (slot_offset active.slot) (slot_offset active_slot.slot) (bank_number active.bank) active_slot.says.bank active.sequence active_slot.says.sequence at bank sequence outline;
       offset = ap (λ (n : ℕ). manifest_offset_of image n) at ∙ sym says.offset ∙ sym (ap (λ (r : ManifestRange). r.offset) manifest);
       length = ap (λ (n : ℕ). manifest_length_of image n) at ∙ sym says.length ∙ sym (ap (λ (r : ManifestRange). r.length) manifest);
       other = subst (λ (n : ℕ). TellsOther image n active_slot.other_is_open) (sym at) other;

@@ -50,6 +50,8 @@ pub record ListsLoads (reads : Option Image) (at : ℕ) (entries : List LoadEntr
   pub contents : ForSome reads (λ image. contents_of_loads loads ≡ range image at (total_length entries))
   pub text : after ≡ before ++ flat_map load_lines loads
 
--- the same of loads that are left
-abbrev pub ListsAll : Option Image → ℕ → Result (List LoadEntry) ManifestFault → (before after : List ℕ) → Type 0
-ListsAll reads at left before after = (loads : List LoadEntry) → left ≡ Ok loads → ListsLoads reads at loads before after
+-- the same of the loads that are left
+pub record ListsAll (reads : Option Image) (at : ℕ) (left : Result (List LoadEntry) ManifestFault) (before after : List ℕ) : Type 0 where
+  pub entries : List LoadEntry
+  pub are : left ≡ Ok entries
+  pub lists : ListsLoads reads at entries before after

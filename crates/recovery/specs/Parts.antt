@@ -13,7 +13,7 @@ use Rattle.disk_layout.specs.declared.fault.RecoverFault.{RecoverFault}
 use Rattle.disk_layout.specs.declared.fault.RecoverFault.TheVariants.{NoOpenSlot, BadSlot, BadManifest}
 use Rattle.disk_layout.specs.declared.manifest.ManifestFault.TheVariants.{Wrong}
 use Rattle.disk_layout.specs.declared.slot.SlotFields.{SlotFields}
-use Rattle.recovery.specs.declared.surveying.ActiveSlot.{ActiveSlot}
+use Rattle.recovery.specs.declared.slots.ActiveSlot.{ActiveSlot}
 
 -- ---- bytes
 

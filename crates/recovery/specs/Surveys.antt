@@ -1,9 +1,9 @@
 -- What a survey of a disk finds.
-use Rattle.std.specs.Prelude.{◌≡◌, ◌≤◌, Bool}
+use Rattle.std.specs.Prelude.{◌≡◌, ◌≤◌, List, Bool}
 use Rattle.disk_model.specs.Image.{Image}
 use Rattle.disk_layout.specs.Offsets.{IsBankSize}
 use Rattle.disk_layout.specs.Slots.{slot_offset, bank_number, manifest_offset_of, manifest_length_of, IsManifestRange}
-use Rattle.disk_layout.specs.Manifest.{ManifestFits, manifest_view, total_length}
+use Rattle.disk_layout.specs.Manifest.{LoadEntry, ManifestFits, manifest_view, total_length}
 use Rattle.disk_layout.specs.Holds.{Outline, HasOutline}
 use Rattle.disk_layout.specs.declared.active.Active.{Active}
 use Rattle.disk_layout.specs.declared.identity.Identity.{Identity}
@@ -13,16 +13,22 @@ use Rattle.recovery.specs.Parts.{TellsOther}
 use Rattle.recovery.specs.declared.surveying.Surveyed.{Surveyed}
 
 -- what is known of a configuration without its contents
-abbrev pub outline_by : Identity → Manifest → Active → Outline
-outline_by id m active = record { identity = id; bank = bank_number active.bank; sequence = active.sequence; loads = manifest_view m }
+abbrev pub outline_with : Identity → Active → List LoadEntry → Outline
+outline_with id active loads = record { identity = id; bank = bank_number active.bank; sequence = active.sequence; loads = loads }
 
--- The image has this outline by the active slot, so that it holds a configuration of it; there the slot names the
--- manifest; and this is told of the other slot.
-pub record FindsActive (image : Image) (id : Identity) (m : Manifest) (active : Active) (other_is_open : Bool) : Type 0 where
-  pub outline : HasOutline image (slot_offset active.slot) (outline_by id m active)
+abbrev pub outline_by : Identity → Manifest → Active → Outline
+outline_by id m active = outline_with id active (manifest_view m)
+
+-- The image has the outline of these loads by the active slot, so that it holds a configuration of it; there the slot
+-- names the manifest; and this is told of the other slot.
+pub record FindsOutline (image : Image) (id : Identity) (loads : List LoadEntry) (active : Active) (other_is_open : Bool) : Type 0 where
+  pub outline : HasOutline image (slot_offset active.slot) (outline_with id active loads)
   pub offset : manifest_offset_of image (slot_offset active.slot) ≡ active.manifest.offset
   pub length : manifest_length_of image (slot_offset active.slot) ≡ active.manifest.length
   pub other : TellsOther image (slot_offset active.slot) other_is_open
+
+abbrev pub FindsActive : Image → Identity → Manifest → Active → Bool → Type 0
+FindsActive image id m active other_is_open = FindsOutline image id (manifest_view m) active other_is_open
 
 -- the bounds of what is found, also on a disk that tells no content
 pub record IsFoundInRange (id : Identity) (m : Manifest) (active : Active) : Type 0 where

@@ -7,6 +7,7 @@ mod looking;
 mod manifests;
 mod pieces;
 mod recovering;
+mod slots;
 mod surveying;
 
 pub use bank_store::Store;

@@ -5,7 +5,7 @@ ghost use Rattle.disk_model.specs.Image.{Image};
 ghost use Rattle.bank_store.specs.DiskWrites.{IsRunning};
 ghost use Rattle.disk_layout.specs.DiskReads.{IsOfDisk, ReadsDisk};
 ghost use Rattle.disk_layout.specs.Holds.{Refuses};
-ghost use Rattle.disk_layout.specs.Manifest.{LoadEntry, entry_view, left_in, size_of};
+ghost use Rattle.disk_layout.specs.Manifest.{entry_view, left_in, size_of};
 ghost use Rattle.recovery.specs.Listings.{IsListing, ListsFile, ListsFiles, ListsLoad, ListsAll};
 ghost use Rattle.recovery.specs.Outlines.{AreLoadsAt};
 ghost use Rattle.recovery.specs.Parts.{HasFiles};
@@ -13,7 +13,7 @@ ghost use Rattle.recovery.specs.Parts.{HasFiles};
 use crate::looking::{PIECE, pieces_on};
 use crate::manifests::outline_on;
 use crc_fields::Crc16;
-use disk_layout::{ManifestFile, ManifestLoad, ManifestReader, RecoverFault};
+use disk_layout::{ManifestFault, ManifestFile, ManifestLoad, ManifestReader, RecoverFault};
 use disk_model::{Disk, SIZE};
 use listing::{put_bank, put_count, put_file_line, put_load_line, put_target};
 use load_base::Bytes;
@@ -33,9 +33,9 @@ pub fn list<K: Disk>(alloc: Global, disk: &mut K) -> Result<Bytes, RecoverFault>
     let mut buffer = [0; PIECE];
     let found = outline_on(alloc, disk, &mut buffer)?;
     let start = found.active.bank.offset(found.identity.bank);
-    // It was read before, so that only memory can be short.
+    // It was read before, so that it has no fault.
     let Ok(mut loads) = ManifestReader::new(found.manifest.as_slice()) else {
-        return Err(RecoverFault::Memory);
+        unreachable!()
     };
     let mut out = Bytes::new(alloc);
     put_target(&mut out, &found.identity)?;
@@ -70,14 +70,16 @@ fn put_loads<K: Disk>(
     let mut at = start;
     let count = loads.left();
     for _ in 0..count {
-        let Ok(load) = loads.load(alloc) else {
-            return Err(RecoverFault::Memory);
+        let load = match loads.next_load(alloc) {
+            Ok(load) => load,
+            Err(ManifestFault::Memory) => return Err(RecoverFault::Memory),
+            Err(ManifestFault::Wrong(_)) => unreachable!(),
         };
         at = put_load(alloc, disk, at, &load, buffer, out)?;
     }
     match loads.end() {
         Ok(()) => Ok(()),
-        Err(_) => Err(RecoverFault::Memory),
+        Err(_) => unreachable!(),
     }
 }
 

@@ -1,5 +1,7 @@
 //! The manifest of a disk as bytes, whose loads are read one at a time.
-ghost use Rattle.std.specs.Prelude.{◌≡◌, ◌+◌, ◌≤◌, ℕ, length, OnOk, IfOk, IfErr, IsErrOf};
+ghost use Rattle.std.specs.Prelude.{◌≡◌, ◌+◌, ◌≤◌, ◌<◌, ℕ, length, OnOk, IfOk, IfErr, IfSome, IfNone};
+ghost use Rattle.std.specs.Prelude.{IsErrOf};
+ghost use Rattle.std.specs.List.{sum_by};
 ghost use Rattle.std.specs.Option.{ForSome};
 ghost use Rattle.disk_model.specs.Image.{Image, range};
 ghost use Rattle.disk_layout.specs.Offsets.{IsBankSize, bank_at};
@@ -9,11 +11,11 @@ ghost use Rattle.disk_layout.specs.DiskReads.{ReadsDisk};
 ghost use Rattle.disk_layout.specs.declared.fault.RecoverFault.TheVariants.{DiskFailed};
 ghost use Rattle.bank_store.specs.DiskWrites.{IsRunning};
 ghost use Rattle.recovery.specs.Parts.{IsSoundAt, RefusesLoads, RefusesManifest};
-ghost use Rattle.recovery.specs.Outlines.{FindsOutline, HasRoom, IsBehind, IsOutlineInRange};
-ghost use Rattle.recovery.specs.Outlines.{TellsLoads};
+ghost use Rattle.recovery.specs.Outlines.{HasRoom, IsBehind, IsOutlineInRange, TellsLoads};
+ghost use Rattle.recovery.specs.Outlines.{TellsOutline};
 
 use crate::looking::bytes_on;
-use crate::surveying::{active_by, behind_files, sound_slot_on};
+use crate::slots::{active_by, sound_slot_on};
 use disk_layout::{
     Active, Bank, Identity, ManifestFault, ManifestFile, ManifestReader, RecoverFault, SlotFields,
 };
@@ -26,6 +28,7 @@ use std::alloc::Global;
 pub(crate) struct Outlined {
     pub(crate) identity: Identity,
     pub(crate) active: Active,
+    pub(crate) other_is_open: bool,
     pub(crate) manifest: Bytes,
 }
 
@@ -38,9 +41,10 @@ pub(crate) fn outline_on<K: Disk>(
     requires running { IsRunning (K.state disk.old) }
     requires buffer { 1 ≤ length buffer.old }
     ensures found { IfOk result (λ found. ForSome (K.state disk.old).reads
-        (λ image. FindsOutline image found.identity found.active found.manifest.items)) }
+        (λ image. TellsOutline image found.identity found.active found.other_is_open
+        found.manifest.items)) }
     ensures in_range { IfOk result
-        (λ found. IsOutlineInRange found.identity found.manifest.items) }
+        (λ found. IsOutlineInRange found.identity found.active found.manifest.items) }
     ensures refused { IfErr result (λ fault. ForSome (K.state disk.old).reads
         (λ image. Refuses image fault)) }
     ensures reads_disk { ReadsDisk (K.state disk.old) (K.state disk.new) result }
@@ -51,6 +55,7 @@ pub(crate) fn outline_on<K: Disk>(
     Ok(Outlined {
         identity: sound.identity,
         active: active_by(&sound.active_slot),
+        other_is_open: sound.active_slot.other_is_open,
         manifest,
     })
 }
@@ -114,7 +119,8 @@ fn room_behind(alloc: Global, bytes: &[u8], room: u32) -> Result<Option<u32>, Ma
     let mut left = Some(room);
     let count = loads.left();
     for _ in 0..count {
-        let load = loads.load(alloc)?;
+        let load = loads.next_load(alloc)?;
+        // Where there is no room left, a fault of a later load still comes first.
         left = behind_load(left, load.files.as_slice());
     }
     loads.end()?;
@@ -130,4 +136,16 @@ fn behind_load(left: Option<u32>, files: &[ManifestFile]) -> Option<u32>
         Some(room) => behind_files(files, room),
         None => None,
     }
+}
+
+// How many are left after these; `None` where they have more.
+fn behind_files(files: &[ManifestFile], bytes: u32) -> Option<u32>
+    ensures some { IfSome result (λ rest. size_of files.now + rest ≡ bytes) }
+    ensures none { IfNone result (bytes < size_of files.now) }
+{
+    let mut rest = bytes;
+    for file in files {
+        rest = rest.checked_sub(file.length)?;
+    }
+    Some(rest)
 }

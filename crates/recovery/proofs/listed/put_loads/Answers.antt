@@ -18,7 +18,7 @@ put_load-requires-clause-files g c =
     let was = c.loop.invariant.lines in
     let all = c.requires.loads in
     let e = entry_view c.in-Ok.load in
-    let (rest, are) = behind_one was.seen e (left_in c.loop.loads) (left_in c.load.new.self) all.loads c.in-Ok.ensures.first (was.yet ∙ all.are) in
+    let (rest, are) = behind_one was.seen e (left_in c.loop.loads) (left_in c.next_load.new.self) all.loads c.in-Ok.ensures.first (was.yet ∙ all.are) in
     has_files_of was.seen e rest all.loads are all.files
 
 pub put_load-requires-clause-within : goal.put_load-requires-clause-within
@@ -26,7 +26,7 @@ put_load-requires-clause-within g c =
     let was = c.loop.invariant.lines in
     let all = c.requires.loads in
     let e = entry_view c.in-Ok.load in
-    let (rest, are) = behind_one was.seen e (left_in c.loop.loads) (left_in c.load.new.self) all.loads c.in-Ok.ensures.first (was.yet ∙ all.are) in
+    let (rest, are) = behind_one was.seen e (left_in c.loop.loads) (left_in c.next_load.new.self) all.loads c.in-Ok.ensures.first (was.yet ∙ all.are) in
     omega (arith, within_all was.seen e rest all.loads are, was.offset, all.within)
 
 pub loop-preserved : goal.loop-preserved
@@ -40,6 +40,6 @@ loop-preserved g c =
       looked = look_more _ _ _ c.in_ok-at.at was.looked c.in_ok-at.ensures.reads_disk;
       buffer = omega (arith, was.buffer, c.put_load.auto.buffer);
       lines =
-          lines_more reads c.args.start (left_in c.args.loads.now) c.args.out.now.items c.left-count.result c.loop.counter c.loop.loads c.load.new.self c.loop.at c.in_ok-at.at c.loop.out.items c.put_load.new.out.items e
+          lines_more reads c.args.start (left_in c.args.loads.now) c.args.out.now.items c.left-count.result c.loop.counter c.loop.loads c.next_load.new.self c.loop.at c.in_ok-at.at c.loop.out.items c.put_load.new.out.items e
           c.loop-test.true c.in-Ok.ensures.first c.in-Ok.ensures.left c.in_ok-at.ensures.end now was.lines;
     }

@@ -1,11 +1,8 @@
-use Rattle.std.proofs.Common.{◌≡◌, List, ap, subst, ◌∙◌}
+use Rattle.std.proofs.Common.{◌∙◌}
 use Rattle.std.proofs.lemmas.Result.{err_from_is_err_and}
-use Rattle.disk_layout.specs.Holds.{HasOutline}
-use Rattle.disk_layout.specs.Manifest.{LoadEntry}
-use Rattle.disk_layout.specs.Slots.{slot_offset, bank_number}
-use Rattle.recovery.specs.Outlines.{outline_with}
+use Rattle.disk_layout.specs.Slots.{slot_offset}
 use Rattle.recovery.proofs.Refusals.{can_be, manifest_refuses, has_outline}
-use Rattle.recovery.proofs.Stores.{same_outline}
+use Rattle.recovery.proofs.Stores.{finds}
 use Rattle.recovery.proofs.manifests.outline_on.Goals as goal
 
 pub returns-in_err-manifest-clause-refused : goal.returns-in_err-manifest-clause-refused
@@ -19,15 +16,16 @@ returns-in_err-manifest-clause-refused g c =
     (c.in_err-manifest.ensures.refused image (c.in_ok-sound.ensures.reads_disk.ok.reads ∙ told)))
 
 pub returns-clause-found : goal.returns-clause-found
-returns-clause-found g c image told loads are =
+returns-clause-found g c image told =
     let id = c.in_ok-sound.sound.identity in
     let active_slot = c.in_ok-sound.sound.active_slot in
     let found = c.in_ok-sound.ensures.found image told in
-    let active = c.active_by.result in
+    let active = c.active_by.ensures in
     let tells = c.in_ok-manifest.ensures.tells in
-    let same : tells.loads ≡ loads = cc (tells.read, are) in
     let bytes = c.in_ok-manifest.ensures.bytes image (c.in_ok-sound.ensures.reads_disk.ok.reads ∙ told) in
     let outline = has_outline image id (slot_offset active_slot.slot) active_slot.says tells.loads found.has_active c.in_ok-sound.ensures.can_be found.says (rw bytes at tells.spelled) tells.lengths in
-    subst (λ (l : List LoadEntry). HasOutline image (slot_offset active.slot) (outline_with id active l)) same (
-    same_outline image id tells.loads (slot_offset active.slot) (slot_offset active_slot.slot) (bank_number active.bank) active_slot.says.bank active.sequence active_slot.says.sequence
-    (ap slot_offset c.active_by.ensures.slot) c.active_by.ensures.bank c.active_by.ensures.sequence outline)
+    record {
+      loads = tells.loads;
+      read = tells.read;
+      finds = finds image id tells.loads c.active_by.result active_slot active.slot active.bank active.sequence active.manifest outline found.says found.other;
+    }

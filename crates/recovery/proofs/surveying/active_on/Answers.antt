@@ -1,27 +1,39 @@
-use Rattle.std.proofs.Common.{◌∙◌}
-use Rattle.std.proofs.lemmas.Result.{err_from_is_err_and}
-use Rattle.disk_layout.specs.Slots.{slot_offset}
-use Rattle.disk_layout.specs.Manifest.{manifest_view}
-use Rattle.recovery.proofs.Refusals.{can_be, manifest_refuses, has_outline}
-use Rattle.recovery.proofs.Stores.{finds}
+use Rattle.std.proofs.Common.{◌≡◌, ℕ, List, ap, subst, sym, ◌∙◌, arith}
+use Rattle.field_grammar.specs.Grammar.{Fault, Spelled}
+use Rattle.disk_layout.specs.Manifest.{LoadEntry, RefusesManifestBytes, manifest, manifest_view, total_length}
+use Rattle.disk_layout.specs.ManifestLaws.{manifest_decided}
+use Rattle.disk_layout.specs.declared.manifest.ManifestFault.TheVariants.{Wrong}
+use Rattle.recovery.specs.Surveys.{FindsOutline}
 use Rattle.recovery.proofs.surveying.active_on.Goals as goal
 
-pub returns-in_err-manifest-clause-refused : goal.returns-in_err-manifest-clause-refused
-returns-in_err-manifest-clause-refused g c =
-    let p = err_from_is_err_and c.from_residual-in_err-manifest.result c.from_residual-in_err-manifest.ensures.1 in rw (p.1, p.2) (λ image told.
-    let found = c.in_ok-sound.ensures.found image told in
-    let id = c.in_ok-sound.sound.identity in
-    let at = slot_offset c.in_ok-sound.sound.active_slot.slot in
-    let slot = c.in_ok-sound.sound.active_slot.says in
-    manifest_refuses image id at slot _ found.has_active (can_be image id at slot found.says c.in_ok-sound.ensures.can_be) found.says
-    (c.in_err-manifest.ensures.refused image (c.in_ok-sound.ensures.reads_disk.ok.reads ∙ told)))
+pub returns-in-Ok-clause-found : goal.returns-in-Ok-clause-found
+returns-in-Ok-clause-found g c image told =
+    let f = c.in_ok-found.found in
+    let found = c.in_ok-found.ensures.found image told in
+    let tells = c.in_ok-found.ensures.in_range.tells in
+    let spelled : Spelled manifest f.manifest.items (manifest_view c.in-Ok.manifest) = rw c.as_slice.ensures at c.in-Ok.ensures.found in
+    let same = (manifest_decided f.manifest.items tells.are_bytes).one_value tells.loads (manifest_view c.in-Ok.manifest) tells.spelled spelled in
+    let first : found.loads ≡ tells.loads = cc (found.read, tells.read) in
+    subst (λ (l : List LoadEntry). FindsOutline image f.identity l f.active f.other_is_open) (first ∙ same) found.finds
 
-pub returns-clause-found : goal.returns-clause-found
-returns-clause-found g c image told =
-    let active_slot = c.in_ok-sound.sound.active_slot in
-    let found = c.in_ok-sound.ensures.found image told in
-    let active = c.active_by.ensures in
-    let outline = has_outline image c.in_ok-sound.sound.identity (slot_offset active_slot.slot) active_slot.says (manifest_view c.in_ok-manifest.manifest)
-    found.has_active c.in_ok-sound.ensures.can_be found.says
-    (c.in_ok-manifest.ensures.found image (c.in_ok-sound.ensures.reads_disk.ok.reads ∙ told)) c.in_ok-manifest.ensures.lengths in
-    finds image c.in_ok-sound.sound.identity c.in_ok-manifest.manifest c.active_by.result active_slot active.slot active.bank active.sequence active.manifest outline found.says found.other
+pub returns-in-Ok-clause-in_range : goal.returns-in-Ok-clause-in_range
+returns-in-Ok-clause-in_range g c =
+    let f = c.in_ok-found.found in
+    let range = c.in_ok-found.ensures.in_range in
+    let tells = range.tells in
+    let spelled : Spelled manifest f.manifest.items (manifest_view c.in-Ok.manifest) = rw c.as_slice.ensures at c.in-Ok.ensures.found in
+    let same = (manifest_decided f.manifest.items tells.are_bytes).one_value tells.loads (manifest_view c.in-Ok.manifest) tells.spelled spelled in
+    record {
+      size = range.size;
+      range = range.range;
+      manifest = c.in-Ok.ensures.fits;
+      within = omega (arith, ap total_length same, tells.lengths, range.range.within);
+    }
+
+pub unreachable-requires : goal.unreachable-requires
+unreachable-requires g c =
+    let f = c.in_ok-found.found in
+    let tells = c.in_ok-found.ensures.in_range.tells in
+    let offset = c.in-Err-Wrong.field-0-0 in
+    let refused : RefusesManifestBytes f.manifest.items (Wrong offset) = rw (c.in-Err-Wrong.field-0-is, c.as_slice.ensures) at c.in-Err-Wrong.ensures.refused in
+    (manifest_decided f.manifest.items tells.are_bytes).not_both tells.loads (Wrong offset) tells.spelled refused.0

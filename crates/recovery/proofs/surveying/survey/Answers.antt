@@ -10,7 +10,8 @@ pub returns-clause-holds : goal.returns-clause-holds
 returns-clause-holds g c image told =
     let found = returns-clause-found g c image told in
     let (s, by, is) = c.an_outline_is_filled.ensures image _ _ found.outline in
-    (s, store_holds image _ found c.new-store.ensures.size s by is, is)
+    let f = c.in_ok-found.found in
+    (s, store_holds image (record { identity = f.identity; manifest = f.manifest; store = c.new-store.result }) found c.new-store.ensures.size s by is, is)
 
 pub returns-clause-fits : goal.returns-clause-fits
 returns-clause-fits g c =

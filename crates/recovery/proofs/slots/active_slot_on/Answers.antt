@@ -1,6 +1,6 @@
 use Rattle.std.proofs.Common.{refl, inr, ◌∙◌}
 use Rattle.recovery.proofs.Rulings.{a_is_found, b_is_found, none_is_active, not_over}
-use Rattle.recovery.proofs.surveying.active_slot_on.Goals as goal
+use Rattle.recovery.proofs.slots.active_slot_on.Goals as goal
 
 pub returns-then-is_active_over-clause-found : goal.returns-then-is_active_over-clause-found
 returns-then-is_active_over-clause-found g c image told =

@@ -2,7 +2,7 @@ use Rattle.std.proofs.Common.{◌∙◌}
 use Rattle.std.proofs.lemmas.Result.{err_from_is_err_and}
 use Rattle.disk_layout.specs.Slots.{slot_offset}
 use Rattle.recovery.proofs.Refusals.{slots_refuse, slot_refuses}
-use Rattle.recovery.proofs.surveying.sound_slot_on.Goals as goal
+use Rattle.recovery.proofs.slots.sound_slot_on.Goals as goal
 
 pub returns-in_err-active_slot-clause-refused : goal.returns-in_err-active_slot-clause-refused
 returns-in_err-active_slot-clause-refused g c =

@@ -2,7 +2,7 @@ use Rattle.std.proofs.Common.{◌-◌, arith}
 use Rattle.std.proofs.lemmas.Result.{err_from_is_err_and}
 use Rattle.disk_layout.specs.Manifest.{entry_view}
 use Rattle.disk_layout.proofs.LoadReads.{first_is, load_refused}
-use Rattle.disk_layout.proofs.manifest.ManifestReader.load.Goals as goal
+use Rattle.disk_layout.proofs.manifest.ManifestReader.next_load.Goals as goal
 
 pub returns-in_err-load-clause-refused : goal.returns-in_err-load-clause-refused
 returns-in_err-load-clause-refused c =
