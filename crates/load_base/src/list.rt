@@ -123,6 +123,17 @@ impl<T> List<T> {
     }
 }
 
+impl<T> From<Vec<T>> for List<T> {
+    ghost use Rattle.std.specs.Prelude.{◌≡◌};
+
+    ghost from_gives = { λ members list. list.items ≡ members.items };
+
+    /// The same members. It takes no memory.
+    fn from(members: Vec<T>) -> List<T> {
+        List { inner: members }
+    }
+}
+
 impl<T: PartialEq> PartialEq for List<T> {
     ghost use Rattle.std.specs.Prelude.{List};
     ghost use Rattle.std.specs.Cmp.{on_per};

@@ -6,7 +6,6 @@ use Rattle.std.proofs.lemmas.List.{append-nil, append_assoc, length-map, take_mo
 use Rattle.std.proofs.lemmas.List.Concat.{flat_map-append, flat_map-cons}
 use Rattle.std.proofs.lemmas.List.Elements.{All-nil, All-push}
 use Rattle.load_base.specs.Config.{FileView, LoadView}
-use Rattle.crc_fields.specs.CheckSums.{crc16_of}
 use Rattle.disk_model.specs.Image.{Image, range}
 use Rattle.disk_layout.specs.Contents.{HeaderIsFirst, entries_of, entry_of, first_name, file_entry_of}
 use Rattle.disk_layout.specs.Manifest.{LoadEntry, entry_view, size_of, total_length}
@@ -16,7 +15,7 @@ use Rattle.disk_layout.specs.declared.manifest.ManifestLoad.{ManifestLoad}
 use Rattle.disk_layout.specs.Holds.{StandingView}
 use Rattle.listing.specs.Listing.{bank_line, file_line, file_line_of, listing, load_line, load_line_of, load_lines, loads_line, target_line}
 use Rattle.recovery.specs.Listings.{ListsFile, ListsFiles, ListsLoad, ListsLoads}
-use Rattle.recovery.specs.Parts.{HasFiles, HasRead}
+use Rattle.recovery.specs.Parts.{HasFiles, IsSumAt}
 use Rattle.recovery.proofs.Files.{bytes_with, size_more}
 use Rattle.recovery.proofs.Loads.{contents_with, total_with}
 
@@ -33,14 +32,14 @@ entry : List ℕ → ℕ → ManifestFile
 entry name size = record { name = name; length = size }
 
 -- the line of a file that was read
-pub one_file : (reads : Option Image) (at sum : ℕ) (file : ManifestFile) (before after : List ℕ) → HasRead (λ bytes. sum ≡ crc16_of bytes) reads at file.length
+pub one_file : (reads : Option Image) (at sum : ℕ) (file : ManifestFile) (before after : List ℕ) → IsSumAt reads at file.length sum
     → after ≡ before ++ file_line_of file.name file.length sum → ListsFile reads at file before after
 unfolding file_line entry
 one_file reads at sum file before after read text = record {
   file = record { name = file.name; bytes = read.bytes };
   entry_is = ap (entry file.name) read.size;
   contents = read.are_there;
-  text = text ∙ ap₂ (λ (size : ℕ) (s : ℕ). before ++ file_line_of file.name size s) (sym read.size) read.are_taken;
+  text = text ∙ ap₂ (λ (size : ℕ) (s : ℕ). before ++ file_line_of file.name size s) (sym read.size) read.is_sum;
 }
 
 pub no_files : (reads : Option Image) (at : ℕ) (text : List ℕ) → ListsFiles reads at [] text text

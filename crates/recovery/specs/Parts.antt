@@ -1,6 +1,7 @@
 -- What the parts of a recovery find.
 use Rattle.std.specs.Prelude.{◌≡◌, ◌≢◌, ◌⊎◌, ◌↔◌, ℕ, ◌+◌, ◌<◌, ◌≤◌, List, length, Bool, true, Option}
 use Rattle.std.specs.Option.{ForSome}
+use Rattle.crc_fields.specs.CheckSums.{crc16_of}
 use Rattle.disk_model.specs.Image.{Image, range}
 use Rattle.field_grammar.specs.Grammar.{Spelled, Fault}
 use Rattle.disk_layout.specs.Offsets.{slot_a, slot_b, longest_manifest}
@@ -17,12 +18,12 @@ use Rattle.recovery.specs.declared.slots.ActiveSlot.{ActiveSlot}
 
 -- ---- bytes
 
--- So many bytes were taken: those that the disk has from this offset on, where it tells its content.
-pub record HasRead (taken : List ℕ → Type 0) (reads : Option Image) (at count : ℕ) : Type 0 where
+-- This is the check sum of so many bytes, those that the disk has from this offset on, where it tells its content.
+pub record IsSumAt (reads : Option Image) (at count sum : ℕ) : Type 0 where
   pub bytes : List ℕ
-  pub are_taken : taken bytes
   pub size : length bytes ≡ count
   pub are_there : ForSome reads (λ image. bytes ≡ range image at count)
+  pub is_sum : sum ≡ crc16_of bytes
 
 -- ---- the slots
 

@@ -1,9 +1,9 @@
 //! The contents of a bank, read from the disk.
-ghost use Rattle.std.specs.Prelude.{◌≡◌, ◌+◌, ◌≤◌, Some, false, map, length, IfOk, IfErr};
+ghost use Rattle.std.specs.Prelude.{◌≡◌, ◌+◌, ◌≤◌, false, map, length, IfOk, IfErr};
 ghost use Rattle.std.specs.Option.{ForSome};
 ghost use Rattle.std.specs.List.{All};
 ghost use Rattle.load_base.specs.Config.{file_view, load_view};
-ghost use Rattle.disk_model.specs.Image.{Image, range};
+ghost use Rattle.disk_model.specs.Image.{range};
 ghost use Rattle.disk_layout.specs.Manifest.{entry_view, total_length, size_of};
 ghost use Rattle.disk_layout.specs.Contents.{file_entry_of, entry_of, entries_of, bytes_of};
 ghost use Rattle.disk_layout.specs.Contents.{contents_of_loads, HeaderIsFirst, HeadersAreFirst};
@@ -22,12 +22,10 @@ pub(crate) fn loads_on<K: Disk>(
     disk: &mut K,
     start: u32,
     entries: &[ManifestLoad],
-    buffer: &mut [u8],
 ) -> Result<List<Load>, RecoverFault>
     requires running { (K.state disk.old).stopped ≡ false }
     requires within { start + total_length (map entry_view entries.now) ≤ SIZE }
     requires files { All (λ entry. HasFiles entry) (map entry_view entries.now) }
-    requires buffer { 1 ≤ length buffer.old }
     ensures entries { IfOk result
         (λ loads. entries_of (map load_view loads.items) ≡ map entry_view entries.now) }
     ensures headers { IfOk result (λ loads. HeadersAreFirst (map load_view loads.items)) }
@@ -40,7 +38,7 @@ pub(crate) fn loads_on<K: Disk>(
     let mut loads = List::new(alloc);
     let mut at = start;
     for entry in entries {
-        let (load, end) = load_on(alloc, disk, at, entry, buffer)?;
+        let (load, end) = load_on(alloc, disk, at, entry)?;
         loads.push(load)?;
         at = end;
     }
@@ -53,12 +51,10 @@ fn load_on<K: Disk>(
     disk: &mut K,
     at: u32,
     entry: &ManifestLoad,
-    buffer: &mut [u8],
 ) -> Result<(Load, u32), RecoverFault>
     requires running { (K.state disk.old).stopped ≡ false }
     requires within { at + size_of entry.now.files.items ≤ SIZE }
     requires files { HasFiles (entry_view entry.now) }
-    requires buffer { 1 ≤ length buffer.old }
     ensures entry { IfOk result (λ x. entry_of (load_view x.0) ≡ entry_view entry.now) }
     ensures header { IfOk result (λ x. HeaderIsFirst (load_view x.0)) }
     ensures end { IfOk result (λ x. x.1 ≡ at + size_of entry.now.files.items) }
@@ -68,7 +64,7 @@ fn load_on<K: Disk>(
     ensures refused { IfErr result (λ fault. IsOfDisk fault) }
     ensures reads_disk { ReadsDisk (K.state disk.old) (K.state disk.new) result }
 {
-    let (files, end) = files_on(alloc, disk, at, entry.files.as_slice(), buffer)?;
+    let (files, end) = files_on(alloc, disk, at, entry.files.as_slice())?;
     let load = Load {
         part: entry.part,
         header_name: entry.files.as_slice()[0].name,
@@ -83,11 +79,9 @@ fn files_on<K: Disk>(
     disk: &mut K,
     start: u32,
     files: &[ManifestFile],
-    buffer: &mut [u8],
 ) -> Result<(List<StoredFile>, u32), RecoverFault>
     requires running { (K.state disk.old).stopped ≡ false }
     requires within { start + size_of files.now ≤ SIZE }
-    requires buffer { 1 ≤ length buffer.old }
     ensures entries { IfOk result (λ x. map file_entry_of (map file_view x.0.items) ≡ files.now) }
     ensures end { IfOk result (λ x. x.1 ≡ start + size_of files.now) }
     ensures bytes { IfOk result (λ x. ForSome (K.state disk.old).reads
@@ -98,7 +92,7 @@ fn files_on<K: Disk>(
     let mut stored = List::new(alloc);
     let mut at = start;
     for file in files {
-        let bytes = bytes_on(alloc, disk, at, file.length, buffer)?;
+        let bytes = bytes_on(alloc, disk, at, file.length)?;
         stored.push(StoredFile {
             name: file.name,
             bytes,

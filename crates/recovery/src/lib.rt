@@ -5,7 +5,6 @@ mod contents;
 mod listed;
 mod looking;
 mod manifests;
-mod pieces;
 mod recovering;
 mod slots;
 mod surveying;

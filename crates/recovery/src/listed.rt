@@ -1,7 +1,6 @@
 //! The listing of a disk, of whose files no contents are kept.
-ghost use Rattle.std.specs.Prelude.{◌≡◌, ◌+◌, ◌≤◌, Ok, Some, false, length, IfOk, IfErr, OnOk};
+ghost use Rattle.std.specs.Prelude.{◌≡◌, ◌+◌, ◌≤◌, Ok, false, length, IfOk, IfErr, OnOk};
 ghost use Rattle.std.specs.Option.{ForSome};
-ghost use Rattle.disk_model.specs.Image.{Image};
 ghost use Rattle.bank_store.specs.DiskWrites.{IsRunning};
 ghost use Rattle.disk_layout.specs.DiskReads.{IsOfDisk, ReadsDisk};
 ghost use Rattle.disk_layout.specs.Holds.{Refuses};
@@ -10,9 +9,8 @@ ghost use Rattle.recovery.specs.Listings.{IsListing, ListsFile, ListsFiles, List
 ghost use Rattle.recovery.specs.Outlines.{AreLoadsAt};
 ghost use Rattle.recovery.specs.Parts.{HasFiles};
 
-use crate::looking::{PIECE, pieces_on};
+use crate::looking::{PIECE, sum_on};
 use crate::manifests::outline_on;
-use crc_fields::Crc16;
 use disk_layout::{ManifestFault, ManifestFile, ManifestLoad, ManifestReader, RecoverFault};
 use disk_model::{Disk, SIZE};
 use listing::{put_bank, put_count, put_file_line, put_load_line, put_target};
@@ -21,8 +19,8 @@ use std::alloc::Global;
 
 /// The listing of the configuration that a disk holds, the same text as [`listing::listing_text`]
 /// of what [`crate::recover`] gives. Nothing is written. Each file's contents are read, and only
-/// their check sum is kept; the manifest is kept as bytes, and read load by load. The first condition
-/// that fails is the refusal; after it the disk runs on.
+/// their check sum is kept; the manifest is kept as bytes, and read load by load. The first
+/// condition that fails is the refusal; after it the disk runs on.
 pub fn list<K: Disk>(alloc: Global, disk: &mut K) -> Result<Bytes, RecoverFault>
     requires { IsRunning (K.state disk.old) }
     ensures listed { IfOk result (λ text. IsListing (K.state disk.old).reads text.items) }
@@ -30,8 +28,7 @@ pub fn list<K: Disk>(alloc: Global, disk: &mut K) -> Result<Bytes, RecoverFault>
         (λ image. Refuses image fault)) }
     ensures reads_disk { ReadsDisk (K.state disk.old) (K.state disk.new) result }
 {
-    let mut buffer = [0; PIECE];
-    let found = outline_on(alloc, disk, &mut buffer)?;
+    let found = outline_on(alloc, disk)?;
     let start = found.active.bank.offset(found.identity.bank);
     // It was read before, so that it has no fault.
     let Ok(mut loads) = ManifestReader::new(found.manifest.as_slice()) else {
@@ -46,6 +43,7 @@ pub fn list<K: Disk>(alloc: Global, disk: &mut K) -> Result<Bytes, RecoverFault>
         found.active.sequence,
     )?;
     put_count(alloc, &mut out, usize::from(loads.left()))?;
+    let mut buffer = [0; PIECE];
     put_loads(alloc, disk, start, &mut loads, &mut buffer, &mut out)?;
     Ok(out)
 }
@@ -150,8 +148,7 @@ fn put_file<K: Disk>(
     ensures refused { IfErr result (λ fault. IsOfDisk fault) }
     ensures reads_disk { ReadsDisk (K.state disk.old) (K.state disk.new) result }
 {
-    let mut sum = Crc16::new();
-    pieces_on(disk, at, file.length, buffer, &mut sum)?;
-    put_file_line(alloc, out, &file.name, file.length as usize, sum.value())?;
+    let sum = sum_on(disk, at, file.length, buffer)?;
+    put_file_line(alloc, out, &file.name, file.length as usize, sum)?;
     Ok(())
 }

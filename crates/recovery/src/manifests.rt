@@ -1,9 +1,8 @@
 //! The manifest of a disk as bytes, whose loads are read one at a time.
-ghost use Rattle.std.specs.Prelude.{◌≡◌, ◌+◌, ◌≤◌, ◌<◌, ℕ, length, OnOk, IfOk, IfErr, IfSome, IfNone};
+ghost use Rattle.std.specs.Prelude.{◌≡◌, ◌+◌, ◌<◌, ℕ, length, OnOk, IfOk, IfErr, IfSome, IfNone};
 ghost use Rattle.std.specs.Prelude.{IsErrOf};
-ghost use Rattle.std.specs.List.{sum_by};
 ghost use Rattle.std.specs.Option.{ForSome};
-ghost use Rattle.disk_model.specs.Image.{Image, range};
+ghost use Rattle.disk_model.specs.Image.{range};
 ghost use Rattle.disk_layout.specs.Offsets.{IsBankSize, bank_at};
 ghost use Rattle.disk_layout.specs.Manifest.{RefusesManifestBytes, size_of};
 ghost use Rattle.disk_layout.specs.Holds.{Refuses};
@@ -33,13 +32,8 @@ pub(crate) struct Outlined {
 }
 
 /// Finds what is active on a disk. Each load of the manifest is read and tested, and none is kept.
-pub(crate) fn outline_on<K: Disk>(
-    alloc: Global,
-    disk: &mut K,
-    buffer: &mut [u8],
-) -> Result<Outlined, RecoverFault>
-    requires running { IsRunning (K.state disk.old) }
-    requires buffer { 1 ≤ length buffer.old }
+pub(crate) fn outline_on<K: Disk>(alloc: Global, disk: &mut K) -> Result<Outlined, RecoverFault>
+    requires { IsRunning (K.state disk.old) }
     ensures found { IfOk result (λ found. ForSome (K.state disk.old).reads
         (λ image. TellsOutline image found.identity found.active found.other_is_open
         found.manifest.items)) }
@@ -51,7 +45,7 @@ pub(crate) fn outline_on<K: Disk>(
 {
     let sound = sound_slot_on(disk)?;
     let size = sound.identity.bank;
-    let manifest = manifest_bytes_on(alloc, disk, size, &sound.active_slot.says, buffer)?;
+    let manifest = manifest_bytes_on(alloc, disk, size, &sound.active_slot.says)?;
     Ok(Outlined {
         identity: sound.identity,
         active: active_by(&sound.active_slot),
@@ -66,12 +60,10 @@ fn manifest_bytes_on<K: Disk>(
     disk: &mut K,
     bank_size: u32,
     slot: &SlotFields,
-    buffer: &mut [u8],
 ) -> Result<Bytes, RecoverFault>
     requires running { IsRunning (K.state disk.old) }
     requires size { IsBankSize bank_size }
     requires can_be { IsSoundAt bank_size slot.now }
-    requires buffer { 1 ≤ length buffer.old }
     ensures bytes { IfOk result (λ bytes. ForSome (K.state disk.old).reads
         (λ image. bytes.items ≡ range image
         (bank_at bank_size slot.now.bank + slot.now.manifest.offset) slot.now.manifest.length)) }
@@ -82,13 +74,13 @@ fn manifest_bytes_on<K: Disk>(
     ensures reads_disk { ReadsDisk (K.state disk.old) (K.state disk.new) result }
 {
     let start = Bank::numbered(slot.bank).offset(bank_size) + slot.manifest.offset;
-    let bytes = bytes_on(alloc, disk, start, slot.manifest.length, buffer)?;
+    let bytes = bytes_on(alloc, disk, start, slot.manifest.length)?;
     check_manifest(alloc, bytes.as_slice(), start, slot.manifest.offset)?;
     Ok(bytes)
 }
 
-// These bytes, which begin at an offset of the disk, are a manifest, and the files of its loads have
-// so many bytes together.
+// These bytes, which begin at an offset of the disk, are a manifest, and the files of its loads
+// have so many bytes together.
 fn check_manifest(
     alloc: Global,
     bytes: &[u8],

@@ -7,7 +7,6 @@ ghost use Rattle.disk_layout.specs.DiskReads.{ReadsDisk};
 ghost use Rattle.bank_store.specs.DiskWrites.{IsRunning};
 
 use crate::contents::loads_on;
-use crate::looking::PIECE;
 use crate::surveying::active_on;
 use disk_layout::{RecoverFault, Standing};
 use disk_model::Disk;
@@ -31,8 +30,7 @@ pub fn recover<K: Disk>(alloc: Global, disk: &mut K) -> Result<Standing, Recover
     let found = active_on(alloc, disk)?;
     let start = found.active.bank.offset(found.identity.bank);
     let entries = found.manifest.loads.as_slice();
-    let mut buffer = [0; PIECE];
-    let loads = loads_on(alloc, disk, start, entries, &mut buffer)?;
+    let loads = loads_on(alloc, disk, start, entries)?;
     Ok(Standing {
         identity: found.identity,
         bank: found.active.bank.number(),

@@ -1,7 +1,6 @@
 //! The identity of a disk, and its active slot.
 ghost use Rattle.std.specs.Prelude.{◌≡◌, ◌≤◌, ◌<◌, OnOk, IfOk, IfErr};
 ghost use Rattle.std.specs.Option.{ForSome};
-ghost use Rattle.disk_model.specs.Image.{Image};
 ghost use Rattle.disk_layout.specs.Offsets.{IsBankSize};
 ghost use Rattle.disk_layout.specs.Identity.{HasIdentity};
 ghost use Rattle.disk_layout.specs.Slots.{slot_offset, bank_number, IsSlotAt};

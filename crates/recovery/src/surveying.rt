@@ -1,7 +1,6 @@
 //! What is active on a disk: the identity, the slot, and the manifest that it names.
 ghost use Rattle.std.specs.Prelude.{◌≡◌, IfOk, IfErr};
 ghost use Rattle.std.specs.Option.{ForSome};
-ghost use Rattle.disk_model.specs.Image.{Image};
 ghost use Rattle.disk_model.specs.State.{IsSettled};
 ghost use Rattle.disk_layout.specs.Holds.{StandingView, outline_of, Refuses};
 ghost use Rattle.disk_layout.specs.DiskReads.{ReadsDisk};
@@ -11,7 +10,6 @@ ghost use Rattle.bank_store.specs.Fits.{HoldsFor, Fits, Works};
 ghost use Rattle.recovery.specs.Surveys.{IsSurveyed, IsSurveyInRange, FindsActive, IsFoundInRange};
 ghost use Rattle.recovery.specs.Surveys.{outline_of_survey};
 
-use crate::looking::PIECE;
 use crate::manifests::outline_on;
 use bank_store::{Store, a_settled_disk_works, a_store_goes_on_fitting};
 use disk_layout::{Active, Identity, Manifest, ManifestFault, RecoverFault, an_outline_is_filled};
@@ -88,8 +86,7 @@ pub(crate) fn active_on<K: Disk>(alloc: Global, disk: &mut K) -> Result<Found, R
         (λ found. IsFoundInRange found.identity found.manifest found.active) }
     ensures reads_disk { ReadsDisk (K.state disk.old) (K.state disk.new) result }
 {
-    let mut buffer = [0; PIECE];
-    let found = outline_on(alloc, disk, &mut buffer)?;
+    let found = outline_on(alloc, disk)?;
     match Manifest::decode(alloc, found.manifest.as_slice()) {
         Ok(manifest) => Ok(Found {
             identity: found.identity,

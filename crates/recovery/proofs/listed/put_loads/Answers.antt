@@ -3,7 +3,7 @@ use Rattle.disk_model.specs.Image.{Image}
 use Rattle.disk_layout.specs.Manifest.{entry_view, left_in}
 use Rattle.recovery.specs.Listings.{ListsLoad}
 use Rattle.recovery.proofs.DiskReads.{not_yet, look_more}
-use Rattle.recovery.proofs.Outlined.{behind_one, has_files_of, within_all, no_lines, lines_more, lines_of_all}
+use Rattle.recovery.proofs.Outlined.{behind_one, has_files_of, within_all, no_lines, lines_more}
 use Rattle.recovery.proofs.listed.put_loads.Goals as goal
 
 pub loop-init : goal.loop-init

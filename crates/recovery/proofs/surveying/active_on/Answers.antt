@@ -1,5 +1,5 @@
-use Rattle.std.proofs.Common.{◌≡◌, ℕ, List, ap, subst, sym, ◌∙◌, arith}
-use Rattle.field_grammar.specs.Grammar.{Fault, Spelled}
+use Rattle.std.proofs.Common.{◌≡◌, List, ap, subst, ◌∙◌, arith}
+use Rattle.field_grammar.specs.Grammar.{Spelled}
 use Rattle.disk_layout.specs.Manifest.{LoadEntry, RefusesManifestBytes, manifest, manifest_view, total_length}
 use Rattle.disk_layout.specs.ManifestLaws.{manifest_decided}
 use Rattle.disk_layout.specs.declared.manifest.ManifestFault.TheVariants.{Wrong}

@@ -1,13 +1,13 @@
 use Rattle.std.proofs.Common.{◌≤◌, ◌-◌}
-use Rattle.recovery.specs.Parts.{HasRead}
+use Rattle.recovery.specs.Parts.{IsSumAt}
 use Rattle.recovery.proofs.DiskReads.{Looked}
-use Rattle.recovery.proofs.looking.pieces_on.Given as goal
+use Rattle.recovery.proofs.looking.sum_on.Given as goal
 
 abbrev pub invariant-loop-done : goal.invariant-loop-done
 invariant-loop-done g l = record {
   looked : Looked (g.K.Disk.state l.fn.disk) (g.K.Disk.state l.disk);
   within : l.done ≤ l.count;
-  taken : HasRead (g.P.Pieces.has_taken l.pieces) (g.K.Disk.state l.fn.disk).reads l.at l.done;
+  sum : IsSumAt (g.K.Disk.state l.fn.disk).reads l.at l.done l.sum;
 }
 
 abbrev pub decreases-loop-done : goal.decreases-loop-done
