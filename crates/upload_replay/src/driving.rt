@@ -37,6 +37,9 @@ use target_machine::{BootFault, Target};
 
 /// Runs a loader that serves this media set, and the target of this disk, until the link gives the
 /// end. Nothing was posted to the link before.
+///
+/// There are more clauses than a record would join, since each has a premise of its own: what the
+/// disk tells, whether it was settled, what the rule accepts.
 pub fn drive<L: Link, K: Power, R: Rule>(
     alloc: Global,
     link: &mut L,

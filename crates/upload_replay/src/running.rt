@@ -23,7 +23,8 @@ use link_net::Link;
 use replay_rules::laws::{a_step_keeps_the_tie, the_configuration_changes_by_good_verdicts};
 use std::alloc::Global;
 
-/// All turns to the end, from a run in which nothing has happened yet.
+/// All turns to the end, from a run in which nothing has happened yet. What [`go_on`] says of a turn
+/// it says of all, clause by clause.
 pub(crate) fn run_to_end<'r, L: Link, K: Power, R: Rule>(
     alloc: Global,
     interlock: &'r Interlock<R>,
@@ -35,8 +36,9 @@ pub(crate) fn run_to_end<'r, L: Link, K: Power, R: Rule>(
     requires running { RunsWhileUp run.old.target (K.state disk.old) }
     ensures goes_on { (set : Setting) (began : LinkState)
         → set.media ≡ media_of run.old.loader.set → Follows R.may_say interlock.now set.accepts
-        → RuleFollows R.may_say set.accepts run.old.target → OnOk result (KeepsGoing set began run.old.recording run.new.recording run.old.loader
-        run.new.loader run.old.target run.new.target (L.state link.old) (L.state link.new)) }
+        → RuleFollows R.may_say set.accepts run.old.target → OnOk result (KeepsGoing set began
+        run.old.recording run.new.recording run.old.loader run.new.loader run.old.target
+        run.new.target (L.state link.old) (L.state link.new)) }
     ensures held { (set : Setting) (began : LinkState) (since : ℕ)
         → set.media ≡ media_of run.old.loader.set → Follows R.may_say interlock.now set.accepts
         → RuleFollows R.may_say set.accepts run.old.target
@@ -75,7 +77,8 @@ pub(crate) fn run_to_end<'r, L: Link, K: Power, R: Rule>(
     Err(DriveFault::Memory)
 }
 
-/// A turn of a run that goes on.
+/// A turn of a run that goes on. Each clause is what one of the promises of a run keeps by, under a
+/// premise of its own, so that they are many and no record joins them.
 fn go_on<'r, L: Link, K: Power, R: Rule>(
     alloc: Global,
     interlock: &'r Interlock<R>,
@@ -94,10 +97,12 @@ fn go_on<'r, L: Link, K: Power, R: Rule>(
         (L.state link.old) (K.state disk.old) → OnOk result (RunsOnDisk set began since
         run.new.recording run.new.loader run.new.target (L.state link.new) (K.state disk.new)) }
     ensures step { IfOk result (λ ended. IsNewStep ended run.old.recording run.new.recording) }
-    ensures carries { AllCarryBytes run.old.recording → OnOk result (AllCarryBytes run.new.recording) }
+    ensures carries { AllCarryBytes run.old.recording
+        → OnOk result (AllCarryBytes run.new.recording) }
     ensures media { OnOk result (run.new.loader.set ≡ run.old.loader.set) }
     ensures rule { (accepts : HeaderView → Bool) → Follows R.may_say interlock.now accepts
-        → RuleFollows R.may_say accepts run.old.target → OnOk result (RuleFollows R.may_say accepts run.new.target) }
+        → RuleFollows R.may_say accepts run.old.target
+        → OnOk result (RuleFollows R.may_say accepts run.new.target) }
     ensures running { OnOk result (RunsWhileUp run.new.target (K.state disk.new)) }
     ensures stops { (began : ℕ) → RoseBy (disk_stops run.old.recording) began
         (K.state disk.old).faults → OnOk result (RoseBy (disk_stops run.new.recording) began

@@ -55,6 +55,9 @@ pub(crate) struct Replay<'r, R: Rule> {
 
 /// A turn: what the link gives comes to both sides, and what they post goes to the link, the
 /// loader's datagrams first. Whether it was the end.
+///
+/// Each clause is what one of the promises of a run keeps by, under a premise of its own, so that
+/// they are many and no record joins them.
 pub(crate) fn turn<'r, L: Link, K: Power, R: Rule>(
     alloc: Global,
     interlock: &'r Interlock<R>,
@@ -73,7 +76,8 @@ pub(crate) fn turn<'r, L: Link, K: Power, R: Rule>(
         → HeldSoFar set since run.old.recording run.old.target (K.state disk.old)
         → OnOk result (HeldSoFar set since run.new.recording run.new.target (K.state disk.new)) }
     ensures step { IfOk result (λ ended. IsNewStep ended run.old.recording run.new.recording) }
-    ensures carries { AllCarryBytes run.old.recording → OnOk result (AllCarryBytes run.new.recording) }
+    ensures carries { AllCarryBytes run.old.recording
+        → OnOk result (AllCarryBytes run.new.recording) }
     ensures media { OnOk result (run.new.loader.set ≡ run.old.loader.set) }
     ensures rule { (accepts : HeaderView → Bool) → Follows R.may_say interlock.now accepts
         → RuleFollows R.may_say accepts run.old.target
