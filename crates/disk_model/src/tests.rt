@@ -3,7 +3,6 @@ ghost use Rattle.disk_model.specs.Image.{image_of};
 ghost use Rattle.disk_model.specs.State.{IsSettled};
 ghost use Rattle.disk_model.specs.Fused.{state_of};
 ghost use Rattle.disk_model.specs.MemDisk as Mem;
-ghost use Rattle.disk_model.specs.FileDisk as File;
 
 use crate::tearing::Tearing;
 use crate::{Call, Disk, DiskFault, FileDisk, Fused, MemDisk, Note, Power, SIZE};
@@ -57,27 +56,6 @@ fn five_calls<K: Disk>(disk: &mut K) -> Result<(), DiskFault>
     disk.sync()?;
     disk.write(4, &[8, 9])?;
     prefix(disk)?;
-    Ok(())
-}
-
-// The first bytes of a disk in memory after five calls and a restart, and whether it tells those that
-// it was made of and those that it has then.
-fn after_five_calls(alloc: Global) -> Result<([u8; 8], bool), Fail> {
-    let mut disk = MemDisk::new(alloc, &[1, 2, 3])?;
-    five_calls(&mut disk)?;
-    disk.restart()?;
-    let first = prefix(&mut disk)?;
-    let before = disk.first_bytes() == [1, 2, 3].as_slice();
-    Ok((
-        first,
-        before && disk.as_slice() == [1, 7, 3, 0, 8, 9].as_slice(),
-    ))
-}
-
-#[test]
-fn a_disk_in_memory_keeps_what_was_written(rt: HostRuntime) -> Result<(), Fail> {
-    let wanted = ([1, 7, 3, 0, 8, 9, 0, 0], true);
-    assert_eq!(rt; after_five_calls(rt.alloc())?, wanted);
     Ok(())
 }
 
@@ -224,22 +202,6 @@ fn a_seventeenth_range_is_synced_before(rt: HostRuntime) -> Result<(), Fail> {
     Ok(())
 }
 
-// The first bytes after a restart, where power is lost twice before it.
-fn lost_twice(alloc: Global) -> Result<[u8; 8], Fail> {
-    let mut disk = fused(alloc, &[1, 2, 3])?;
-    disk.write(1, &[7])?;
-    disk.arm(0, 0);
-    disk.arm(0, 1);
-    disk.restart()?;
-    Ok(prefix(&mut disk)?)
-}
-
-#[test]
-fn power_that_is_lost_isnt_lost_again(rt: HostRuntime) -> Result<(), Fail> {
-    assert_eq!(rt; lost_twice(rt.alloc())?, [1, 7, 3, 0, 0, 0, 0, 0]);
-    Ok(())
-}
-
 // Whether power is lost at the second sync after a restart, for which it was armed before, and
 // perhaps lost once more.
 fn second_sync_fails(alloc: Global, again: bool) -> Result<bool, Fail> {
@@ -328,37 +290,6 @@ fn a_disk_in_a_file_reads_what_was_written(rt: HostRuntime) -> Result<(), Fail> 
     fs::remove_file(&rt, name)?;
     let wanted = [[0, 0], [1, 2], [3, 0], [9, 0], [3, 0]];
     assert_eq!(rt; back_to_back(&rt, name)?, wanted);
-    fs::remove_file(&rt, name)?;
-    Ok(())
-}
-
-// A disk whose power can be lost, over one in a file.
-fn fused_file<'r>(rt: &'r HostRuntime, name: &'r str) -> Fused<FileDisk<'r, HostRuntime>>
-    ensures running { (state_of File.state_of result).stopped ≡ false }
-    ensures counts { ((state_of File.state_of result).faults ≡ 0)
-        × ((state_of File.state_of result).refusals ≡ 0)
-        × ((state_of File.state_of result).armings ≡ 0) }
-{
-    Fused::new(FileDisk::new(rt, name))
-}
-
-// Whether a write fails at which power is lost over a file, and the first bytes after another one.
-fn lost_over_a_file(rt: &HostRuntime, name: &str) -> Result<(bool, [u8; 8]), Fail> {
-    let mut disk = fused_file(rt, name);
-    disk.arm(1, 1);
-    let lost = disk.write(1, &[7, 8]) == Err(DiskFault::Failed);
-    disk.restart()?;
-    disk.write(4, &[5])?;
-    Ok((lost, prefix(&mut disk)?))
-}
-
-#[test]
-fn power_is_lost_over_a_file(rt: HostRuntime) -> Result<(), Fail> {
-    let name = "power_is_lost.disk";
-    assert_eq!(rt;
-        lost_over_a_file(&rt, name)?,
-        (true, [0, 0, 0, 0, 5, 0, 0, 0])
-    );
     fs::remove_file(&rt, name)?;
     Ok(())
 }

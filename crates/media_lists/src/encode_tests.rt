@@ -106,9 +106,14 @@ fn files_there_and_back(alloc: Global, list: &FilesList) -> Result<Bytes, ListFa
     Ok(bytes)
 }
 
-/// How many files with which path and how many bytes of user data a list has, and how many bytes it
-/// takes, or 0 where it doesn't fit: 46, those of the user data, and 16 for each file and those of
-/// its path, an even number.
+/// How many bytes a list takes of so many files with this path and N bytes of user data, or 0 where
+/// it doesn't fit.
+fn files_length(alloc: Global, count: usize, path: &[u8], user: usize) -> Result<usize, ListFault> {
+    let list = files_list(alloc, many_files(alloc, count, path)?, user)?;
+    Ok(files_there_and_back(alloc, &list)?.len())
+}
+
+/// It takes 46, those of the user data, and 16 for each file and those of its path, an even number.
 #[test]
 fn a_list_of_files_keeps_its_limits(rt: HostRuntime) -> Result<(), ListFault> {
     let mut path = [b'A'; 65];
@@ -116,21 +121,19 @@ fn a_list_of_files_keeps_its_limits(rt: HostRuntime) -> Result<(), ListFault> {
     let mut longest = path;
     longest[63] = b'\\';
     for (count, path, user, bytes) in [
-        (1024, &b"\\"[..], 0, 46 + 1024 * 18),
+        (1024, &b"\\"[..], 0, 18_478),
         (1025, b"\\", 0, 0),
         (0, b"\\", 0, 46),
-        (2, &longest[..64], 0, 46 + 2 * 80),
+        (2, &longest[..64], 0, 206),
         (2, &longest, 0, 0),
         (2, &path[..64], 0, 0),
         (2, b"", 0, 0),
-        (1, b"\\", 131_070, 46 + 18 + 131_070),
+        (1, b"\\", 131_070, 131_134),
         (1, b"\\", 131_072, 0),
         (1, b"\\", 131_069, 0),
     ] {
-        let files = many_files(rt.alloc(), count, path)?;
-        let list = files_list(rt.alloc(), files, user)?;
-        let written = files_there_and_back(rt.alloc(), &list)?;
-        assert_eq!(rt; written.len(), bytes, "{count} files, {user} bytes");
+        let length = files_length(rt.alloc(), count, path, user)?;
+        assert_eq!(rt; length, bytes, "{count} files, {user} bytes");
     }
     Ok(())
 }
@@ -185,34 +188,50 @@ fn loads_there_and_back(alloc: Global, list: &LoadsList) -> Result<Bytes, ListFa
     Ok(bytes)
 }
 
-/// How many loads, each for how many kinds of hardware of 255 bytes, and how many bytes of user
-/// data a list has, and how many bytes it takes, or 0 where it doesn't fit: 46, those of the user
-/// data, and for each load 32 and 258 for each kind.
+/// How many bytes a list takes of so many loads, each for as many kinds of hardware of 255 bytes,
+/// and N bytes of user data, or 0 where it doesn't fit.
+fn loads_length(
+    alloc: Global,
+    count: usize,
+    kinds: usize,
+    user: usize,
+) -> Result<usize, ListFault> {
+    let list = loads_list(alloc, many_loads(alloc, count, kinds)?, user)?;
+    Ok(loads_there_and_back(alloc, &list)?.len())
+}
+
+/// It takes 46, those of the user data, and for each load 32 and 258 for each kind.
 #[test]
 fn a_list_of_loads_keeps_its_limits(rt: HostRuntime) -> Result<(), ListFault> {
     for (count, kinds, user, bytes) in [
-        (1024, 1, 0, 46 + 1024 * 290),
+        (1024, 1, 0, 297_006),
         (1025, 1, 0, 0),
         (8, 500, 16_274, 1_048_576),
         (8, 500, 16_276, 0),
     ] {
-        let loads = many_loads(rt.alloc(), count, kinds)?;
-        let list = loads_list(rt.alloc(), loads, user)?;
-        let written = loads_there_and_back(rt.alloc(), &list)?;
-        assert_eq!(rt; written.len(), bytes, "{count} loads, {user} bytes");
+        let length = loads_length(rt.alloc(), count, kinds, user)?;
+        assert_eq!(rt; length, bytes, "{count} loads, {user} bytes");
     }
     Ok(())
 }
 
 // ---- both
 
+/// What is written of a list that was read of these bytes.
+fn files_again(alloc: Global, bytes: &[u8]) -> Result<Bytes, ListFault> {
+    files_there_and_back(alloc, &FilesList::decode(alloc, bytes)?)
+}
+
+fn loads_again(alloc: Global, bytes: &[u8]) -> Result<Bytes, ListFault> {
+    loads_there_and_back(alloc, &LoadsList::decode(alloc, bytes)?)
+}
+
 #[test]
 fn lists_are_written_as_they_were_read(rt: HostRuntime) -> Result<(), ListFault> {
-    let alloc = rt.alloc();
-    let files = files_there_and_back(alloc, &FilesList::decode(alloc, &FILES)?)?;
-    let loads = loads_there_and_back(alloc, &LoadsList::decode(alloc, &LOADS)?)?;
-    let same = files.as_slice() == FILES.as_slice() && loads.as_slice() == LOADS.as_slice();
-    assert!(rt; same);
+    let files = files_again(rt.alloc(), &FILES)?;
+    assert_eq!(rt; files.as_slice(), FILES.as_slice());
+    let loads = loads_again(rt.alloc(), &LOADS)?;
+    assert_eq!(rt; loads.as_slice(), LOADS.as_slice());
     Ok(())
 }
 
