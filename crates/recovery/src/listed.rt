@@ -17,10 +17,11 @@ use listing::{put_bank, put_count, put_file_line, put_load_line, put_target};
 use load_base::Bytes;
 use std::alloc::Global;
 
-/// The listing of the configuration that a disk holds, the same text as [`listing::listing_text`]
-/// of what [`crate::recover`] gives. Nothing is written. Each file's contents are read, and only
-/// their check sum is kept; the manifest is kept as bytes, and read load by load. The first
-/// condition that fails is the refusal; after it the disk runs on.
+/// The listing of the configuration that a disk holds, where the disk tells its content the same
+/// text as [`listing::listing_text`] of what [`crate::recover`] gives. Nothing is written. Each
+/// file's contents are read, and only their check sum is kept; the manifest is kept as bytes, and
+/// read load by load (no clause says how much is kept). The first condition that fails is the
+/// refusal. After V1 to V4 the disk runs on, after DiskFailed not until a restart.
 pub fn list<K: Disk>(alloc: Global, disk: &mut K) -> Result<Bytes, RecoverFault>
     requires { IsRunning (K.state disk.old) }
     ensures listed { IfOk result (λ text. IsListing (K.state disk.old).reads text.items) }

@@ -15,8 +15,8 @@ use std::alloc::Global;
 
 /// Recovers the configuration that a disk holds: all that [`crate::survey`] reads, and the contents
 /// of the active bank. Nothing is written. The first condition that fails is the refusal (that it
-/// is one, and the only one, is a law of [`disk_layout::an_image_holds_one_configuration`]); after
-/// it the disk runs on.
+/// is one, and the only one, is a law of [`disk_layout::an_image_holds_one_configuration`]). After
+/// V1 to V4 the disk runs on, after DiskFailed not until a restart.
 pub fn recover<K: Disk>(alloc: Global, disk: &mut K) -> Result<Standing, RecoverFault>
     requires { IsRunning (K.state disk.old) }
     ensures found { IfOk result (λ standing. ForSome (K.state disk.old).reads

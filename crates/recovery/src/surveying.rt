@@ -25,9 +25,10 @@ pub struct Surveyed {
     pub store: Store,
 }
 
-/// Reads what is active on a disk: its identity, the open slot with the greatest sequence, and the
-/// manifest that the slot names. Nothing is written. The first condition that fails is the refusal;
-/// after it the disk runs on.
+/// Reads what is active on a disk: its identity, the open slot with the greatest sequence, slot A
+/// where both have the same, and the manifest that the slot names. Nothing is written. The first
+/// condition that fails is the refusal. After V1 to V4 the disk runs on, after DiskFailed not until
+/// a restart.
 ///
 /// The store that it gives installs on this disk, beside what is active there. What its calls
 /// promise of a power loss they promise where the disk was settled, as it is after a sync or a
@@ -55,6 +56,7 @@ pub fn survey<K: Disk>(alloc: Global, disk: &mut K) -> Result<Surveyed, RecoverF
         found.active,
         found.other_is_open,
     );
+    // For the proof: these do nothing.
     an_outline_is_filled();
     a_settled_disk_works::<K>();
     a_store_goes_on_fitting::<K>();
