@@ -1,10 +1,13 @@
-//! The program: runs its words over standard output, the files of the current folder and the disk
-//! in the file `target.disk` of the current folder, and exits with the status of the run.
+//! The program: runs its arguments over standard output, the files of the current folder and the
+//! disk in the file `target.disk` of the current folder, and exits with the status of the run.
 #![tactic(auto)]
+
+ghost use Rattle.std.specs.Prelude.{◌≡◌};
+ghost use Rattle.std.specs.Process.{exit_status};
 
 use disk_model::{FileDisk, Fused};
 use load_base::{StdHost, StdSink};
-use loader_cli::run;
+use loader_cli::{Ended, run};
 use std::alloc::{AllocError, Global};
 use std::env;
 use std::io::ErrorKind;
@@ -21,12 +24,18 @@ fn main(rt: HostRuntime) -> ExitCode {
     let mut host = StdHost::new(&rt);
     let mut out = StdSink::new(&rt);
     let mut disk = Fused::new(FileDisk::new(&rt, "target.disk"));
-    let ended = run(alloc, &words, &mut host, &mut out, &mut disk);
+    exit_of(&run(alloc, &words, &mut host, &mut out, &mut disk))
+}
+
+// The status of the run.
+fn exit_of(ended: &Ended) -> ExitCode
+    ensures { exit_status result ≡ ended.now.status }
+{
     ExitCode::from(ended.status)
 }
 
-// The words after the program's name. Where one of them isn't UTF-8, one empty word stands for them
-// all: no form has an empty word, so either is refused.
+// The arguments after the program's name. Where one of them isn't UTF-8, one empty argument stands
+// for them all: no command has an empty argument, so either is refused.
 fn words_of(alloc: Global, rt: &(impl Env + AllocGlobal)) -> Result<Vec<String>, AllocError> {
     let mut words = Vec::new(alloc);
     match env::args(rt) {
