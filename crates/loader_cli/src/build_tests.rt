@@ -124,59 +124,9 @@ fn standing(alloc: Global, host: &mut MemHost, files: &[(&[u8], &[u8])]) -> Resu
     Ok(count)
 }
 
-#[test]
-fn a_set_of_one_load_is_built(rt: HostRuntime) -> Result<(), Fail> {
-    let mut host = host_with(rt.alloc(), APP)?;
-    let text = said(rt.alloc(), BUILD, &mut host)?;
-    assert_eq!(rt; text.as_slice(), b"0 built 1 loads 2 files\n".as_slice());
-    assert_eq!(rt; standing(rt.alloc(), &mut host, &app_files())?, 4);
-    Ok(())
-}
-
-#[test]
-fn a_set_on_two_members_is_built(rt: HostRuntime) -> Result<(), Fail> {
-    let mut host = three_loads(rt.alloc())?;
-    let text = said(rt.alloc(), BUILD, &mut host)?;
-    assert_eq!(rt; text.as_slice(), b"0 built 3 loads 8 files\n".as_slice());
-    assert_eq!(rt; standing(rt.alloc(), &mut host, &three_loads_files())?, 12);
-    Ok(())
-}
-
 // What `build R P` says of a recipe.
 fn built(alloc: Global, recipe: &[u8]) -> Result<Bytes, Fail> {
     said(alloc, BUILD, &mut host_with(alloc, recipe)?)
-}
-
-#[test]
-fn recipes_are_refused(rt: HostRuntime) -> Result<(), Fail> {
-    let rows: [(&[u8], &[u8]); 4] = [
-        (
-            b"set XYZ5A-0000-0001\nmembers 1
-load ABC41-0000-0001 APP.LUH 1 7 APP\nhardware HW1
-data X.LUH 1 app.bin APP1\n",
-            b"3 refused R B3 5\n",
-        ),
-        (b"set XYZ5A-0000-0001\nmembers 0\n", b"3 refused R B2 2\n"),
-        (b"set XYZ5A-0000-0001\nmembers 1\n", b"3 refused R B5 3\n"),
-        (
-            b"set XYZ5A-0000-0001\nmembers 1
-load ABC41-0000-0001 APP.LUH 1 7 APP
-data APP.BIN 1 none.bin APP1\n",
-            b"3 refused none.bin absent\n",
-        ),
-    ];
-    for (recipe, wanted) in rows {
-        let text = built(rt.alloc(), recipe)?;
-        assert_eq!(rt; text.as_slice(), wanted);
-    }
-    Ok(())
-}
-
-#[test]
-fn a_recipe_is_absent(rt: HostRuntime) -> Result<(), Fail> {
-    let text = said(rt.alloc(), BUILD, &mut MemHost::new(rt.alloc()))?;
-    assert_eq!(rt; text.as_slice(), b"3 refused R absent\n".as_slice());
-    Ok(())
 }
 
 // A recipe of one load for this many kinds of hardware, with so many words of user data.
@@ -194,72 +144,79 @@ fn sized(alloc: Global, hardware: u16, user: u32) -> Result<Bytes, Fail> {
 }
 
 #[test]
-fn sizes_are_refused(rt: HostRuntime) -> Result<(), Fail> {
-    for (hardware, user, wanted) in [
-        (0, 32_768, &b"3 refused R headertoolong 3\n"[..]),
-        (1_025, 1, b"3 refused R listtoolong\n"),
-    ] {
-        let recipe = sized(rt.alloc(), hardware, user)?;
-        let text = built(rt.alloc(), recipe.as_slice())?;
+fn recipes_are_refused(rt: HostRuntime) -> Result<(), Fail> {
+    let long_header = sized(rt.alloc(), 0, 32_768)?;
+    let long_list = sized(rt.alloc(), 1_025, 1)?;
+    let rows: [(&[u8], &[u8]); 6] = [
+        (
+            b"set XYZ5A-0000-0001\nmembers 1
+load ABC41-0000-0001 APP.LUH 1 7 APP\nhardware HW1
+data X.LUH 1 app.bin APP1\n",
+            b"3 refused R B3 5\n",
+        ),
+        (b"set XYZ5A-0000-0001\nmembers 0\n", b"3 refused R B2 2\n"),
+        (b"set XYZ5A-0000-0001\nmembers 1\n", b"3 refused R B5 3\n"),
+        (
+            b"set XYZ5A-0000-0001\nmembers 1
+load ABC41-0000-0001 APP.LUH 1 7 APP
+data APP.BIN 1 none.bin APP1\n",
+            b"3 refused none.bin absent\n",
+        ),
+        (long_header.as_slice(), b"3 refused R headertoolong 3\n"),
+        (long_list.as_slice(), b"3 refused R listtoolong\n"),
+    ];
+    for (recipe, wanted) in rows {
+        let text = built(rt.alloc(), recipe)?;
         assert_eq!(rt; text.as_slice(), wanted);
     }
     Ok(())
 }
 
-// What `build R P` says where the host call of this number fails, and how many of these files stand
-// before the first that doesn't.
+// What `build R P` says where the host call of this number fails, if it is one of the first so many,
+// and how many of these files stand before the first that doesn't.
 fn failing_at(
     alloc: Global,
     mut host: MemHost,
     call: u32,
+    calls: u32,
     files: &[(&[u8], &[u8])],
 ) -> Result<(Bytes, usize), Fail> {
-    host.fail_at(call)?;
+    if call <= calls {
+        host.fail_at(call)?;
+    }
     let text = said(alloc, BUILD, &mut host)?;
     Ok((text, standing(alloc, &mut host, files)?))
 }
 
-// The recipe and its source were written by calls 1 and 2. Calls 3 and 4 read them, and the others
-// write the set.
+const FAULT: &[u8] = b"4 host fault\n";
+
+// The recipe and its source were written by calls 1 and 2. Calls 3 and 4 read them, and the four
+// after them write the set.
 #[test]
 fn each_host_call_fails_in_turn(rt: HostRuntime) -> Result<(), Fail> {
-    for call in 3..=8u32 {
+    let built = b"0 built 1 loads 2 files\n".as_slice();
+    for call in 3..=9u32 {
         let host = host_with(rt.alloc(), APP)?;
-        let (text, count) = failing_at(rt.alloc(), host, call, &app_files())?;
-        assert_eq!(rt;
-            text.as_slice(),
-            b"4 host fault\n".as_slice(),
-            "call {call}"
-        );
+        let (text, count) = failing_at(rt.alloc(), host, call, 8, &app_files())?;
+        let wanted = if call <= 8 { FAULT } else { built };
+        assert_eq!(rt; text.as_slice(), wanted, "call {call}");
         assert_eq!(rt; count, call.saturating_sub(5) as usize, "call {call}");
     }
     Ok(())
 }
 
 // The recipe and its five sources were written by calls 1 to 6. Calls 7 to 12 read them, and the
-// others write the set.
+// twelve after them write the set.
 #[test]
 fn each_host_call_for_three_loads_fails_in_turn(rt: HostRuntime) -> Result<(), Fail> {
-    for call in 7..=24u32 {
+    let built = b"0 built 3 loads 8 files\n".as_slice();
+    for call in 7..=25u32 {
         let host = three_loads(rt.alloc())?;
-        let (text, count) = failing_at(rt.alloc(), host, call, &three_loads_files())?;
-        assert_eq!(rt;
-            text.as_slice(),
-            b"4 host fault\n".as_slice(),
-            "call {call}"
-        );
+        let (text, count) = failing_at(rt.alloc(), host, call, 24, &three_loads_files())?;
+        let wanted = if call <= 24 { FAULT } else { built };
+        assert_eq!(rt; text.as_slice(), wanted, "call {call}");
         assert_eq!(rt; count, call.saturating_sub(13) as usize, "call {call}");
     }
-    Ok(())
-}
-
-#[test]
-fn the_set_of_7_is_made(rt: HostRuntime) -> Result<(), Fail> {
-    let mut host = MemHost::new(rt.alloc());
-    let text = said(rt.alloc(), &["make", "7", "M"], &mut host)?;
-    assert_eq!(rt; text.as_slice(), b"0 built 1 loads 2 files\n".as_slice());
-    let text = said(rt.alloc(), &["check", "M"], &mut host)?;
-    assert_eq!(rt; text.as_slice(), b"0 findings 0\n".as_slice());
     Ok(())
 }
 

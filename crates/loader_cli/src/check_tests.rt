@@ -3,7 +3,7 @@ use crate::set_vectors::{
     APP_FILES, APP_HEADER, APP_LOADS, CFG, CFG_HEADER, FILES_1, FILES_2, LOADS_1, LOADS_2, NAV_TXT,
     NAV1, NAV2, OPS, OPS_HEADER,
 };
-use crate::tests::{NAV, disk_with, run_over};
+use crate::tests::{NAV, disk_with, run_over, zeros};
 use load_base::{Bytes, Host, MemHost, WriteFault};
 use std::alloc::Global;
 use std::test::Fail;
@@ -43,7 +43,13 @@ fn app_set_with(alloc: Global, name: &[u8], bytes: &[u8]) -> Result<Bytes, Fail>
 
 #[test]
 fn each_finding_is_told(rt: HostRuntime) -> Result<(), Fail> {
-    let rows: [(&[u8], &[u8], &[u8]); 5] = [
+    let long = zeros(rt.alloc(), 16_777_216)?;
+    let rows: [(&[u8], &[u8], &[u8]); 6] = [
+        (
+            b"P/1/FILES.LUM",
+            long.as_slice(),
+            b"3 refused P/1/FILES.LUM toolong\n",
+        ),
         (b"P/1/APP.BIN", b"123456789", b"0 findings 0\n"),
         (
             b"P/1/APP.BIN",
@@ -69,11 +75,22 @@ fn each_finding_is_told(rt: HostRuntime) -> Result<(), Fail> {
     Ok(())
 }
 
+// Each command that reads files, where the host has none.
 #[test]
-fn an_empty_folder_lacks_both_lists(rt: HostRuntime) -> Result<(), Fail> {
-    let said = checked(rt.alloc(), &mut MemHost::new(rt.alloc()))?;
-    let wanted = b"1 finding M1 1 LOADS.LUM\nfinding M1 1 FILES.LUM\nfindings 2\n";
-    assert_eq!(rt; said.as_slice(), wanted.as_slice());
+fn a_host_without_files(rt: HostRuntime) -> Result<(), Fail> {
+    let rows: [(&[&str], &[u8]); 3] = [
+        (&["build", "R", "P"], b"3 refused R absent\n"),
+        (
+            &["check", "P"],
+            b"1 finding M1 1 LOADS.LUM\nfinding M1 1 FILES.LUM\nfindings 2\n",
+        ),
+        (&["wire", "P", "S"], b"3 refused P/1/LOADS.LUM absent\n"),
+    ];
+    for (words, wanted) in rows {
+        let mut disk = disk_with(rt.alloc(), b"")?;
+        let said = run_over(rt.alloc(), words, &mut MemHost::new(rt.alloc()), &mut disk)?;
+        assert_eq!(rt; said.as_slice(), wanted);
+    }
     Ok(())
 }
 
@@ -96,10 +113,8 @@ pub(crate) fn three_loads(alloc: Global) -> Result<MemHost, Fail> {
 }
 
 #[test]
-fn a_set_on_two_members(rt: HostRuntime) -> Result<(), Fail> {
+fn a_list_of_another_member(rt: HostRuntime) -> Result<(), Fail> {
     let mut host = three_loads(rt.alloc())?;
-    let said = checked(rt.alloc(), &mut host)?;
-    assert_eq!(rt; said.as_slice(), b"0 findings 0\n".as_slice());
     write(&mut host, b"P/2/LOADS.LUM", &LOADS_1)?;
     let said = checked(rt.alloc(), &mut host)?;
     let wanted = b"1 finding M3 2 LOADS.LUM\nfindings 1\n";
@@ -113,6 +128,10 @@ fn failing_at(alloc: Global, mut host: MemHost, call: u32) -> Result<Bytes, Fail
     checked(alloc, &mut host)
 }
 
+const FAULT: &[u8] = b"4 host fault\n";
+
+const NOTHING: &[u8] = b"0 findings 0\n";
+
 // The set's files were written by calls 1 to 4.
 #[test]
 fn each_host_call_fails_in_turn(rt: HostRuntime) -> Result<(), Fail> {
@@ -120,8 +139,8 @@ fn each_host_call_fails_in_turn(rt: HostRuntime) -> Result<(), Fail> {
         let mut host = app_set(rt.alloc())?;
         write(&mut host, b"P/1/APP.BIN", b"123456789")?;
         let said = failing_at(rt.alloc(), host, call)?;
-        let failed = said.as_slice() == b"4 host fault\n".as_slice();
-        assert_eq!(rt; failed, call <= 8, "call {call}");
+        let wanted = if call <= 8 { FAULT } else { NOTHING };
+        assert_eq!(rt; said.as_slice(), wanted, "call {call}");
     }
     Ok(())
 }
@@ -131,27 +150,8 @@ fn each_host_call_fails_in_turn(rt: HostRuntime) -> Result<(), Fail> {
 fn each_host_call_for_three_loads_fails_in_turn(rt: HostRuntime) -> Result<(), Fail> {
     for call in 13..=25u32 {
         let said = failing_at(rt.alloc(), three_loads(rt.alloc())?, call)?;
-        let failed = said.as_slice() == b"4 host fault\n".as_slice();
-        assert_eq!(rt; failed, call <= 24, "call {call}");
+        let wanted = if call <= 24 { FAULT } else { NOTHING };
+        assert_eq!(rt; said.as_slice(), wanted, "call {call}");
     }
-    Ok(())
-}
-
-// N zeros, in pieces of 65,536 bytes.
-fn zeros(alloc: Global, count: usize) -> Result<Bytes, Fail> {
-    let mut bytes = Bytes::new(alloc);
-    let piece = [0; 65_536];
-    for _ in 0..count / piece.len() {
-        bytes.extend(&piece)?;
-    }
-    Ok(bytes)
-}
-
-#[test]
-fn a_list_that_is_too_long(rt: HostRuntime) -> Result<(), Fail> {
-    let long = zeros(rt.alloc(), 16_777_216)?;
-    let said = app_set_with(rt.alloc(), b"P/1/FILES.LUM", long.as_slice())?;
-    let wanted = b"3 refused P/1/FILES.LUM toolong\n";
-    assert_eq!(rt; said.as_slice(), wanted.as_slice());
     Ok(())
 }

@@ -1,7 +1,6 @@
 //! The commands `replay` and `wire`, on inputs and runs from outside of this project.
 use crate::check_tests::{app_set, write};
 use crate::tests::{disk_with, formatted, run_over};
-use crate::upload_tests::{NOT_INSTALLED, is_report};
 use load_base::{Bytes, MemHost};
 use std::alloc::Global;
 use std::test::Fail;
@@ -47,40 +46,10 @@ fn the_first_refused_input_is_told(rt: HostRuntime) -> Result<(), Fail> {
     Ok(())
 }
 
+// Over an empty target, which is the same at the end.
 #[test]
-fn a_folder_without_lists_is_told_before_the_script(rt: HostRuntime) -> Result<(), Fail> {
-    let alloc = rt.alloc();
-    let said = run_over(
-        alloc,
-        WIRE,
-        &mut MemHost::new(alloc),
-        &mut disk_with(alloc, b"")?,
-    )?;
-    assert_eq!(rt;
-        said.as_slice(),
-        b"3 refused P/1/LOADS.LUM absent\n".as_slice()
-    );
-    Ok(())
-}
-
-#[test]
-fn an_information_session_is_reported(rt: HostRuntime) -> Result<(), Fail> {
-    let said = said_with(rt.alloc(), REPLAY, b"S", b"info HW1 L\nfinish\n")?;
-    let wanted = b"0 session 1 info completed
-hardware HW1 SN1
-datagrams 11
-target HW1 L SN1
-bank 0 sequence 1
-loads 0
-";
-    assert_eq!(rt; said.as_slice(), wanted.as_slice());
-    Ok(())
-}
-
-#[test]
-fn an_information_session_is_traced(rt: HostRuntime) -> Result<(), Fail> {
-    let said = said_with(rt.alloc(), WIRE, b"S", b"info HW1 L\nfinish\n")?;
-    let wanted = b"0 start info HW1 L
+fn information_sessions_end_for_their_causes(rt: HostRuntime) -> Result<(), Fail> {
+    let traced = b"0 start info HW1 L
 post 1 l 1024 59 00014857315f4c2e4c4349006f6374657400
 give 1
 post 2 t 1024 1024 00030001000000094133000100
@@ -105,34 +74,66 @@ post 11 l 1026 1026 00040001
 give 11
 end
 ";
-    assert_eq!(rt; said.as_slice(), wanted.as_slice());
-    Ok(())
-}
-
-// Over an empty target, which is the same at the end.
-#[test]
-fn information_sessions_end_for_their_causes(rt: HostRuntime) -> Result<(), Fail> {
-    let rows: [(&[u8], &[u8]); 4] = [
+    let rows: [(&[&str], &[u8], &[u8]); 6] = [
+        (WIRE, b"info HW1 L\nfinish\n", traced),
         (
+            REPLAY,
+            b"info HW1 L\nfinish\n",
+            b"0 session 1 info completed
+hardware HW1 SN1
+datagrams 11
+target HW1 L SN1
+bank 0 sequence 1
+loads 0
+",
+        ),
+        (
+            REPLAY,
             b"info HW2 L\nfinish\n",
-            b"1 session 1 info peererror 1\ndatagrams 2\n",
+            b"1 session 1 info peererror 1
+datagrams 2
+target HW1 L SN1
+bank 0 sequence 1
+loads 0
+",
         ),
         (
+            REPLAY,
             b"info HW1 L\ninfo HW1 L\nfinish\n",
-            b"1 session 1 info replaced\nsession 2 info completed\nhardware HW1 SN1\ndatagrams 13\n",
+            b"1 session 1 info replaced
+session 2 info completed
+hardware HW1 SN1
+datagrams 13
+target HW1 L SN1
+bank 0 sequence 1
+loads 0
+",
         ),
         (
+            REPLAY,
             b"info HW1 L\ntick loader\ntick loader\ntick loader\ntick loader\ntick loader\ntick loader\n",
-            b"1 session 1 info gaveup\ndatagrams 6\n",
+            b"1 session 1 info gaveup
+datagrams 6
+target HW1 L SN1
+bank 0 sequence 1
+loads 0
+",
         ),
         (
+            REPLAY,
             b"power 0 3\ninfo HW1 L\nnext 1\nboot\nfinish\n",
-            b"0 session 1 info completed\nhardware HW1 SN1\ndatagrams 12\n",
+            b"0 session 1 info completed
+hardware HW1 SN1
+datagrams 12
+target HW1 L SN1
+bank 0 sequence 1
+loads 0
+",
         ),
     ];
-    for (script, sessions) in rows {
-        let said = said_with(rt.alloc(), REPLAY, b"S", script)?;
-        assert!(rt; is_report(&said, sessions, NOT_INSTALLED));
+    for (words, script, wanted) in rows {
+        let said = said_with(rt.alloc(), words, b"S", script)?;
+        assert_eq!(rt; said.as_slice(), wanted);
     }
     Ok(())
 }

@@ -34,11 +34,11 @@ pub(crate) fn formatted(at: usize, bytes: &[u8]) -> [u8; DISK] {
     disk
 }
 
-// The same disk, where slot A has this sequence number, and slot B this gate, sequence number 8 and
-// bank 1.
-fn with_both_slots(sequence: u8, gate: u8) -> [u8; DISK] {
-    let mut disk = formatted(4115, &[sequence]);
-    put(&mut disk, 4608, &[gate]);
+// The same disk, where slot A has sequence number 7, and slot B is open too and has sequence number 8
+// and bank 1.
+fn with_both_slots() -> [u8; DISK] {
+    let mut disk = formatted(4115, &[7]);
+    put(&mut disk, 4608, &[0xA5]);
     put(&mut disk, 4624, &[0, 0, 0, 8, 1, 0, 0, 0, 0, 0, 0, 0, 2]);
     disk
 }
@@ -114,38 +114,11 @@ fn run_failing(alloc: Global, words: &[&str], disk: &[u8; DISK], call: u32) -> R
     )
 }
 
-#[test]
-fn lists_the_later_slot(rt: HostRuntime) -> Result<(), Fail> {
-    for (sequence, gate, wanted) in [
-        (7, 0xA5, "0 target HW1 L SN1\nbank 1 sequence 8\nloads 0\n"),
-        (8, 0xA5, "0 target HW1 L SN1\nbank 0 sequence 8\nloads 0\n"),
-        (7, 0x5A, "0 target HW1 L SN1\nbank 0 sequence 7\nloads 0\n"),
-    ] {
-        let said = run_on(rt.alloc(), LIST, &with_both_slots(sequence, gate))?;
-        assert_eq!(rt; said.as_slice(), wanted.as_bytes());
-    }
-    Ok(())
-}
-
-#[test]
-fn lists_no_loads_or_says_why_not(rt: HostRuntime) -> Result<(), Fail> {
-    let rows: [(usize, &[u8], &str); 10] = [
-        (0, &[], NO_LOADS),
-        (0, &[0], "8 no configuration V1 0\n"),
-        (5, &[2], "8 no configuration V1 5\n"),
-        (21, &[0x3D], "8 no configuration V1 20\n"),
-        (4096, &[0], "8 no configuration V2\n"),
-        (4116, &[2], "8 no configuration V3 4116\n"),
-        (4117, &[0, 0, 0x0F, 0xFF], "8 no configuration V3 4117\n"),
-        (4121, &[0, 0, 0, 1], "8 no configuration V4 8192\n"),
-        (4121, &[0, 0, 0, 3], "8 no configuration V4 8194\n"),
-        (8192, &[0, 1], "8 no configuration V4 8194\n"),
-    ];
-    for (at, bytes, wanted) in rows {
-        let said = run_on(rt.alloc(), LIST, &formatted(at, bytes))?;
-        assert_eq!(rt; said.as_slice(), wanted.as_bytes(), "{at}");
-    }
-    Ok(())
+// What `list` says of such a disk with these bytes from an offset on.
+fn listed(alloc: Global, disk: &[u8; DISK], at: usize, bytes: &[u8]) -> Result<Bytes, Fail> {
+    let mut disk = *disk;
+    put(&mut disk, at, bytes);
+    run_on(alloc, LIST, &disk)
 }
 
 #[test]
@@ -157,35 +130,76 @@ load ABC41-0000-0001 APP.LUH 2
 file APP.LUH 4 AF7F
 file APP.BIN 9 29B1
 ";
-    let rows: [(usize, &[u8], &str); 25] = [
-        (0, &[], listing),
-        (2, &[0], "8 no configuration V1 2\n"),
-        (6, &[0, 0, 0x0F, 0xFF], "8 no configuration V1 6\n"),
-        (6, &[4, 0, 0, 1], "8 no configuration V1 6\n"),
-        (11, &[0x68], "8 no configuration V1 10\n"),
-        (14, &[0], "8 no configuration V1 14\n"),
-        (16, &[200], "8 no configuration V1 16\n"),
-        (4121, &[0, 8, 0xA2, 0x23], "8 no configuration V3 4121\n"),
-        (4124, &[42], "8 no configuration V4 8244\n"),
-        (4124, &[44], "8 no configuration V4 8248\n"),
-        (8206, &[0], "8 no configuration V4 8207\n"),
-        (8206, &[2], "8 no configuration V4 8248\n"),
-        (8206, &[33], "8 no configuration V4 8205\n"),
-        (8210, b" ", "8 no configuration V4 8207\n"),
-        (8223, &[0], "8 no configuration V4 8222\n"),
-        (8223, &[1], "8 no configuration V4 8236\n"),
-        (8223, &[3], "8 no configuration V4 8248\n"),
-        (8222, &[1, 1], "8 no configuration V4 8222\n"),
-        (8224, &[0], "8 no configuration V4 8224\n"),
-        (8228, b"/", "8 no configuration V4 8224\n"),
-        (8236, &[12], "8 no configuration V4 8236\n"),
-        (8232, &[1], "8 no configuration V4 8232\n"),
-        (8235, &[5], "8 no configuration V4 8205\n"),
-        (8247, &[8], "8 no configuration V4 8205\n"),
-        (4120, &[14], "8 no configuration V4 8206\n"),
+    let empty = formatted(0, &[]);
+    let one = loaded(0, &[]);
+    let both = with_both_slots();
+    let rows: [(&[u8; DISK], usize, &[u8], &str); 38] = [
+        (
+            &both,
+            0,
+            &[],
+            "0 target HW1 L SN1\nbank 1 sequence 8\nloads 0\n",
+        ),
+        (
+            &both,
+            4115,
+            &[8],
+            "0 target HW1 L SN1\nbank 0 sequence 8\nloads 0\n",
+        ),
+        (
+            &both,
+            4608,
+            &[0x5A],
+            "0 target HW1 L SN1\nbank 0 sequence 7\nloads 0\n",
+        ),
+        (&empty, 0, &[], NO_LOADS),
+        (&empty, 0, &[0], "8 no configuration V1 0\n"),
+        (&empty, 5, &[2], "8 no configuration V1 5\n"),
+        (&empty, 21, &[0x3D], "8 no configuration V1 20\n"),
+        (&empty, 4096, &[0], "8 no configuration V2\n"),
+        (&empty, 4116, &[2], "8 no configuration V3 4116\n"),
+        (
+            &empty,
+            4117,
+            &[0, 0, 0x0F, 0xFF],
+            "8 no configuration V3 4117\n",
+        ),
+        (&empty, 4121, &[0, 0, 0, 1], "8 no configuration V4 8192\n"),
+        (&empty, 4121, &[0, 0, 0, 3], "8 no configuration V4 8194\n"),
+        (&empty, 8192, &[0, 1], "8 no configuration V4 8194\n"),
+        (&one, 0, &[], listing),
+        (&one, 2, &[0], "8 no configuration V1 2\n"),
+        (&one, 6, &[0, 0, 0x0F, 0xFF], "8 no configuration V1 6\n"),
+        (&one, 6, &[4, 0, 0, 1], "8 no configuration V1 6\n"),
+        (&one, 11, &[0x68], "8 no configuration V1 10\n"),
+        (&one, 14, &[0], "8 no configuration V1 14\n"),
+        (&one, 16, &[200], "8 no configuration V1 16\n"),
+        (
+            &one,
+            4121,
+            &[0, 8, 0xA2, 0x23],
+            "8 no configuration V3 4121\n",
+        ),
+        (&one, 4124, &[42], "8 no configuration V4 8244\n"),
+        (&one, 4124, &[44], "8 no configuration V4 8248\n"),
+        (&one, 8206, &[0], "8 no configuration V4 8207\n"),
+        (&one, 8206, &[2], "8 no configuration V4 8248\n"),
+        (&one, 8206, &[33], "8 no configuration V4 8205\n"),
+        (&one, 8210, b" ", "8 no configuration V4 8207\n"),
+        (&one, 8223, &[0], "8 no configuration V4 8222\n"),
+        (&one, 8223, &[1], "8 no configuration V4 8236\n"),
+        (&one, 8223, &[3], "8 no configuration V4 8248\n"),
+        (&one, 8222, &[1, 1], "8 no configuration V4 8222\n"),
+        (&one, 8224, &[0], "8 no configuration V4 8224\n"),
+        (&one, 8228, b"/", "8 no configuration V4 8224\n"),
+        (&one, 8236, &[12], "8 no configuration V4 8236\n"),
+        (&one, 8232, &[1], "8 no configuration V4 8232\n"),
+        (&one, 8235, &[5], "8 no configuration V4 8205\n"),
+        (&one, 8247, &[8], "8 no configuration V4 8205\n"),
+        (&one, 4120, &[14], "8 no configuration V4 8206\n"),
     ];
-    for (at, bytes, wanted) in rows {
-        let said = run_on(rt.alloc(), LIST, &loaded(at, bytes))?;
+    for (disk, at, bytes, wanted) in rows {
+        let said = listed(rt.alloc(), disk, at, bytes)?;
         assert_eq!(rt; said.as_slice(), wanted.as_bytes(), "{at}");
     }
     Ok(())
@@ -347,35 +361,6 @@ fn a_sink_that_fails(rt: HostRuntime) -> Result<(), Fail> {
     Ok(())
 }
 
-// The status of `list` over standard output and the disk in a file.
-fn status_on_file(rt: &HostRuntime, name: &str) -> Result<u8, Fail> {
-    let alloc = rt.alloc();
-    let words = words_of(alloc, LIST)?;
-    let mut disk = Fused::new(FileDisk::new(rt, name));
-    let ended = run(
-        alloc,
-        &words,
-        &mut StdHost::new(rt),
-        &mut StdSink::new(rt),
-        &mut disk,
-    );
-    Ok(ended.status)
-}
-
-// A disk that was written by hand, one that is missing and stays so, and a folder in its place.
-#[test]
-fn the_real_sink_and_the_real_disk(rt: HostRuntime) -> Result<(), Fail> {
-    fs::write(&rt, "listed.disk", formatted(0, &[]).as_slice())?;
-    fs::create_dir(&rt, "folder.disk")?;
-    for (name, status) in [("listed.disk", 0), ("missing.disk", 8), ("folder.disk", 5)] {
-        assert_eq!(rt; status_on_file(&rt, name)?, status, "{name}");
-    }
-    let kept = fs::read(&rt, "listed.disk")?;
-    assert_eq!(rt; kept.as_slice(), formatted(0, &[]).as_slice());
-    assert!(rt; fs::read(&rt, "missing.disk").is_err());
-    Ok(())
-}
-
 // A load header with positions, two data files, a support file and user data.
 pub(crate) static NAV: [u8; 210] = [
     0x00, 0x00, 0x00, 0x69, 0x80, 0x04, 0x00, 0x00, 0x00, 0x00, 0x00, 0x14, 0x00, 0x00, 0x00, 0x1D,
@@ -431,14 +416,32 @@ fn run_beside(
     run_over(alloc, words, &mut host, &mut disk)
 }
 
+// N zeros, in pieces of 65,536 bytes.
+pub(crate) fn zeros(alloc: Global, count: usize) -> Result<Bytes, Fail> {
+    let mut bytes = Bytes::new(alloc);
+    let piece = [0; 65_536];
+    for _ in 0..count / piece.len() {
+        bytes.extend(&piece)?;
+    }
+    Ok(bytes)
+}
+
 #[test]
 fn shows_a_header_or_says_why_not(rt: HostRuntime) -> Result<(), Fail> {
     let mut another_sum = NAV;
     another_sum[203] ^= 1;
-    let rows: [(&[&str], &str, &[u8], u32, &[u8]); 9] = [
+    let long = zeros(rt.alloc(), 16_777_216)?;
+    let rows: [(&[&str], &str, &[u8], u32, &[u8]); 10] = [
         (SHOW, "NAV.LUH", &NAV, 3, NAV_TEXT),
         (SHOW, "NAV.LUH", &NAV[..3], 3, b"3 refused NAV.LUH H1 0\n"),
         (SHOW, "NAV.LUH", &another_sum, 3, b"3 refused NAV.LUH H7\n"),
+        (
+            SHOW,
+            "NAV.LUH",
+            long.as_slice(),
+            3,
+            b"3 refused NAV.LUH toolong\n",
+        ),
         (SHOW, "OTHER.LUH", &NAV, 3, b"3 refused NAV.LUH absent\n"),
         (SHOW, "nav.luh", &NAV, 3, b"3 refused NAV.LUH absent\n"),
         (SHOW, "NAV.LUH", &NAV, 2, b"4 host fault\n"),
@@ -453,47 +456,43 @@ fn shows_a_header_or_says_why_not(rt: HostRuntime) -> Result<(), Fail> {
     Ok(())
 }
 
-// N zeros, in pieces of 65,536 bytes.
-fn zeros(alloc: Global, count: usize) -> Result<Bytes, Fail> {
-    let mut bytes = Bytes::new(alloc);
-    let piece = [0; 65_536];
-    for _ in 0..count / piece.len() {
-        bytes.extend(&piece)?;
-    }
-    Ok(bytes)
-}
-
-#[test]
-fn too_many_bytes_are_refused(rt: HostRuntime) -> Result<(), Fail> {
-    let bytes = zeros(rt.alloc(), 16_777_216)?;
-    let said = run_beside(rt.alloc(), SHOW, "NAV.LUH", bytes.as_slice(), 3)?;
-    assert_eq!(rt; said.as_slice(), b"3 refused NAV.LUH toolong\n".as_slice());
-    Ok(())
-}
-
-// The status of `show` over the files of the system.
-fn status_of_file(rt: &HostRuntime, name: &str) -> Result<u8, Fail> {
+// The status of a run over the system's files, standard output and the disk in a file.
+fn status_over_the_system(rt: &HostRuntime, words: &[&str], disk: &str) -> Result<u8, Fail> {
     let alloc = rt.alloc();
-    let words = words_of(alloc, &["show", name])?;
-    let mut disk = disk_with(alloc, &formatted(0, &[]))?;
+    let words = words_of(alloc, words)?;
+    let mut disk = Fused::new(FileDisk::new(rt, disk));
     let ended = run(
         alloc,
         &words,
         &mut StdHost::new(rt),
-        &mut MemSink::new(alloc),
+        &mut StdSink::new(rt),
         &mut disk,
     );
     Ok(ended.status)
 }
 
-// A header, one that is missing, and a folder in its place.
+// A disk that was written by hand, one that is missing and stays so, and a folder in its place; a
+// header, one that is missing, and a folder in its place.
 #[test]
-fn the_real_host(rt: HostRuntime) -> Result<(), Fail> {
+fn the_real_host_sink_and_disk(rt: HostRuntime) -> Result<(), Fail> {
+    fs::write(&rt, "listed.disk", formatted(0, &[]).as_slice())?;
+    fs::create_dir(&rt, "folder.disk")?;
     fs::write(&rt, "SHOWN.LUH", &NAV)?;
     fs::create_dir(&rt, "FOLDER.LUH")?;
-    for (name, status) in [("SHOWN.LUH", 0), ("NONE.LUH", 3), ("FOLDER.LUH", 4)] {
-        assert_eq!(rt; status_of_file(&rt, name)?, status, "{name}");
+    let rows: [(&[&str], &str, u8); 6] = [
+        (LIST, "listed.disk", 0),
+        (LIST, "missing.disk", 8),
+        (LIST, "folder.disk", 5),
+        (&["show", "SHOWN.LUH"], "missing.disk", 0),
+        (&["show", "NONE.LUH"], "missing.disk", 3),
+        (&["show", "FOLDER.LUH"], "missing.disk", 4),
+    ];
+    for (words, disk, status) in rows {
+        assert_eq!(rt; status_over_the_system(&rt, words, disk)?, status);
     }
+    let kept = fs::read(&rt, "listed.disk")?;
+    assert_eq!(rt; kept.as_slice(), formatted(0, &[]).as_slice());
+    assert!(rt; fs::read(&rt, "missing.disk").is_err());
     assert_eq!(rt; fs::read(&rt, "SHOWN.LUH")?.as_slice(), NAV.as_slice());
     Ok(())
 }

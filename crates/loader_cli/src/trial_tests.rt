@@ -1,6 +1,5 @@
 //! The command `trial`, as another program reported it.
 use crate::tests::{disk_with, formatted, run_over};
-use crate::upload_tests::{NOT_INSTALLED, is_report};
 use load_base::{Bytes, MemHost};
 use std::alloc::Global;
 use std::test::Fail;
@@ -15,8 +14,8 @@ fn tried(alloc: Global, start: &[u8]) -> Result<Bytes, Fail> {
 }
 
 #[test]
-fn the_generated_set_is_uploaded(rt: HostRuntime) -> Result<(), Fail> {
-    let wanted = b"0 session 1 upload completed
+fn the_generated_set_is_uploaded_or_not(rt: HostRuntime) -> Result<(), Fail> {
+    let completed = b"0 session 1 upload completed
 datagrams 16405
 target HW1 L SN1
 bank 1 sequence 2
@@ -25,21 +24,20 @@ load ABC41-0000-0001 MAKE.LUH 2
 file MAKE.LUH 122 90DD
 file MAKE.BIN 4194304 1468
 ";
-    assert_eq!(rt; tried(rt.alloc(), LARGE)?.as_slice(), wanted.as_slice());
-    Ok(())
-}
-
-#[test]
-fn a_small_bank_stops_the_upload(rt: HostRuntime) -> Result<(), Fail> {
-    let said = tried(rt.alloc(), b"")?;
-    let sessions = b"1 session 1 upload stopped A9 4194471 4096\ndatagrams 18\n";
-    assert!(rt; is_report(&said, sessions, NOT_INSTALLED));
-    Ok(())
-}
-
-#[test]
-fn a_disk_without_a_target_is_told(rt: HostRuntime) -> Result<(), Fail> {
-    let said = tried(rt.alloc(), b"\0")?;
-    assert_eq!(rt; said.as_slice(), b"8 no configuration V1 0\n".as_slice());
+    let stopped = b"1 session 1 upload stopped A9 4194471 4096
+datagrams 18
+target HW1 L SN1
+bank 0 sequence 1
+loads 0
+";
+    let rows: [(&[u8], &[u8]); 3] = [
+        (LARGE, completed),
+        (b"", stopped),
+        (b"\0", b"8 no configuration V1 0\n"),
+    ];
+    for (start, wanted) in rows {
+        let said = tried(rt.alloc(), start)?;
+        assert_eq!(rt; said.as_slice(), wanted);
+    }
     Ok(())
 }

@@ -59,7 +59,7 @@ fn reported(alloc: Global, recipe: &[u8], source: &[u8], script: &[u8]) -> Resul
     run_over(alloc, REPLAY, &mut host, &mut disk)
 }
 
-pub(crate) const NOT_INSTALLED: &[u8] = b"target HW1 L SN1\nbank 0 sequence 1\nloads 0\n";
+const NOT_INSTALLED: &[u8] = b"target HW1 L SN1\nbank 0 sequence 1\nloads 0\n";
 
 const INSTALLED: &[u8] = b"target HW1 L SN1
 bank 1 sequence 2
@@ -69,7 +69,7 @@ file APP.LUH 122 248A
 file APP.BIN 9 29B1
 ";
 
-pub(crate) fn is_report(said: &Bytes, sessions: &[u8], listing: &[u8]) -> bool {
+fn is_report(said: &Bytes, sessions: &[u8], listing: &[u8]) -> bool {
     let said = said.as_slice();
     match sessions.len().checked_add(listing.len()) {
         Some(all) => { said.len() == all && said.starts_with(sessions) && said.ends_with(listing) }
@@ -77,95 +77,192 @@ pub(crate) fn is_report(said: &Bytes, sessions: &[u8], listing: &[u8]) -> bool {
     }
 }
 
+// Of files that are read in one block, in several, and in none.
 #[test]
 fn an_upload_is_completed(rt: HostRuntime) -> Result<(), Fail> {
-    let rows: [(&[u8], &[u8]); 5] = [
-        (UPLOAD, b"0 session 1 upload completed\ndatagrams 21\n"),
+    let (some, most) = ([0u8; 1024], [0u8; 3931]);
+    let rows: [(&[u8], &[u8], &[u8], &[u8]); 9] = [
         (
+            APP,
+            UPLOAD,
+            b"0 session 1 upload completed\ndatagrams 21\n",
+            INSTALLED,
+        ),
+        (
+            APP,
             b"upload HW1 L ABC41-0000-0001\nnext 1\ngive 1\nnext 1\ngive 2\nfinish\n",
             b"0 session 1 upload completed\ndatagrams 22\n",
+            INSTALLED,
         ),
         (
+            APP,
             b"upload HW1 L ABC41-0000-0001\nnext 6\ngive 8\nfinish\n",
             b"0 session 1 upload completed\ndatagrams 22\n",
+            INSTALLED,
         ),
         (
+            APP,
             b"upload HW1 L ABC41-0000-0001\nnext 10\nlose 11\ngive 12\ntick loader\nlose 13\ntick target\nlose 14\ntick loader\nlose 15\ntick target\nlose 16\nfinish\n",
             b"0 session 1 upload completed\ndatagrams 28\n",
+            INSTALLED,
         ),
         (
+            APP,
             b"info HW1 L\nfinish\nupload HW1 L ABC41-0000-0001\nfinish\n",
             b"0 session 1 info completed\nhardware HW1 SN1\nsession 2 upload completed\ndatagrams 32\n",
+            INSTALLED,
+        ),
+        (
+            b"",
+            UPLOAD,
+            b"0 session 1 upload completed
+datagrams 21
+",
+            b"target HW1 L SN1
+bank 1 sequence 2
+loads 1
+load ABC41-0000-0001 APP.LUH 2
+file APP.LUH 122 724D
+file APP.BIN 0 FFFF
+",
+        ),
+        (
+            &some,
+            UPLOAD,
+            b"0 session 1 upload completed
+datagrams 25
+",
+            b"target HW1 L SN1
+bank 1 sequence 2
+loads 1
+load ABC41-0000-0001 APP.LUH 2
+file APP.LUH 122 44FD
+file APP.BIN 1024 B76F
+",
+        ),
+        (
+            &some,
+            b"blksize 1024\nupload HW1 L ABC41-0000-0001\nfinish\n",
+            b"0 session 1 upload completed
+datagrams 29
+",
+            b"target HW1 L SN1
+bank 1 sequence 2
+loads 1
+load ABC41-0000-0001 APP.LUH 2
+file APP.LUH 122 44FD
+file APP.BIN 1024 B76F
+",
+        ),
+        (
+            &most,
+            UPLOAD,
+            b"0 session 1 upload completed
+datagrams 35
+",
+            b"target HW1 L SN1
+bank 1 sequence 2
+loads 1
+load ABC41-0000-0001 APP.LUH 2
+file APP.LUH 122 3A2E
+file APP.BIN 3931 EEA5
+",
         ),
     ];
-    for (script, sessions) in rows {
-        let said = reported(rt.alloc(), RECIPE, APP, script)?;
-        assert!(rt; is_report(&said, sessions, INSTALLED));
+    for (source, script, sessions, listing) in rows {
+        let said = reported(rt.alloc(), RECIPE, source, script)?;
+        assert!(rt; is_report(&said, sessions, listing));
     }
     Ok(())
 }
 
 #[test]
 fn an_upload_ends_without_an_installation(rt: HostRuntime) -> Result<(), Fail> {
-    let rows: [(&[u8], &[u8], &[u8], &[u8]); 9] = [
+    // The target boots between the two, and datagrams of the first session come late.
+    let two = b"upload HW1 L ABC41-0000-0001
+finish
+boot
+upload HW1 L ABC42-0000-0002
+next 3
+give 18
+give 20
+finish
+";
+    let rows: [(&[u8], &[u8], &[u8], &[u8], &[u8]); 10] = [
+        (
+            WITH_ANOTHER,
+            APP,
+            two,
+            b"1 session 1 upload completed\nsession 2 upload stopped A4\ndatagrams 39\n",
+            INSTALLED,
+        ),
         (
             FOR_OTHER_HARDWARE,
             APP,
             UPLOAD,
             b"1 session 1 upload stopped A4\ndatagrams 18\n",
+            NOT_INSTALLED,
         ),
         (
             OF_TYPE_0,
             APP,
             UPLOAD,
             b"1 session 1 upload stopped A5\ndatagrams 18\n",
+            NOT_INSTALLED,
         ),
         (
             RECIPE,
             &ZEROS,
             UPLOAD,
             b"1 session 1 upload stopped A9 4097 4096\ndatagrams 18\n",
+            NOT_INSTALLED,
         ),
         (
             RECIPE,
             APP,
             b"upload HW1 L ABC41-0000-0001\ntick loader\ntick loader\ntick loader\ntick loader\ntick loader\ntick loader\n",
             b"1 session 1 upload gaveup\ndatagrams 6\n",
+            NOT_INSTALLED,
         ),
         (
             RECIPE,
             APP,
             b"upload HW1 L ABC41-0000-0001\ntick loader\ntick loader\ntick loader\ntick loader\ntick loader\n",
             b"1 session 1 upload open\ndatagrams 6\n",
+            NOT_INSTALLED,
         ),
         (
             RECIPE,
             APP,
             b"upload HW1 L XYZ5A-0000-0001\n",
             b"1 session 1 upload notonmedia XYZ5A-0000-0001\ndatagrams 0\n",
+            NOT_INSTALLED,
         ),
         (
             RECIPE,
             APP,
             b"upload HW1 L XYZ5A-0000-0001 XYZ5A-0000-0001 XYZ5A-0000-0001 XYZ5A-0000-0001 XYZ5A-0000-0001 XYZ5A-0000-0001 XYZ5A-0000-0001 XYZ5A-0000-0001 XYZ5A-0000-0001 XYZ5A-0000-0001 XYZ5A-0000-0001 XYZ5A-0000-0001 XYZ5A-0000-0001 XYZ5A-0000-0001 XYZ5A-0000-0001 XYZ5A-0000-0001 XYZ5A-0000-0001 XYZ5A-0000-0001 XYZ5A-0000-0001 XYZ5A-0000-0001 XYZ5A-0000-0001 XYZ5A-0000-0001 XYZ5A-0000-0001 XYZ5A-0000-0001 XYZ5A-0000-0001 XYZ5A-0000-0001 XYZ5A-0000-0001 XYZ5A-0000-0001 XYZ5A-0000-0001 XYZ5A-0000-0001 XYZ5A-0000-0001 XYZ5A-0000-0001 XYZ5A-0000-0001\n",
             b"1 session 1 upload toomany\ndatagrams 0\n",
+            NOT_INSTALLED,
         ),
         (
             RECIPE,
             APP,
             b"inject target 40000 59 00014857315f4c2e4c5549006f6374657400\nfinish\n",
             b"0 datagrams 6\n",
+            NOT_INSTALLED,
         ),
         (
             RECIPE,
             APP,
             b"upload HW2 L ABC41-0000-0001\nfinish\n",
             b"1 session 1 upload peererror 1\ndatagrams 2\n",
+            NOT_INSTALLED,
         ),
     ];
-    for (recipe, source, script, sessions) in rows {
+    for (recipe, source, script, sessions, listing) in rows {
         let said = reported(rt.alloc(), recipe, source, script)?;
-        assert!(rt; is_report(&said, sessions, NOT_INSTALLED));
+        assert!(rt; is_report(&said, sessions, listing));
     }
     Ok(())
 }
@@ -237,25 +334,6 @@ end
     Ok(())
 }
 
-// The target boots between the two, and datagrams of the first session come late.
-#[test]
-fn an_upload_that_is_stopped_leaves_the_one_before(rt: HostRuntime) -> Result<(), Fail> {
-    let script = b"upload HW1 L ABC41-0000-0001
-finish
-boot
-upload HW1 L ABC42-0000-0002
-next 3
-give 18
-give 20
-finish
-";
-    let said = reported(rt.alloc(), WITH_ANOTHER, APP, script)?;
-    let sessions =
-        b"1 session 1 upload completed\nsession 2 upload stopped A4\ndatagrams 39\n".as_slice();
-    assert!(rt; is_report(&said, sessions, INSTALLED));
-    Ok(())
-}
-
 // What an upload leaves on the disk where power is lost at this call: the old configuration, the
 // new one, or anything else.
 fn held_after_a_loss(alloc: Global, call: u32, pick: u32) -> Result<u8, Fail> {
@@ -282,71 +360,6 @@ fn a_power_loss_leaves_the_old_configuration_or_the_new(rt: HostRuntime) -> Resu
             let wanted = if call >= 8 && pick == 0 { b'n' } else { b'o' };
             assert_eq!(rt; held, wanted, "call {call} pick {pick}");
         }
-    }
-    Ok(())
-}
-
-// Whole reports, of files that are read in other blocks.
-#[test]
-fn files_of_other_lengths_are_installed(rt: HostRuntime) -> Result<(), Fail> {
-    let (some, most) = ([0u8; 1024], [0u8; 3931]);
-    let rows: [(&[u8], &[u8], &[u8]); 4] = [
-        (
-            b"",
-            UPLOAD,
-            b"0 session 1 upload completed
-datagrams 21
-target HW1 L SN1
-bank 1 sequence 2
-loads 1
-load ABC41-0000-0001 APP.LUH 2
-file APP.LUH 122 724D
-file APP.BIN 0 FFFF
-",
-        ),
-        (
-            &some,
-            UPLOAD,
-            b"0 session 1 upload completed
-datagrams 25
-target HW1 L SN1
-bank 1 sequence 2
-loads 1
-load ABC41-0000-0001 APP.LUH 2
-file APP.LUH 122 44FD
-file APP.BIN 1024 B76F
-",
-        ),
-        (
-            &some,
-            b"blksize 1024\nupload HW1 L ABC41-0000-0001\nfinish\n",
-            b"0 session 1 upload completed
-datagrams 29
-target HW1 L SN1
-bank 1 sequence 2
-loads 1
-load ABC41-0000-0001 APP.LUH 2
-file APP.LUH 122 44FD
-file APP.BIN 1024 B76F
-",
-        ),
-        (
-            &most,
-            UPLOAD,
-            b"0 session 1 upload completed
-datagrams 35
-target HW1 L SN1
-bank 1 sequence 2
-loads 1
-load ABC41-0000-0001 APP.LUH 2
-file APP.LUH 122 3A2E
-file APP.BIN 3931 EEA5
-",
-        ),
-    ];
-    for (source, script, wanted) in rows {
-        let said = reported(rt.alloc(), RECIPE, source, script)?;
-        assert_eq!(rt; said.as_slice(), wanted);
     }
     Ok(())
 }
@@ -421,28 +434,41 @@ fn found_failing(alloc: Global, script: &[u8], of_host: u32, of_disk: u32) -> Re
 
 const NEVER: u32 = 1000;
 
-// The set and the script were written by calls 1 to 5.
-#[test]
-fn each_host_call_of_an_upload_fails_in_turn(rt: HostRuntime) -> Result<(), Fail> {
-    for call in 6..=11u32 {
-        let found = found_failing(rt.alloc(), UPLOAD, call, NEVER)?;
-        assert_eq!(rt; found, if call <= 10 { b'h' } else { b'n' }, "call {call}");
+const INFORMATION: &[u8] = b"info HW1 L\nfinish\n";
+
+// What is found where these calls fail, of the host and of the disk, and where each of so many
+// after them does.
+fn found_in_turn(
+    alloc: Global,
+    script: &[u8],
+    of_host: u32,
+    of_disk: u32,
+    count: u32,
+) -> Result<Bytes, Fail> {
+    let mut found = Bytes::new(alloc);
+    for index in 0..count {
+        let host = of_host.saturating_add(index);
+        let disk = of_disk.saturating_add(index);
+        found.push(found_failing(alloc, script, host, disk)?)?;
     }
-    Ok(())
+    Ok(found)
 }
 
-// The target boots with the first calls; where one fails in a step it goes down, and the last calls
-// recover what the disk holds then.
+// Of the host the sixth call is the first, since the set and the script were written by those
+// before it. The target boots with the first calls of the disk; where one fails in a step it goes
+// down, and the last calls recover what the disk holds then.
 #[test]
-fn each_disk_call_of_an_upload_fails_in_turn(rt: HostRuntime) -> Result<(), Fail> {
-    let mut found = [0; 30];
-    for call in 0..30usize {
-        found[call] = found_failing(rt.alloc(), UPLOAD, NEVER, 1 + call as u32)?;
+fn each_call_fails_in_turn(rt: HostRuntime) -> Result<(), Fail> {
+    let rows: [(&[u8], u32, u32, u32, &[u8]); 4] = [
+        (UPLOAD, 6, NEVER, 6, b"hhhhhn"),
+        (UPLOAD, NEVER, 1, 30, b"ddddoooooooonddddddnnnnnnnnnnn"),
+        (INFORMATION, 6, NEVER, 6, b"hhhhho"),
+        (INFORMATION, NEVER, 1, 12, b"ddddddddoooo"),
+    ];
+    for (script, of_host, of_disk, count, wanted) in rows {
+        let found = found_in_turn(rt.alloc(), script, of_host, of_disk, count)?;
+        assert_eq!(rt; found.as_slice(), wanted);
     }
-    assert_eq!(rt;
-        found.as_slice(),
-        b"ddddoooooooonddddddnnnnnnnnnnn".as_slice()
-    );
     Ok(())
 }
 
@@ -468,22 +494,5 @@ fn an_upload_whose_report_fails_is_installed(rt: HostRuntime) -> Result<(), Fail
     let (status, listing) = without_output(rt.alloc())?;
     assert_eq!(rt; status, 7);
     assert!(rt; is_report(&listing, b"0 ", INSTALLED));
-    Ok(())
-}
-
-const INFORMATION: &[u8] = b"info HW1 L\nfinish\n";
-
-// First what is found where a call of the host fails, from the sixth on, and then where one of the
-// disk does.
-#[test]
-fn each_call_of_an_information_session_fails_in_turn(rt: HostRuntime) -> Result<(), Fail> {
-    let mut found = [0; 18];
-    for call in 0..6usize {
-        found[call] = found_failing(rt.alloc(), INFORMATION, 6 + call as u32, NEVER)?;
-    }
-    for call in 0..12usize {
-        found[6 + call] = found_failing(rt.alloc(), INFORMATION, NEVER, 1 + call as u32)?;
-    }
-    assert_eq!(rt; found.as_slice(), b"hhhhhoddddddddoooo".as_slice());
     Ok(())
 }
