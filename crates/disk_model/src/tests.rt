@@ -3,6 +3,7 @@ ghost use Rattle.disk_model.specs.Image.{image_of};
 ghost use Rattle.disk_model.specs.State.{IsSettled};
 ghost use Rattle.disk_model.specs.Fused.{state_of};
 ghost use Rattle.disk_model.specs.MemDisk as Mem;
+ghost use Rattle.disk_model.specs.FileDisk as File;
 
 use crate::tearing::Tearing;
 use crate::{Call, Disk, DiskFault, FileDisk, Fused, MemDisk, Note, Power, SIZE};
@@ -290,6 +291,37 @@ fn a_disk_in_a_file_reads_what_was_written(rt: HostRuntime) -> Result<(), Fail> 
     fs::remove_file(&rt, name)?;
     let wanted = [[0, 0], [1, 2], [3, 0], [9, 0], [3, 0]];
     assert_eq!(rt; back_to_back(&rt, name)?, wanted);
+    fs::remove_file(&rt, name)?;
+    Ok(())
+}
+
+// A disk whose power can be lost, over one in a file.
+fn fused_file<'r>(rt: &'r HostRuntime, name: &'r str) -> Fused<FileDisk<'r, HostRuntime>>
+    ensures running { (state_of File.state_of result).stopped ≡ false }
+    ensures counts { ((state_of File.state_of result).faults ≡ 0)
+        × ((state_of File.state_of result).refusals ≡ 0)
+        × ((state_of File.state_of result).armings ≡ 0) }
+{
+    Fused::new(FileDisk::new(rt, name))
+}
+
+// Whether a write fails at which power is lost over a file, and the first bytes after another one.
+fn lost_over_a_file(rt: &HostRuntime, name: &str) -> Result<(bool, [u8; 8]), Fail> {
+    let mut disk = fused_file(rt, name);
+    disk.arm(1, 1);
+    let lost = disk.write(1, &[7, 8]) == Err(DiskFault::Failed);
+    disk.restart()?;
+    disk.write(4, &[5])?;
+    Ok((lost, prefix(&mut disk)?))
+}
+
+#[test]
+fn power_is_lost_over_a_file(rt: HostRuntime) -> Result<(), Fail> {
+    let name = "power_is_lost.disk";
+    assert_eq!(rt;
+        lost_over_a_file(&rt, name)?,
+        (true, [0, 0, 0, 0, 5, 0, 0, 0])
+    );
     fs::remove_file(&rt, name)?;
     Ok(())
 }
