@@ -7,7 +7,7 @@ use Rattle.std.proofs.lemmas.List.Sums.{fold-append}
 use Rattle.std.proofs.lemmas.Bool.{cases_lt}
 use Rattle.disk_model.specs.Image.{Image, image_of, range, overlay}
 use Rattle.disk_model.specs.State.{IsSettled, Closed, KeepsClosed, Torn, Elapses}
-use Rattle.disk_model.specs.Note.{offset_of, size_of, laid, opened, image_after, ranges_after}
+use Rattle.disk_model.specs.Note.{offset_of, written_length, laid, opened, image_after, ranges_after}
 use Rattle.disk_model.specs.Replay.{replayed, open_ranges, OutsideAll, MayLeave, UntilNext, MightHaveLeft, recorded, AddsWrite, IsSettling}
 use Rattle.disk_model.specs.ReplayLaws.{at_the_end}
 use Rattle.disk_model.specs.declared.disk.DiskFault.{DiskFault}
@@ -19,7 +19,7 @@ use Rattle.disk_model.specs.MomentLaws.{elapses_more, torn_nowhere}
 
 -- an offset that the call doesn't write
 abbrev Untouched : Call → ℕ → Type 0
-Untouched call offset = (offset < offset_of call) ⊎ (offset_of call + size_of call ≤ offset)
+Untouched call offset = (offset < offset_of call) ⊎ (offset_of call + written_length call ≤ offset)
 
 pub laid_untouched : (call : Call) (done : Bool) (image : Image) (offset : ℕ) → Untouched call offset → laid call done image offset ≡ image offset
 laid_untouched (Write at bytes) true image offset out = overlay_outside image at bytes.items offset out
@@ -57,16 +57,16 @@ module _ (first : List ℕ) (notes : List Note) (call : Call) (done : Bool) wher
   outside_more offset out rest = subst (λ (ranges : List (ℕ × ℕ)). OutsideAll ranges offset) (sym ranges_more) (outside_opened call done (open_ranges notes) offset out rest)
 
   -- outside its range, what may be left is what was before
-  may_be_torn : (image : Image) → MayLeave first more image → Torn (offset_of call) (size_of call) (MayLeave first notes) image
+  may_be_torn : (image : Image) → MayLeave first more image → Torn (offset_of call) (written_length call) (MayLeave first notes) image
   may_be_torn image may = record {
-    before = overlay image (offset_of call) (range (replayed first notes) (offset_of call) (size_of call));
+    before = overlay image (offset_of call) (range (replayed first notes) (offset_of call) (written_length call));
     was = record {
-      agrees = λ offset rest. elim (offset_cases (offset_of call) (size_of call) offset) [
-        | inl out ↦ laid_outside image (replayed first notes) (offset_of call) (size_of call) offset out ∙ may.agrees offset (outside_more offset out rest) ∙ same_replayed offset out
-        | inr within ↦ laid_inside image (replayed first notes) (offset_of call) (size_of call) offset within.0 within.1
+      agrees = λ offset rest. elim (offset_cases (offset_of call) (written_length call) offset) [
+        | inl out ↦ laid_outside image (replayed first notes) (offset_of call) (written_length call) offset out ∙ may.agrees offset (outside_more offset out rest) ∙ same_replayed offset out
+        | inr within ↦ laid_inside image (replayed first notes) (offset_of call) (written_length call) offset within.0 within.1
       ];
     };
-    same = λ offset out. sym (laid_outside image (replayed first notes) (offset_of call) (size_of call) offset out);
+    same = λ offset out. sym (laid_outside image (replayed first notes) (offset_of call) (written_length call) offset out);
   }
 
   -- up to its start the record says what it said before
@@ -91,7 +91,7 @@ until_same (next ∷ later) last images image some is = is
 
 -- inside the last call
 until_last : (next : List Note) (last : Note) (images : Image → Type 0) (image : Image) → length next ≡ 0
-    → UntilNext (next ++ last ∷ []) images image → Torn (offset_of last.call) (size_of last.call) images image
+    → UntilNext (next ++ last ∷ []) images image → Torn (offset_of last.call) (written_length last.call) images image
 until_last [] last images image none is = is
 until_last (next ∷ later) last images image none is = absurd (omega (arith, none))
 
@@ -127,13 +127,13 @@ module _ (first : List ℕ) (notes : List Note) (call : Call) (done : Bool) wher
   }
 
   pub late_moments : (t u : ℕ) (image : Image) (might : MightHaveLeft first noted t u image) → length notes ≤ might.calls
-      → Torn (offset_of call) (size_of call) (MayLeave first notes) image
+      → Torn (offset_of call) (written_length call) (MayLeave first notes) image
   late_moments t u image might late = elim (cases_lt (length notes) might.calls) [
     | inl past ↦
         may_be_torn first notes call done image
         (subst (λ (X : Type 0). X) (at_the_end first noted might.calls image (omega (arith, past, one_more first notes call done))) might.left)
     | inr here ↦
-        subst (λ (made : List Note). Torn (offset_of call) (size_of call) (MayLeave first made) image) (take_all might.calls notes late)
+        subst (λ (made : List Note). Torn (offset_of call) (written_length call) (MayLeave first made) image) (take_all might.calls notes late)
         (until_last (drop might.calls notes) (record { call = call; done = done }) (MayLeave first (take might.calls notes)) image
         (omega (arith, late, length-drop might.calls notes))
         (subst (λ (X : Type 0). X) (made_before first notes call done might.calls image here) might.left))
@@ -141,7 +141,7 @@ module _ (first : List ℕ) (notes : List Note) (call : Call) (done : Bool) wher
 
   -- the time of a call of which a note is kept
   pub noted_elapses : {T : Type 0} (held held' : List ℕ) (f f' r r' : ℕ) (s s' : Bool) (result : Result T DiskFault) → f ≤ f' → r ≤ r'
-      → Elapses (recorded first notes held f r s) (recorded first noted held' f' r' s') (Torn (offset_of call) (size_of call) (MayLeave first notes)) result
+      → Elapses (recorded first notes held f r s) (recorded first noted held' f' r' s') (Torn (offset_of call) (written_length call) (MayLeave first notes)) result
   noted_elapses held held' f f' r r' s s' result faults refusals = record {
     tells = refl;
     power = record { steady = refl; armings = refl; armed = refl };
@@ -171,7 +171,7 @@ module _ (first : List ℕ) (notes : List Note) where
   settling_closes (Write at bytes) done settling is = absurd settling
   settling_closes call false settling is = cc
 
-  pub settling_tears : (call : Call) → IsSettling call → (images : Image → Type 0) (image : Image) → Torn (offset_of call) (size_of call) images image → images image
+  pub settling_tears : (call : Call) → IsSettling call → (images : Image → Type 0) (image : Image) → Torn (offset_of call) (written_length call) images image → images image
   settling_tears Sync settling = torn_nowhere 0
   settling_tears Restart settling = torn_nowhere 0
   settling_tears (Write at bytes) settling = absurd settling
@@ -197,7 +197,7 @@ module _ (first : List ℕ) (notes : List Note) where
   settling_elapses call done new held held' f f' r r' s s' result settling more faults refusals =
       subst (λ (n : List Note). Elapses (recorded first notes held f r s) (recorded first n held' f' r' s') (MayLeave first notes) result) (sym more)
       (elapses_more (recorded first notes held f r s) (recorded first (notes ++ record { call = call; done = done } ∷ []) held' f' r' s')
-      (Torn (offset_of call) (size_of call) (MayLeave first notes)) (MayLeave first notes) result
+      (Torn (offset_of call) (written_length call) (MayLeave first notes)) (MayLeave first notes) result
       (noted_elapses first notes call done held held' f f' r r' s s' result faults refusals) (settling_tears call settling (MayLeave first notes)))
 
   pub settling_same : (call : Call) (done : Bool) (new : List Note) (held : List ℕ) → IsSettling call

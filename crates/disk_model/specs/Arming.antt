@@ -7,7 +7,7 @@ use Rattle.disk_model.specs.State.{DiskState}
 abbrev pub next_count : ℕ → ℕ
 next_count n = min (n + 1) (2 ^ 64 - 1)
 
--- A power loss is armed, so many calls ahead. The count of armings rises by one, and the disk is stopped exactly for no calls.
+-- A power loss is armed, this many calls ahead. The count of armings rises by one, and the disk is stopped exactly for no calls.
 -- All else stays: what is read, what a power loss may leave, the clock and both counts of refusals.
 pub record Arms (calls pick : ℕ) (old new : DiskState) : Type 0 where
   pub rises : new.armings ≡ next_count old.armings

@@ -6,7 +6,7 @@ use Rattle.std.specs.List.{slice_index_or}
 abbrev pub IsFilled : (told buf : List ℕ) → Type 0
 IsFilled told buf = (i : ℕ) → i < length buf → slice_index_or buf i 0 ≡ slice_index_or told i 0
 
--- so many bytes of the buffer are the file's first, and where these are fewer than it takes, they are all
+-- this many bytes of the buffer are the file's first, and where these are fewer than it takes, they are all
 pub record ReadsUpTo (told : List ℕ) (count : ℕ) (buf : List ℕ) : Type 0 where
   pub rest : List ℕ
   pub are_first : told ≡ take count buf ++ rest

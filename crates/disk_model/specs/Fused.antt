@@ -1,7 +1,9 @@
 -- A disk whose power can be lost, over a steady disk (docs/DISK.md).
-use Rattle.std.specs.Prelude.{◌≡◌, ℕ, ◌+◌, ◌*◌, ◌%◌, ◌^◌, ◌≤◌, Bool, true, false, List, length, slice_index, Some, Result, Err, OnOk, is_err, refl}
+use Rattle.std.specs.Prelude.{◌≡◌, ◌⊎◌, ℕ, ◌+◌, ◌-◌, ◌*◌, ◌%◌, ◌^◌, ◌≤◌, Bool, true, false, List, length, slice_index, Some, Result, Err, OnOk, IsErrOf, is_err, refl}
+use Rattle.std.specs.Option.{ForSome}
 use Rattle.std.specs.Coded.{Coded, code_by, coded×, coded_ℕ, coded_bool, coded_list}
-use Rattle.disk_model.specs.Image.{Image, overlay}
+use Rattle.load_base.specs.Counts.{Rose}
+use Rattle.disk_model.specs.Image.{overlay}
 use Rattle.disk_model.specs.State.{DiskState, Closed, Torn, Elapses, HasCause}
 use Rattle.disk_model.specs.declared.disk.DiskFault.{DiskFault}
 use Rattle.disk_model.specs.declared.disk.DiskFault.TheVariants.{Failed}
@@ -94,11 +96,19 @@ pub record KeepsArmings {K : Type 0} (old new : FusedOf K) : Type 0 where
 -- these stay, and power wasn't lost
 pub record KeepsLosses {K : Type 0} (old new : FusedOf K) : Type 0 where
   pub losses : new.losses ≡ old.losses
+  pub left : new.left ≡ old.left
   pub armed : KeepsArmings old new
+
+-- A call of the disk is one fewer to the loss that is armed. It comes at the last of them, which fails; and a call that
+-- failed is that one, or a call of the disk below failed in it.
+pub record CountsDown {K T : Type 0} (state : K → DiskState) (old new : FusedOf K) (result : Result T DiskFault) : Type 0 where
+  pub left : new.left ≡ old.left - 1
+  pub lost : old.left ≡ 1 → is_err result ≡ true
+  pub only : IsErrOf result Failed → (old.left ≡ 1) ⊎ Rose (state old.inner).faults (state new.inner).faults
 
 -- Bytes are written below: with Ok they are read, and may hold anything after a power loss until a sync; power isn't lost.
 pub record WritesRange {K : Type 0} (state : K → DiskState) (at : ℕ) (bytes : List ℕ) (old new : FusedOf K) (result : Result Unit DiskFault) : Type 0 where
-  pub written : OnOk result ((image : Image) → (state old.inner).reads ≡ Some image → (state new.inner).reads ≡ Some (overlay image at bytes))
+  pub written : OnOk result (ForSome (state old.inner).reads (λ image. (state new.inner).reads ≡ Some (overlay image at bytes)))
   pub torn : OnOk result (Closed (state new.inner) at (length bytes))
   pub elapses : Elapses (state old.inner) (state new.inner) (Torn at (length bytes) (state old.inner).now) result
   pub cause : HasCause (state old.inner) (state new.inner) result

@@ -1,7 +1,7 @@
 -- What spoiling unsynced ranges leaves.
-use Rattle.std.specs.Prelude.{◌≡◌, ℕ, ◌+◌, ◌≤◌, true, false, Result, Ok, Err, refl}
-use Rattle.std.proofs.Common.{arith, inl}
-use Rattle.disk_model.specs.State.{DiskState, Closed, KeepsClosed, Elapses, HasCause, Torn}
+use Rattle.std.specs.Prelude.{◌≡◌, ℕ, ◌+◌, ◌≤◌, true, false, Result, Ok, Err, OnOk, refl}
+use Rattle.std.proofs.Common.{arith, inl, ◌∙◌}
+use Rattle.disk_model.specs.State.{DiskState, Closed, KeepsClosed, KeepsCounts, Elapses, HasCause, Torn}
 use Rattle.disk_model.specs.MomentLaws.{closed_goes_on, closed_within, elapses_joined}
 use Rattle.disk_model.specs.Fused.{MayElapse, Spoils}
 use Rattle.disk_model.specs.declared.disk.DiskFault.{DiskFault}
@@ -44,19 +44,37 @@ pub spoils_nothing : (disk : DiskState) → disk.stopped ≡ false → Spoils {T
 spoils_nothing disk running = record {
   closed = λ at n closed. closed;
   no_image = no_time disk;
-  cause = record { stops = running; failed = λ is. absurd (no_fault tt _ is); memory = λ is. absurd (no_fault tt _ is) };
+  cause = record {
+    stops = running;
+    failed = λ is. absurd (no_fault tt _ is);
+    memory = λ is. absurd (no_fault tt _ is);
+    counts = record { faults = refl; refusals = refl };
+    one_fault = λ is. absurd (no_fault tt _ is);
+    one_refusal = λ is. absurd (no_fault tt _ is);
+  };
 }
 
 -- one after the other
-pub spoils_joined : {S T : Type 0} (a b c : DiskState) (one : Result S DiskFault) (other : Result T DiskFault) → Spoils a b one → Spoils b c other → Spoils a c other
-spoils_joined a b c one other first second = record {
+counts_joined : {T : Type 0} (a b c : DiskState) (result : Result T DiskFault) → KeepsCounts a b → OnOk result (KeepsCounts b c) → OnOk result (KeepsCounts a c)
+counts_joined a b c (Ok x) one other = record { faults = other.faults ∙ one.faults; refusals = other.refusals ∙ one.refusals }
+counts_joined a b c (Err e) one other = tt
+
+-- a call before which none was refused has its cause
+pub cause_joined : {T : Type 0} (a b c : DiskState) (result : Result T DiskFault) → KeepsCounts a b → HasCause b c result → HasCause a c result
+cause_joined a b c result one cause = record {
+  stops = cause.stops;
+  failed = λ is. let rose = cause.failed is in rw (← one.faults) rose;
+  memory = λ is. let rose = cause.memory is in rw (← one.refusals) rose;
+  counts = counts_joined a b c result one cause.counts;
+  one_fault = λ is. let found = cause.one_fault is in (omega (arith, found.0, one.faults), found.1 ∙ one.refusals);
+  one_refusal = λ is. let found = cause.one_refusal is in (omega (arith, found.0, one.refusals), found.1 ∙ one.faults);
+}
+
+pub spoils_joined : {S T : Type 0} (a b c : DiskState) (x : S) (other : Result T DiskFault) → Spoils a b (Ok x) → Spoils b c other → Spoils a c other
+spoils_joined a b c x other first second = record {
   closed = λ at n closed. second.closed at n (first.closed at n closed);
   no_image = elapses_joined a b c a.now b.now a.now (Err Failed) (Err Failed) first.no_image second.no_image (λ image may. may) first.no_image.now;
-  cause = record {
-    stops = second.cause.stops;
-    failed = λ is. omega (arith, second.cause.failed is, first.no_image.faults);
-    memory = λ is. omega (arith, second.cause.memory is, first.no_image.refusals);
-  };
+  cause = cause_joined a b c other first.cause.counts second.cause;
 }
 
 -- a write of a part of a range that may hold anything

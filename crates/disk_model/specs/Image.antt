@@ -10,7 +10,7 @@ Image = ℕ → ℕ
 abbrev pub image_of : List ℕ → Image
 image_of bytes offset = slice_index bytes offset
 
--- so many bytes from an offset on
+-- this many bytes from an offset on
 unfoldable pub range : Image → ℕ → ℕ → List ℕ
 range image at n = map image (range_with_len at n)
 
@@ -18,7 +18,7 @@ range image at n = map image (range_with_len at n)
 unfoldable pub overlay : Image → ℕ → List ℕ → Image
 overlay image at bytes offset = if nat_le at offset && nat_lt offset (at + length bytes) then slice_index bytes (offset - at) else image offset
 
--- two images have the same bytes, but perhaps for so many from an offset on
+-- two images have the same bytes, but perhaps for this many from an offset on
 abbrev pub SameOutside : ℕ → ℕ → Image → Image → Type 0
 SameOutside at n old new = (offset : ℕ) → (offset < at) ⊎ (at + n ≤ offset) → new offset ≡ old offset
 

@@ -9,7 +9,6 @@ pub mod Note
 pub mod Replay
 pub mod ReplayLaws
 pub mod State
-pub mod Tearing
 pub mod MomentLaws
 pub mod FusedLaws
 pub mod OverlayLaws

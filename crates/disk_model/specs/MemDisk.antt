@@ -11,8 +11,8 @@ use Rattle.disk_model.specs.declared.note.Note.{Note}
 use Rattle.disk_model.specs.declared.mem.MemDisk.{MemDisk}
 
 -- the bytes that it holds, from offset 0 on; after them it reads as zero
-abbrev pub contents_of : MemDisk → List ℕ
-contents_of disk = disk.bytes.items
+abbrev pub disk_bytes : MemDisk → List ℕ
+disk_bytes disk = disk.bytes.items
 
 -- the bytes that it was made with
 abbrev pub first_of : MemDisk → List ℕ
@@ -39,13 +39,13 @@ pub record CountsCall (old new : MemDisk) (result : Result Unit DiskFault) : Typ
 -- it holds what it held, and has the same record
 pub record IsUnchanged (old new : MemDisk) : Type 0 where
   pub first : first_of new ≡ first_of old
-  pub contents : contents_of new ≡ contents_of old
+  pub contents : disk_bytes new ≡ disk_bytes old
   pub notes : notes_of new ≡ notes_of old
 
 -- A sync or a restart: it holds what it held, and a note came, but where it was out of memory.
 pub record NotesCall (call : Call) (old new : MemDisk) (result : Result Unit DiskFault) : Type 0 where
   pub first : first_of new ≡ first_of old
-  pub contents : contents_of new ≡ contents_of old
+  pub contents : disk_bytes new ≡ disk_bytes old
   pub done : OnOk result (notes_of new ≡ notes_of old ++ record { call = call; done = true } ∷ [])
   pub failed : IsErrOf result Failed → notes_of new ≡ notes_of old ++ record { call = call; done = false } ∷ []
   pub refused : IsErrOf result Memory → notes_of new ≡ notes_of old
@@ -53,7 +53,7 @@ pub record NotesCall (call : Call) (old new : MemDisk) (result : Result Unit Dis
 -- A write: where it is refused, it holds what it held. A note came, but where it was out of memory.
 pub record NotesWrite (at : ℕ) (bytes : List ℕ) (old new : MemDisk) (result : Result Unit DiskFault) : Type 0 where
   pub first : first_of new ≡ first_of old
-  pub contents : OnErr result (contents_of new ≡ contents_of old)
+  pub contents : OnErr result (disk_bytes new ≡ disk_bytes old)
   pub done : OnOk result (AddsWrite (notes_of old) (notes_of new) at bytes true)
   pub failed : IsErrOf result Failed → AddsWrite (notes_of old) (notes_of new) at bytes false
   pub refused : IsErrOf result Memory → notes_of new ≡ notes_of old

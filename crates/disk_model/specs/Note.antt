@@ -12,10 +12,10 @@ offset_of Sync = 0
 offset_of Restart = 0
 
 -- how many bytes
-abbrev pub size_of : Call → ℕ
-size_of (Write at bytes) = length bytes.items
-size_of Sync = 0
-size_of Restart = 0
+abbrev pub written_length : Call → ℕ
+written_length (Write at bytes) = length bytes.items
+written_length Sync = 0
+written_length Restart = 0
 
 -- what a read gives after a call that was done, or was not, by what it gave before
 abbrev pub laid : Call → Bool → Image → Image

@@ -2,7 +2,7 @@
 use Rattle.std.specs.Prelude.{◌≡◌, ◌⊎◌, ℕ, ◌+◌, ◌<◌, ◌≤◌, Bool, true, List, [], ◌∷◌, ◌++◌, length, take, drop, fold, Some}
 use Rattle.disk_model.specs.Image.{Image, image_of}
 use Rattle.disk_model.specs.State.{DiskState, Torn}
-use Rattle.disk_model.specs.Note.{offset_of, size_of, image_after, ranges_after}
+use Rattle.disk_model.specs.Note.{offset_of, written_length, image_after, ranges_after}
 use Rattle.load_base.specs.Listed.{Listed}
 use Rattle.disk_model.specs.declared.note.Call.{Call}
 use Rattle.disk_model.specs.declared.note.Call.TheVariants.{Write, Sync, Restart}
@@ -29,9 +29,9 @@ pub record MayLeave (first : List ℕ) (notes : List Note) (image : Image) : Typ
 -- What a power loss may leave until the next of these calls has ended: where it writes, anything.
 abbrev pub UntilNext : List Note → (Image → Type 0) → Image → Type 0
 UntilNext [] images = images
-UntilNext (next ∷ later) images = Torn (offset_of next.call) (size_of next.call) images
+UntilNext (next ∷ later) images = Torn (offset_of next.call) (written_length next.call) images
 
--- what a power loss might have left after so many calls, of those from one number to another, or inside the next
+-- what a power loss might have left after this many calls, of those from one number to another, or inside the next
 pub record MightHaveLeft (first : List ℕ) (notes : List Note) (from to : ℕ) (image : Image) : Type 0 where
   pub calls : ℕ
   pub not_before : from ≤ calls

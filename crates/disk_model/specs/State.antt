@@ -1,5 +1,5 @@
 -- What contracts see of a disk (docs/DISK.md).
-use Rattle.std.specs.Prelude.{◌≡◌, ◌⊎◌, ℕ, ◌<◌, ◌≤◌, Bool, true, Option, Some, None, Result, is_err, is_some, IsErrOf, OnOk}
+use Rattle.std.specs.Prelude.{◌≡◌, ◌⊎◌, ℕ, ◌+◌, ◌<◌, ◌≤◌, Bool, true, Option, Some, None, Result, is_err, is_some, IsErrOf, OnOk}
 use Rattle.load_base.specs.Counts.{Rose}
 use Rattle.disk_model.specs.Image.{Image, SameOutside}
 use Rattle.disk_model.specs.declared.disk.DiskFault.{DiskFault}
@@ -15,7 +15,7 @@ pub record DiskState : Type 1 where
   pub between : ℕ → ℕ → Image → Type 0
   -- a number that advances at each write, sync and restart, and at no read
   pub clock : ℕ
-  -- how often it has failed, and how often it refused for want of memory
+  -- how often it has failed, and how often it refused a call because it was out of memory
   pub faults : ℕ
   pub refusals : ℕ
   -- it takes no call until the next restart
@@ -30,7 +30,7 @@ pub record DiskState : Type 1 where
 pub record IsSettled (disk : DiskState) : Type 0 where
   pub only : (image : Image) → disk.now image → disk.reads ≡ Some image
 
--- so many offsets from this one on may hold anything after a power loss
+-- this many offsets from this one on may hold anything after a power loss
 pub record Closed (disk : DiskState) (at n : ℕ) : Type 0 where
   pub each : (old new : Image) → disk.now old → SameOutside at n old new → disk.now new
 
@@ -57,7 +57,7 @@ pub record OnlyReads (old new : DiskState) : Type 0 where
   pub keeps : (t u : ℕ) (image : Image) → old.between t u image → new.between t u image
   pub closed : KeepsClosed old new
 
--- so many bytes from an offset on may be anything, and the rest is that of an image that was there
+-- this many bytes from an offset on may be anything, and the rest is that of an image that was there
 pub record Torn (at n : ℕ) (images : Image → Type 0) (image : Image) : Type 0 where
   pub before : Image
   pub was : images before
@@ -78,13 +78,21 @@ pub record Elapses {T : Type 0} (old new : DiskState) (inside : Image → Type 0
   pub adds : (t u : ℕ) (image : Image) → new.between t u image → old.between t u image ⊎ inside image
   pub earlier : (t u : ℕ) (image : Image) → u < old.clock → new.between t u image → old.between t u image
 
--- Each refusal has its cause, and stops the disk.
+-- no call was refused
+pub record KeepsCounts (old new : DiskState) : Type 0 where
+  pub faults : new.faults ≡ old.faults
+  pub refusals : new.refusals ≡ old.refusals
+
+-- Each refusal has its cause, and stops the disk. It raises its count by one, and nothing else raises a count.
 pub record HasCause {T : Type 0} (old new : DiskState) (result : Result T DiskFault) : Type 0 where
   pub stops : new.stopped ≡ is_err result
   pub failed : IsErrOf result Failed → Rose old.faults new.faults
   pub memory : IsErrOf result Memory → Rose old.refusals new.refusals
+  pub counts : OnOk result (KeepsCounts old new)
+  pub one_fault : IsErrOf result Failed → (new.faults ≤ old.faults + 1) × (new.refusals ≡ old.refusals)
+  pub one_refusal : IsErrOf result Memory → (new.refusals ≤ old.refusals + 1) × (new.faults ≡ old.faults)
 
--- a disk that tells nothing and names no image, and never refuses for want of memory
+-- a disk that tells nothing and names no image, and is never out of memory
 abbrev pub untold : ℕ → ℕ → Bool → DiskState
 untold clock faults stopped = record {
   reads = None;

@@ -1,6 +1,7 @@
 //! A disk as recovery and the store see it.
-ghost use Rattle.std.specs.Prelude.{◌≡◌, ◌⊎◌, ℕ, ◌+◌, ◌≤◌, ◌^◌, ◌<◌, true, false, Some, length};
+ghost use Rattle.std.specs.Prelude.{◌≡◌, ◌⊎◌, ℕ, ◌+◌, ◌≤◌, ◌<◌, true, false, Some, length};
 ghost use Rattle.std.specs.Prelude.{OnOk};
+ghost use Rattle.std.specs.Option.{ForSome};
 ghost use Rattle.disk_model.specs.Image.{Image, range, overlay};
 ghost use Rattle.disk_model.specs.State.{DiskState, IsSettled, Closed, KeepsClosed, OnlyReads};
 ghost use Rattle.disk_model.specs.State.{Torn, Elapses, HasCause};
@@ -31,8 +32,8 @@ pub trait Disk {
     fn read(&mut self, at: u32, buf: &mut [u8]) -> Result<(), DiskFault>
         requires running { (state self.old).stopped ≡ false }
         requires within { at + length buf.old ≤ SIZE }
-        ensures bytes { OnOk result ((image : Image) → (state self.old).reads ≡ Some image
-            → buf.new ≡ range image at (length buf.old)) }
+        ensures bytes { OnOk result (ForSome (state self.old).reads
+            (λ image. buf.new ≡ range image at (length buf.old))) }
         ensures kept { OnOk result ((state self.new).reads ≡ (state self.old).reads) }
         ensures only_reads { OnlyReads (state self.old) (state self.new) }
         ensures cause { HasCause (state self.old) (state self.new) result };
@@ -41,8 +42,8 @@ pub trait Disk {
     fn write(&mut self, at: u32, bytes: &[u8]) -> Result<(), DiskFault>
         requires running { (state self.old).stopped ≡ false }
         requires within { at + length bytes.now ≤ SIZE }
-        ensures bytes { OnOk result ((image : Image) → (state self.old).reads ≡ Some image
-            → (state self.new).reads ≡ Some (overlay image at bytes.now)) }
+        ensures bytes { OnOk result (ForSome (state self.old).reads
+            (λ image. (state self.new).reads ≡ Some (overlay image at bytes.now))) }
         ensures torn { OnOk result (Closed (state self.new) at (length bytes.now)) }
         ensures closed { KeepsClosed (state self.old) (state self.new) }
         ensures elapses { Elapses (state self.old) (state self.new)
@@ -88,6 +89,7 @@ pub trait Disk {
 // Counts a refusal, which stops the disk.
 pub(crate) fn refuse(count: &mut FaultCount, stopped: &mut bool)
     ensures rose { Rose count.old count.new }
+    ensures once { count.new ≤ count.old + 1 }
     ensures later { count.old ≤ count.new }
     ensures stopped { stopped.new ≡ true }
 {

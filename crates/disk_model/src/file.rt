@@ -1,5 +1,5 @@
 //! A disk in a file. Nothing is told of what the file holds.
-ghost use Rattle.std.specs.Prelude.{◌≡◌, ◌<◌, ◌≤◌, true, false, is_err, length, IfOk, IfSome};
+ghost use Rattle.std.specs.Prelude.{◌≡◌, ◌+◌, ◌<◌, ◌≤◌, true, false, is_err, length, IfOk, IfSome};
 ghost use Rattle.std.specs.Prelude.{IsErrOf, OnOk, OnErr};
 ghost use Rattle.std.proofs.Common.{inl};
 ghost use Rattle.load_base.specs.Counts.{Rose};
@@ -122,6 +122,8 @@ fn answer(
     ensures answered { is_err result ≡ is_err outcome }
     ensures stops { stopped.new ≡ is_err result }
     ensures later { faults.old ≤ faults.new }
+    ensures kept { OnOk result (faults.new ≡ faults.old) }
+    ensures once { faults.new ≤ faults.old + 1 }
     ensures failed { OnErr result (Rose faults.old faults.new) }
     ensures only_failed { ¬ IsErrOf result DiskFault.Memory }
 {
@@ -182,7 +184,7 @@ impl<R: Files> DiskFile<'_, R> {
         Ok(())
     }
 
-    // Keeps the file open, which stands so many bytes after this offset.
+    // Keeps the file open, which stands this many bytes after this offset.
     fn keep(&mut self, file: R::File, at: u32, count: usize) {
         self.open = Some(file);
         self.offset = u64::from(at).checked_add(count as u64);

@@ -1,10 +1,14 @@
 //! A disk whose power can be lost, over any steady disk: it knows the ranges that weren't synced,
 //! and spoils them when it is restarted after a loss.
-ghost use Rattle.std.specs.Prelude.{◌≡◌, ◌+◌, ◌-◌, ◌≤◌, ◌<◌, false, true, Err};
-ghost use Rattle.std.specs.Prelude.{length, slice_index, OnOk, OnErr, is_err};
+ghost use Rattle.std.specs.Prelude.{◌≡◌, ◌↔◌, ◌+◌, ◌-◌, ◌≤◌, ◌<◌, false, true, Some, Err};
+ghost use Rattle.std.specs.Prelude.{IsTrue, length, slice_index, OnOk, OnErr, is_err};
+ghost use Rattle.std.specs.Option.{ForSome};
 ghost use Rattle.load_base.specs.Counts.{Rose};
-ghost use Rattle.disk_model.specs.State.{IsSettled, Closed, Elapses, HasCause};
-ghost use Rattle.disk_model.specs.Fused.{AreUnsynced, MayElapse, Spoils};
+ghost use Rattle.disk_model.specs.Arming.{Arms};
+ghost use Rattle.disk_model.specs.Image.{range, overlay};
+ghost use Rattle.disk_model.specs.State.{IsSettled, Closed, Elapses, HasCause, KeepsClosed};
+ghost use Rattle.disk_model.specs.State.{KeepsCounts, OnlyReads, Torn};
+ghost use Rattle.disk_model.specs.Fused.{AreUnsynced, CountsDown, MayElapse, Spoils};
 ghost use Rattle.disk_model.specs.Fused.{KeepsLosses, KeepsArmings, generator_after};
 ghost use Rattle.disk_model.specs.declared.disk.DiskFault.TheVariants.{Failed};
 
@@ -140,7 +144,7 @@ impl<K: Disk + Drop> Fused<K> {
     fn write_apart(&mut self, at: u32, bytes: &[u8]) -> Result<(), DiskFault>
         requires running { self.old.stopped ≡ false }
         requires within { at + length bytes.now ≤ SIZE }
-        requires room { self.old.count < MOST }
+        requires few { self.old.count < MOST }
         ensures writes { WritesRange K.state at bytes.now self.old self.new result }
     {
         let outcome = self.inner.write(at, bytes);
@@ -184,6 +188,8 @@ impl<K: Disk + Drop> Fused<K> {
     // Where power was lost, what wasn't synced is spoiled.
     fn spoil_lost(&mut self) -> Result<(), DiskFault>
         ensures no_image { MayElapse (K.state self.old.inner) (K.state self.new.inner) }
+        ensures counts { OnOk result (KeepsCounts (K.state self.old.inner)
+            (K.state self.new.inner)) }
         ensures cause { OnErr result (HasCause (K.state self.old.inner) (K.state self.new.inner)
             result) }
         ensures stopped { OnErr result (self.new.stopped ≡ true) }
@@ -223,8 +229,10 @@ impl<K: Disk + Drop> Fused<K> {
         ensures inner { self.new.inner ≡ self.old.inner }
         ensures stopped { self.new.stopped ≡ true }
         ensures rose { Rose self.old.losses self.new.losses }
+        ensures once { self.new.losses ≤ self.old.losses + 1 }
         ensures later { self.old.losses ≤ self.new.losses }
         ensures keeps { KeepsArmings self.old self.new }
+        ensures left { self.new.left ≡ self.old.left }
         ensures failed { result ≡ Err Failed }
     {
         self.lost = true;
@@ -250,7 +258,17 @@ impl<K: Disk + Drop> Disk for Fused<K> {
 
     ghost splits = { λ f. K.splits f.inner };
 
-    fn read(&mut self, at: u32, buf: &mut [u8]) -> Result<(), DiskFault> {
+    fn read(&mut self, at: u32, buf: &mut [u8]) -> Result<(), DiskFault>
+        requires running { (state_of K.state self.old).stopped ≡ false }
+        requires within { at + length buf.old ≤ SIZE }
+        ensures bytes { OnOk result (ForSome (state_of K.state self.old).reads
+            (λ image. buf.new ≡ range image at (length buf.old))) }
+        ensures kept { OnOk result ((state_of K.state self.new).reads
+            ≡ (state_of K.state self.old).reads) }
+        ensures only_reads { OnlyReads (state_of K.state self.old) (state_of K.state self.new) }
+        ensures cause { HasCause (state_of K.state self.old) (state_of K.state self.new) result }
+        ensures armed { CountsDown K.state self.old self.new result }
+    {
         if is_due(&mut self.left) {
             return self.lose();
         }
@@ -259,7 +277,18 @@ impl<K: Disk + Drop> Disk for Fused<K> {
         outcome
     }
 
-    fn write(&mut self, at: u32, bytes: &[u8]) -> Result<(), DiskFault> {
+    fn write(&mut self, at: u32, bytes: &[u8]) -> Result<(), DiskFault>
+        requires running { (state_of K.state self.old).stopped ≡ false }
+        requires within { at + length bytes.now ≤ SIZE }
+        ensures bytes { OnOk result (ForSome (state_of K.state self.old).reads
+            (λ image. (state_of K.state self.new).reads ≡ Some (overlay image at bytes.now))) }
+        ensures torn { OnOk result (Closed (state_of K.state self.new) at (length bytes.now)) }
+        ensures closed { KeepsClosed (state_of K.state self.old) (state_of K.state self.new) }
+        ensures elapses { Elapses (state_of K.state self.old) (state_of K.state self.new)
+            (Torn at (length bytes.now) (state_of K.state self.old).now) result }
+        ensures cause { HasCause (state_of K.state self.old) (state_of K.state self.new) result }
+        ensures armed { CountsDown K.state self.old self.new result }
+    {
         let due = is_due(&mut self.left);
         let outcome = self.write_range(at, bytes);
         if due && outcome.is_ok() {
@@ -268,21 +297,42 @@ impl<K: Disk + Drop> Disk for Fused<K> {
         outcome
     }
 
-    fn sync(&mut self) -> Result<(), DiskFault> {
+    fn sync(&mut self) -> Result<(), DiskFault>
+        requires running { (state_of K.state self.old).stopped ≡ false }
+        ensures kept { OnOk result ((state_of K.state self.new).reads
+            ≡ (state_of K.state self.old).reads) }
+        ensures settled { OnOk result (IsSettled (state_of K.state self.new)) }
+        ensures elapses { Elapses (state_of K.state self.old) (state_of K.state self.new)
+            (state_of K.state self.old).now result }
+        ensures cause { HasCause (state_of K.state self.old) (state_of K.state self.new) result }
+        ensures armed { CountsDown K.state self.old self.new result }
+    {
         if is_due(&mut self.left) {
             return self.lose();
         }
+        // What was written lasts from here on, so that no range may be left to spoil.
         self.sync_all()
     }
 
-    fn restart(&mut self) -> Result<(), DiskFault> {
+    fn restart(&mut self) -> Result<(), DiskFault>
+        ensures settled { OnOk result (IsSettled (state_of K.state self.new)) }
+        ensures elapses { Elapses (state_of K.state self.old) (state_of K.state self.new)
+            (state_of K.state self.old).now result }
+        ensures cause { HasCause (state_of K.state self.old) (state_of K.state self.new) result }
+        ensures left { self.new.left ≡ self.old.left }
+    {
         self.spoil_lost()?;
         self.restart_inner()
     }
 }
 
 impl<K: Disk + Drop> Power for Fused<K> {
-    fn arm(&mut self, calls: u32, pick: u32) {
+    ghost use Rattle.disk_model.specs.Fused.{state_of};
+
+    fn arm(&mut self, calls: u32, pick: u32)
+        ensures arms { Arms calls pick (state_of K.state self.old) (state_of K.state self.new) }
+        ensures left { self.new.left ≡ calls }
+    {
         self.armings.rise();
         self.calls = calls;
         self.pick = pick;
@@ -296,7 +346,10 @@ impl<K: Disk + Drop> Power for Fused<K> {
 }
 
 // One call more: whether the power loss that is armed comes at it.
-fn is_due(left: &mut u32) -> bool {
+fn is_due(left: &mut u32) -> bool
+    ensures due { IsTrue result ↔ (left.old ≡ 1) }
+    ensures counts { left.new ≡ left.old - 1 }
+{
     let due = *left == 1;
     *left = left.saturating_sub(1);
     due

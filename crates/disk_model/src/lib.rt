@@ -9,8 +9,6 @@ mod mem;
 mod note;
 mod power;
 #[cfg(test)]
-mod tearing;
-#[cfg(test)]
 mod tests;
 
 pub use disk::{Disk, DiskFault, SIZE};

@@ -1,11 +1,12 @@
 //! A disk in memory.
 ghost use Rattle.std.specs.Prelude.{◌≡◌, ◌⊎◌, ◌↔◌, ℕ, ◌+◌, ◌<◌, ◌≤◌, Some, true, false, length};
-ghost use Rattle.std.specs.Prelude.{slice_index, [], ◌∷◌, ◌++◌, IfOk, OnOk, OnErr};
+ghost use Rattle.std.specs.Prelude.{slice_index, [], ◌∷◌, ◌++◌, IfOk, IsErrOf, OnOk, OnErr};
 ghost use Rattle.std.specs.Bool.{OnTrue, OnFalse};
+ghost use Rattle.std.specs.Option.{ForSome};
 ghost use Rattle.disk_model.specs.Image.{Image, image_of, range, overlay};
 ghost use Rattle.disk_model.specs.State.{IsSettled, Closed, KeepsClosed, OnlyReads, Torn, Elapses};
 ghost use Rattle.disk_model.specs.State.{HasCause};
-ghost use Rattle.disk_model.specs.Replay.{replayed, MayLeave, MightHaveLeft, recorded, AddsWrite};
+ghost use Rattle.disk_model.specs.Replay.{replayed, MayLeave, MightHaveLeft, AddsWrite};
 ghost use Rattle.disk_model.specs.Replay.{IsSettling};
 ghost use Rattle.disk_model.specs.ReplayLaws.{held_may_leave, counts_its_now, only_its_now};
 ghost use Rattle.disk_model.specs.ReplayLaws.{wider_time, split_time};
@@ -35,7 +36,7 @@ pub struct MemDisk {
 }
 
 impl MemDisk {
-    ghost use Rattle.disk_model.specs.MemDisk.{contents_of, first_of, notes_of, calls_of, state_of};
+    ghost use Rattle.disk_model.specs.MemDisk.{disk_bytes, first_of, notes_of, calls_of, state_of};
     ghost use Rattle.disk_model.specs.MemDisk.{CountsCall, IsUnchanged, NotesCall};
 
     /// A disk with these bytes from offset 0 on, that has not failed.
@@ -51,7 +52,7 @@ impl MemDisk {
 
         // What it shows of itself.
         ensures bytes { IfOk result (λ disk.
-            (contents_of disk ≡ bytes.now) × (first_of disk ≡ bytes.now) × (notes_of disk ≡ [])) }
+            (disk_bytes disk ≡ bytes.now) × (first_of disk ≡ bytes.now) × (notes_of disk ≡ [])) }
         ensures calls { IfOk result (λ disk.
             ((calls_of disk).failing ≡ []) × ((calls_of disk).next ≡ 1)) }
     {
@@ -91,8 +92,8 @@ impl MemDisk {
 
     /// The bytes that it holds, from offset 0 on. After them it reads as zero.
     pub fn as_slice(&self) -> &[u8]
-        ensures bytes { result.now ≡ contents_of self.now }
-        ensures reads { (state_of self.now).reads ≡ Some (image_of (contents_of self.now)) }
+        ensures bytes { result.now ≡ disk_bytes self.now }
+        ensures reads { (state_of self.now).reads ≡ Some (image_of (disk_bytes self.now)) }
     {
         &self.bytes
     }
@@ -109,7 +110,7 @@ impl MemDisk {
     /// power loss may leave now or might have left before.
     pub fn notes(&self) -> &[Note]
         ensures notes { result.now ≡ notes_of self.now }
-        ensures replayed { (offset : ℕ) → image_of (contents_of self.now) offset
+        ensures replayed { (offset : ℕ) → image_of (disk_bytes self.now) offset
             ≡ replayed (first_of self.now) (notes_of self.now) offset }
         ensures now { (image : Image) → (state_of self.now).now image
             ↔ MayLeave (first_of self.now) (notes_of self.now) image }
@@ -166,11 +167,12 @@ impl Disk for MemDisk {
         requires within { at + length buf.old ≤ SIZE }
         ensures counts { CountsCall self.old self.new result }
         ensures unchanged { IsUnchanged self.old self.new }
-        ensures bytes { OnOk result ((image : Image) → (state_of self.old).reads ≡ Some image
-            → buf.new ≡ range image at (length buf.old)) }
+        ensures bytes { OnOk result (ForSome (state_of self.old).reads
+            (λ image. buf.new ≡ range image at (length buf.old))) }
         ensures kept { OnOk result ((state_of self.new).reads ≡ (state_of self.old).reads) }
         ensures only_reads { OnlyReads (state_of self.old) (state_of self.new) }
         ensures cause { HasCause (state_of self.old) (state_of self.new) result }
+        ensures never_memory { ¬ IsErrOf result DiskFault.Memory }
     {
         if self.calls.count_call() {
             refuse(&mut self.faults, &mut self.stopped);
@@ -185,8 +187,8 @@ impl Disk for MemDisk {
         requires within { at + length bytes.now ≤ SIZE }
         ensures counts { CountsCall self.old self.new result }
         ensures notes { NotesWrite at bytes.now self.old self.new result }
-        ensures bytes { OnOk result ((image : Image) → (state_of self.old).reads ≡ Some image
-            → (state_of self.new).reads ≡ Some (overlay image at bytes.now)) }
+        ensures bytes { OnOk result (ForSome (state_of self.old).reads
+            (λ image. (state_of self.new).reads ≡ Some (overlay image at bytes.now))) }
         ensures torn { OnOk result (Closed (state_of self.new) at (length bytes.now)) }
         ensures closed { KeepsClosed (state_of self.old) (state_of self.new) }
         ensures elapses { Elapses (state_of self.old) (state_of self.new)

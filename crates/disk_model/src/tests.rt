@@ -5,7 +5,6 @@ ghost use Rattle.disk_model.specs.Fused.{state_of};
 ghost use Rattle.disk_model.specs.MemDisk as Mem;
 ghost use Rattle.disk_model.specs.FileDisk as File;
 
-use crate::tearing::Tearing;
 use crate::{Call, Disk, DiskFault, FileDisk, Fused, MemDisk, Note, Power, SIZE};
 use load_base::{Bytes, NoMemory};
 use std::alloc::Global;
@@ -85,21 +84,6 @@ fn each_call_of_a_disk_in_memory_fails_in_turn(rt: HostRuntime) -> Result<(), Fa
         let found = notes_of_failing(rt.alloc(), call)?;
         assert_eq!(rt; found.as_slice(), notes, "call {call}");
     }
-    Ok(())
-}
-
-// Three bytes of five are written before a restart, which tears the last two, of one call.
-fn torn(alloc: Global) -> Result<[u8; 8], Fail> {
-    let mut disk = Tearing::new(MemDisk::new(alloc, &[1, 2, 3, 4, 5])?);
-    disk.write(3, &[9])?;
-    disk.write(1, &[7, 8])?;
-    disk.restart()?;
-    Ok(prefix(&mut disk)?)
-}
-
-#[test]
-fn a_torn_range_is_zeros(rt: HostRuntime) -> Result<(), Fail> {
-    assert_eq!(rt; torn(rt.alloc())?, [1, 0, 0, 9, 5, 0, 0, 0]);
     Ok(())
 }
 

@@ -1,5 +1,5 @@
 -- What a link was posted and gave (docs/EXCHANGE.md, "Links").
-use Rattle.std.specs.Prelude.{◌≡◌, ℕ, ◌≤◌, List, [], ◌∷◌, ◌++◌, Bool, Option, Some, None, Result, IsErrOf}
+use Rattle.std.specs.Prelude.{◌≡◌, ℕ, ◌+◌, ◌≤◌, List, [], ◌∷◌, ◌++◌, Bool, Option, Some, None, Result, IsErrOf, OnOk}
 use Rattle.load_base.specs.Counts.{Rose}
 use Rattle.exchange_trace.specs.Happenings.{DatagramView, HappeningView}
 use Rattle.exchange_trace.specs.Posts.{IsHonest}
@@ -34,7 +34,10 @@ pub record Gives (old new : LinkState) (s : Scene) (h : HappeningView) : Type 0 
   pub honest : IsHonest old.posted h
   pub follows : Follows s old.plan h new.plan
 
--- the count of faults hasn't fallen, and a call that failed raised it
+-- The count of faults hasn't fallen. A call that failed raised it, by one, and no other did.
 pub record HasLinkCause {T : Type 0} (before now : ℕ) (result : Result T LinkFault) : Type 0 where
   pub later : before ≤ now
   pub failed : IsErrOf result links.Failed → Rose before now
+  pub once : now ≤ before + 1
+  pub ok : OnOk result (now ≡ before)
+  pub memory : IsErrOf result links.Memory → now ≡ before

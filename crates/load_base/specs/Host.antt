@@ -1,5 +1,5 @@
 -- What a host keeps, and what reading and writing does to it.
-use Rattle.std.specs.Prelude.{◌≡◌, ◌≢◌, ℕ, ◌<◌, ◌≤◌, List, length, Result, Ok, Err, Option, Some, None, IsErrOf}
+use Rattle.std.specs.Prelude.{◌≡◌, ◌≢◌, ℕ, ◌+◌, ◌<◌, ◌≤◌, List, length, Result, Ok, Err, Option, Some, None, IfErr, IsErrOf, OnOk}
 use Rattle.load_base.specs.Counts.{Rose}
 use Rattle.load_base.specs.Listed.{Listed}
 use Rattle.load_base.specs.declared.host.ReadFault.{ReadFault}
@@ -42,7 +42,10 @@ abbrev pub WritesFile : Option Files → Option Files → List ℕ → List ℕ 
 WritesFile None new name bytes result = Unit {0}
 WritesFile (Some old) new name bytes result = (files : Files) × (new ≡ Some files) × WritesFiles old files name bytes result
 
--- the count of faults hasn't fallen, and a call that failed raised it
+-- The count of faults hasn't fallen. A call that failed raised it, by one, and no other did.
 pub record HasReadCause {T : Type 0} (before now : ℕ) (result : Result T ReadFault) : Type 0 where
   pub later : before ≤ now
   pub failed : IsErrOf result reading.Failed → Rose before now
+  pub once : now ≤ before + 1
+  pub ok : OnOk result (now ≡ before)
+  pub others : IfErr result (λ fault. fault ≢ reading.Failed → now ≡ before)

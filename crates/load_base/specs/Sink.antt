@@ -1,5 +1,5 @@
 -- What a sink was put, and how often it failed.
-use Rattle.std.specs.Prelude.{◌≡◌, ℕ, ◌≤◌, List, [], ◌++◌, take, Result, Ok, Err, Option, Some, None, IsErrOf}
+use Rattle.std.specs.Prelude.{◌≡◌, ℕ, ◌+◌, ◌≤◌, List, [], ◌++◌, take, Result, Ok, Err, Option, Some, None, IsErrOf, OnOk}
 use Rattle.load_base.specs.Counts.{Rose}
 use Rattle.load_base.specs.declared.sink.WriteFault.{WriteFault}
 use Rattle.load_base.specs.declared.sink.WriteFault.TheVariants.{Failed, Memory}
@@ -15,7 +15,10 @@ Puts was new bytes (Ok x) = IsExtended was new bytes
 Puts was new bytes (Err Failed) = (n : ℕ) × IsExtended was new (take n bytes)
 Puts was new bytes (Err Memory) = IsExtended was new []
 
--- the count of faults hasn't fallen, and a call that failed raised it
+-- The count of faults hasn't fallen. A call that failed raised it, by one, and no other did.
 pub record HasWriteCause {T : Type 0} (before now : ℕ) (result : Result T WriteFault) : Type 0 where
   pub later : before ≤ now
   pub failed : IsErrOf result Failed → Rose before now
+  pub once : now ≤ before + 1
+  pub ok : OnOk result (now ≡ before)
+  pub memory : IsErrOf result Memory → now ≡ before

@@ -88,6 +88,7 @@ impl FaultCount {
     pub fn rise(&mut self)
         ensures count { self.new ≡ min (self.old + 1) (2 ^ 64 - 1) }
         ensures later { self.old ≤ self.new }
+        ensures once { self.new ≤ self.old + 1 }
         ensures rose { Rose self.old self.new }
     {
         self.count = self.count.saturating_add(1);

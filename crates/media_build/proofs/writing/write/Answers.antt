@@ -1,4 +1,4 @@
-use Rattle.std.proofs.Common.{List, Ok, Err, sym, subst, arith, rules}
+use Rattle.std.proofs.Common.{List, Ok, Err, sym, subst, ◌∙◌, rules}
 use Rattle.std.proofs.lemmas.Result.{err_from_is_err_and}
 use Rattle.media_build.specs.HostWrites.{Written, Writes, written_files, written_member}
 use Rattle.media_build.proofs.HostFiles.{members_from, writes_then, writes_stop}
@@ -28,7 +28,7 @@ pub loop-index-preserved : goal.loop-index-preserved
 loop-index-preserved g c =
     let split = members_from (written_member c.args.folder.now c.args.built.now) c.loop-index.index c.len-count.result c.loop-index-test.true in
     record {
-      later = omega (arith, c.loop-index.invariant.later, c.in_ok-write_member.ensures.cause.later);
+      kept = c.in_ok-write_member.ensures.cause.ok ∙ c.loop-index.invariant.kept;
       rest =
           λ end result left.
           c.loop-index.invariant.rest end result
