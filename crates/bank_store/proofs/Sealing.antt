@@ -9,7 +9,7 @@ use Rattle.std.proofs.lemmas.List.Elements.{All-nil, All-cons, All-head, All-tai
 use Rattle.load_base.specs.Config.{FileView, LoadView}
 use Rattle.field_grammar.specs.Fields.{number_bytes}
 use Rattle.disk_layout.specs.Offsets.{most_loads}
-use Rattle.disk_layout.specs.Manifest.{LoadEntry, file_entry_fields, load_entry_fields, manifest_fields, FileFits, LoadFits, ManifestFits, total_length, size_of}
+use Rattle.disk_layout.specs.Manifest.{LoadEntry, file_entry_fields, load_entry_fields, manifest_fields, FileFits, LoadFits, ManifestFits, total_length, entries_length}
 use Rattle.disk_layout.specs.Contents.{file_entry_of, entry_of, entries_of, bytes_of, contents_of_loads, HeaderIsFirst}
 use Rattle.disk_layout.specs.declared.manifest.ManifestFile.{ManifestFile}
 use Rattle.bank_store.specs.Given.{GivenLoad, IsWhole, Misses, IsFile, IsLoad, load_of, given_fields}
@@ -26,7 +26,7 @@ entry load = entry_of (load_of load)
 pub same_contents : (loads : List GivenLoad) → contents_of_loads (map load_of loads) ≡ bytes_of (flat_map (λ (l : GivenLoad). l.files) loads)
 same_contents loads = ap bytes_of (flat_map-map (λ (l : LoadView). l.files) load_of loads)
 
-size_of_files : (files : List FileView) → size_of (map file_entry_of files) ≡ length (bytes_of files)
+size_of_files : (files : List FileView) → entries_length (map file_entry_of files) ≡ length (bytes_of files)
 size_of_files [] = refl
 size_of_files (file ∷ files) =
     sum_by-cons (λ (f : ManifestFile). f.length) (file_entry_of file) (map file_entry_of files) ∙ ap (λ (n : ℕ). length file.bytes + n) (size_of_files files)

@@ -24,11 +24,11 @@ pub record IsFillingInRange (size : ℕ) (body : Listed ℕ) (progress : Filling
   pub end : progress.end ≤ size
   pub whole : progress.missing ≡ 0 → progress.start ≡ progress.end
 
--- a begun installation has shut the other gate, can count on, and has the room for the rest of its manifest
+-- a begun installation has shut the other gate, can count on, and has spare capacity for the rest of its manifest
 pub record HasBegun (sequence : ℕ) (other_is_open : Bool) (body : Listed ℕ) : Type 0 where
   pub shut : other_is_open ≡ false
   pub goes_on : sequence < 4294967295
-  pub room : longest_manifest ≤ body.spare + length body.items
+  pub spare : longest_manifest ≤ body.spare + length body.items
 
 pub record IsStore (size : ℕ) (active : Active) (other_is_open : Bool) (body : Listed ℕ) (stage : Stage) : Type 0 where
   pub is_size : IsBankSize size

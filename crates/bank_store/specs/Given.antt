@@ -32,7 +32,7 @@ pub record Given : Type 0 where
 abbrev pub nothing_given : Given
 nothing_given = record { loads = []; bytes = [] }
 
--- a load of so many files begins
+-- a load of this many files begins
 abbrev pub with_load : (part : List ℕ) (announced : ℕ) → Given → Given
 with_load part announced g = record { loads = g.loads ++ record { part = part; announced = announced; files = [] } ∷ []; bytes = g.bytes }
 
@@ -56,7 +56,7 @@ with_file name g = record { loads = file_to_last (record { name = name; bytes = 
 abbrev pub IsWhole : GivenLoad → Type 0
 IsWhole load = length load.files ≡ load.announced
 
--- each load has all its files, but the last, of which so many are still to end
+-- each load has all its files, but the last, of which this many are still to end
 abbrev pub Misses : ℕ → List GivenLoad → Type 0
 Misses missing [] = missing ≡ 0
 Misses missing (load ∷ []) = length load.files + missing ≡ load.announced

@@ -56,10 +56,10 @@ IsSealedAt store manifest = store.stage ≡ stages.Sealed manifest
 abbrev pub IsSealed : Store → Type 0
 IsSealed store = (manifest : ManifestRange) × IsSealedAt store manifest
 
--- no installation has begun, and the room for the longest manifest is there
+-- no installation has begun, and there is spare capacity for the longest manifest
 pub record IsPrepared (store : Store) : Type 0 where
   pub idle : IsIdle store
-  pub room : longest_manifest ≤ store.body.spare
+  pub spare : longest_manifest ≤ store.body.spare
 
 -- the same is active, on banks of the same size
 pub record SameActive (old new : Store) : Type 0 where
@@ -97,7 +97,7 @@ AwaitsFile store = (progress : Filling) × IsFilling store progress × (1 ≤ pr
 abbrev pub AwaitsEnd : Store → Type 0
 AwaitsEnd store = (progress : Filling) × IsFilling store progress × (1 ≤ progress.missing) × (progress.end ≤ progress.start + longest_file)
 
--- with n bytes after the contents the other bank would need so many bytes, more than it has
+-- with n bytes after the contents the other bank would need this many bytes, more than it has
 abbrev pub PassesBank : Store → (n need have : ℕ) → Type 0
 PassesBank store n need have =
     (progress : Filling) × IsFilling store progress × (need ≡ progress.end + n) × (have ≡ store.size) × (have < need)
@@ -106,11 +106,11 @@ PassesBank store n need have =
 abbrev pub IsSpent : Store → Type 0
 IsSpent store = (active_sequence store) ≡ 4294967295
 
--- a load more was announced, of so many files
+-- a load more was announced, of this many files
 abbrev pub load_announced : ℕ → Filling → Filling
 load_announced files progress = record { loads = progress.loads + 1; missing = files; end = progress.end; start = progress.start }
 
--- so many bytes more stand in the bank
+-- this many bytes more stand in the bank
 abbrev pub bytes_appended : ℕ → Filling → Filling
 bytes_appended n progress = record { loads = progress.loads; missing = progress.missing; end = progress.end + n; start = progress.start }
 
@@ -119,14 +119,14 @@ abbrev pub file_ended : Filling → Filling
 file_ended progress = record { loads = progress.loads; missing = progress.missing - 1; end = progress.end; start = progress.end }
 
 -- how many more bytes of a manifest surely take no memory
-abbrev pub room_of : Store → ℕ
-room_of store = store.body.spare
+abbrev pub spare_of : Store → ℕ
+spare_of store = store.body.spare
 
 -- how many bytes the manifest has of what was given so far
 abbrev pub manifest_length : Store → ℕ
 manifest_length store = length store.body.items + 2
 
--- what the other slot says after its gate, from offset 16 on, once the manifest stands there with so many bytes: the next
+-- what the other slot says after its gate, from offset 16 on, once the manifest stands there with this many bytes: the next
 -- sequence number, the other bank, and the manifest's offset and length
 abbrev pub slot_body : Store → (offset length : ℕ) → List ℕ
 slot_body store offset size =

@@ -31,8 +31,7 @@ const SHUT: u8 = 0;
 ///
 /// An installation goes `prepare`, `begin`, then for each load `start_load` and for each of its
 /// files `append` as often as pieces of it come and `end_file`, then `seal` and `activate`. The
-/// active slot's own offset and bank are never written; the other slot's gate is the last byte that
-/// is.
+/// active slot and its bank are never written; the other slot's gate is the last byte that is.
 #[derive(Drop)]
 pub struct Store {
     size: u32,
@@ -48,7 +47,7 @@ impl Store {
     ghost use Rattle.bank_store.specs.Store.{active_sequence, is_other_open, stage_of, work_at};
     ghost use Rattle.bank_store.specs.Store.{SameActive, IsIdle, IsFilling, IsSealed, IsPrepared};
     ghost use Rattle.bank_store.specs.Store.{IsSpent, IsBetweenLoads, AwaitsLoad, AwaitsFile};
-    ghost use Rattle.bank_store.specs.Store.{AwaitsEnd, PassesBank, room_of, load_announced};
+    ghost use Rattle.bank_store.specs.Store.{AwaitsEnd, PassesBank, spare_of, load_announced};
     ghost use Rattle.bank_store.specs.Store.{file_ended, manifest_length, slot_body};
     ghost use Rattle.bank_store.specs.Store.{with_gate_shut, with_manifest, with_slot};
     ghost use Rattle.bank_store.specs.Given.{Given, HasGiven, with_load, with_file, configured};
@@ -85,6 +84,9 @@ impl Store {
         ensures again { IsPrepared self.old → IsOk result }
         ensures only_memory { IfErr result (λ fault. fault ≡ Memory) }
         ensures stage { stage_of self.new ≡ stage_of self.old }
+        ensures length { manifest_length self.new ≡ manifest_length self.old }
+        ensures given { (image : Image) (g : Given) → HasGiven self.old image g
+            → HasGiven self.new image g }
         ensures continues { Continues self.old self.new }
     {
         self.body.reserve(LONGEST_MANIFEST as usize)?;
@@ -398,7 +400,7 @@ impl Store {
         ensures idle { IsIdle self.new }
         ensures active { SameActive self.old self.new }
         ensures gate { is_other_open self.new ≡ is_other_open self.old }
-        ensures room { room_of self.new ≡ room_of self.old + (manifest_length self.old - 2) }
+        ensures spare { spare_of self.new ≡ spare_of self.old + (manifest_length self.old - 2) }
     {
         self.body.clear();
         self.stage = Stage::Idle;

@@ -11,7 +11,7 @@ use Rattle.session_rules.specs.TargetRows.{Kept_bytes}
 use Rattle.session_rules.specs.Uploads.{need_of}
 use Rattle.load_intake.specs.Kept.{IsIntake, intake_at}
 use Rattle.load_intake.specs.States.{WholeView}
-use Rattle.load_intake.specs.Stores.{GoesOn, Has, StaysInStep}
+use Rattle.load_intake.specs.Stores.{StoreGoesOn, Has, StaysInStep}
 
 -- no loads need the two bytes that count them
 need_none : 2 ≡ need_of []
@@ -24,6 +24,6 @@ new_whole request loads = record { request = request; loads = map entry_view loa
 pub new_intake : (request : List Wanted) (loads : List ManifestLoad) (b : Buffer) → loads ≡ [] → 1 ≤ length request → length request ≤ 32 → IsIntake (intake_at (new_whole request loads) None (Kept_bytes b)) 2
 new_intake request loads b none some few = rw none (record { few = few; left = omega (arith, some); need = need_none; next = tt })
 
-pub begins_in_step : (request : List Wanted) (loads : List ManifestLoad) (b : Buffer) (before store : Store) (d e : DiskState) → loads ≡ [] → Has store [] 0 0 → GoesOn before store d e
+pub begins_in_step : (request : List Wanted) (loads : List ManifestLoad) (b : Buffer) (before store : Store) (d e : DiskState) → loads ≡ [] → Has store [] 0 0 → StoreGoesOn before store d e
     → StaysInStep (intake_at (new_whole request loads) None (Kept_bytes b)) before store d e
 begins_in_step request loads b before store d e none has goes = rw none (record { in_step = record { has = has; fits = omega (arith, need_none, store.keeps.is_size.0) }; goes_on = goes })

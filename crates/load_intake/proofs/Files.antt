@@ -23,7 +23,7 @@ use Rattle.load_intake.proofs.Steps.{awaits_end}
 no_entry : FileEntry
 no_entry = record { name = []; part = []; length = 0; crc16 = 0 }
 
--- a file of this name with so many bytes
+-- a file of this name with this many bytes
 abbrev pub file_of : FileEntry → ℕ → ManifestFile
 file_of e size = record { name = e.name; length = size }
 

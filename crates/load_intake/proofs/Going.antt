@@ -1,9 +1,9 @@
 -- How a store goes on over several calls.
-use Rattle.std.proofs.Common.{◌≡◌, ◌+◌, Result, IfOk, refl, ap, ◌∙◌}
+use Rattle.std.proofs.Common.{◌≡◌, ◌+◌, Result, Ok, IfOk, inl, inr, refl, ap, ◌∙◌, arith}
 use Rattle.std.proofs.lemmas.Result.{IfOk-weaker}
 use Rattle.disk_model.specs.State.{DiskState}
 use Rattle.bank_store.specs.declared.store.Store.{Store}
-use Rattle.bank_store.specs.DiskWrites.{IsRunning}
+use Rattle.bank_store.specs.DiskWrites.{IsRunning, TimeGoesOn}
 use Rattle.bank_store.specs.Fits.{Fits}
 use Rattle.bank_store.specs.Keeps.{Continues}
 use Rattle.bank_store.specs.Store.{IsPrepared}
@@ -16,10 +16,10 @@ use Rattle.load_intake.specs.declared.ended.UploadEnd.{UploadEnd}
 use Rattle.load_intake.specs.declared.finished.Finished.{Finished}
 use Rattle.load_intake.specs.declared.finished.Finished.TheVariants as finished
 use Rattle.load_intake.specs.Intakes.{BeginsNext, row_seen}
-use Rattle.load_intake.specs.Stores.{Ends, GivesUp, GoesOn, GoesOnInStep, Installs, Leaves}
+use Rattle.load_intake.specs.Stores.{Ends, GivesUp, StoreGoesOn, GoesOnInStep, Installs, Leaves, Writes}
 
 -- a call that makes none of the disk
-pub continued : (before after : Store) (disk : DiskState) → Continues before after → IsRunning disk → GoesOn before after disk disk
+pub continued : (before after : Store) (disk : DiskState) → Continues before after → IsRunning disk → StoreGoesOn before after disk disk
 continued before after disk c running =
     let fits : Fits before disk → Fits after disk = λ f. record {
       running = f.running;
@@ -37,7 +37,7 @@ continued before after disk c running =
       };
     }
 
-pub then_on : (a b c : Store) (d e f : DiskState) → GoesOn a b d e → GoesOn b c e f → GoesOn a c d f
+pub then_on : (a b c : Store) (d e f : DiskState) → StoreGoesOn a b d e → StoreGoesOn b c e f → StoreGoesOn a c d f
 then_on a b c d e f first next = record {
   active = record { size = next.active.size ∙ first.active.size; active = next.active.active ∙ first.active.active };
   running = next.running;
@@ -48,7 +48,7 @@ then_on a b c d e f first next = record {
 pub gives_up : (before after : Store) (disk : DiskState) → Continues before after → IsPrepared after → IsRunning disk → GivesUp before after disk disk
 gives_up before after disk c prepared running = record { prepared = prepared; goes_on = continued before after disk c running }
 
-same_on : (store : Store) (disk : DiskState) → IsRunning disk → GoesOn store store disk disk
+same_on : (store : Store) (disk : DiskState) → IsRunning disk → StoreGoesOn store store disk disk
 same_on store disk running = record { active = record { size = refl; active = refl }; running = running; fits = λ f. f; works = λ w. w }
 
 -- a load is whole, and nothing was written
@@ -60,7 +60,7 @@ goes_on_here (finished.Installed end loads) u store disk row begins step running
 
 -- ---- the end of a file after other calls
 
-later : (a b c : Store) (d e f : DiskState) → GoesOn a b d e → Installs b c e f → Installs a c d f
+later : (a b c : Store) (d e f : DiskState) → StoreGoesOn a b d e → Installs b c e f → Installs a c d f
 later a b c d e f first next = record {
   size = next.size ∙ first.active.size;
   slot = next.slot ∙ ap (λ (x : Active). other_slot (slot_offset x.slot)) first.active.active;
@@ -72,18 +72,46 @@ later a b c d e f first next = record {
   works = λ x. next.works (first.works x);
 }
 
-leaves_after : (x : Finished) (a b c : Store) (d e f : DiskState) → GoesOn a b d e → Leaves x b c e f → Leaves x a c d f
+leaves_after : (x : Finished) (a b c : Store) (d e f : DiskState) → StoreGoesOn a b d e → Leaves x b c e f → Leaves x a c d f
 leaves_after (finished.MoreFiles intake) a b c d e f first next = record { in_step = next.in_step; goes_on = then_on a b c d e f first next.goes_on }
 leaves_after (finished.NextLoad intake) a b c d e f first next = record { in_step = next.in_step; goes_on = then_on a b c d e f first next.goes_on }
 leaves_after (finished.Stopped end) a b c d e f first next = record { prepared = next.prepared; goes_on = then_on a b c d e f first next.goes_on }
 leaves_after (finished.Installed end loads) a b c d e f first next = later a b c d e f first next
 
-pub ends_after : (r : Result Finished Down) (a b c : Store) (d e f : DiskState) → GoesOn a b d e → IfOk r (λ x. Ends x b c e f) → IfOk r (λ x. Ends x a c d f)
+pub ends_after : (r : Result Finished Down) (a b c : Store) (d e f : DiskState) → StoreGoesOn a b d e → IfOk r (λ x. Ends x b c e f) → IfOk r (λ x. Ends x a c d f)
 ends_after r a b c d e f first ends = IfOk-weaker r (λ x. Ends x b c e f) (λ x. Ends x a c d f) (λ x h. record { begins = h.begins; leaves = leaves_after x a b c d e f first h.leaves }) ends
 
 pub stops_there : (end : UploadEnd) (before after : Store) (disk : DiskState) → Continues before after → IsPrepared after → IsRunning disk → Ends (finished.Stopped end) before after disk disk
 stops_there end before after disk c prepared running = record { begins = tt; leaves = gives_up before after disk c prepared running }
 
 -- or after a call that went on
-pub stops_after : (end : UploadEnd) (before mid after : Store) (old new : DiskState) → GoesOn before mid old new → Continues mid after → IsPrepared after → Ends (finished.Stopped end) before after old new
+pub stops_after : (end : UploadEnd) (before mid after : Store) (old new : DiskState) → StoreGoesOn before mid old new → Continues mid after → IsPrepared after → Ends (finished.Stopped end) before after old new
 stops_after end before mid after old new first c prepared = record { begins = tt; leaves = leaves_after (finished.Stopped end) before mid after old new new first (gives_up mid after new c prepared first.running) }
+
+-- ---- one call of the disk after another
+
+time_after : (a b c : DiskState) → TimeGoesOn a b → TimeGoesOn b c → TimeGoesOn a c
+time_after a b c one two = record {
+  tells = two.tells ∙ one.tells;
+  faults = omega (arith, one.faults, two.faults);
+  refusals = omega (arith, one.refusals, two.refusals);
+  later = omega (arith, one.later, two.later);
+  keeps = λ t u image may. two.keeps t u image (one.keeps t u image may);
+  earlier = λ t u image early may. one.earlier t u image early (two.earlier t u image (omega (arith, early, one.later)) may);
+  power = record {
+    steady = two.power.steady ∙ one.power.steady;
+    armings = two.power.armings ∙ one.power.armings;
+    armed = two.power.armed ∙ one.power.armed;
+  };
+}
+
+pub writes_after : {S T : Type 0} (a b c : DiskState) (x : S) (result : Result T Down) → Writes a b (Ok x) → Writes b c result → Writes a c result
+writes_after a b c x result one two = record {
+  goes_on = time_after a b c one.goes_on two.goes_on;
+  running = two.running;
+  cause = record { failed = λ is. let found = two.cause.failed is in (omega (arith, found.0, one.goes_on.faults), found.1) };
+  memory = λ is. elim (two.memory is) [
+    | inl runs ↦ inl runs
+    | inr out ↦ inr (record { counted = omega (arith, out.counted, one.goes_on.refusals); stopped = out.stopped })
+  ];
+}

@@ -6,12 +6,12 @@ use Rattle.std.proofs.lemmas.List.Concat.{flat_map-cons}
 use Rattle.std.proofs.lemmas.List.Sums.{sum_by-append, sum_by-cons, sum_by_push}
 use Rattle.field_grammar.specs.Fields.{number_fields, short_fields}
 use Rattle.field_grammar.specs.SectionLaws.{size_more, size_number, size_short}
-use Rattle.field_grammar.specs.Spelling.{size_of as fields_size}
+use Rattle.field_grammar.specs.Spelling.{spelled_length}
 use Rattle.load_header.specs.declared.header.FileEntry.{FileEntry}
 use Rattle.load_header.specs.Header.{HeaderView}
 use Rattle.load_protocol_files.specs.declared.lur.Wanted.{Wanted}
 use Rattle.disk_layout.specs.declared.manifest.ManifestFile.{ManifestFile}
-use Rattle.disk_layout.specs.Manifest.{LoadEntry, file_entry_fields, load_entry_fields, manifest_fields, size_of, total_length}
+use Rattle.disk_layout.specs.Manifest.{LoadEntry, file_entry_fields, load_entry_fields, manifest_fields, entries_length, total_length}
 use Rattle.session_rules.specs.Uploads.{files_of, need_of, planned_load}
 use Rattle.load_intake.specs.Kept.{named_file}
 use Rattle.load_intake.specs.Needs.{entries_need, entry_need, load_need}
@@ -24,36 +24,36 @@ files_fields files = flat_map file_entry_fields files
 abbrev files_in : LoadEntry → List ManifestFile
 files_in l = l.files
 
-pub size_more_files : (files : List ManifestFile) (f : ManifestFile) → size_of (files ++ f ∷ []) ≡ size_of files + f.length
+pub size_more_files : (files : List ManifestFile) (f : ManifestFile) → entries_length (files ++ f ∷ []) ≡ entries_length files + f.length
 size_more_files files f = sum_by_push (λ (x : ManifestFile). x.length) files f
 
-pub size_first : (f : ManifestFile) (files : List ManifestFile) → size_of (f ∷ files) ≡ f.length + size_of files
+pub size_first : (f : ManifestFile) (files : List ManifestFile) → entries_length (f ∷ files) ≡ f.length + entries_length files
 size_first f files = sum_by-cons (λ (x : ManifestFile). x.length) f files
 
-pub total_more : (loads : List LoadEntry) (l : LoadEntry) → total_length (loads ++ l ∷ []) ≡ total_length loads + size_of l.files
+pub total_more : (loads : List LoadEntry) (l : LoadEntry) → total_length (loads ++ l ∷ []) ≡ total_length loads + entries_length l.files
 total_more loads l =
     let joined : flat_map files_in (loads ++ l ∷ []) ≡ flat_map files_in loads ++ l.files =
     flat_map-append files_in loads (l ∷ []) ∙ ap (λ (x : List ManifestFile). flat_map files_in loads ++ x) (flat_map-cons files_in l [] ∙ append-nil l.files) in
-    ap size_of joined ∙ sum_by-append (λ (x : ManifestFile). x.length) (flat_map files_in loads) l.files
+    ap entries_length joined ∙ sum_by-append (λ (x : ManifestFile). x.length) (flat_map files_in loads) l.files
 
 -- ---- the manifest
 
-one_more : {X : Type 0} (f : X → List (List ℕ)) (xs : List X) (x : X) → fields_size (flat_map f (xs ++ x ∷ [])) ≡ fields_size (flat_map f xs) + fields_size (f x)
+one_more : {X : Type 0} (f : X → List (List ℕ)) (xs : List X) (x : X) → spelled_length (flat_map f (xs ++ x ∷ [])) ≡ spelled_length (flat_map f xs) + spelled_length (f x)
 one_more f xs x =
-    ap (λ (l : List (List ℕ)). fields_size l) (flat_map-append f xs (x ∷ []) ∙ ap (λ (y : List (List ℕ)). flat_map f xs ++ y) (flat_map-cons f x [] ∙ append-nil (f x)))
+    ap (λ (l : List (List ℕ)). spelled_length l) (flat_map-append f xs (x ∷ []) ∙ ap (λ (y : List (List ℕ)). flat_map f xs ++ y) (flat_map-cons f x [] ∙ append-nil (f x)))
     ∙ size_more (flat_map f xs) (f x)
 
-file_size : (f : ManifestFile) → fields_size (file_entry_fields f) ≡ length f.name + 5
+file_size : (f : ManifestFile) → spelled_length (file_entry_fields f) ≡ length f.name + 5
 file_size f = omega (arith, size_more (short_fields f.name) (number_fields 4 f.length), size_short f.name, size_number 4 f.length)
 
-pub files_more : (files : List ManifestFile) (f : ManifestFile) → fields_size (files_fields (files ++ f ∷ [])) ≡ fields_size (files_fields files) + (length f.name + 5)
+pub files_more : (files : List ManifestFile) (f : ManifestFile) → spelled_length (files_fields (files ++ f ∷ [])) ≡ spelled_length (files_fields files) + (length f.name + 5)
 files_more files f = omega (arith, one_more file_entry_fields files f, file_size f)
 
-pub files_first : (f : ManifestFile) (files : List ManifestFile) → fields_size (files_fields (f ∷ files)) ≡ length f.name + 5 + fields_size (files_fields files)
+pub files_first : (f : ManifestFile) (files : List ManifestFile) → spelled_length (files_fields (f ∷ files)) ≡ length f.name + 5 + spelled_length (files_fields files)
 files_first f files =
-    omega (arith, ap (λ (l : List (List ℕ)). fields_size l) (flat_map-cons file_entry_fields f files), size_more (file_entry_fields f) (files_fields files), file_size f)
+    omega (arith, ap (λ (l : List (List ℕ)). spelled_length l) (flat_map-cons file_entry_fields f files), size_more (file_entry_fields f) (files_fields files), file_size f)
 
-pub entry_size : (l : LoadEntry) → fields_size (load_entry_fields l) ≡ length l.part + 2 + fields_size (files_fields l.files)
+pub entry_size : (l : LoadEntry) → spelled_length (load_entry_fields l) ≡ length l.part + 2 + spelled_length (files_fields l.files)
 entry_size l =
     omega (
       arith,
@@ -63,7 +63,7 @@ entry_size l =
       ap (λ (x : List ℕ). length x) (append-nil l.part),
     )
 
-pub manifest_more : (loads : List LoadEntry) (l : LoadEntry) → fields_size (manifest_fields (loads ++ l ∷ [])) ≡ fields_size (manifest_fields loads) + fields_size (load_entry_fields l)
+pub manifest_more : (loads : List LoadEntry) (l : LoadEntry) → spelled_length (manifest_fields (loads ++ l ∷ [])) ≡ spelled_length (manifest_fields loads) + spelled_length (load_entry_fields l)
 manifest_more loads l =
     omega (
       arith,
@@ -76,7 +76,7 @@ manifest_more loads l =
 
 -- ---- what is planned
 
-entries_needed : (entries : List FileEntry) → size_of (map named_file entries) + fields_size (files_fields (map named_file entries)) ≡ entries_need entries
+entries_needed : (entries : List FileEntry) → entries_length (map named_file entries) + spelled_length (files_fields (map named_file entries)) ≡ entries_need entries
 entries_needed [] = refl
 entries_needed (e ∷ es) =
     omega (arith, entries_needed es, size_first (named_file e) (map named_file es), files_first (named_file e) (map named_file es), sum_by-cons entry_need e es)
@@ -100,6 +100,6 @@ pub total_within : (loads : List LoadEntry) → total_length loads ≤ need_of l
 unfolding need_of
 total_within loads = omega arith
 
-pub need_is : (loads : List LoadEntry) → need_of loads ≡ total_length loads + fields_size (manifest_fields loads)
+pub need_is : (loads : List LoadEntry) → need_of loads ≡ total_length loads + spelled_length (manifest_fields loads)
 unfolding need_of
 need_is loads = refl

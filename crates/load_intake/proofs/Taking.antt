@@ -9,14 +9,14 @@ use Rattle.bank_store.specs.Store.{AwaitsFile, bank_size_of}
 use Rattle.load_header.specs.declared.header.FileEntry.{FileEntry}
 use Rattle.load_header.specs.Header.{HeaderView}
 use Rattle.disk_layout.specs.declared.manifest.ManifestFile.{ManifestFile}
-use Rattle.disk_layout.specs.Manifest.{LoadEntry, size_of, total_length}
+use Rattle.disk_layout.specs.Manifest.{LoadEntry, entries_length, total_length}
 use Rattle.session_rules.specs.Buffers.{Sums, summed_more}
 use Rattle.session_rules.specs.TargetRows.{Arriving, Kept_bytes, Kept_sums, load_entry_of, said_length}
 use Rattle.session_rules.specs.Uploads.{OpenLoadView, files_of, need_of, planned_load}
 use Rattle.load_intake.specs.declared.down.Down.{Down}
 use Rattle.load_intake.specs.Kept.{IsIntake, IsOfNext, IsOpen, bytes_taken, current_load, files_missing, intake_at, named_file, named_files}
 use Rattle.load_intake.specs.States.{WholeView}
-use Rattle.load_intake.specs.Stores.{GoesOn, Has, HasRoomFor, IsInStep, MayTake, StaysInStep}
+use Rattle.load_intake.specs.Stores.{StoreGoesOn, Has, HasRoomFor, IsInStep, MayTake, StaysInStep}
 use Rattle.load_intake.proofs.Sizes.{size_first, total_more, total_within}
 use Rattle.load_intake.proofs.Steps.{awaits_file, room}
 
@@ -33,13 +33,13 @@ said_planned : (h : HeaderView) (n : ℕ) → n < length (files_of h) → said_l
 said_planned h n within =
     ap said_length (slice_get-get_or (files_of h) n no_entry within) ∙ ap file_length (sym (get_or-map named_file (files_of h) n no_entry (named_file no_entry) within))
 
-pub next_fits : (l : OpenLoadView) (s : Sums) → IsOpen l s → size_of l.files + s.said ≤ size_of (named_files l.header)
+pub next_fits : (l : OpenLoadView) (s : Sums) → IsOpen l s → entries_length l.files + s.said ≤ entries_length (named_files l.header)
 next_fits l s open_load =
     let n = length l.files in
     let within : n < length (named_files l.header) = subst (λ (k : ℕ). n < k) (sym (length-map (files_of l.header) named_file)) open_load.left in
     let more = sum_by_more_le file_length (named_files l.header) n (named_file no_entry) within in
     let said : s.said ≡ (get_or (named_files l.header) n (named_file no_entry)).length = open_load.said ∙ said_planned l.header n open_load.left in
-    omega (arith, more, said, ap size_of open_load.planned)
+    omega (arith, more, said, ap entries_length open_load.planned)
 
 -- the loads so far with all of the next file
 pub planned_fits : (loads : List LoadEntry) (l : OpenLoadView) (s : Sums) → IsOpen l s → total_length (loads ++ load_entry_of l ∷ []) + s.said ≤ need_of (loads ++ planned_load l.wanted l.header l.size ∷ [])
@@ -71,7 +71,7 @@ still_open l s new said o = record { header = o.header; part = o.part; left = o.
 taken_more : (count said n m : ℕ) → m ≡ min (said - count) n → min count said + m ≡ min (count + n) said
 taken_more count said n m e = omega (arith, e)
 
--- so many of its bytes stand in the bank then
+-- this many of its bytes stand in the bank then
 pub taken_then : (s : Sums) (bytes : List ℕ) → min s.count s.said + length (take (s.said - s.count) bytes) ≡ min (s.count + length bytes) s.said
 taken_then s bytes = taken_more s.count s.said (length bytes) (length (take (s.said - s.count) bytes)) (length-take (s.said - s.count) bytes)
 
@@ -96,6 +96,6 @@ pub step_more : (w : WholeView) (load next : Option OpenLoadView) (arriving more
 step_more w load next arriving more old new same size step has = rw same (record { has = has; fits = omega (arith, size, step.fits) })
 
 pub stays_more : (r : Result (Unit {0}) Down) (w : WholeView) (load next : Option OpenLoadView) (arriving more : Arriving) (old new : Store) (d e : DiskState) → next ≡ load → IsInStep (intake_at w load arriving) old
-    → OnOk r (Has new (w.loads ++ current_load load) (files_missing load) (bytes_taken more)) → OnOk r (GoesOn old new d e) → OnOk r (StaysInStep (intake_at w next more) old new d e)
+    → OnOk r (Has new (w.loads ++ current_load load) (files_missing load) (bytes_taken more)) → OnOk r (StoreGoesOn old new d e) → OnOk r (StaysInStep (intake_at w next more) old new d e)
 stays_more (Ok x) w load next arriving more old new d e same step has goes = record { in_step = step_more w load next arriving more old new same goes.active.size step has; goes_on = goes }
 stays_more (Err x) w load next arriving more old new d e same step has goes = tt

@@ -31,7 +31,7 @@ with_whole w l = record { request = w.request; loads = w.loads ++ load_entry_of 
 abbrev pub with_one : OpenLoadView → ManifestFile → (crc : ℕ) → OpenLoadView
 with_one l file crc = record { wanted = l.wanted; header = l.header; size = l.size; files = l.files ++ file ∷ []; crc = crc }
 
--- so many bytes are needed
+-- this many bytes are needed
 abbrev pub needing : WholeView → (need : ℕ) → WholeView
 needing w need = record { request = w.request; loads = w.loads; need = need }
 

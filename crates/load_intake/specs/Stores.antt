@@ -1,8 +1,8 @@
 -- How an intake and the store that it fills go together (docs/EXCHANGE.md, "Upload"; docs/DISK.md).
-use Rattle.std.specs.Prelude.{◌≡◌, ℕ, ◌+◌, ◌-◌, ◌≤◌, ⊤, List, [], ◌∷◌, ◌++◌, length, Result, OnOk, false}
+use Rattle.std.specs.Prelude.{◌≡◌, ◌⊎◌, ℕ, ◌+◌, ◌-◌, ◌≤◌, ⊤, List, [], ◌∷◌, ◌++◌, length, Result, OnOk, IsErrOf, false}
 use Rattle.std.specs.List.{concat}
 use Rattle.disk_model.specs.State.{DiskState}
-use Rattle.disk_layout.specs.DiskReads.{HasDiskCause}
+use Rattle.disk_layout.specs.DiskReads.{HasDiskCause, IsOutOfMemory}
 use Rattle.disk_layout.specs.Slots.{other_bank, other_slot}
 use Rattle.disk_layout.specs.Manifest.{LoadEntry, total_length, manifest_fields}
 use Rattle.bank_store.specs.declared.fault.StoreFault.{StoreFault}
@@ -23,7 +23,7 @@ use Rattle.load_intake.specs.Intakes.{BeginsNext}
 use Rattle.load_intake.specs.Kept.{IsIntake, loads_so_far, loads_planned, files_missing, bytes_taken}
 use Rattle.load_intake.specs.States.{IntakeState, WholeView}
 
--- The store has these loads, of the last of which so many files are still to end, and after them so many bytes of the
+-- The store has these loads, of the last of which this many files are still to end, and after them this many bytes of the
 -- file that ends next.
 pub record Has (store : Store) (given : List LoadEntry) (left taken : ℕ) : Type 0 where
   pub progress : Filling
@@ -34,7 +34,7 @@ pub record Has (store : Store) (given : List LoadEntry) (left taken : ℕ) : Typ
   pub end : progress.end ≡ progress.start + taken
   pub manifest : manifest_length store ≡ length (concat (manifest_fields given))
 
--- a load of which nothing but its header is there yet, which has so many bytes
+-- a load of which nothing but its header is there yet, which has this many bytes
 abbrev pub header_alone : Wanted → (size : ℕ) → LoadEntry
 header_alone wanted size = record { part = wanted.part; files = record { name = wanted.header; length = size } ∷ [] }
 
@@ -42,7 +42,7 @@ header_alone wanted size = record { part = wanted.part; files = record { name = 
 abbrev pub with_entry : LoadEntry → (name : List ℕ) (size : ℕ) → LoadEntry
 with_entry load name size = record { part = load.part; files = load.files ++ record { name = name; length = size } ∷ [] }
 
--- so many bytes more fit the bank
+-- this many bytes more fit the bank
 abbrev pub HasRoomFor : ℕ → Store → Type 0
 HasRoomFor n store = (progress : Filling) → IsFilling store progress → progress.end + n ≤ bank_size_of store
 
@@ -76,7 +76,7 @@ pub record Arrived (st : IntakeState) (counted : ℕ) (store : Store) (disk : Di
 -- ---- what calls do to the store and the disk
 
 -- The store goes on as that of the disk, which runs, with the same active.
-pub record GoesOn (before after : Store) (old new : DiskState) : Type 0 where
+pub record StoreGoesOn (before after : Store) (old new : DiskState) : Type 0 where
   pub active : SameActive before after
   pub running : IsRunning new
   pub fits : Fits before old → Fits after new
@@ -97,12 +97,12 @@ pub record Installs (before after : Store) (old new : DiskState) : Type 0 where
 -- the installation is given up
 pub record GivesUp (before after : Store) (old new : DiskState) : Type 0 where
   pub prepared : IsPrepared after
-  pub goes_on : GoesOn before after old new
+  pub goes_on : StoreGoesOn before after old new
 
 -- an intake that goes on is in step with the store
 pub record StaysInStep (st : IntakeState) (before after : Store) (old new : DiskState) : Type 0 where
   pub in_step : IsInStep st after
-  pub goes_on : GoesOn before after old new
+  pub goes_on : StoreGoesOn before after old new
 
 -- what the end of a file leaves of the store and the disk
 abbrev pub Leaves : Finished → (before after : Store) (old new : DiskState) → Type 0
@@ -117,11 +117,13 @@ pub record Ends (finished : Finished) (before after : Store) (old new : DiskStat
   pub begins : BeginsNext finished
   pub leaves : Leaves finished before after old new
 
--- Time goes on, whatever is answered; the disk runs on unless it is down, and a failure of the disk has its cause.
+-- Time goes on, whatever is answered; the disk runs on unless it is down, and a failure of the disk has its cause. Where
+-- memory is out, the disk runs on, or it was out of memory.
 pub record Writes {T : Type 0} (old new : DiskState) (result : Result T Down) : Type 0 where
   pub goes_on : TimeGoesOn old new
   pub running : OnOk result (new.stopped ≡ false)
   pub cause : HasDiskCause downs.DiskFailed old new result
+  pub memory : IsErrOf result downs.Memory → (new.stopped ≡ false) ⊎ IsOutOfMemory old new
 
 -- what a failure of the store comes to
 abbrev pub down_of : StoreFault → Down

@@ -83,7 +83,7 @@ fn has_text(texts: &[Text], text: &[u8]) -> bool
     texts.iter().any(|one| one.as_slice() == text)
 }
 
-/// How many bytes of a bank a load needs with its manifest, whose header has so many.
+/// How many bytes of a bank a load needs with its manifest, whose header has this many.
 pub(crate) fn load_need(wanted: &Wanted, header: &LoadHeader, size: u32) -> u64
     requires { IsHeader (header_view header.now) }
     ensures is { result ≡ need_of_load wanted.now (header_view header.now) size }

@@ -49,7 +49,7 @@ impl Model for OpenLoad {
 }
 
 impl OpenLoad {
-    /// A load of which nothing but this header is there yet, which has so many bytes.
+    /// A load of which nothing but this header is there yet, which has this many bytes.
     pub(crate) fn new(
         alloc: Global,
         wanted: Wanted,
@@ -121,7 +121,7 @@ impl OpenLoad {
         }
     }
 
-    /// The next file with so many bytes, as it stands in the manifest.
+    /// The next file with this many bytes, as it stands in the manifest.
     pub(crate) fn next_file(&self, size: u32) -> ManifestFile
         requires { length self.now.files < length (files_of self.now.header) }
         ensures { ForSome (next_entry self.now) (λ entry. result

@@ -12,7 +12,7 @@ ghost use Rattle.session_rules.specs.Uploads.{Upload, current_view};
 ghost use Rattle.load_intake.specs.Contents.{BringsTo, Gives, InstallsRow, IsGiven};
 ghost use Rattle.load_intake.specs.Kept.{IsOfNext, bytes_taken};
 ghost use Rattle.load_intake.specs.Places.{arriving_at, open_load};
-ghost use Rattle.load_intake.specs.Stores.{GoesOn, Has, HasRoomFor, MayTake, Writes};
+ghost use Rattle.load_intake.specs.Stores.{StoreGoesOn, Has, HasRoomFor, MayTake, Writes};
 
 use crate::down::Down;
 use crate::open_load::OpenLoad;
@@ -55,7 +55,7 @@ impl Place {
         ensures has { (loads : Items LoadEntry) (missing : ℕ)
             → Has store.old loads missing (bytes_taken (arriving_at self.old))
             → OnOk result (Has store.new loads missing (bytes_taken (arriving_at self.new))) }
-        ensures goes_on { OnOk result (GoesOn store.old store.new (K.state disk.old)
+        ensures goes_on { OnOk result (StoreGoesOn store.old store.new (K.state disk.old)
             (K.state disk.new)) }
         ensures size { bank_size_of store.new ≡ bank_size_of store.old }
         ensures writes { Writes (K.state disk.old) (K.state disk.new) result }
@@ -88,7 +88,7 @@ fn write<K: Disk>(
     ensures has { (loads : Items LoadEntry) (missing taken : ℕ) → Has store.old loads missing taken
         → OnOk result (Has store.new loads missing
         (taken + length (take (sums.old.said - sums.old.count) bytes.now))) }
-    ensures goes_on { OnOk result (GoesOn store.old store.new (K.state disk.old)
+    ensures goes_on { OnOk result (StoreGoesOn store.old store.new (K.state disk.old)
         (K.state disk.new)) }
     ensures size { bank_size_of store.new ≡ bank_size_of store.old }
     ensures writes { Writes (K.state disk.old) (K.state disk.new) result }

@@ -15,7 +15,7 @@ ghost use Rattle.bank_store.specs.Given.{Given, HasGiven, configured, loads_of, 
 ghost use Rattle.bank_store.specs.Given.{with_bytes, with_file, with_load};
 ghost use Rattle.session_rules.specs.TargetRows.{Over};
 ghost use Rattle.load_intake.specs.Contents.{BringsTo, Gives, IsGiven, LeavesSealed};
-ghost use Rattle.load_intake.specs.Stores.{GoesOn, Has, HasRoomFor, Installs, Writes, down_of};
+ghost use Rattle.load_intake.specs.Stores.{StoreGoesOn, Has, HasRoomFor, Installs, Writes, down_of};
 ghost use Rattle.load_intake.specs.Stores.{header_alone, with_entry};
 
 use crate::down::Down;
@@ -46,7 +46,7 @@ pub(crate) fn begin<K: Disk>(store: &mut Store, disk: &mut K) -> Result<(), Down
     ensures has { OnOk result (Has store.new [] 0 0) }
     ensures gives { (s : StandingView) → InstallsBeside store.old (K.state disk.old) s
         → Gives (K.state disk.old) store.new (K.state disk.new) s nothing_given result }
-    ensures goes_on { OnOk result (GoesOn store.old store.new (K.state disk.old)
+    ensures goes_on { OnOk result (StoreGoesOn store.old store.new (K.state disk.old)
         (K.state disk.new)) }
     ensures size { bank_size_of store.new ≡ bank_size_of store.old }
     ensures writes { Writes (K.state disk.old) (K.state disk.new) result }
@@ -67,7 +67,7 @@ pub(crate) fn append<K: Disk>(store: &mut Store, disk: &mut K, bytes: &[u8]) -> 
     ensures gives { (s : StandingView) (g : Given) → IsGiven store.old (K.state disk.old) s g
         → Gives (K.state disk.old) store.new (K.state disk.new) s (with_bytes bytes.now g)
         result }
-    ensures goes_on { OnOk result (GoesOn store.old store.new (K.state disk.old)
+    ensures goes_on { OnOk result (StoreGoesOn store.old store.new (K.state disk.old)
         (K.state disk.new)) }
     ensures size { bank_size_of store.new ≡ bank_size_of store.old }
     ensures writes { Writes (K.state disk.old) (K.state disk.new) result }
@@ -78,7 +78,7 @@ pub(crate) fn append<K: Disk>(store: &mut Store, disk: &mut K, bytes: &[u8]) -> 
     }
 }
 
-/// A load of so many files begins.
+/// A load of this many files begins.
 fn start_load(store: &mut Store, part: PartText, files: u16)
     requires awaits { AwaitsLoad store.old }
     requires files { (1 ≤ files) × (files ≤ 256) }
@@ -134,7 +134,7 @@ pub(crate) fn write_header<K: Disk>(
         → Gives (K.state disk.old) store.new (K.state disk.new) s
         (with_file wanted.now.header (with_bytes bytes.now (with_load wanted.now.part
         (length (files_of (header_view header.now)) + 1) g))) result }
-    ensures goes_on { OnOk result (GoesOn store.old store.new (K.state disk.old)
+    ensures goes_on { OnOk result (StoreGoesOn store.old store.new (K.state disk.old)
         (K.state disk.new)) }
     ensures size { bank_size_of store.new ≡ bank_size_of store.old }
     ensures writes { Writes (K.state disk.old) (K.state disk.new) result }
@@ -174,7 +174,7 @@ fn seal<K: Disk>(store: &mut Store, disk: &mut K) -> Result<(), Down>
     ensures sealed { OnOk result (IsSealed store.new) }
     ensures seals { (s : StandingView) (g : Given) → IsGiven store.old (K.state disk.old) s g
         → LeavesSealed (K.state disk.old) store.new (K.state disk.new) s (loads_of g) result }
-    ensures goes_on { OnOk result (GoesOn store.old store.new (K.state disk.old)
+    ensures goes_on { OnOk result (StoreGoesOn store.old store.new (K.state disk.old)
         (K.state disk.new)) }
     ensures size { bank_size_of store.new ≡ bank_size_of store.old }
     ensures writes { Writes (K.state disk.old) (K.state disk.new) result }

@@ -62,7 +62,7 @@ impl Whole {
         self.alloc
     }
 
-    /// How many bytes of a bank the loads need with one more, whose header has so many.
+    /// How many bytes of a bank the loads need with one more, whose header has this many.
     pub(crate) fn need_with(&self, wanted: &Wanted, header: &LoadHeader, size: u32) -> u64
         requires { IsHeader (header_view header.now) }
         ensures { result
@@ -71,7 +71,7 @@ impl Whole {
         u64::from(self.need) + load_need(wanted, header, size)
     }
 
-    /// With so many bytes needed.
+    /// With this many bytes needed.
     pub(crate) fn with_need(mut self, need: u32) -> Whole
         ensures { result ≡ needing self need }
     {
@@ -79,7 +79,7 @@ impl Whole {
         self
     }
 
-    /// What comes after so many files of the load with this header.
+    /// What comes after this many files of the load with this header.
     pub(crate) fn next_after(&self, header: &LoadHeader, files: usize) -> Next
         requires left { length self.now.loads < length self.now.request }
         requires few { length (files_of (header_view header.now)) ≤ 255 }

@@ -1,5 +1,5 @@
 -- Looking at a disk again and again.
-use Rattle.std.proofs.Common.{◌≡◌, ℕ, ◌≤◌, false, Result, Ok, Err, OnOk, refl, sym, ap, subst, ◌∙◌, arith}
+use Rattle.std.proofs.Common.{inl, inr, ◌≡◌, ℕ, ◌≤◌, false, Result, Ok, Err, OnOk, refl, sym, ap, subst, ◌∙◌, arith}
 use Rattle.std.specs.Prelude.{IfErr, IsErrOf}
 use Rattle.load_base.specs.Counts.{Rose}
 use Rattle.disk_model.specs.State.{DiskState, OnlyReads}
@@ -37,26 +37,28 @@ runs_joined a b c first second = record { reads = second.reads ∙ first.reads; 
 pub look_more : {T : Type 0} (a b c : DiskState) (x : T) → Looked a b → ReadsDisk b c (Ok x) → Looked a c
 look_more a b c x so_far look = record { only_reads = reads_joined a b c so_far.only_reads look.only_reads; runs = runs_joined a b c so_far.runs look.ok }
 
-runs_after : (a b c : DiskState) (fault : RecoverFault) → RunsOn a b → RunsOnAfter b c fault → RunsOnAfter a c fault
-runs_after a b c RecoverFault.DiskFailed first after = tt
-runs_after a b c RecoverFault.Memory first after = tt
-runs_after a b c (RecoverFault.NotFormatted offset) first after = runs_joined a b c first after
-runs_after a b c RecoverFault.NoOpenSlot first after = runs_joined a b c first after
-runs_after a b c (RecoverFault.BadSlot offset) first after = runs_joined a b c first after
-runs_after a b c (RecoverFault.BadManifest offset) first after = runs_joined a b c first after
+rose_since : (a b c : ℕ) → a ≤ b → Rose b c → Rose a c
+rose_since a b c earlier rose = omega (arith, earlier, rose)
+
+runs_after : (a b c : DiskState) (fault : RecoverFault) → a.refusals ≤ b.refusals → RunsOn a b → RunsOnAfter b c fault → RunsOnAfter a c fault
+runs_after a b c RecoverFault.DiskFailed refused first after = tt
+runs_after a b c RecoverFault.Memory refused first (inl after) = inl (runs_joined a b c first after)
+runs_after a b c RecoverFault.Memory refused first (inr short) =
+    inr (record { counted = rose_since a.refusals b.refusals c.refusals refused short.counted; stopped = short.stopped })
+runs_after a b c (RecoverFault.NotFormatted offset) refused first after = runs_joined a b c first after
+runs_after a b c RecoverFault.NoOpenSlot refused first after = runs_joined a b c first after
+runs_after a b c (RecoverFault.BadSlot offset) refused first after = runs_joined a b c first after
+runs_after a b c (RecoverFault.BadManifest offset) refused first after = runs_joined a b c first after
 
 -- after the last look
 pub looked_on : {T : Type 0} (a b : DiskState) (result : Result T RecoverFault) → Looked a b → OnOk result (RunsOn a b) → IfErr result (λ fault. IsOfDisk fault) → ¬ IsErrOf result DiskFailed → ReadsDisk a b result
 looked_on a b (Ok x) so_far ok err failed = record { only_reads = so_far.only_reads; ok = so_far.runs; err = tt; cause = record { failed = λ e. absurd (failed e) } }
 looked_on a b (Err RecoverFault.DiskFailed) so_far ok err failed = absurd (failed refl)
-looked_on a b (Err RecoverFault.Memory) so_far ok err failed = record { only_reads = so_far.only_reads; ok = tt; err = tt; cause = record { failed = λ e. absurd (failed e) } }
+looked_on a b (Err RecoverFault.Memory) so_far ok err failed = record { only_reads = so_far.only_reads; ok = tt; err = inl so_far.runs; cause = record { failed = λ e. absurd (failed e) } }
 looked_on a b (Err (RecoverFault.NotFormatted offset)) so_far ok err failed = absurd err
 looked_on a b (Err RecoverFault.NoOpenSlot) so_far ok err failed = absurd err
 looked_on a b (Err (RecoverFault.BadSlot offset)) so_far ok err failed = absurd err
 looked_on a b (Err (RecoverFault.BadManifest offset)) so_far ok err failed = absurd err
-
-rose_since : (a b c : ℕ) → a ≤ b → Rose b c → Rose a c
-rose_since a b c earlier rose = omega (arith, earlier, rose)
 
 -- the last look is a fault of the disk
 pub look_ends : {S T : Type 0} (a b c : DiskState) (fault : RecoverFault) (last : Result S RecoverFault) (result : Result T RecoverFault) → last ≡ Err fault → result ≡ Err fault
@@ -66,7 +68,7 @@ look_ends {T = T} a b c fault last result is told so_far look =
     record {
       only_reads = reads_joined a b c so_far.only_reads look.only_reads;
       ok = tt;
-      err = runs_after a b c fault so_far.runs (rw is at look.err);
+      err = runs_after a b c fault so_far.only_reads.refusals so_far.runs (rw is at look.err);
       cause = record {
         failed = λ e.
             let same : fault ≡ DiskFailed = cc in
@@ -87,7 +89,7 @@ refused_after a b x fault other look = record {
   where
     runs_on : (f : RecoverFault) → RunsOn a b → RunsOnAfter a b f
     runs_on RecoverFault.DiskFailed runs = tt
-    runs_on RecoverFault.Memory runs = tt
+    runs_on RecoverFault.Memory runs = inl runs
     runs_on (RecoverFault.NotFormatted offset) runs = runs
     runs_on RecoverFault.NoOpenSlot runs = runs
     runs_on (RecoverFault.BadSlot offset) runs = runs

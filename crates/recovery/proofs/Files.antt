@@ -8,13 +8,13 @@ use Rattle.std.proofs.lemmas.List.Concat.{flat_map-append, flat_map-cons}
 use Rattle.load_base.specs.Config.{FileView, file_view}
 use Rattle.load_base.specs.declared.config.StoredFile.{StoredFile}
 use Rattle.disk_model.specs.Image.{Image, range}
-use Rattle.disk_layout.specs.Manifest.{size_of}
+use Rattle.disk_layout.specs.Manifest.{entries_length}
 use Rattle.disk_layout.specs.Contents.{file_entry_of, bytes_of}
 use Rattle.disk_layout.specs.declared.manifest.ManifestFile.{ManifestFile}
 use Rattle.disk_layout.specs.RangeLaws.{ranges_joined}
 
-pub size_more : (files : List ManifestFile) (i : ℕ) (f : ManifestFile) → i < length files → f ≡ get_or files i f → size_of (take (i + 1) files) ≡ size_of (take i files) + f.length
-size_more files i f within is = sum_by_more (λ (g : ManifestFile). g.length) files i f within ∙ ap (λ (g : ManifestFile). size_of (take i files) + g.length) (sym is)
+pub size_more : (files : List ManifestFile) (i : ℕ) (f : ManifestFile) → i < length files → f ≡ get_or files i f → entries_length (take (i + 1) files) ≡ entries_length (take i files) + f.length
+size_more files i f within is = sum_by_more (λ (g : ManifestFile). g.length) files i f within ∙ ap (λ (g : ManifestFile). entries_length (take i files) + g.length) (sym is)
 
 pub entries_more : (stored more : List StoredFile) (file : StoredFile) (files : List ManifestFile) (i : ℕ) (f : ManifestFile) → i < length files → f ≡ get_or files i f
     → more ≡ stored ++ file ∷ [] → file_entry_of (file_view file) ≡ f → map file_entry_of (map file_view stored) ≡ take i files → map file_entry_of (map file_view more) ≡ take (i + 1) files

@@ -8,7 +8,7 @@ use Rattle.std.proofs.lemmas.List.Elements.{All-nil, All-push}
 use Rattle.load_base.specs.Config.{FileView, LoadView}
 use Rattle.disk_model.specs.Image.{Image, range}
 use Rattle.disk_layout.specs.Contents.{HeaderIsFirst, entries_of, entry_of, first_name, file_entry_of}
-use Rattle.disk_layout.specs.Manifest.{LoadEntry, entry_view, size_of, total_length}
+use Rattle.disk_layout.specs.Manifest.{LoadEntry, entry_view, entries_length, total_length}
 use Rattle.disk_layout.specs.RangeLaws.{ranges_joined}
 use Rattle.disk_layout.specs.declared.manifest.ManifestFile.{ManifestFile}
 use Rattle.disk_layout.specs.declared.manifest.ManifestLoad.{ManifestLoad}
@@ -47,7 +47,7 @@ unfolding range
 no_files reads at text = record { files = []; entries_are = refl; contents = λ image told. refl; text = sym (append-nil text) }
 
 pub one_more_file : (reads : Option Image) (start at : ℕ) (files : List ManifestFile) (i : ℕ) (f : ManifestFile) (before middle after : List ℕ) → i < length files → f ≡ get_or files i f
-    → at ≡ start + size_of (take i files) → ListsFiles reads start (take i files) before middle → ListsFile reads at f middle after → ListsFiles reads start (take (i + 1) files) before after
+    → at ≡ start + entries_length (take i files) → ListsFiles reads start (take i files) before middle → ListsFile reads at f middle after → ListsFiles reads start (take (i + 1) files) before after
 one_more_file reads start at files i f before middle after within is follows so_far now = record {
   files = so_far.files ++ now.file ∷ [];
   entries_are =
@@ -55,7 +55,7 @@ one_more_file reads start at files i f before middle after within is follows so_
       ∙ ap₂ (λ (l : List ManifestFile) (g : ManifestFile). l ++ g ∷ []) so_far.entries_are (now.entry_is ∙ is) ∙ sym (take_more files i f within);
   contents = λ image told. rw (size_more files i f within is) (
       bytes_with so_far.files now.file ∙ ap₂ (λ (a : List ℕ) (b : List ℕ). a ++ b) (so_far.contents image told) (now.contents image told)
-      ∙ ranges_joined image start (size_of (take i files)) at f.length follows);
+      ∙ ranges_joined image start (entries_length (take i files)) at f.length follows);
   text = pushed file_line so_far.files now.file before middle after so_far.text now.text;
 }
 
@@ -96,7 +96,7 @@ one_more_load reads start at entries e before middle after follows so_far now = 
   headers = All-push (λ (l : LoadView). HeaderIsFirst l) so_far.loads now.load so_far.headers now.header;
   contents = λ image told. rw (total_with entries e) (
       contents_with so_far.loads now.load ∙ ap₂ (λ (a : List ℕ) (b : List ℕ). a ++ b) (so_far.contents image told) (now.contents image told)
-      ∙ ranges_joined image start (total_length entries) at (size_of e.files) follows);
+      ∙ ranges_joined image start (total_length entries) at (entries_length e.files) follows);
   text = pushed load_lines so_far.loads now.load before middle after so_far.text now.text;
 }
 

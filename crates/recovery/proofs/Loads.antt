@@ -9,7 +9,7 @@ use Rattle.std.proofs.lemmas.List.Concat.{flat_map-append, flat_map-cons}
 use Rattle.load_base.specs.Config.{FileView, LoadView, load_view}
 use Rattle.load_base.specs.declared.config.Load.{Load}
 use Rattle.disk_model.specs.Image.{Image, range}
-use Rattle.disk_layout.specs.Manifest.{LoadEntry, entry_view, size_of, total_length}
+use Rattle.disk_layout.specs.Manifest.{LoadEntry, entry_view, entries_length, total_length}
 use Rattle.disk_layout.specs.Contents.{entry_of, entries_of, bytes_of, contents_of_loads, HeaderIsFirst, HeadersAreFirst}
 use Rattle.disk_layout.specs.declared.manifest.ManifestFile.{ManifestFile}
 use Rattle.disk_layout.specs.declared.manifest.ManifestLoad.{ManifestLoad}
@@ -20,18 +20,18 @@ use Rattle.disk_layout.specs.RangeLaws.{ranges_joined}
 
 pub total_joined : (ls ms : List LoadEntry) → total_length (ls ++ ms) ≡ total_length ls + total_length ms
 total_joined ls ms =
-    ap size_of (flat_map-append (λ (l : LoadEntry). l.files) ls ms)
+    ap entries_length (flat_map-append (λ (l : LoadEntry). l.files) ls ms)
     ∙ sum_by-append (λ (f : ManifestFile). f.length) (flat_map (λ (l : LoadEntry). l.files) ls) (flat_map (λ (l : LoadEntry). l.files) ms)
 
-pub total_of_one : (l : LoadEntry) → total_length (l ∷ []) ≡ size_of l.files
-total_of_one l = ap size_of (flat_map-cons (λ (e : LoadEntry). e.files) l [] ∙ append-nil l.files)
+pub total_of_one : (l : LoadEntry) → total_length (l ∷ []) ≡ entries_length l.files
+total_of_one l = ap entries_length (flat_map-cons (λ (e : LoadEntry). e.files) l [] ∙ append-nil l.files)
 
 pub total_more : (entries : List ManifestLoad) (i : ℕ) (e : ManifestLoad) → i < length entries → e ≡ get_or entries i e
-    → total_length (map entry_view (take (i + 1) entries)) ≡ total_length (map entry_view (take i entries)) + size_of e.files.items
+    → total_length (map entry_view (take (i + 1) entries)) ≡ total_length (map entry_view (take i entries)) + entries_length e.files.items
 total_more entries i e within is =
     ap total_length (map_more entry_view entries i e within) ∙ total_joined (map entry_view (take i entries)) (entry_view (get_or entries i e) ∷ [])
     ∙ ap (λ (n : ℕ). total_length (map entry_view (take i entries)) + n)
-    (total_of_one (entry_view (get_or entries i e)) ∙ ap (λ (l : ManifestLoad). size_of l.files.items) (sym is))
+    (total_of_one (entry_view (get_or entries i e)) ∙ ap (λ (l : ManifestLoad). entries_length l.files.items) (sym is))
 
 -- those of the first loads are no more than those of all
 pub total_within : (entries : List ManifestLoad) (n : ℕ) → total_length (map entry_view (take n entries)) ≤ total_length (map entry_view entries)
@@ -85,5 +85,5 @@ has_files entries i e within is all =
     let each : HasFiles (get_or (map entry_view entries) i (entry_view e)) = All-get_or (λ (x : LoadEntry). HasFiles x) (map entry_view entries) i (entry_view e) here all in
     subst (λ (x : LoadEntry). HasFiles x) (get_or-map entry_view entries i e (entry_view e) within ∙ ap entry_view (sym is)) each
 
-pub total_with : (ls : List LoadEntry) (l : LoadEntry) → total_length (ls ++ l ∷ []) ≡ total_length ls + size_of l.files
+pub total_with : (ls : List LoadEntry) (l : LoadEntry) → total_length (ls ++ l ∷ []) ≡ total_length ls + entries_length l.files
 total_with ls l = total_joined ls (l ∷ []) ∙ ap (λ (n : ℕ). total_length ls + n) (total_of_one l)

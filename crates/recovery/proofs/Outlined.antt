@@ -8,7 +8,7 @@ use Rattle.field_grammar.specs.Grammar.{IsBytes, Spelled}
 use Rattle.field_grammar.specs.Answers.{answer}
 use Rattle.field_grammar.specs.StepLaws.{then_ok}
 use Rattle.disk_model.specs.Image.{Image}
-use Rattle.disk_layout.specs.Manifest.{LoadEntry, LoadFits, ManifestFits, RefusesManifestBytes, left_in, manifest, size_of, total_length, with_these}
+use Rattle.disk_layout.specs.Manifest.{LoadEntry, LoadFits, ManifestFits, RefusesManifestBytes, left_in, manifest, entries_length, total_length, with_these}
 use Rattle.disk_layout.specs.ManifestLaws.{manifest_found, manifest_faulty, fault_has_offset}
 use Rattle.disk_layout.specs.ManifestSpelling.{manifest_spelling}
 use Rattle.disk_layout.specs.declared.manifest.ManifestFault.{ManifestFault}
@@ -17,7 +17,7 @@ use Rattle.disk_layout.specs.declared.manifest.ManifestReader.{ManifestReader}
 use Rattle.disk_layout.specs.declared.fault.RecoverFault.{RecoverFault}
 use Rattle.disk_layout.specs.declared.fault.RecoverFault.TheVariants.{BadManifest}
 use Rattle.recovery.specs.Listings.{ListsAll, ListsLoad, ListsLoads}
-use Rattle.recovery.specs.Outlines.{HasRoom, IsBehind, TellsLoads}
+use Rattle.recovery.specs.Outlines.{LeftAfterLoads, IsLeftAfter, TellsLoads}
 use Rattle.recovery.specs.Parts.{HasFiles, HasOtherLengths}
 use Rattle.recovery.proofs.Lines.{no_loads, one_more_load}
 use Rattle.recovery.proofs.Loads.{total_joined, total_of_one, total_with}
@@ -47,9 +47,9 @@ whole_refused seen left whole fault yet (inl wants) = inl wants
 whole_refused seen left whole fault yet (inr is) = inr (sym yet ∙ ap (with_these seen) is)
 
 -- what else there is after one that is read
-pub behind_one : (seen : List LoadEntry) (e : LoadEntry) (old new : Result (List LoadEntry) ManifestFault) (all : List LoadEntry) → old ≡ with_these (e ∷ []) new → with_these seen old ≡ Ok all
+pub after_one : (seen : List LoadEntry) (e : LoadEntry) (old new : Result (List LoadEntry) ManifestFault) (all : List LoadEntry) → old ≡ with_these (e ∷ []) new → with_these seen old ≡ Ok all
     → (rest : List LoadEntry) × (seen ++ e ∷ rest ≡ all)
-behind_one seen e old new all first yet =
+after_one seen e old new all first yet =
     let (some, is, whole) = then_ok old (λ (more : List LoadEntry). Ok (seen ++ more)) all yet in
     let (rest, left, one) = then_ok new (λ (more : List LoadEntry). Ok (e ∷ more)) some (sym first ∙ is) in
     let both : some ≡ e ∷ rest = cc in
@@ -65,82 +65,82 @@ in_the_middle P (y ∷ xs) x ys all = in_the_middle P xs x ys (All-tail P y (xs 
 pub has_files_of : (seen : List LoadEntry) (e : LoadEntry) (rest all : List LoadEntry) → seen ++ e ∷ rest ≡ all → All (λ (x : LoadEntry). HasFiles x) all → HasFiles e
 has_files_of seen e rest all are has = in_the_middle (λ (x : LoadEntry). HasFiles x) seen e rest (subst (λ (l : List LoadEntry). All (λ (x : LoadEntry). HasFiles x) l) (sym are) has)
 
-pub within_all : (seen : List LoadEntry) (e : LoadEntry) (rest all : List LoadEntry) → seen ++ e ∷ rest ≡ all → total_length seen + size_of e.files ≤ total_length all
+pub within_all : (seen : List LoadEntry) (e : LoadEntry) (rest all : List LoadEntry) → seen ++ e ∷ rest ≡ all → total_length seen + entries_length e.files ≤ total_length all
 within_all seen e rest all are =
     omega (arith, ap total_length are, total_joined seen (e ∷ rest), total_joined (e ∷ []) rest, total_of_one e)
 
 pub each_has_files : (loads : List LoadEntry) → ManifestFits loads → All (λ (x : LoadEntry). HasFiles x) loads
 each_has_files loads fits = All-weaker (λ (x : LoadEntry). LoadFits x) (λ (x : LoadEntry). HasFiles x) (λ x fit. fit.some) loads fits.each
 
--- ---- the room that is left
+-- ---- the space that is left
 
-pub room_at_first : (room : ℕ) → IsBehind room (total_length []) (Some room)
-room_at_first room = record { some = omega arith; none = tt }
+pub room_at_first : (space : ℕ) → IsLeftAfter space (total_length []) (Some space)
+room_at_first space = record { some = omega arith; none = tt }
 
-pub behind_more : (room total size rest : ℕ) (result : Option ℕ) → IfSome result (λ left. size + left ≡ rest) → IfNone result (rest < size) → IsBehind room total (Some rest)
-    → IsBehind room (total + size) result
-behind_more room total size rest (Some left) some none was = record { some = omega (arith, some, was.some); none = tt }
-behind_more room total size rest None some none was = record { some = tt; none = omega (arith, none, was.some) }
+pub left_after_more : (space total size rest : ℕ) (result : Option ℕ) → IfSome result (λ left. size + left ≡ rest) → IfNone result (rest < size) → IsLeftAfter space total (Some rest)
+    → IsLeftAfter space (total + size) result
+left_after_more space total size rest (Some left) some none was = record { some = omega (arith, some, was.some); none = tt }
+left_after_more space total size rest None some none was = record { some = tt; none = omega (arith, none, was.some) }
 
-pub behind_none : (room total size : ℕ) → IsBehind room total None → IsBehind room (total + size) None
-behind_none room total size was = record { some = tt; none = omega (arith, was.none) }
+pub none_left_after : (space total size : ℕ) → IsLeftAfter space total None → IsLeftAfter space (total + size) None
+none_left_after space total size was = record { some = tt; none = omega (arith, was.none) }
 
 -- of the loads that were read so far
-pub record RoomSoFar (whole : Result (List LoadEntry) ManifestFault) (count counter room : ℕ) (reader : ManifestReader) (left : Option ℕ) : Type 0 where
+pub record LeftSoFar (whole : Result (List LoadEntry) ManifestFault) (count counter space : ℕ) (reader : ManifestReader) (left : Option ℕ) : Type 0 where
   pub seen : List LoadEntry
   pub yet : with_these seen (left_in reader) ≡ whole
   pub to_come : reader.left ≡ count - counter
-  pub behind : IsBehind room (total_length seen) left
+  pub left_after : IsLeftAfter space (total_length seen) left
 
-pub no_room_yet : (whole : Result (List LoadEntry) ManifestFault) (count room : ℕ) (reader : ManifestReader) → left_in reader ≡ whole → count ≡ reader.left → RoomSoFar whole count 0 room reader (Some room)
-no_room_yet whole count room reader begun is = record {
+pub all_left_yet : (whole : Result (List LoadEntry) ManifestFault) (count space : ℕ) (reader : ManifestReader) → left_in reader ≡ whole → count ≡ reader.left → LeftSoFar whole count 0 space reader (Some space)
+all_left_yet whole count space reader begun is = record {
   seen = [];
   yet = none_before (left_in reader) ∙ begun;
   to_come = omega (arith, is);
-  behind = room_at_first room;
+  left_after = room_at_first space;
 }
 
-pub room_more : (whole : Result (List LoadEntry) ManifestFault) (count counter room : ℕ) (old new : ManifestReader) (left result : Option ℕ) (e : LoadEntry) → counter < count
-    → left_in old ≡ with_these (e ∷ []) (left_in new) → new.left + 1 ≡ old.left → ((total : ℕ) → IsBehind room total left → IsBehind room (total + size_of e.files) result)
-    → RoomSoFar whole count counter room old left → RoomSoFar whole count (counter + 1) room new result
-room_more whole count counter room old new left result e within first fewer more was = record {
+pub room_more : (whole : Result (List LoadEntry) ManifestFault) (count counter space : ℕ) (old new : ManifestReader) (left result : Option ℕ) (e : LoadEntry) → counter < count
+    → left_in old ≡ with_these (e ∷ []) (left_in new) → new.left + 1 ≡ old.left → ((total : ℕ) → IsLeftAfter space total left → IsLeftAfter space (total + entries_length e.files) result)
+    → LeftSoFar whole count counter space old left → LeftSoFar whole count (counter + 1) space new result
+room_more whole count counter space old new left result e within first fewer more was = record {
   seen = was.seen ++ e ∷ [];
   yet = sym (one_before was.seen e (left_in old) (left_in new) first) ∙ was.yet;
   to_come = omega (arith, within, fewer, was.to_come);
-  behind = subst (λ (n : ℕ). IsBehind room n result) (sym (total_with was.seen e)) (more (total_length was.seen) was.behind);
+  left_after = subst (λ (n : ℕ). IsLeftAfter space n result) (sym (total_with was.seen e)) (more (total_length was.seen) was.left_after);
 }
 
-pub has_room : (bytes : List ℕ) (room : ℕ) (reader : ManifestReader) (count counter : ℕ) (left : Option ℕ) → left_in reader ≡ Ok [] → RoomSoFar (answer manifest bytes) count counter room reader left → HasRoom bytes room left
-has_room bytes room reader count counter left none was = record { loads = was.seen; read = all_seen was.seen (left_in reader) (answer manifest bytes) none was.yet; behind = was.behind }
+pub has_room : (bytes : List ℕ) (space : ℕ) (reader : ManifestReader) (count counter : ℕ) (left : Option ℕ) → left_in reader ≡ Ok [] → LeftSoFar (answer manifest bytes) count counter space reader left → LeftAfterLoads bytes space left
+has_room bytes space reader count counter left none was = record { loads = was.seen; read = all_seen was.seen (left_in reader) (answer manifest bytes) none was.yet; left_after = was.left_after }
 
 -- ---- bytes that are a manifest, and bytes that are none
 
 spells : (bytes : List ℕ) (loads : List LoadEntry) → IsBytes bytes → answer manifest bytes ≡ Ok loads → Spelled manifest bytes loads
 spells bytes loads fit read = manifest_found bytes loads fit read
 
-pub tells : (bytes : List ℕ) (room : ℕ) → IsBytes bytes → HasRoom bytes room (Some 0) → TellsLoads bytes room
-tells bytes room fit has = record {
+pub tells : (bytes : List ℕ) (space : ℕ) → IsBytes bytes → LeftAfterLoads bytes space (Some 0) → TellsLoads bytes space
+tells bytes space fit has = record {
   are_bytes = fit;
   loads = has.loads;
   read = has.read;
   spelled = spells bytes has.loads fit has.read;
   fits = ((manifest_spelling bytes has.loads).0 (spells bytes has.loads fit has.read)).0;
-  lengths = omega (arith, has.behind.some);
+  lengths = omega (arith, has.left_after.some);
 }
 
 -- another number of bytes
-pub other_lengths : (bytes : List ℕ) (start room : ℕ) (left : Option ℕ) (fault : RecoverFault) → IsBytes bytes → HasRoom bytes room left → ¬ (left ≡ Some 0) → fault ≡ BadManifest start
-    → HasOtherLengths bytes start room fault
-other_lengths bytes start room left fault fit has other is = record {
+pub other_lengths : (bytes : List ℕ) (start space : ℕ) (left : Option ℕ) (fault : RecoverFault) → IsBytes bytes → LeftAfterLoads bytes space left → ¬ (left ≡ Some 0) → fault ≡ BadManifest start
+    → HasOtherLengths bytes start space fault
+other_lengths bytes start space left fault fit has other is = record {
   loads = has.loads;
   spelled = spells bytes has.loads fit has.read;
-  differ = λ same. apart left (total_length has.loads) room has.behind other same;
+  differ = λ same. apart left (total_length has.loads) space has.left_after other same;
   is = is;
 }
   where
-    apart : (left : Option ℕ) (total room : ℕ) → IsBehind room total left → ¬ (left ≡ Some 0) → total ≡ room → ⊥
-    apart (Some rest) total room behind other same = let none : rest ≡ 0 = omega (arith, behind.some, same) in other (ap (λ (n : ℕ). Some n) none)
-    apart None total room behind other same = omega (arith, behind.none, same)
+    apart : (left : Option ℕ) (total space : ℕ) → IsLeftAfter space total left → ¬ (left ≡ Some 0) → total ≡ space → ⊥
+    apart (Some rest) total space left_after other same = let none : rest ≡ 0 = omega (arith, left_after.some, same) in other (ap (λ (n : ℕ). Some n) none)
+    apart None total space left_after other same = omega (arith, left_after.none, same)
 
 wrong_or_memory : (offset : ℕ) → Wrong offset ≡ Memory → ⊥
 wrong_or_memory offset e = cc
@@ -175,7 +175,7 @@ no_lines reads start before count reader is = record {
 }
 
 pub lines_more : (reads : Option Image) (start : ℕ) (whole : Result (List LoadEntry) ManifestFault) (before : List ℕ) (count counter : ℕ) (old new : ManifestReader) (at next : ℕ) (middle after : List ℕ) (e : LoadEntry)
-    → counter < count → left_in old ≡ with_these (e ∷ []) (left_in new) → new.left + 1 ≡ old.left → next ≡ at + size_of e.files → ListsLoad reads at e middle after
+    → counter < count → left_in old ≡ with_these (e ∷ []) (left_in new) → new.left + 1 ≡ old.left → next ≡ at + entries_length e.files → ListsLoad reads at e middle after
     → LinesSoFar reads start whole before count counter old at middle → LinesSoFar reads start whole before count (counter + 1) new next after
 lines_more reads start whole before count counter old new at next middle after e within first fewer end now was = record {
   seen = was.seen ++ e ∷ [];

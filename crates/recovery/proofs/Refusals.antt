@@ -14,7 +14,7 @@ use Rattle.disk_layout.specs.declared.identity.Identity.{Identity}
 use Rattle.disk_layout.specs.declared.fault.RecoverFault.{RecoverFault}
 use Rattle.disk_layout.specs.declared.fault.RecoverFault.TheVariants.{NotFormatted, NoOpenSlot, BadSlot, BadManifest, DiskFailed, Memory}
 use Rattle.disk_layout.specs.declared.slot.SlotFields.{SlotFields}
-use Rattle.recovery.specs.Parts.{RefusesSlots, IsSoundAt, RefusesSlot, RefusesManifest}
+use Rattle.recovery.specs.Parts.{RefusesSlots, IsSoundFor, RefusesSlot, RefusesManifest}
 use Rattle.recovery.specs.Parts.RefusesSlot.{other_bank, long, past}
 
 -- a fault of the disk says nothing of the image
@@ -34,7 +34,7 @@ slots_refuse image id fault has (inr none) = rw none.2 (no_open_slot id has none
 
 -- ---- the active slot can be or not
 
-pub can_be : (image : Image) (id : Identity) (at : ℕ) (slot : SlotFields) → IsSlotAt image at slot → IsSoundAt id.bank slot → IsSoundSlot image id at
+pub can_be : (image : Image) (id : Identity) (at : ℕ) (slot : SlotFields) → IsSlotAt image at slot → IsSoundFor id.bank slot → IsSoundSlot image id at
 can_be image id at slot is can = record {
   is_bank = rw (← is.bank) can.is_bank;
   short = rw (← is.length) can.short;
@@ -79,7 +79,7 @@ manifest_refuses image id at slot fault has_active can says (inr other) =
 
 -- ---- all of it
 
-pub has_outline : (image : Image) (id : Identity) (at : ℕ) (slot : SlotFields) (loads : List LoadEntry) → HasActiveSlot image id at → IsSoundAt id.bank slot → IsSlotAt image at slot
+pub has_outline : (image : Image) (id : Identity) (at : ℕ) (slot : SlotFields) (loads : List LoadEntry) → HasActiveSlot image id at → IsSoundFor id.bank slot → IsSlotAt image at slot
     → Spelled manifest (range image (bank_at id.bank slot.bank + slot.manifest.offset) slot.manifest.length) loads → total_length loads ≡ slot.manifest.offset
     → HasOutline image at (record { identity = id; bank = slot.bank; sequence = slot.sequence; loads = loads })
 has_outline image id at slot loads has_active can says spelled lengths = record {

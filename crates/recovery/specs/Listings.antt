@@ -6,7 +6,7 @@ use Rattle.load_base.specs.Config.{FileView, LoadView}
 use Rattle.disk_model.specs.Image.{Image, range}
 use Rattle.disk_layout.specs.Contents.{HeaderIsFirst, HeadersAreFirst, bytes_of, contents_of_loads, entries_of, entry_of, file_entry_of}
 use Rattle.disk_layout.specs.Holds.{HoldsConfig, StandingView}
-use Rattle.disk_layout.specs.Manifest.{LoadEntry, size_of, total_length}
+use Rattle.disk_layout.specs.Manifest.{LoadEntry, entries_length, total_length}
 use Rattle.disk_layout.specs.Offsets.{IsBankSize}
 use Rattle.disk_layout.specs.declared.manifest.ManifestFault.{ManifestFault}
 use Rattle.disk_layout.specs.declared.manifest.ManifestFile.{ManifestFile}
@@ -31,7 +31,7 @@ pub record ListsFile (reads : Option Image) (at : ℕ) (entry : ManifestFile) (b
 pub record ListsFiles (reads : Option Image) (at : ℕ) (entries : List ManifestFile) (before after : List ℕ) : Type 0 where
   pub files : List FileView
   pub entries_are : map file_entry_of files ≡ entries
-  pub contents : ForSome reads (λ image. bytes_of files ≡ range image at (size_of entries))
+  pub contents : ForSome reads (λ image. bytes_of files ≡ range image at (entries_length entries))
   pub text : after ≡ before ++ flat_map file_line files
 
 -- of a load
@@ -39,7 +39,7 @@ pub record ListsLoad (reads : Option Image) (at : ℕ) (entry : LoadEntry) (befo
   pub load : LoadView
   pub entry_is : entry_of load ≡ entry
   pub header : HeaderIsFirst load
-  pub contents : ForSome reads (λ image. bytes_of load.files ≡ range image at (size_of entry.files))
+  pub contents : ForSome reads (λ image. bytes_of load.files ≡ range image at (entries_length entry.files))
   pub text : after ≡ before ++ load_lines load
 
 -- and of loads back to back

@@ -13,18 +13,18 @@ use Rattle.disk_layout.specs.declared.manifest.ManifestFault.{ManifestFault}
 use Rattle.recovery.specs.Parts.{HasFiles}
 use Rattle.recovery.specs.Surveys.{FindsOutline}
 
--- Of so much room this is left after so many bytes, or nothing where they are more.
-pub record IsBehind (room total : ℕ) (left : Option ℕ) : Type 0 where
-  pub some : IfSome left (λ rest. total + rest ≡ room)
-  pub none : IfNone left (room < total)
+-- Of so much space this is left after this many bytes; none where they are more.
+pub record IsLeftAfter (space total : ℕ) (left : Option ℕ) : Type 0 where
+  pub some : IfSome left (λ rest. total + rest ≡ space)
+  pub none : IfNone left (space < total)
 
--- This is left after the files of the loads that the bytes tell.
-pub record HasRoom (bytes : List ℕ) (room : ℕ) (left : Option ℕ) : Type 0 where
+-- This is left of so much space after the files of the loads that the bytes tell.
+pub record LeftAfterLoads (bytes : List ℕ) (space : ℕ) (left : Option ℕ) : Type 0 where
   pub loads : List LoadEntry
   pub read : answer manifest bytes ≡ Ok loads
-  pub behind : IsBehind room (total_length loads) left
+  pub left_after : IsLeftAfter space (total_length loads) left
 
--- The bytes tell loads, whose files have so many bytes together.
+-- The bytes tell loads, whose files have this many bytes together.
 pub record TellsLoads (bytes : List ℕ) (contents : ℕ) : Type 0 where
   pub are_bytes : IsBytes bytes
   pub loads : List LoadEntry
@@ -45,7 +45,7 @@ pub record IsOutlineInRange (id : Identity) (active : Active) (bytes : List ℕ)
   pub range : IsManifestRange id.bank active.manifest
   pub tells : TellsLoads bytes active.manifest.offset
 
--- What a reader has left are loads, whose files begin at one offset and end at another at the latest.
+-- What a reader has left are loads, each with a file, and their files begin at one offset and end at another at the latest.
 pub record AreLoadsAt (left : Result (List LoadEntry) ManifestFault) (start end : ℕ) : Type 0 where
   pub loads : List LoadEntry
   pub are : left ≡ Ok loads

@@ -18,7 +18,7 @@ use Rattle.recovery.specs.declared.slots.ActiveSlot.{ActiveSlot}
 
 -- ---- bytes
 
--- This is the check sum of so many bytes, those that the disk has from this offset on, where it tells its content.
+-- This is the check sum of this many bytes, those that the disk has from this offset on, where it tells its content.
 pub record IsSumAt (reads : Option Image) (at count sum : ℕ) : Type 0 where
   pub bytes : List ℕ
   pub size : length bytes ≡ count
@@ -42,14 +42,14 @@ abbrev pub RefusesSlots : Image → RecoverFault → Type 0
 RefusesSlots image fault = IsOfDisk fault ⊎ (¬ IsOpen image slot_a × ¬ IsOpen image slot_b × (fault ≡ NoOpenSlot))
 
 -- this slot is active on the disk of this target
-pub record IsSoundSlotOn (image : Image) (id : Identity) (active_slot : ActiveSlot) : Type 0 where
+pub record IsActiveSlotOfTarget (image : Image) (id : Identity) (active_slot : ActiveSlot) : Type 0 where
   pub has_active : HasActiveSlot image id (slot_offset active_slot.slot)
   pub says : IsSlotAt image (slot_offset active_slot.slot) active_slot.says
   pub other : TellsOther image (slot_offset active_slot.slot) active_slot.other_is_open
 
 -- what the slot says can be on a disk with banks of this size
-abbrev pub IsSoundAt : (size : ℕ) → SlotFields → Type 0
-IsSoundAt size slot = IsSound size slot.bank slot.manifest.offset slot.manifest.length
+abbrev pub IsSoundFor : (size : ℕ) → SlotFields → Type 0
+IsSoundFor size slot = IsSound size slot.bank slot.manifest.offset slot.manifest.length
 
 -- the first that can't be in what the slot at this offset says
 pub data RefusesSlot (size at : ℕ) (slot : SlotFields) (fault : RecoverFault) : Type 0 where
@@ -79,8 +79,5 @@ abbrev pub RefusesLoads : List ℕ → (start offset : ℕ) → RecoverFault →
 RefusesLoads bytes start offset fault = IsNoManifest bytes start fault ⊎ HasOtherLengths bytes start offset fault
 
 -- the same of bytes of the disk
-abbrev pub RefusesBytes : Image → (start size : ℕ) → RecoverFault → Type 0
-RefusesBytes image start size fault = IsNoManifest (range image start size) start fault
-
 abbrev pub RefusesManifest : Image → (start size offset : ℕ) → RecoverFault → Type 0
 RefusesManifest image start size offset fault = RefusesLoads (range image start size) start offset fault

@@ -4,13 +4,13 @@ ghost use Rattle.std.specs.Option.{ForSome};
 ghost use Rattle.std.specs.List.{All};
 ghost use Rattle.load_base.specs.Config.{file_view, load_view};
 ghost use Rattle.disk_model.specs.Image.{range};
-ghost use Rattle.disk_layout.specs.Manifest.{entry_view, total_length, size_of};
+ghost use Rattle.disk_layout.specs.Manifest.{entry_view, total_length, entries_length};
 ghost use Rattle.disk_layout.specs.Contents.{file_entry_of, entry_of, entries_of, bytes_of};
 ghost use Rattle.disk_layout.specs.Contents.{contents_of_loads, HeaderIsFirst, HeadersAreFirst};
 ghost use Rattle.disk_layout.specs.DiskReads.{IsOfDisk, ReadsDisk};
 ghost use Rattle.recovery.specs.Parts.{HasFiles};
 
-use crate::looking::bytes_on;
+use crate::reading::bytes_on;
 use disk_layout::{ManifestFile, ManifestLoad, RecoverFault};
 use disk_model::{Disk, SIZE};
 use load_base::{List, Load, StoredFile};
@@ -53,14 +53,14 @@ fn load_on<K: Disk>(
     entry: &ManifestLoad,
 ) -> Result<(Load, u32), RecoverFault>
     requires running { (K.state disk.old).stopped ≡ false }
-    requires within { at + size_of entry.now.files.items ≤ SIZE }
+    requires within { at + entries_length entry.now.files.items ≤ SIZE }
     requires files { HasFiles (entry_view entry.now) }
     ensures entry { IfOk result (λ x. entry_of (load_view x.0) ≡ entry_view entry.now) }
     ensures header { IfOk result (λ x. HeaderIsFirst (load_view x.0)) }
-    ensures end { IfOk result (λ x. x.1 ≡ at + size_of entry.now.files.items) }
+    ensures end { IfOk result (λ x. x.1 ≡ at + entries_length entry.now.files.items) }
     ensures bytes { IfOk result (λ x. ForSome (K.state disk.old).reads
         (λ image. bytes_of (load_view x.0).files
-        ≡ range image at (size_of entry.now.files.items))) }
+        ≡ range image at (entries_length entry.now.files.items))) }
     ensures refused { IfErr result (λ fault. IsOfDisk fault) }
     ensures reads_disk { ReadsDisk (K.state disk.old) (K.state disk.new) result }
 {
@@ -81,11 +81,11 @@ fn files_on<K: Disk>(
     files: &[ManifestFile],
 ) -> Result<(List<StoredFile>, u32), RecoverFault>
     requires running { (K.state disk.old).stopped ≡ false }
-    requires within { start + size_of files.now ≤ SIZE }
+    requires within { start + entries_length files.now ≤ SIZE }
     ensures entries { IfOk result (λ x. map file_entry_of (map file_view x.0.items) ≡ files.now) }
-    ensures end { IfOk result (λ x. x.1 ≡ start + size_of files.now) }
+    ensures end { IfOk result (λ x. x.1 ≡ start + entries_length files.now) }
     ensures bytes { IfOk result (λ x. ForSome (K.state disk.old).reads
-        (λ image. bytes_of (map file_view x.0.items) ≡ range image start (size_of files.now))) }
+        (λ image. bytes_of (map file_view x.0.items) ≡ range image start (entries_length files.now))) }
     ensures refused { IfErr result (λ fault. IsOfDisk fault) }
     ensures reads_disk { ReadsDisk (K.state disk.old) (K.state disk.new) result }
 {

@@ -3,8 +3,8 @@
 
 mod contents;
 mod listed;
-mod looking;
 mod manifests;
+mod reading;
 mod recovering;
 mod slots;
 mod surveying;

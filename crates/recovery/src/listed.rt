@@ -4,13 +4,13 @@ ghost use Rattle.std.specs.Option.{ForSome};
 ghost use Rattle.bank_store.specs.DiskWrites.{IsRunning};
 ghost use Rattle.disk_layout.specs.DiskReads.{IsOfDisk, ReadsDisk};
 ghost use Rattle.disk_layout.specs.Holds.{Refuses};
-ghost use Rattle.disk_layout.specs.Manifest.{entry_view, left_in, size_of};
+ghost use Rattle.disk_layout.specs.Manifest.{entry_view, left_in, entries_length};
 ghost use Rattle.recovery.specs.Listings.{IsListing, ListsFile, ListsFiles, ListsLoad, ListsAll};
 ghost use Rattle.recovery.specs.Outlines.{AreLoadsAt};
 ghost use Rattle.recovery.specs.Parts.{HasFiles};
 
-use crate::looking::{PIECE, sum_on};
 use crate::manifests::outline_on;
+use crate::reading::{PIECE, sum_on};
 use disk_layout::{ManifestFault, ManifestFile, ManifestLoad, ManifestReader, RecoverFault};
 use disk_model::{Disk, SIZE};
 use listing::{put_bank, put_count, put_file_line, put_load_line, put_target};
@@ -92,10 +92,10 @@ fn put_load<K: Disk>(
     out: &mut Bytes,
 ) -> Result<u32, RecoverFault>
     requires running { (K.state disk.old).stopped ≡ false }
-    requires within { at + size_of entry.now.files.items ≤ SIZE }
+    requires within { at + entries_length entry.now.files.items ≤ SIZE }
     requires files { HasFiles (entry_view entry.now) }
     requires buffer { 1 ≤ length buffer.old }
-    ensures end { IfOk result (λ end. end ≡ at + size_of entry.now.files.items) }
+    ensures end { IfOk result (λ end. end ≡ at + entries_length entry.now.files.items) }
     ensures listed { OnOk result (ListsLoad (K.state disk.old).reads at (entry_view entry.now)
         out.old.items out.new.items) }
     ensures refused { IfErr result (λ fault. IsOfDisk fault) }
@@ -116,9 +116,9 @@ fn put_files<K: Disk>(
     out: &mut Bytes,
 ) -> Result<u32, RecoverFault>
     requires running { (K.state disk.old).stopped ≡ false }
-    requires within { start + size_of files.now ≤ SIZE }
+    requires within { start + entries_length files.now ≤ SIZE }
     requires buffer { 1 ≤ length buffer.old }
-    ensures end { IfOk result (λ end. end ≡ start + size_of files.now) }
+    ensures end { IfOk result (λ end. end ≡ start + entries_length files.now) }
     ensures listed { OnOk result (ListsFiles (K.state disk.old).reads start files.now
         out.old.items out.new.items) }
     ensures refused { IfErr result (λ fault. IsOfDisk fault) }

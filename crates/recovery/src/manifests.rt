@@ -4,16 +4,16 @@ ghost use Rattle.std.specs.Prelude.{IsErrOf};
 ghost use Rattle.std.specs.Option.{ForSome};
 ghost use Rattle.disk_model.specs.Image.{range};
 ghost use Rattle.disk_layout.specs.Offsets.{IsBankSize, bank_at};
-ghost use Rattle.disk_layout.specs.Manifest.{RefusesManifestBytes, size_of};
+ghost use Rattle.disk_layout.specs.Manifest.{RefusesManifestBytes, entries_length};
 ghost use Rattle.disk_layout.specs.Holds.{Refuses};
 ghost use Rattle.disk_layout.specs.DiskReads.{ReadsDisk};
 ghost use Rattle.disk_layout.specs.declared.fault.RecoverFault.TheVariants.{DiskFailed};
 ghost use Rattle.bank_store.specs.DiskWrites.{IsRunning};
-ghost use Rattle.recovery.specs.Parts.{IsSoundAt, RefusesLoads, RefusesManifest};
-ghost use Rattle.recovery.specs.Outlines.{HasRoom, IsBehind, IsOutlineInRange, TellsLoads};
+ghost use Rattle.recovery.specs.Parts.{IsSoundFor, RefusesLoads, RefusesManifest};
+ghost use Rattle.recovery.specs.Outlines.{LeftAfterLoads, IsLeftAfter, IsOutlineInRange, TellsLoads};
 ghost use Rattle.recovery.specs.Outlines.{TellsOutline};
 
-use crate::looking::bytes_on;
+use crate::reading::bytes_on;
 use crate::slots::{active_by, sound_slot_on};
 use disk_layout::{
     Active, Bank, Identity, ManifestFault, ManifestFile, ManifestReader, RecoverFault, SlotFields,
@@ -63,7 +63,7 @@ fn manifest_bytes_on<K: Disk>(
 ) -> Result<Bytes, RecoverFault>
     requires running { IsRunning (K.state disk.old) }
     requires size { IsBankSize bank_size }
-    requires can_be { IsSoundAt bank_size slot.now }
+    requires can_be { IsSoundFor bank_size slot.now }
     ensures bytes { IfOk result (λ bytes. ForSome (K.state disk.old).reads
         (λ image. bytes.items ≡ range image
         (bank_at bank_size slot.now.bank + slot.now.manifest.offset) slot.now.manifest.length)) }
@@ -80,7 +80,7 @@ fn manifest_bytes_on<K: Disk>(
 }
 
 // These bytes, which begin at an offset of the disk, are a manifest, and the files of its loads
-// have so many bytes together.
+// have this many bytes together.
 fn check_manifest(
     alloc: Global,
     bytes: &[u8],
@@ -91,7 +91,7 @@ fn check_manifest(
     ensures refused { IfErr result (λ fault. RefusesLoads bytes.now start contents fault) }
     ensures not_disk { ¬ IsErrOf result DiskFailed }
 {
-    match room_behind(alloc, bytes, contents) {
+    match left_after_loads(alloc, bytes, contents) {
         Ok(left) if left == Some(0) => Ok(()),
         Ok(_) => Err(RecoverFault::BadManifest(u64::from(start))),
         Err(ManifestFault::Wrong(offset)) => {
@@ -101,39 +101,39 @@ fn check_manifest(
     }
 }
 
-// How many of so many bytes are left after the files of a manifest's loads; `None` where they have
+// How many of this many bytes are left after the files of a manifest's loads; `None` where they have
 // more.
-fn room_behind(alloc: Global, bytes: &[u8], room: u32) -> Result<Option<u32>, ManifestFault>
-    ensures room { IfOk result (λ left. HasRoom bytes.now room left) }
+fn left_after_loads(alloc: Global, bytes: &[u8], space: u32) -> Result<Option<u32>, ManifestFault>
+    ensures space { IfOk result (λ left. LeftAfterLoads bytes.now space left) }
     ensures refused { IfErr result (λ fault. RefusesManifestBytes bytes.now fault) }
 {
     let mut loads = ManifestReader::new(bytes)?;
-    let mut left = Some(room);
+    let mut left = Some(space);
     let count = loads.left();
     for _ in 0..count {
         let load = loads.next_load(alloc)?;
-        // Where there is no room left, a fault of a later load still comes first.
-        left = behind_load(left, load.files.as_slice());
+        // Where there is no space left, a fault of a later load still comes first.
+        left = left_after_load(left, load.files.as_slice());
     }
     loads.end()?;
     Ok(left)
 }
 
 // How many are left after these files too.
-fn behind_load(left: Option<u32>, files: &[ManifestFile]) -> Option<u32>
-    ensures { (room total : ℕ) → IsBehind room total left
-        → IsBehind room (total + size_of files.now) result }
+fn left_after_load(left: Option<u32>, files: &[ManifestFile]) -> Option<u32>
+    ensures { (space total : ℕ) → IsLeftAfter space total left
+        → IsLeftAfter space (total + entries_length files.now) result }
 {
     match left {
-        Some(room) => behind_files(files, room),
+        Some(space) => left_after_files(files, space),
         None => None,
     }
 }
 
 // How many are left after these; `None` where they have more.
-fn behind_files(files: &[ManifestFile], bytes: u32) -> Option<u32>
-    ensures some { IfSome result (λ rest. size_of files.now + rest ≡ bytes) }
-    ensures none { IfNone result (bytes < size_of files.now) }
+fn left_after_files(files: &[ManifestFile], bytes: u32) -> Option<u32>
+    ensures some { IfSome result (λ rest. entries_length files.now + rest ≡ bytes) }
+    ensures none { IfNone result (bytes < entries_length files.now) }
 {
     let mut rest = bytes;
     for file in files {

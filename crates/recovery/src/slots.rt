@@ -7,10 +7,10 @@ ghost use Rattle.disk_layout.specs.Slots.{slot_offset, bank_number, IsSlotAt};
 ghost use Rattle.disk_layout.specs.Holds.{Refuses};
 ghost use Rattle.disk_layout.specs.DiskReads.{IsOfDisk, ReadsDisk};
 ghost use Rattle.bank_store.specs.DiskWrites.{IsRunning};
-ghost use Rattle.recovery.specs.Parts.{IsActiveSlotOn, IsSoundSlotOn, RefusesSlots, RefusesSlot};
-ghost use Rattle.recovery.specs.Parts.{IsSoundAt};
+ghost use Rattle.recovery.specs.Parts.{IsActiveSlotOn, IsActiveSlotOfTarget, RefusesSlots, RefusesSlot};
+ghost use Rattle.recovery.specs.Parts.{IsSoundFor};
 
-use crate::looking::read_from;
+use crate::reading::read_from;
 use disk_layout::offsets::{
     BANK_IN_SLOT, LENGTH_IN_SLOT, LONGEST_IDENTITY, LONGEST_MANIFEST, MANIFEST_OFFSET_IN_SLOT,
     OPEN, SLOT_A, SLOT_B, SLOT_LENGTH,
@@ -29,9 +29,9 @@ pub(crate) struct SoundSlot {
 pub(crate) fn sound_slot_on<K: Disk>(disk: &mut K) -> Result<SoundSlot, RecoverFault>
     requires { IsRunning (K.state disk.old) }
     ensures found { IfOk result (λ sound. ForSome (K.state disk.old).reads
-        (λ image. IsSoundSlotOn image sound.identity sound.active_slot)) }
+        (λ image. IsActiveSlotOfTarget image sound.identity sound.active_slot)) }
     ensures size { IfOk result (λ sound. IsBankSize sound.identity.bank) }
-    ensures can_be { IfOk result (λ sound. IsSoundAt sound.identity.bank sound.active_slot.says) }
+    ensures can_be { IfOk result (λ sound. IsSoundFor sound.identity.bank sound.active_slot.says) }
     ensures refused { IfErr result (λ fault. ForSome (K.state disk.old).reads
         (λ image. Refuses image fault)) }
     ensures reads_disk { ReadsDisk (K.state disk.old) (K.state disk.new) result }
@@ -128,7 +128,7 @@ fn active_slot_on<K: Disk>(disk: &mut K) -> Result<ActiveSlot, RecoverFault>
 
 // What a slot says can be on a disk with banks of this size.
 fn check_slot(bank_size: u32, slot: Slot, says: &SlotFields) -> Result<(), RecoverFault>
-    ensures ok { OnOk result (IsSoundAt bank_size says.now) }
+    ensures ok { OnOk result (IsSoundFor bank_size says.now) }
     ensures refused { IfErr result
         (λ fault. RefusesSlot bank_size (slot_offset slot) says.now fault) }
 {

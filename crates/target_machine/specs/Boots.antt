@@ -28,9 +28,9 @@ BootFails image Memory = Unit {0}
 
 abbrev pub RunsOnAfterBoot : DiskState → DiskState → BootFault → Type 0
 RunsOnAfterBoot old new (Recover fault) = RunsOnAfter old new fault
-RunsOnAfterBoot old new Memory = Unit {0}
+RunsOnAfterBoot old new Memory = RunsOnAfter old new faults.Memory
 
--- Nothing is written. The disk runs on unless it or memory failed, and its failure has its cause.
+-- Nothing is written. The disk runs on unless a call of it was refused, and each of its refusals has its cause.
 pub record BootReads {T : Type 0} (old new : DiskState) (result : Result T BootFault) : Type 0 where
   pub only_reads : OnlyReads old new
   pub ok : OnOk result (RunsOn old new)

@@ -200,7 +200,9 @@ impl Installed {
     /// An ERROR stops an upload that reads a file, and ends every other session.
     fn broken(&mut self, row: Row, code: u16) -> Option<Row>
         requires stage { IsRowStage row self.old.store }
-        ensures row { (buffer : Buffer) → TurnsTo result (broken_to (row_seen self.old.active.loads row) (arriving_in row buffer) code) self.old self.new }
+        ensures row { (buffer : Buffer) → TurnsTo result
+            (broken_to (row_seen self.old.active.loads row) (arriving_in row buffer) code)
+            self.old self.new }
         ensures stage { ForSome result (λ row. IsRowStage row self.new.store) }
         ensures continues { Continues self.old.store self.new.store }
     {

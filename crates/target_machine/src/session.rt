@@ -8,7 +8,7 @@ ghost use Rattle.session_rules.specs.Buffers.{buffer_size, empty_buffer};
 ghost use Rattle.session_rules.specs.Contents.{SessionContents, session_kept};
 ghost use Rattle.load_intake.specs.Contents.{BringsTo, InstallsRow};
 ghost use Rattle.load_intake.specs.Intakes.{contents_kept};
-ghost use Rattle.load_intake.specs.Stores.{GoesOn, Writes};
+ghost use Rattle.load_intake.specs.Stores.{StoreGoesOn, Writes};
 ghost use Rattle.target_machine.specs.Machine.{session_seen, session_with};
 ghost use Rattle.target_machine.specs.Stages.{IsRowStage};
 
@@ -67,7 +67,7 @@ impl LiveSession {
             → InstallsRow store.old (K.state disk.old) s x.row x.arrived
             → BringsTo (K.state disk.old) store.new (K.state disk.new) s s x.row
             (x.arrived ++ payload.now) result }
-        ensures goes_on { OnOk result (GoesOn store.old store.new (K.state disk.old)
+        ensures goes_on { OnOk result (StoreGoesOn store.old store.new (K.state disk.old)
             (K.state disk.new)) }
         ensures size { bank_size_of store.new ≡ bank_size_of store.old }
         ensures writes { Writes (K.state disk.old) (K.state disk.new) result }

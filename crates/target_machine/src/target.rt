@@ -1,7 +1,7 @@
 //! The target.
 ghost use Rattle.std.specs.Option.{ForSome};
 ghost use Rattle.std.specs.Prelude.{◌≡◌, ◌≤◌, ◌∷◌, [], Bool, List, ℕ, None, Some, true, IfErr, IfOk};
-ghost use Rattle.std.specs.Prelude.{OnOk, bytes_eq, is_some, option_map};
+ghost use Rattle.std.specs.Prelude.{IsErrOf, OnOk, bytes_eq, is_some, option_map};
 ghost use Rattle.accept_rules.specs.Interlocks.{Follows};
 ghost use Rattle.bank_store.specs.DiskWrites.{IsRunning};
 ghost use Rattle.bank_store.specs.Fits.{Fits, Works};
@@ -31,6 +31,8 @@ ghost use Rattle.load_intake.specs.declared.down.Down.TheVariants as downs;
 ghost use Rattle.load_intake.specs.Contents.{BringsRow, InstallsRow};
 ghost use Rattle.load_intake.specs.Stores.{Writes};
 ghost use Rattle.target_machine.specs.Boots.{BootFails, BootReads, ComesUp};
+ghost use Rattle.target_machine.specs.declared.boot.BootFault.TheVariants.{Recover};
+ghost use Rattle.disk_layout.specs.declared.fault.RecoverFault.TheVariants as recovers;
 ghost use Rattle.target_machine.specs.Decisions.{Does, Enters, IsCalm, Keeps, Serving};
 ghost use Rattle.target_machine.specs.Decisions.{Takes, asked_by};
 ghost use Rattle.target_machine.specs.Decisions.{awaits_file, end_with};
@@ -119,6 +121,7 @@ impl<'i, R: Rule> Target<'i, R> {
             (K.state disk.new))) }
         ensures refused { IfErr result (λ fault. ForSome (K.state disk.old).reads
             (λ image. BootFails image fault)) }
+        ensures apart { ¬ IsErrOf result (Recover recovers.Memory) }
         ensures reads_disk { BootReads (K.state disk.old) (K.state disk.new) result }
     {
         let installed = Installed::of(survey(alloc, disk)?);
@@ -185,7 +188,8 @@ impl<'i, R: Rule> Target<'i, R> {
             → KeepsDisk (K.state _disk.old) self.new.store (K.state _disk.new) c
             (contents_after accepts self.old.view Ticks c) result }
         ensures untouched { _disk.new ≡ _disk.old }
-        ensures cause { HasDiskCause downs.DiskFailed (K.state _disk.old) (K.state _disk.new) result }
+        ensures cause { HasDiskCause downs.DiskFailed (K.state _disk.old) (K.state _disk.new)
+            result }
         ensures store { OnOk result (Continues self.old.store self.new.store) }
     {
         a_settled_disk_works::<K>();
@@ -193,7 +197,8 @@ impl<'i, R: Rule> Target<'i, R> {
     }
 
     fn tick(&mut self) -> Result<Posts, NoMemory>
-        ensures does { IfOk result (λ posts. Does (tick_decision self.old.view.end self.old.view.live)
+        ensures does { IfOk result (λ posts. Does
+            (tick_decision self.old.view.end self.old.view.live)
             self.old self.new (posts_view posts)) }
         ensures store { OnOk result (Continues self.old.store self.new.store) }
         ensures work { OnOk result (KeepsWork self.old self.new) }
@@ -550,7 +555,8 @@ impl<'i, R: Rule> Target<'i, R> {
             → (c : TargetContents) → AreKept c self.old.view
             → HoldsContents self.old.store (K.state disk.old) c
             → BringsContents (K.state disk.old) self.new.store (K.state disk.new) c
-            (contents_changed c (change_turned accepts self.old.view self.old.view.live error)) result }
+            (contents_changed c (change_turned accepts self.old.view self.old.view.live error))
+            result }
         ensures stays_on { OnOk result (StaysOn self.old.store self.new.store (K.state disk.old)
             (K.state disk.new)) }
         ensures writes { Writes (K.state disk.old) (K.state disk.new) result }

@@ -12,7 +12,7 @@ use Rattle.load_intake.proofs.Filling.{begin_fails}
 use Rattle.load_intake.proofs.Moving.{brings_stop, brings_stop_after, goes_then}
 use Rattle.load_intake.specs.Places.{next_seen}
 use Rattle.load_intake.specs.States.{upload_of}
-use Rattle.load_intake.proofs.Going.{ends_after, stops_after, stops_there}
+use Rattle.load_intake.proofs.Going.{ends_after, stops_after, stops_there, writes_after}
 use Rattle.load_intake.proofs.Headers.{fails_first, has_header, header_accepted, header_next, header_placed, header_stopped, need_is, passes_first, room_for_header}
 use Rattle.load_intake.proofs.arriving.header_read.Goals as goal
 
@@ -121,3 +121,7 @@ returns-clause-brings g c = λ accepts follows s u seen installs.
     header_brings accepts c.args.identity.now w wanted h bytes u next (g.K.Disk.state c.args.disk.now) c.go_on.new.store (g.K.Disk.state c.go_on.new.disk) s c.go_on.result seen c.next_wanted.ensures judged (c.next_after-next.ensures None) installs.holds.headers
     (goes_then next (g.K.Disk.state c.args.disk.now) c.write_header.new.store (g.K.Disk.state c.write_header.new.disk) c.go_on.new.store (g.K.Disk.state c.go_on.new.disk) s _ _ c.go_on.result
     (rw c.prefix-bytes.ensures at (c.in_ok-write_header.ensures.gives s (given_of u bytes) (record { beside = installs.beside; given = installs.holds.given }))) (λ given. c.go_on.ensures.goes_to s _ given))
+
+pub returns-clause-writes : goal.returns-clause-writes
+returns-clause-writes g c =
+    writes_after (g.K.Disk.state c.args.disk.now) (g.K.Disk.state c.write_header.new.disk) (g.K.Disk.state c.go_on.new.disk) _ c.go_on.result c.in_ok-write_header.ensures.writes c.go_on.ensures.writes

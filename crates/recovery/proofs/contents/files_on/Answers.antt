@@ -2,7 +2,7 @@ use Rattle.std.proofs.Common.{List, take, ap, ◌∙◌, arith, ℕ}
 use Rattle.std.specs.Prelude.{map}
 use Rattle.load_base.specs.Config.{file_view}
 use Rattle.load_base.specs.declared.config.StoredFile.{StoredFile}
-use Rattle.disk_layout.specs.Manifest.{size_of}
+use Rattle.disk_layout.specs.Manifest.{entries_length}
 use Rattle.disk_layout.specs.Contents.{file_entry_of}
 use Rattle.disk_layout.specs.declared.manifest.ManifestFile.{ManifestFile}
 use Rattle.recovery.proofs.Files.{size_more, entries_more, bytes_more, nothing_stored}
@@ -29,7 +29,7 @@ loop-file-preserved g c =
       entries = entries_more c.loop-file.stored.items c.push.new.self.items _ files i f c.loop-file-test.true c.file-item.is c.in_ok-push.ensures.ok
           (ap (λ (n : ℕ). made f.name n) c.in_ok-bytes.ensures.size) c.loop-file.invariant.entries;
       bytes = λ image told. rw longer (
-          bytes_more image c.args.start c.loop-file.at (size_of (take i files)) f.length c.loop-file.stored.items c.push.new.self.items _ c.loop-file.invariant.offset c.in_ok-push.ensures.ok
+          bytes_more image c.args.start c.loop-file.at (entries_length (take i files)) f.length c.loop-file.stored.items c.push.new.self.items _ c.loop-file.invariant.offset c.in_ok-push.ensures.ok
           (c.loop-file.invariant.bytes image told) (c.in_ok-bytes.ensures.bytes image (c.loop-file.invariant.looked.runs.reads ∙ told)));
     }
   where

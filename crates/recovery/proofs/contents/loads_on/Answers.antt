@@ -2,7 +2,7 @@ use Rattle.std.proofs.Common.{List, ◌+◌, take, ap, ◌∙◌, arith}
 use Rattle.std.specs.Prelude.{map}
 use Rattle.load_base.specs.Config.{load_view}
 use Rattle.load_base.specs.declared.config.Load.{Load}
-use Rattle.disk_layout.specs.Manifest.{entry_view, total_length, size_of}
+use Rattle.disk_layout.specs.Manifest.{entry_view, total_length, entries_length}
 use Rattle.disk_layout.specs.Contents.{entries_of}
 use Rattle.recovery.proofs.Loads.{total_more, total_within, load_entries_more, contents_more, headers_more, nothing_listed, no_headers, has_files}
 use Rattle.recovery.proofs.DiskReads.{not_yet, look_more}
@@ -41,6 +41,6 @@ loop-entry-preserved g c =
       named = load_entries_more c.loop-entry.loads.items c.push.new.self.items c.in_ok-load.load entries i e c.loop-entry-test.true c.entry-item.is c.in_ok-push.ensures.ok now.entry was.named;
       headers = headers_more c.loop-entry.loads.items c.push.new.self.items c.in_ok-load.load c.in_ok-push.ensures.ok was.headers now.header;
       bytes = λ image told. rw longer (
-          contents_more image c.args.start c.loop-entry.at (total_length (map entry_view (take i entries))) (size_of e.files.items) c.loop-entry.loads.items c.push.new.self.items
+          contents_more image c.args.start c.loop-entry.at (total_length (map entry_view (take i entries))) (entries_length e.files.items) c.loop-entry.loads.items c.push.new.self.items
           c.in_ok-load.load was.offset c.in_ok-push.ensures.ok (was.bytes image told) (now.bytes image (was.looked.runs.reads ∙ told)));
     }

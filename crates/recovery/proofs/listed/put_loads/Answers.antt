@@ -3,7 +3,7 @@ use Rattle.disk_model.specs.Image.{Image}
 use Rattle.disk_layout.specs.Manifest.{entry_view, left_in}
 use Rattle.recovery.specs.Listings.{ListsLoad}
 use Rattle.recovery.proofs.DiskReads.{not_yet, look_more}
-use Rattle.recovery.proofs.Outlined.{behind_one, has_files_of, within_all, no_lines, lines_more}
+use Rattle.recovery.proofs.Outlined.{after_one, has_files_of, within_all, no_lines, lines_more}
 use Rattle.recovery.proofs.listed.put_loads.Goals as goal
 
 pub loop-init : goal.loop-init
@@ -18,7 +18,7 @@ put_load-requires-clause-files g c =
     let was = c.loop.invariant.lines in
     let all = c.requires.loads in
     let e = entry_view c.in-Ok.load in
-    let (rest, are) = behind_one was.seen e (left_in c.loop.loads) (left_in c.next_load.new.self) all.loads c.in-Ok.ensures.first (was.yet ∙ all.are) in
+    let (rest, are) = after_one was.seen e (left_in c.loop.loads) (left_in c.next_load.new.self) all.loads c.in-Ok.ensures.first (was.yet ∙ all.are) in
     has_files_of was.seen e rest all.loads are all.files
 
 pub put_load-requires-clause-within : goal.put_load-requires-clause-within
@@ -26,7 +26,7 @@ put_load-requires-clause-within g c =
     let was = c.loop.invariant.lines in
     let all = c.requires.loads in
     let e = entry_view c.in-Ok.load in
-    let (rest, are) = behind_one was.seen e (left_in c.loop.loads) (left_in c.next_load.new.self) all.loads c.in-Ok.ensures.first (was.yet ∙ all.are) in
+    let (rest, are) = after_one was.seen e (left_in c.loop.loads) (left_in c.next_load.new.self) all.loads c.in-Ok.ensures.first (was.yet ∙ all.are) in
     omega (arith, within_all was.seen e rest all.loads are, was.offset, all.within)
 
 pub loop-preserved : goal.loop-preserved

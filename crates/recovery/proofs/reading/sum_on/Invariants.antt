@@ -1,7 +1,7 @@
 use Rattle.std.proofs.Common.{◌≤◌, ◌-◌}
 use Rattle.recovery.specs.Parts.{IsSumAt}
 use Rattle.recovery.proofs.DiskReads.{Looked}
-use Rattle.recovery.proofs.looking.sum_on.Given as goal
+use Rattle.recovery.proofs.reading.sum_on.Given as goal
 
 abbrev pub invariant-loop-done : goal.invariant-loop-done
 invariant-loop-done g l = record {

@@ -2,7 +2,7 @@ use Rattle.std.proofs.Common.{◌≡◌, ◌≤◌, ◌-◌, length, take}
 use Rattle.std.specs.Option.{ForSome}
 use Rattle.disk_model.specs.Image.{range}
 use Rattle.recovery.proofs.DiskReads.{Looked}
-use Rattle.recovery.proofs.looking.read_from.Given as goal
+use Rattle.recovery.proofs.reading.read_from.Given as goal
 
 abbrev pub invariant-loop-done : goal.invariant-loop-done
 invariant-loop-done g l = record {

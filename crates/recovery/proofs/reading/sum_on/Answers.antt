@@ -1,7 +1,7 @@
 use Rattle.std.proofs.Common.{arith}
 use Rattle.recovery.proofs.DiskReads.{not_yet}
 use Rattle.recovery.proofs.Ranges.{nothing_summed}
-use Rattle.recovery.proofs.looking.sum_on.Goals as goal
+use Rattle.recovery.proofs.reading.sum_on.Goals as goal
 
 pub loop-done-init : goal.loop-done-init
 loop-done-init g c = record {

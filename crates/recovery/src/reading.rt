@@ -48,7 +48,7 @@ fn read_piece<K: Disk>(disk: &mut K, at: u32, buf: &mut [u8]) -> Result<(), Reco
     }
 }
 
-/// So many bytes from an offset on.
+/// This many bytes from an offset on.
 pub(crate) fn bytes_on<K: Disk>(
     alloc: Global,
     disk: &mut K,
@@ -70,7 +70,7 @@ pub(crate) fn bytes_on<K: Disk>(
     Ok(Bytes::from(bytes))
 }
 
-/// The check sum of so many bytes from an offset on, read in pieces as long as the buffer.
+/// The check sum of this many bytes from an offset on, read in pieces as long as the buffer.
 pub(crate) fn sum_on<K: Disk>(
     disk: &mut K,
     at: u32,

@@ -3,7 +3,7 @@ use Rattle.std.proofs.lemmas.Result.{err_from_is_err_and}
 use Rattle.field_grammar.specs.Answers.{answer}
 use Rattle.disk_layout.specs.Manifest.{entry_view, left_in, manifest}
 use Rattle.recovery.proofs.Outlined.{no_manifest, room_more, whole_refused}
-use Rattle.recovery.proofs.manifests.room_behind.Goals as goal
+use Rattle.recovery.proofs.manifests.left_after_loads.Goals as goal
 
 pub returns-in_err-loads-clause-refused : goal.returns-in_err-loads-clause-refused
 returns-in_err-loads-clause-refused c =
@@ -19,8 +19,8 @@ returns-in_err-load-clause-refused c =
 
 pub loop-preserved : goal.loop-preserved
 loop-preserved c =
-    room_more (answer manifest c.args.bytes.now) c.left-count.result c.loop.counter c.args.room c.loop.loads c.next_load.new.self c.loop.left c.behind_load-left.result (entry_view c.in_ok-load.load)
-    c.loop-test.true c.in_ok-load.ensures.first c.in_ok-load.ensures.left (rw c.as_slice.ensures at (c.behind_load-left.ensures c.args.room)) c.loop.invariant
+    room_more (answer manifest c.args.bytes.now) c.left-count.result c.loop.counter c.args.space c.loop.loads c.next_load.new.self c.loop.left c.left_after_load-left.result (entry_view c.in_ok-load.load)
+    c.loop-test.true c.in_ok-load.ensures.first c.in_ok-load.ensures.left (rw c.as_slice.ensures at (c.left_after_load-left.ensures c.args.space)) c.loop.invariant
 
 pub returns-in_err-end-clause-refused : goal.returns-in_err-end-clause-refused
 returns-in_err-end-clause-refused c =

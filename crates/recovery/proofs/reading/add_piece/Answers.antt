@@ -1,6 +1,6 @@
 use Rattle.std.proofs.Common.{◌≡◌, length}
 use Rattle.recovery.proofs.Ranges.{piece_more}
-use Rattle.recovery.proofs.looking.add_piece.Goals as goal
+use Rattle.recovery.proofs.reading.add_piece.Goals as goal
 
 pub returns-clause-sum : goal.returns-clause-sum
 returns-clause-sum g c start done follows so_far =

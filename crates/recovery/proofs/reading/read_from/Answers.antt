@@ -1,7 +1,7 @@
 use Rattle.std.proofs.Common.{rules, ◌≡◌, ◌+◌, ◌-◌, ◌≤◌, length, refl, arith, ◌∙◌}
 use Rattle.recovery.proofs.DiskReads.{not_yet, look_more}
 use Rattle.recovery.proofs.Ranges.{nothing_filled, filled_more}
-use Rattle.recovery.proofs.looking.read_from.Goals as goal
+use Rattle.recovery.proofs.reading.read_from.Goals as goal
 
 pub loop-done-init : goal.loop-done-init
 loop-done-init g c = record {
