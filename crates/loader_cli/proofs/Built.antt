@@ -30,7 +30,7 @@ answered files lines given fault is sizes builds = record {
   small = tt;
 }
 
--- a text that is refused, and not for want of memory
+-- a text that is refused, and not for out of memory
 pub is_refused : (text : List ℕ) (fault : RecipeFault) → fault ≢ OutOfMemory → (fault ≡ OutOfMemory) ⊎ (recipe_said text ≡ Err fault) → recipe_said text ≡ Err fault
 is_refused text fault other (inl memory) = absurd (other memory)
 is_refused text fault other (inr wrong) = wrong

@@ -10,14 +10,14 @@ use Rattle.printed_text.specs.FaultTexts.{coded}
 use Rattle.media_build.specs.Building.{AnswersSizes, Builds as BuildsOf, CanTake, HasShortHeader, HaveLists, HaveShortHeaders, HaveSizes, IsFirstLongHeader, IsFirstRefused, IsSourceFault, IsThere, header_length, headers_length, source_names}
 use Rattle.media_build.specs.FaultTexts.{recipe_fault_text}
 use Rattle.media_build.specs.NoFindings.{body_view, built_view}
-use Rattle.media_build.specs.RecipeSets.{BuiltView, LoadView, loads_of}
+use Rattle.media_build.specs.RecipeSets.{BuiltView, RecipeLoadView, loads_of}
 use Rattle.media_build.specs.Recipes.{recipe_said}
 use Rattle.media_build.specs.declared.building_fault.BuildFault.{BuildFault}
 use Rattle.media_build.specs.declared.building_fault.BuildFault.TheVariants.{Absent, Failed, HeaderTooLong, ListTooLong, Memory, TooLarge, TooLong}
 use Rattle.media_build.specs.declared.fault.RecipeFault.{RecipeFault}
 use Rattle.media_build.specs.declared.statements.RecipeLine.{RecipeLine}
 use Rattle.media_check.specs.Kept.{contents}
-use Rattle.media_check.specs.Openings.{largest_set, size_of, total_of}
+use Rattle.media_check.specs.Openings.{largest_set, length_on_host, total_of}
 use Rattle.media_check.specs.declared.built.Built.{Built}
 use Rattle.loader_cli.specs.Builds.{AnswersBuild, Builds, BuildsBytes, BuildsLines, IsOfInput, Makes, WritesSet}
 use Rattle.loader_cli.specs.Builds.Builds.{recipe_absent, recipe_read, recipe_too_long, recipe_unread}
@@ -70,18 +70,18 @@ one_make number folder host other a b s t answers answers_2 (set_made set made s
 
 -- ---- which size or source is refused
 
-abbrev header_refusal : (recipe : List ℕ) → List LoadView → Option (List ℕ)
+abbrev header_refusal : (recipe : List ℕ) → List RecipeLoadView → Option (List ℕ)
 header_refusal recipe [] = None
 header_refusal recipe (load ∷ loads) =
     if nat_lt 65536 (header_length load) then Some (refused_input recipe (coded (codes "headertoolong") (load.number ∷ []))) else header_refusal recipe loads
 
-headers_pass : (recipe : List ℕ) (loads : List LoadView) → AllByRecursion HasShortHeader loads → header_refusal recipe loads ≡ None
+headers_pass : (recipe : List ℕ) (loads : List RecipeLoadView) → AllByRecursion HasShortHeader loads → header_refusal recipe loads ≡ None
 headers_pass recipe [] short = refl
 headers_pass recipe (load ∷ loads) short =
     else_so (nat_lt 65536 (header_length load)) (Some (refused_input recipe (coded (codes "headertoolong") (load.number ∷ [])))) (header_refusal recipe loads) (not_lower 65536 (header_length load) short.0)
     ∙ headers_pass recipe loads short.1
 
-header_is_long : (recipe : List ℕ) (before after : List LoadView) (load : LoadView) → AllByRecursion HasShortHeader before → 65536 < header_length load
+header_is_long : (recipe : List ℕ) (before after : List RecipeLoadView) (load : RecipeLoadView) → AllByRecursion HasShortHeader before → 65536 < header_length load
     → header_refusal recipe (before ++ load ∷ after) ≡ Some (refused_input recipe (coded (codes "headertoolong") (load.number ∷ [])))
 header_is_long recipe [] after load short long =
     then_so (nat_lt 65536 (header_length load)) (Some (refused_input recipe (coded (codes "headertoolong") (load.number ∷ [])))) (header_refusal recipe after) (lower 65536 (header_length load) long)
@@ -103,28 +103,28 @@ absent_or name (Some bytes) later = later
 abbrev source_refusal : (recipe : List ℕ) → Files → (others : ℕ) → List (List ℕ) → Option (List ℕ)
 source_refusal recipe told others [] = None
 source_refusal recipe told others (name ∷ names) =
-    absent_or name (told name) (long_or name (size_of told name) (large_or recipe (others + size_of told name) (source_refusal recipe told (others + size_of told name) names)))
+    absent_or name (told name) (long_or name (length_on_host told name) (large_or recipe (others + length_on_host told name) (source_refusal recipe told (others + length_on_host told name) names)))
 
 is_there : (name : List ℕ) (file : Option (List ℕ)) (later : Option (List ℕ)) → (file ≡ None → ⊥) → absent_or name file later ≡ later
 is_there name None later some = absurd (some refl)
 is_there name (Some bytes) later some = refl
 
 module _ (recipe : List ℕ) (told : Files) where
-  goes_by : (others : ℕ) (name : List ℕ) (names : List (List ℕ)) → IsThere told name → others + size_of told name ≤ largest_set
-      → source_refusal recipe told others (name ∷ names) ≡ source_refusal recipe told (others + size_of told name) names
+  goes_by : (others : ℕ) (name : List ℕ) (names : List (List ℕ)) → IsThere told name → others + length_on_host told name ≤ largest_set
+      → source_refusal recipe told others (name ∷ names) ≡ source_refusal recipe told (others + length_on_host told name) names
   goes_by others name names there small =
-      let later = source_refusal recipe told (others + size_of told name) names in
-      is_there name (told name) (long_or name (size_of told name) (large_or recipe (others + size_of told name) later)) there.some
-      ∙ (is_short name (size_of told name) (large_or recipe (others + size_of told name) later) there.short ∙ is_small recipe (others + size_of told name) later small)
+      let later = source_refusal recipe told (others + length_on_host told name) names in
+      is_there name (told name) (long_or name (length_on_host told name) (large_or recipe (others + length_on_host told name) later)) there.some
+      ∙ (is_short name (length_on_host told name) (large_or recipe (others + length_on_host told name) later) there.short ∙ is_small recipe (others + length_on_host told name) later small)
 
   passes_by : (others : ℕ) (before rest : List (List ℕ)) → All (IsThere told) before → others + total_of told before ≤ largest_set
       → source_refusal recipe told others (before ++ rest) ≡ source_refusal recipe told (others + total_of told before) rest
   passes_by others [] rest there small = let same : others ≡ others + total_of told [] = omega arith in ap (λ (n : ℕ). source_refusal recipe told n rest) same
   passes_by others (x ∷ before) rest there small =
       let more = one_more told x before in
-      let same : (others + size_of told x) + total_of told before ≡ others + total_of told (x ∷ before) = omega (arith, more) in
+      let same : (others + length_on_host told x) + total_of told before ≡ others + total_of told (x ∷ before) = omega (arith, more) in
       goes_by others x (before ++ rest) (All-head (IsThere told) x before there) (omega (arith, small, more))
-      ∙ (passes_by (others + size_of told x) before rest (All-tail (IsThere told) x before there) (omega (arith, small, more))
+      ∙ (passes_by (others + length_on_host told x) before rest (All-tail (IsThere told) x before there) (omega (arith, small, more))
       ∙ ap (λ (n : ℕ). source_refusal recipe told n rest) same)
 
   sources_pass : (others : ℕ) (names : List (List ℕ)) → CanTake told others names → source_refusal recipe told others names ≡ None
@@ -133,24 +133,24 @@ module _ (recipe : List ℕ) (told : Files) where
       let more = one_more told name names in
       let small = can.together in
       goes_by others name names (All-head (IsThere told) name names can.there) (omega (arith, small, more))
-      ∙ sources_pass (others + size_of told name) names (record { there = All-tail (IsThere told) name names can.there; together = omega (arith, small, more) })
+      ∙ sources_pass (others + length_on_host told name) names (record { there = All-tail (IsThere told) name names can.there; together = omega (arith, small, more) })
 
   source_is_refused : (others : ℕ) (name : List ℕ) (after : List (List ℕ)) (fault : BuildFault) → IsSourceFault told others name fault
       → source_refusal recipe told others (name ∷ after) ≡ Some (refused_build recipe fault)
   source_is_refused others name after (Absent source) is =
-      ap (λ (file : Option (List ℕ)). absent_or name file (long_or name (size_of told name) (large_or recipe (others + size_of told name) (source_refusal recipe told (others + size_of told name) after)))) is.1
+      ap (λ (file : Option (List ℕ)). absent_or name file (long_or name (length_on_host told name) (large_or recipe (others + length_on_host told name) (source_refusal recipe told (others + length_on_host told name) after)))) is.1
       ∙ ap (λ (n : List ℕ). Some (refused_input n (codes "absent"))) (sym is.0)
   source_is_refused others name after (TooLong source) is =
-      let later = large_or recipe (others + size_of told name) (source_refusal recipe told (others + size_of told name) after) in
-      is_there name (told name) (long_or name (size_of told name) later) (not_absent (told name) is.1)
-      ∙ (is_long name (size_of told name) later is.1 ∙ ap (λ (n : List ℕ). Some (refused_input n (codes "toolong"))) (sym is.0))
+      let later = large_or recipe (others + length_on_host told name) (source_refusal recipe told (others + length_on_host told name) after) in
+      is_there name (told name) (long_or name (length_on_host told name) later) (not_absent (told name) is.1)
+      ∙ (is_long name (length_on_host told name) later is.1 ∙ ap (λ (n : List ℕ). Some (refused_input n (codes "toolong"))) (sym is.0))
     where
       not_absent : (file : Option (List ℕ)) → longest_file < length (contents file) → file ≡ None → ⊥
       not_absent file long none = let short : longest_file < 0 = subst (λ (f : Option (List ℕ)). longest_file < length (contents f)) none long in absurd (omega (arith, short))
   source_is_refused others name after TooLarge is =
-      let later = source_refusal recipe told (others + size_of told name) after in
-      is_there name (told name) (long_or name (size_of told name) (large_or recipe (others + size_of told name) later)) is.0.some
-      ∙ (is_short name (size_of told name) (large_or recipe (others + size_of told name) later) is.0.short ∙ is_large recipe (others + size_of told name) later is.1)
+      let later = source_refusal recipe told (others + length_on_host told name) after in
+      is_there name (told name) (long_or name (length_on_host told name) (large_or recipe (others + length_on_host told name) later)) is.0.some
+      ∙ (is_short name (length_on_host told name) (large_or recipe (others + length_on_host told name) later) is.0.short ∙ is_large recipe (others + length_on_host told name) later is.1)
   source_is_refused others name after (HeaderTooLong line) is = absurd is
   source_is_refused others name after ListTooLong is = absurd is
   source_is_refused others name after Failed is = absurd is

@@ -17,7 +17,7 @@ use Rattle.media_lists.specs.Loads.{loads_list}
 use Rattle.media_lists.specs.declared.fault.ListFault.{ListFault}
 use Rattle.media_check.specs.HostNames.{Reading, files_name, loads_name}
 use Rattle.media_check.specs.Kept.{contents}
-use Rattle.media_check.specs.Openings.{CanRead, IsFirstLong, IsShort, IsTooLarge, IsTooLong, largest_set, size_of, total_of}
+use Rattle.media_check.specs.Openings.{CanRead, IsFirstLong, IsShort, IsTooLarge, IsTooLong, largest_set, length_on_host, total_of}
 use Rattle.media_check.specs.Sets.{SetView, found_in}
 use Rattle.media_check.specs.declared.found.Found.{Found}
 use Rattle.media_check.specs.declared.found.Found.TheVariants.{Missing, Read, Refused}
@@ -58,17 +58,17 @@ list_refusal format name file = long_or name (length (contents file)) (found_ref
 
 abbrev names_refusal : Files → List (List ℕ) → Option (List ℕ)
 names_refusal told [] = None
-names_refusal told (name ∷ names) = long_or name (size_of told name) (names_refusal told names)
+names_refusal told (name ∷ names) = long_or name (length_on_host told name) (names_refusal told names)
 
--- and a set for so many bytes together
+-- and a set for this many bytes together
 abbrev pub large_or : (folder : List ℕ) (total : ℕ) → Option (List ℕ) → Option (List ℕ)
 large_or folder total later = if nat_lt largest_set total then Some (refused_input folder (codes "toolarge")) else later
 
--- of listed files, where those before them have so many bytes together
+-- of listed files, where those before them have this many bytes together
 abbrev listed_refusal : (folder : List ℕ) → Files → (total : ℕ) → List (List ℕ) → Option (List ℕ)
 listed_refusal folder told total [] = None
 listed_refusal folder told total (name ∷ names) =
-    long_or name (size_of told name) (large_or folder (total + size_of told name) (listed_refusal folder told (total + size_of told name) names))
+    long_or name (length_on_host told name) (large_or folder (total + length_on_host told name) (listed_refusal folder told (total + length_on_host told name) names))
 
 abbrev or_later : Option (List ℕ) → Option (List ℕ) → Option (List ℕ)
 or_later (Some text) later = Some text
@@ -112,13 +112,13 @@ read_is name (Read list) is = refl
 
 module _ {V : Type 0} (format : Grammar ListFault V) (told : Files) (name : List ℕ) where
   list_passes : HasList format (Some told) name → list_refusal format name (told name) ≡ None
-  list_passes has = is_short name (size_of told name) (found_refusal name (found_in format (told name))) (has told refl).0 ∙ read_is name (found_in format (told name)) (has told refl).1
+  list_passes has = is_short name (length_on_host told name) (found_refusal name (found_in format (told name))) (has told refl).0 ∙ read_is name (found_in format (told name)) (has told refl).1
 
   list_refuses : (fault : List ℕ) → RefusesList format (Some told) name fault → list_refusal format name (told name) ≡ Some (refused_input name fault)
   list_refuses fault (list_absent none is) =
       ap (list_refusal format name) (none told refl) ∙ ap (λ (text : List ℕ). Some (refused_input name text)) (sym is)
   list_refuses fault (list_faulty wrong refuses is) =
-      is_short name (size_of told name) (found_refusal name (found_in format (told name))) (refuses told refl).0
+      is_short name (length_on_host told name) (found_refusal name (found_in format (told name))) (refuses told refl).0
       ∙ (ap (found_refusal name) (refuses told refl).1 ∙ ap (λ (text : List ℕ). Some (refused_input name text)) (sym is))
 
   list_is_long : (file : List ℕ) → IsFirstLong told (name ∷ []) file → list_refusal format name (told name) ≡ Some (refused_input file (codes "toolong"))
@@ -127,7 +127,7 @@ module _ {V : Type 0} (format : Grammar ListFault V) (told : Files) (name : List
       by : (before : List (List ℕ)) → name ∷ [] ≡ before ++ file ∷ long.after → list_refusal format name (told name) ≡ Some (refused_input file (codes "toolong"))
       by [] stands =
           let same : file ≡ name = cc in
-          is_long name (size_of told name) (found_refusal name (found_in format (told name))) (subst (λ (f : List ℕ). longest_file < size_of told f) same long.long)
+          is_long name (length_on_host told name) (found_refusal name (found_in format (told name))) (subst (λ (f : List ℕ). longest_file < length_on_host told f) same long.long)
           ∙ ap (λ (f : List ℕ). Some (refused_input f (codes "toolong"))) (sym same)
       by (x ∷ []) stands = absurd cc
       by (x ∷ y ∷ others) stands = absurd cc
@@ -138,56 +138,56 @@ module _ (told : Files) where
   names_pass : (names : List (List ℕ)) → All (IsShort told) names → names_refusal told names ≡ None
   names_pass [] short = refl
   names_pass (name ∷ names) short =
-      is_short name (size_of told name) (names_refusal told names) (All-head (IsShort told) name names short) ∙ names_pass names (All-tail (IsShort told) name names short)
+      is_short name (length_on_host told name) (names_refusal told names) (All-head (IsShort told) name names short) ∙ names_pass names (All-tail (IsShort told) name names short)
 
-  name_is_long : (before after : List (List ℕ)) (name : List ℕ) → All (IsShort told) before → longest_file < size_of told name
+  name_is_long : (before after : List (List ℕ)) (name : List ℕ) → All (IsShort told) before → longest_file < length_on_host told name
       → names_refusal told (before ++ name ∷ after) ≡ Some (refused_input name (codes "toolong"))
-  name_is_long [] after name short long = is_long name (size_of told name) (names_refusal told after) long
+  name_is_long [] after name short long = is_long name (length_on_host told name) (names_refusal told after) long
   name_is_long (x ∷ before) after name short long =
-      is_short x (size_of told x) (names_refusal told (before ++ name ∷ after)) (All-head (IsShort told) x before short)
+      is_short x (length_on_host told x) (names_refusal told (before ++ name ∷ after)) (All-head (IsShort told) x before short)
       ∙ name_is_long before after name (All-tail (IsShort told) x before short) long
 
   first_is_long : (names : List (List ℕ)) (name : List ℕ) → IsFirstLong told names name → names_refusal told names ≡ Some (refused_input name (codes "toolong"))
   first_is_long names name first = ap (names_refusal told) first.stands ∙ name_is_long first.before first.after name first.others first.long
 
-  pub one_more : (name : List ℕ) (names : List (List ℕ)) → total_of told (name ∷ names) ≡ size_of told name + total_of told names
+  pub one_more : (name : List ℕ) (names : List (List ℕ)) → total_of told (name ∷ names) ≡ length_on_host told name + total_of told names
   one_more name names =
-      let whole : total_of told (name ∷ names) ≡ total_of told (name ∷ []) + total_of told names = sum_by-append (size_of told) (name ∷ []) names in
-      let one : total_of told (name ∷ []) ≡ size_of told name = omega arith in
+      let whole : total_of told (name ∷ names) ≡ total_of told (name ∷ []) + total_of told names = sum_by-append (length_on_host told) (name ∷ []) names in
+      let one : total_of told (name ∷ []) ≡ length_on_host told name = omega arith in
       omega (arith, whole, one)
 
   module _ (folder : List ℕ) where
-    goes_by : (total : ℕ) (name : List ℕ) (names : List (List ℕ)) → IsShort told name → total + size_of told name ≤ largest_set
-        → listed_refusal folder told total (name ∷ names) ≡ listed_refusal folder told (total + size_of told name) names
+    goes_by : (total : ℕ) (name : List ℕ) (names : List (List ℕ)) → IsShort told name → total + length_on_host told name ≤ largest_set
+        → listed_refusal folder told total (name ∷ names) ≡ listed_refusal folder told (total + length_on_host told name) names
     goes_by total name names short small =
-        let later = listed_refusal folder told (total + size_of told name) names in
-        is_short name (size_of told name) (large_or folder (total + size_of told name) later) short ∙ is_small folder (total + size_of told name) later small
+        let later = listed_refusal folder told (total + length_on_host told name) names in
+        is_short name (length_on_host told name) (large_or folder (total + length_on_host told name) later) short ∙ is_small folder (total + length_on_host told name) later small
 
     listed_pass : (total : ℕ) (names : List (List ℕ)) → All (IsShort told) names → total + total_of told names ≤ largest_set → listed_refusal folder told total names ≡ None
     listed_pass total [] short small = refl
     listed_pass total (name ∷ names) short small =
         let more = one_more name names in
         goes_by total name names (All-head (IsShort told) name names short) (omega (arith, small, more))
-        ∙ listed_pass (total + size_of told name) names (All-tail (IsShort told) name names short) (omega (arith, small, more))
+        ∙ listed_pass (total + length_on_host told name) names (All-tail (IsShort told) name names short) (omega (arith, small, more))
 
-    listed_is_long : (total : ℕ) (before after : List (List ℕ)) (name : List ℕ) → All (IsShort told) before → total + total_of told before ≤ largest_set → longest_file < size_of told name
+    listed_is_long : (total : ℕ) (before after : List (List ℕ)) (name : List ℕ) → All (IsShort told) before → total + total_of told before ≤ largest_set → longest_file < length_on_host told name
         → listed_refusal folder told total (before ++ name ∷ after) ≡ Some (refused_input name (codes "toolong"))
     listed_is_long total [] after name short small long =
-        is_long name (size_of told name) (large_or folder (total + size_of told name) (listed_refusal folder told (total + size_of told name) after)) long
+        is_long name (length_on_host told name) (large_or folder (total + length_on_host told name) (listed_refusal folder told (total + length_on_host told name) after)) long
     listed_is_long total (x ∷ before) after name short small long =
         let more = one_more x before in
         goes_by total x (before ++ name ∷ after) (All-head (IsShort told) x before short) (omega (arith, small, more))
-        ∙ listed_is_long (total + size_of told x) before after name (All-tail (IsShort told) x before short) (omega (arith, small, more)) long
+        ∙ listed_is_long (total + length_on_host told x) before after name (All-tail (IsShort told) x before short) (omega (arith, small, more)) long
 
     listed_is_large : (total : ℕ) (before after : List (List ℕ)) (name : List ℕ) → All (IsShort told) before → IsShort told name → total + total_of told before ≤ largest_set
-        → largest_set < (total + total_of told before) + size_of told name → listed_refusal folder told total (before ++ name ∷ after) ≡ Some (refused_input folder (codes "toolarge"))
+        → largest_set < (total + total_of told before) + length_on_host told name → listed_refusal folder told total (before ++ name ∷ after) ≡ Some (refused_input folder (codes "toolarge"))
     listed_is_large total [] after name short this small large =
-        let later = listed_refusal folder told (total + size_of told name) after in
-        is_short name (size_of told name) (large_or folder (total + size_of told name) later) this ∙ is_large folder (total + size_of told name) later (omega (arith, large))
+        let later = listed_refusal folder told (total + length_on_host told name) after in
+        is_short name (length_on_host told name) (large_or folder (total + length_on_host told name) later) this ∙ is_large folder (total + length_on_host told name) later (omega (arith, large))
     listed_is_large total (x ∷ before) after name short this small large =
         let more = one_more x before in
         goes_by total x (before ++ name ∷ after) (All-head (IsShort told) x before short) (omega (arith, small, more))
-        ∙ listed_is_large (total + size_of told x) before after name (All-tail (IsShort told) x before short) this (omega (arith, small, more)) (omega (arith, large, more))
+        ∙ listed_is_large (total + length_on_host told x) before after name (All-tail (IsShort told) x before short) this (omega (arith, small, more)) (omega (arith, large, more))
 
     module _ (reading : Reading) where
       pub rest_passes : CanRead told reading → rest_refusal folder told reading ≡ None

@@ -19,7 +19,7 @@ use Rattle.media_check.specs.OpeningLaws.{not_too_large, not_too_long}
 use Rattle.media_check.specs.Openings.{IsFirstLong, IsShort}
 use Rattle.media_check.specs.Sets.{SetView, found_in}
 use Rattle.media_check.specs.declared.found.Found.{Found}
-use Rattle.upload_replay.specs.Endings.{HoldsNone, HoldsSome}
+use Rattle.upload_replay.specs.Endings.{HeldNone, HoldsNone, HoldsSome}
 use Rattle.upload_replay.specs.Powers.{RoseBy}
 use Rattle.loader_cli.specs.Replays.{HasInputs, HasList, IsRead, LeavesFirstOrGood, RefusesInputs, RefusesList, Replays, RunSeen, RunsScript, RunsTo, StatusOfRun, rest_of, stops_of, told_as}
 use Rattle.loader_cli.specs.Replays.RefusesInputs.{files_refused, files_too_long, host_failed, large_set, loads_refused, loads_too_long, long_file, no_script, script_absent, script_too_long}
@@ -109,8 +109,8 @@ read_of disk tells = by disk.reads refl tells
 
 module _ (run : Run) (telling : Telling) (folder name : List ℕ) (told : Files) (set : SetView) (script : List Line) (is : ReplaysSound run telling folder name told set script)
     (laws : EndLaws run.work.disk run.work.disk_after) (leaves : LeavesFirstOrGood run.work.disk run.work.disk_after) where
-  none_left : (fault : RecoverFault) → HoldsNone fault run.work.disk ⊎ (HoldsSome run.work.disk × HoldsNone fault run.work.disk_after) → ⊥
-  none_left fault (inl none) = laws.not_both is.image is.start fault is.holds (none is.image is.reads)
+  none_left : (fault : RecoverFault) → HeldNone fault run.work.disk run.work.disk_after ⊎ (HoldsSome run.work.disk × HoldsNone fault run.work.disk_after) → ⊥
+  none_left fault (inl held) = laws.not_both is.image is.start fault is.holds (held.none is.image is.reads)
   none_left fault (inr (some, none)) =
       let left = leaves set is.start is.image is.reads is.holds is.settled in
       let (image, read) = read_of run.work.disk_after left.tells in

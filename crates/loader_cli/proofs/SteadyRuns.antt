@@ -184,5 +184,5 @@ module _ (fixed : WholeRunsAreFixed) (active : ActiveIsFixed) (told : Telling) (
       run_gives fixed active told set script start image old new run reads holds_first settled runs counts answers (up run is) last status text stands by_sessions tells
   outcome_gives status text (unknown run some is stands runs counts failed stopped _ _) = absurd (answers (rose_once (disk_stops (steps_of run.trace)) old.faults new.faults failed))
   outcome_gives status text (disk_failed is failed stopped clock power _ _) = absurd (answers failed)
-  outcome_gives status text (no_config fault is other (inl none) eight tells) = unheld fault (none image reads) eight tells
+  outcome_gives status text (no_config fault is other (inl was) eight tells) = unheld fault (was.none image reads) eight tells
   outcome_gives status text (no_config fault is other (inr (some, none)) _ _) = absurd (none_at_end fault some none)

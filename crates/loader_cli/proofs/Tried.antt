@@ -13,7 +13,7 @@ use Rattle.exchange_trace.specs.Steps.{Step, steps_of}
 use Rattle.media_check.specs.Sets.{SetView}
 use Rattle.recovery.specs.Surveys.{IsSurveyed}
 use Rattle.recovery.specs.declared.surveying.Surveyed.{Surveyed}
-use Rattle.upload_replay.specs.Endings.{HoldsNone, HoldsSome}
+use Rattle.upload_replay.specs.Endings.{HeldNone, HoldsNone, HoldsSome}
 use Rattle.replay_rules.specs.BothEnds.{Setting}
 use Rattle.upload_replay.specs.Moments.{AreClocks, HoldsThroughout}
 use Rattle.upload_replay.specs.Powers.{RoseBy, armed_after, armings_after, disk_stops}
@@ -49,10 +49,27 @@ counts_since steps old mid new read counts = record {
 held_since : (old mid : DiskState) → mid.reads ≡ old.reads → HoldsSome mid → HoldsSome old
 held_since old mid same held image is = held image (same ∙ is)
 
-none_since : (fault : RecoverFault) (old mid new : DiskState) → mid.reads ≡ old.reads → HoldsNone fault mid ⊎ (HoldsSome mid × HoldsNone fault new)
-    → HoldsNone fault old ⊎ (HoldsSome old × HoldsNone fault new)
-none_since fault old mid new same (inl holds) = inl (λ image is. holds image (same ∙ is))
-none_since fault old mid new same (inr (held, holds)) = inr (held_since old mid same held, holds)
+reads_since : (old mid new : DiskState) → OnlyReads old mid → OnlyReads mid new → OnlyReads old new
+reads_since old mid new first second = record {
+  tells = second.tells ∙ first.tells;
+  power = joined_power old mid new first.power second.power;
+  faults = omega (arith, first.faults, second.faults);
+  refusals = omega (arith, first.refusals, second.refusals);
+  clock = second.clock ∙ first.clock;
+  now = λ image may. first.now image (second.now image may);
+  between = λ t u image may. first.between t u image (second.between t u image may);
+  keeps = λ t u image may. second.keeps t u image (first.keeps t u image may);
+  closed = λ steady at n closed. second.closed (first.power.steady ∙ steady) at n (first.closed steady at n closed);
+}
+
+none_since : (fault : RecoverFault) (old mid new : DiskState) → OnlyReads old mid → mid.reads ≡ old.reads → HeldNone fault mid new ⊎ (HoldsSome mid × HoldsNone fault new)
+    → HeldNone fault old new ⊎ (HoldsSome old × HoldsNone fault new)
+none_since fault old mid new read same (inl held) = inl (record {
+  none = λ image is. held.none image (same ∙ is);
+  only_reads = reads_since old mid new read held.only_reads;
+  running = record { reads = held.running.reads ∙ same; running = held.running.running };
+})
+none_since fault old mid new read same (inr (held, holds)) = inr (held_since old mid same held, holds)
 
 -- each moment since a survey is one since its start
 throughout_since : (set : Setting) (steps : List Step) (standing : Option StandingView) (old mid new : DiskState) → OnlyReads old mid → HoldsThroughout set steps standing mid new → HoldsThroughout set steps standing old new
@@ -87,4 +104,4 @@ run_since told set script old mid new handed status text read same (unknown run 
 run_since told set script old mid new handed status text read same (disk_failed is failed stopped clock power said tells) =
     disk_failed is (rose_since 1 old.faults mid.faults new.faults read.faults failed) stopped (clock ∙ read.clock) (joined_power old mid new read.power power) said tells
 run_since told set script old mid new handed status text read same (no_config fault is other holds said tells) =
-    no_config fault is other (none_since fault old mid new same holds) said tells
+    no_config fault is other (none_since fault old mid new read same holds) said tells

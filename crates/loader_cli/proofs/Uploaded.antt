@@ -24,7 +24,7 @@ use Rattle.replay_rules.specs.BothEnds.{Setting, target_at}
 use Rattle.run_promises.specs.Listing.{WhatIsHeldFits}
 use Rattle.generated_uploads.specs.GeneratedMedia.{IsGeneratedSet, uploaded_load}
 use Rattle.generated_uploads.specs.GeneratedUploads.{GeneratedUploadsComplete, IsGeneratedUpload, IsOfTrial, IsOneUpload, OnlyTrialHappens, trial_script}
-use Rattle.upload_replay.specs.Endings.{HoldsNone, HoldsSome}
+use Rattle.upload_replay.specs.Endings.{HeldNone, HoldsNone, HoldsSome}
 use Rattle.upload_replay.specs.Powers.{RoseBy, disk_stops, stops_in, stops_noted}
 use Rattle.loader_cli.specs.Replays.{CountsPower, HoldsScriptRun, IsCompleted, IsScriptRun, LeavesFirstOrGood, RunSeen, RunsScript, RunsTo, StatusOfRun, setting_of, told_as}
 use Rattle.loader_cli.specs.Replays.RunsTo.{disk_failed, ended, no_config, unknown}
@@ -99,8 +99,8 @@ module _ (run : Run) (number : ℕ) (is : TriesSound run number) (uploads : Uplo
   same_target : (id : Identity) → HasIdentity is.image id → id ≡ is.start.identity
   same_target id has = one_value identity _ id is.start.identity has is.holds.by.outline.has_active.identity
 
-  none_left : (set : SetView) (fault : RecoverFault) → HoldsNone fault run.work.disk ⊎ (HoldsSome run.work.disk × HoldsNone fault run.work.disk_after) → ⊥
-  none_left set fault (inl none) = laws.not_both is.image is.start fault is.holds (none is.image is.reads)
+  none_left : (set : SetView) (fault : RecoverFault) → HeldNone fault run.work.disk run.work.disk_after ⊎ (HoldsSome run.work.disk × HoldsNone fault run.work.disk_after) → ⊥
+  none_left set fault (inl held) = laws.not_both is.image is.start fault is.holds (held.none is.image is.reads)
   none_left set fault (inr (some, none)) =
       let left = leaves set is.start is.image is.reads is.holds is.settled in
       let (image, read) = read_of run.work.disk_after left.tells in

@@ -22,7 +22,7 @@ use Rattle.loader_cli.specs.Texts.{built_line, host_fault, refused_build, refuse
 
 -- ---- writing a set
 
--- the status, the text and the host's files where this set, which has so many loads, is written into a folder
+-- the status, the text and the host's files where this set, which has this many loads, is written into a folder
 pub data WritesSet (folder : List ℕ) (set : Built) (loads : ℕ) (host : HostWork) (status : ℕ) (text : List ℕ) : Type 0 where
   -- 0: the host has the set's lists and files under their names, and under each other name what it had
   written : Writes (written_files folder set) host.files host.files_after (Ok tt) → status ≡ 0 → text ≡ built_line loads (length set.bodies.items)

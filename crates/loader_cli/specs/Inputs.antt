@@ -25,7 +25,7 @@ HasLoads folder list files = ForSome files (λ told. IsShort told (loads_name fo
 abbrev pub HasListed : (folder : List ℕ) → FilesListView → Option Files → Type 0
 HasListed folder list files = ForSome files (λ told. IsShort told (files_name folder 1) × (found_in files_list (told (files_name folder 1)) ≡ Read list))
 
--- the inputs, or the first of them that is refused, where the host's faults were so many at first
+-- the inputs, or the first of them that is refused, where the host's faults were this many at first
 abbrev pub ReadsInputs : (folder name : List ℕ) → Option Files → (before after : ℕ) → Inputs → Type 0
 ReadsInputs folder name files before after (Ready set script) = HasInputs folder name files (set_view set) script
 ReadsInputs folder name files before after (Refused answer) = RefusesInputs folder name files before after (status_of answer) (text_of answer)

@@ -39,7 +39,7 @@ use Rattle.completion_reports.specs.Reports.{AllReportsAreTrue}
 use Rattle.run_promises.specs.Promises.{CanBeTold, ChangesByGoodLoads, IsLeftToLastFinish, TellsTrue}
 use Rattle.upload_replay.specs.declared.outcome.Drive.{Drive}
 use Rattle.upload_replay.specs.Drives.{IsRun, NeverBoots}
-use Rattle.upload_replay.specs.Endings.{HoldsNone, HoldsSome}
+use Rattle.upload_replay.specs.Endings.{HeldNone, HoldsNone, HoldsSome}
 use Rattle.upload_replay.specs.Moments.{HoldsThroughout, LeavesGood}
 use Rattle.upload_replay.specs.Orders.{IsInOrder}
 use Rattle.upload_replay.specs.Powers.{RoseBy, armed_after, armings_after, disk_stops}
@@ -153,8 +153,9 @@ pub data RunsTo (told : Telling) (set : SetView) (script : List Line) (old new :
   -- 5: the disk failed before anything happened, and nothing was written
   disk_failed : handed ≡ None → Rose old.faults new.faults → new.stopped ≡ true → new.clock ≡ old.clock → KeepsPower old new → status ≡ 5 → text ≡ disk_fault
       → RunsTo told set script old new handed status text
-  -- 8: the disk held nothing at first, for this fault; or it did, and holds nothing at the end, for this one
-  no_config : (fault : RecoverFault) → handed ≡ None → ¬ IsOfDisk fault → HoldsNone fault old ⊎ (HoldsSome old × HoldsNone fault new) → status ≡ 8 → text ≡ no_configuration fault
+  -- 8: the disk held no configuration at first, for this fault, is as it was, and runs on; or it held one, and holds none at the
+  -- end, for this fault
+  no_config : (fault : RecoverFault) → handed ≡ None → ¬ IsOfDisk fault → HeldNone fault old new ⊎ (HoldsSome old × HoldsNone fault new) → status ≡ 8 → text ≡ no_configuration fault
       → RunsTo told set script old new handed status text
 
 -- ---- the inputs, in reading order

@@ -44,22 +44,22 @@ use Rattle.loader_cli.specs.declared.top_call.Ended.{Ended}
 
 -- the status, the text, and what it says of the disk, where the disk tells its content
 pub data Lists (old new : DiskState) (status : ℕ) (text : List ℕ) : Type 0 where
-  -- 0: the disk stands for this, and runs on
-  listed : (s : StandingView) → ((image : Image) → old.reads ≡ Some image → HoldsConfig image s) → IsBankSize s.identity.bank → s.bank < 2 → RunsOn old new
+  -- 0: the disk holds this configuration, and runs on
+  listed : (s : StandingView) → ForSome old.reads (λ image. HoldsConfig image s) → IsBankSize s.identity.bank → s.bank < 2 → RunsOn old new
       → status ≡ 0 → text ≡ listing s → Lists old new status text
   -- 5: the disk failed in this call
   failed : Rose old.faults new.faults → new.stopped ≡ true → status ≡ 5 → text ≡ disk_fault → Lists old new status text
-  -- 8: the disk stands for nothing, at this fault, and runs on
-  no_listing : (fault : RecoverFault) → ((image : Image) → old.reads ≡ Some image → HasDiskFault image fault) → ¬ IsOfDisk fault → RunsOn old new
+  -- 8: the disk holds no configuration, at this fault, and runs on
+  no_listing : (fault : RecoverFault) → ForSome old.reads (λ image. HasDiskFault image fault) → ¬ IsOfDisk fault → RunsOn old new
       → status ≡ 8 → text ≡ no_configuration fault → Lists old new status text
 
 -- ---- `format HW POS SERIAL BANK`
 
 -- the status, the text, and what it says of the disk, where the disk tells its content
 pub data Formats (old new : DiskState) (id : Identity) (status : ℕ) (text : List ℕ) : Type 0 where
-  -- 0: a power loss leaves nothing but the disk as it reads, it stands for this target without loads and has all other bytes
+  -- 0: a power loss leaves nothing but the disk as it reads, it holds this target without loads and has all other bytes
   -- that it had, and it runs on
-  formatted_it : ((image : Image) → new.reads ≡ Some image → HoldsConfig image (formatted id))
+  formatted_it : ForSome new.reads (λ image. HoldsConfig image (formatted id))
       → ((before after : Image) → old.reads ≡ Some before → new.reads ≡ Some after → KeepsRest id before after) → IsSettled new → new.stopped ≡ false
       → status ≡ 0 → text ≡ formatted_line id → Formats old new id status text
   -- 5: the disk failed in this call

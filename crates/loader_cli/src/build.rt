@@ -156,7 +156,7 @@ pub(crate) fn make<'w, H: Host>(
     write_set(alloc, host, folder.as_bytes(), 1, &set)
 }
 
-// Writes a set with so many loads into a folder.
+// Writes a set with this many loads into a folder.
 fn write_set<'w, H: Host>(
     alloc: Global,
     host: &mut H,

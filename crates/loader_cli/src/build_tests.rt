@@ -129,7 +129,7 @@ fn built(alloc: Global, recipe: &[u8]) -> Result<Bytes, Fail> {
     said(alloc, BUILD, &mut host_with(alloc, recipe)?)
 }
 
-// A recipe of one load for this many kinds of hardware, with so many words of user data.
+// A recipe of one load for this many kinds of hardware, with this many words of user data.
 fn sized(alloc: Global, hardware: u16, user: u32) -> Result<Bytes, Fail> {
     let mut text = Bytes::new(alloc);
     text.extend(b"set XYZ5A-0000-0001\nmembers 1\nload ABC41-0000-0001 APP.LUH 1 7 APP\n")?;
@@ -172,7 +172,7 @@ data APP.BIN 1 none.bin APP1\n",
     Ok(())
 }
 
-// What `build R P` says where the host call of this number fails, if it is one of the first so many,
+// What `build R P` says where the host call of this number fails, if it is one of the first this many,
 // and how many of these files stand before the first that doesn't.
 fn failing_at(
     alloc: Global,

@@ -52,8 +52,8 @@ const OUTPUT_FAILED: u8 = 7;
 #[derive(Drop)]
 pub struct Ended {
     pub status: u8,
-    /// What happened in a run of `replay`, `wire` or `trial` that came to its end, its sessions, and
-    /// what the disk held then. None for other commands, and where memory ran out.
+    /// What happened in a run of `replay`, `wire` or `trial` that came to its end, its sessions,
+    /// and what the disk held then. None for other commands, and where memory ran out.
     pub drive: Option<Drive>,
 }
 
@@ -65,9 +65,12 @@ pub struct Ended {
 /// Only `build` and `make` write files of the host: those of the set, under their names. Where the
 /// host fails, those before it were written.
 ///
-/// Only `list`, `format`, `replay`, `wire` and `trial` use the disk, and `list` only reads it. While
-/// `format` writes, a power loss leaves the old configuration whole, or a disk that holds nothing, or
-/// the formatted one. `list`, `format` and `trial` don't use the host.
+/// Only `list`, `format`, `replay`, `wire` and `trial` use the disk, and `list` only reads it.
+/// While `format` writes, a power loss leaves the old configuration whole, or a disk that holds
+/// nothing, or the formatted one. `list`, `format` and `trial` don't use the host.
+///
+/// What is touched has a clause for each of host, disk, files, run and arming, each for other
+/// commands, so that there are ten.
 pub fn run<H: Host, O: Sink, K: Power>(
     alloc: Global,
     words: &[String],
@@ -150,7 +153,7 @@ fn out_of_memory() -> Ended
     }
 }
 
-// Does what the arguments ask for.
+// Does what the arguments ask for; its clauses are those of [`run`].
 fn answer<'w, H: Host, K: Power>(
     alloc: Global,
     words: &'w [String],

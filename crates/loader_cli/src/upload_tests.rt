@@ -436,7 +436,7 @@ const NEVER: u32 = 1000;
 
 const INFORMATION: &[u8] = b"info HW1 L\nfinish\n";
 
-// What is found where these calls fail, of the host and of the disk, and where each of so many
+// What is found where these calls fail, of the host and of the disk, and where each of this many
 // after them does.
 fn found_in_turn(
     alloc: Global,

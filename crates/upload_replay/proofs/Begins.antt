@@ -16,14 +16,14 @@ use Rattle.run_promises.specs.Promises.{KeepsPromises, RunsKeepPromises}
 use Rattle.target_machine.specs.Boots.{ComesUp}
 use Rattle.target_machine.specs.Decisions.{TargetState}
 use Rattle.target_machine.specs.Disks.{StartsOn}
-use Rattle.upload_replay.specs.Drives.{GoesOn, IsRun}
+use Rattle.upload_replay.specs.Drives.{RunGoesOn, IsRun}
 use Rattle.upload_replay.specs.Moments.{RunsOnDisk}
 use Rattle.upload_replay.proofs.Held.{OneStanding}
 use Rattle.upload_replay.proofs.Throughout.{first_held}
 
 -- where nothing was posted
 pub begins : (set : Setting) (began : LinkState) (target : TargetView) → began.posted ≡ [] → target ≡ new_target 1024 (outline_of set.start)
-    → GoesOn set began [] new_loader (Some target) began
+    → RunGoesOn set began [] new_loader (Some target) began
 begins set began target nothing up = record {
   tied = record { loader_is = refl; target_is = ap (λ (v : TargetView). Some v) up; posted_is = nothing; due = tt };
   noted = tt;
@@ -49,7 +49,7 @@ ready one set rule target old new image began steps loader nothing settled told 
 }
 
 pub is_run : RunsKeepPromises → (set : Setting) (began link : LinkState) (steps : List Step) (loader : LoaderView) (target : Option TargetView) (sessions : List EndedSession) (standing : Option StandingView)
-    → GoesOn set began steps loader target link → EndsOnce steps → AllCarryBytes steps → sessions ≡ all_sessions loader → IsRun set began link steps sessions standing
+    → RunGoesOn set began steps loader target link → EndsOnce steps → AllCarryBytes steps → sessions ≡ all_sessions loader → IsRun set began link steps sessions standing
 is_run promised set began link steps loader target sessions standing on ends carries are = record {
   carries = carries;
   trace = record { ends = ends; due = on.tied.due; noted = on.noted };

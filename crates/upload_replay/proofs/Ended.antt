@@ -3,27 +3,31 @@ use Rattle.std.proofs.Common.{◌≡◌, inl, inr, sym, subst, ◌∙◌}
 use Rattle.std.specs.Prelude.{IfErr, IfOk, Result, Ok, Err}
 use Rattle.std.specs.Result.{IsErrAnd}
 use Rattle.std.specs.Option.{ForSome}
-use Rattle.disk_layout.specs.DiskReads.{RunsOnAfter}
+use Rattle.disk_layout.specs.DiskReads.{RunsOn, RunsOnAfter}
 use Rattle.disk_layout.specs.Holds.{Refuses}
 use Rattle.disk_layout.specs.declared.fault.RecoverFault.{RecoverFault}
 use Rattle.disk_layout.specs.declared.fault.RecoverFault.TheVariants.{BadManifest, BadSlot, DiskFailed, Memory, NoOpenSlot, NotFormatted}
-use Rattle.disk_model.specs.State.{DiskState}
-use Rattle.target_machine.specs.Boots.{BootFails}
+use Rattle.disk_model.specs.State.{DiskState, OnlyReads}
+use Rattle.target_machine.specs.Boots.{BootFails, RunsOnAfterBoot}
 use Rattle.target_machine.specs.declared.boot.BootFault.{BootFault}
 use Rattle.target_machine.specs.declared.boot.BootFault.TheVariants as boots
 use Rattle.upload_replay.specs.declared.outcome.DriveFault.{DriveFault}
 use Rattle.upload_replay.specs.declared.outcome.DriveFault.TheVariants as faults
 use Rattle.upload_replay.specs.Turns.{IsOfRun}
-use Rattle.upload_replay.specs.Endings.{HoldsSome, HoldsStanding, IsLastFault, IsNoConfig, first_fault_of, last_refusal_of}
+use Rattle.upload_replay.specs.Endings.{HeldNone, HoldsNone, HoldsSome, HoldsStanding, IsLastFault, IsNoConfig, first_fault_of, last_refusal_of}
 
-pub first_refusal : (fault : BootFault) (first last : DiskState) → ForSome first.reads (λ image. BootFails image fault) → IsNoConfig (first_fault_of fault) first last
-first_refusal (boots.Recover (NotFormatted offset)) first last refused = (λ is. is, inl refused)
-first_refusal (boots.Recover NoOpenSlot) first last refused = (λ is. is, inl refused)
-first_refusal (boots.Recover (BadSlot offset)) first last refused = (λ is. is, inl refused)
-first_refusal (boots.Recover (BadManifest offset)) first last refused = (λ is. is, inl refused)
-first_refusal (boots.Recover DiskFailed) first last refused = tt
-first_refusal (boots.Recover Memory) first last refused = tt
-first_refusal boots.Memory first last refused = tt
+held_none : (fault : RecoverFault) (first last : DiskState) → HoldsNone fault first → OnlyReads first last → RunsOn first last → HeldNone fault first last
+held_none fault first last none reads on = record { none = none; only_reads = reads; running = on }
+
+pub first_refusal : (fault : BootFault) (first last : DiskState) → ForSome first.reads (λ image. BootFails image fault) → OnlyReads first last → RunsOnAfterBoot first last fault
+    → IsNoConfig (first_fault_of fault) first last
+first_refusal (boots.Recover (NotFormatted offset)) first last refused reads on = (λ is. is, inl (held_none _ first last refused reads on))
+first_refusal (boots.Recover NoOpenSlot) first last refused reads on = (λ is. is, inl (held_none _ first last refused reads on))
+first_refusal (boots.Recover (BadSlot offset)) first last refused reads on = (λ is. is, inl (held_none _ first last refused reads on))
+first_refusal (boots.Recover (BadManifest offset)) first last refused reads on = (λ is. is, inl (held_none _ first last refused reads on))
+first_refusal (boots.Recover DiskFailed) first last refused reads on = tt
+first_refusal (boots.Recover Memory) first last refused reads on = tt
+first_refusal boots.Memory first last refused reads on = tt
 
 -- the disk reads as it did
 pub last_fault : (fault : RecoverFault) (old new : DiskState) → ForSome old.reads (λ image. Refuses image fault) → RunsOnAfter old new fault

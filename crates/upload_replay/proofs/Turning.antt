@@ -19,7 +19,7 @@ use Rattle.replay_rules.specs.BothEnds.{Is_down, Is_up, Setting, TargetState, go
 use Rattle.loader_machine.specs.Machine.{LoaderState, media_of}
 use Rattle.replay_rules.specs.Due.{MayBeNoted, goes_down, is_up}
 use Rattle.replay_rules.specs.Ties.{Reacts, StepKeepsTie, kept_after, kept_by, loader_next, loader_says, target_next, target_says}
-use Rattle.upload_replay.specs.Drives.{NeverBoots, GoesOn, HasTurned, KeepsGoing, TargetTurns, Turns, has_session, is_end}
+use Rattle.upload_replay.specs.Drives.{NeverBoots, RunGoesOn, HasTurned, KeepsGoing, TargetTurns, Turns, has_session, is_end}
 use Rattle.target_machine.specs.Decisions as machine
 use Rattle.accept_rules.specs.Interlocks.{Follows}
 use Rattle.load_header.specs.declared.header.LoadHeader.{LoadHeader}
@@ -104,8 +104,8 @@ module _ (set : Setting) (began : LinkState) (steps : List Step) (s : Step) (loa
     follows = is.follows;
   }
 
-  pub turn_goes_on : StepKeepsTie → GoesOn set began steps loader target link → Turns set steps s loader loader_then target target_then link link_then
-      → GoesOn set began (s ∷ steps) loader_then target_then link_then
+  pub turn_goes_on : StepKeepsTie → RunGoesOn set began steps loader target link → Turns set steps s loader loader_then target target_then link link_then
+      → RunGoesOn set began (s ∷ steps) loader_then target_then link_then
   turn_goes_on keeps on t =
       let tied = keeps set steps loader loader_then target target_then link.posted s on.tied (reacts t) in
       let up : is_some target ≡ is_up (target_at set steps) = ap is_some on.tied.target_is ∙ up_is set (target_at set steps) in
@@ -168,7 +168,7 @@ pub gone_on : {R : Type 0} (knows : Type 0) → StepKeepsTie → (set : Setting)
     → KeepsGoing set began steps steps_then loader loader_then target target_then link link_then
 gone_on knows keeps set began ended steps steps_then loader loader_then target target_then link link_then t before all =
     let here : NeverBoots (t.step ∷ steps) = subst (λ (list : List Step). NeverBoots list) t.recorded all in
-    subst (λ (list : List Step). GoesOn set began list loader_then.view (target_kept target_then) link_then) (sym t.recorded)
+    subst (λ (list : List Step). RunGoesOn set began list loader_then.view (target_kept target_then) link_then) (sym t.recorded)
     (turn_goes_on set began steps t.step loader.view loader_then.view (target_kept target) (target_kept target_then) link link_then keeps (before here.1) (t.turns (inl here.0)))
 
 -- and so does its disk
@@ -177,7 +177,7 @@ pub ran_on : {R : Type 0} → StepKeepsTie → (set : Setting) (began : LinkStat
     → HasTurned (HoldsRun set (target_at set steps) target old) set ended steps steps_then loader loader_then target target_then link link_then → HeldSoFar set since steps_then target_then new
     → RunsOnDisk set began since steps loader target link old → RunsOnDisk set began since steps_then loader_then target_then link_then new
 ran_on keeps set began since ended steps steps_then loader loader_then target target_then link link_then old new t held runs = record {
-  goes_on = subst (λ (list : List Step). GoesOn set began list loader_then.view (target_kept target_then) link_then) (sym t.recorded)
+  goes_on = subst (λ (list : List Step). RunGoesOn set began list loader_then.view (target_kept target_then) link_then) (sym t.recorded)
       (turn_goes_on set began steps t.step loader.view loader_then.view (target_kept target) (target_kept target_then) link link_then keeps runs.goes_on (t.turns (inr runs.held.holds)));
   held = held;
 }

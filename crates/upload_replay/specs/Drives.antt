@@ -30,7 +30,7 @@ use Rattle.upload_replay.specs.Turns.{link_with, target_kept}
 -- A run goes on, on a link that began so: what both ends keep is what the trace says of them, exactly what was due was posted,
 -- and only that was noted of the target which may be; the link was posted and gave exactly what the trace has, and what it
 -- delivered to a side was posted to it. Where the link follows a script, so does the trace.
-pub record GoesOn (set : Setting) (began : LinkState) (steps : List Step) (loader : LoaderView) (target : Option TargetView) (link : LinkState) : Type 0 where
+pub record RunGoesOn (set : Setting) (began : LinkState) (steps : List Step) (loader : LoaderView) (target : Option TargetView) (link : LinkState) : Type 0 where
   pub tied : IsTied set steps loader target link.posted
   pub noted : AllNoted set steps
   pub given : link.given ≡ happenings_of steps ++ began.given
@@ -100,8 +100,8 @@ pub record IsNewStep (ended : Bool) (steps steps_then : List Step) : Type 0 wher
 abbrev pub KeepsGoing : {R : Type 0} → Setting → (began : LinkState) → (steps steps_then : List Step) → (loader loader_then : LoaderState)
     → (target target_then : Option (machine.TargetState R)) → (link link_then : LinkState) → Type 0
 KeepsGoing set began steps steps_then loader loader_then target target_then link link_then =
-    (NeverBoots steps → GoesOn set began steps loader.view (target_kept target) link)
-    → NeverBoots steps_then → GoesOn set began steps_then loader_then.view (target_kept target_then) link_then
+    (NeverBoots steps → RunGoesOn set began steps loader.view (target_kept target) link)
+    → NeverBoots steps_then → RunGoesOn set began steps_then loader_then.view (target_kept target_then) link_then
 
 -- ---- a whole run
 

@@ -2,12 +2,12 @@
 use Rattle.std.specs.Prelude.{◌≡◌, ℕ, ◌+◌, true, ◌⊎◌, List, Option, Some, None, Result, Ok, Err, IsErrOf, ⊤}
 use Rattle.std.specs.Option.{ForSome}
 use Rattle.load_base.specs.Counts.{Rose}
-use Rattle.disk_layout.specs.DiskReads.{IsOfDisk}
+use Rattle.disk_layout.specs.DiskReads.{IsOfDisk, RunsOn}
 use Rattle.disk_layout.specs.Holds.{HasDiskFault, HoldsConfig, StandingView, standing_view}
 use Rattle.disk_layout.specs.declared.fault.RecoverFault.{RecoverFault}
 use Rattle.disk_layout.specs.declared.fault.RecoverFault.TheVariants as recovers
 use Rattle.disk_layout.specs.declared.standing.Standing.{Standing}
-use Rattle.disk_model.specs.State.{DiskState, KeepsPower}
+use Rattle.disk_model.specs.State.{DiskState, KeepsPower, OnlyReads}
 use Rattle.exchange_trace.specs.Steps.{Step}
 use Rattle.link_net.specs.Links.{LinkState}
 use Rattle.target_machine.specs.declared.boot.BootFault.{BootFault}
@@ -67,8 +67,14 @@ IsLastFault (faults.NoConfig fault) disk = ¬ IsOfDisk fault × HoldsNone fault 
 IsLastFault faults.Memory disk = ⊤
 IsLastFault fault disk = ⊥
 
+-- The disk held no configuration at first, for this fault: nothing was written, and it runs on.
+pub record HeldNone (fault : RecoverFault) (first last : DiskState) : Type 0 where
+  pub none : HoldsNone fault first
+  pub only_reads : OnlyReads first last
+  pub running : RunsOn first last
+
 -- A refusal for no configuration is one of what the disk held at first; or it held one then, and this is the fault of what it
 -- holds at the end.
 abbrev pub IsNoConfig : DriveFault → (first last : DiskState) → Type 0
-IsNoConfig (faults.NoConfig fault) first last = ¬ IsOfDisk fault × (HoldsNone fault first ⊎ (HoldsSome first × HoldsNone fault last))
+IsNoConfig (faults.NoConfig fault) first last = ¬ IsOfDisk fault × (HeldNone fault first last ⊎ (HoldsSome first × HoldsNone fault last))
 IsNoConfig fault first last = ⊤

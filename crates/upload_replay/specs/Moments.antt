@@ -27,7 +27,7 @@ use Rattle.target_machine.specs.Decisions as machine
 use Rattle.target_machine.specs.Disks.{HoldsContents}
 use Rattle.link_net.specs.Links.{LinkState}
 use Rattle.loader_machine.specs.Machine.{LoaderState}
-use Rattle.upload_replay.specs.Drives.{GoesOn}
+use Rattle.upload_replay.specs.Drives.{RunGoesOn}
 use Rattle.upload_replay.specs.Turns.{RuleFollows, target_kept}
 
 -- ---- as a run goes on
@@ -143,7 +143,7 @@ pub record HeldSoFar {R : Type 0} (set : Setting) (since : ℕ) (steps : List St
 
 -- the run goes on, and its disk held at each moment what was active then
 pub record RunsOnDisk {R : Type 0} (set : Setting) (began : LinkState) (since : ℕ) (steps : List Step) (loader : LoaderState) (target : Option (machine.TargetState R)) (link : LinkState) (disk : DiskState) : Type 0 where
-  pub goes_on : GoesOn set began steps loader.view (target_kept target) link
+  pub goes_on : RunGoesOn set began steps loader.view (target_kept target) link
   pub held : HeldSoFar set since steps target disk
 
 -- ---- a whole run

@@ -36,7 +36,7 @@ IsInOrder trace = map seen_line trace ≡ lines_of (steps_of trace)
 
 -- ---- texts, by the steps alone
 
--- a line as text, after which so many datagrams are posted
+-- a line as text, after which this many datagrams are posted
 abbrev pub seen_text : (posted : ℕ) → SeenLine → List ℕ
 seen_text posted (Happens h) = given_line h
 seen_text posted (Posts d) = post_line posted d
@@ -49,7 +49,7 @@ abbrev pub seen_with : (posted : ℕ) → SeenLine → ℕ
 seen_with posted (Posts d) = posted + 1
 seen_with posted step = posted
 
--- lines before which so many datagrams were posted
+-- lines before which this many datagrams were posted
 abbrev pub seen_from : (posted : ℕ) → List SeenLine → List ℕ
 seen_from posted [] = []
 seen_from posted (step ∷ later) = seen_text (seen_with posted step) step ++ seen_from (seen_with posted step) later

@@ -132,7 +132,7 @@ given_line (Info_started hw pos) = line (codes "start" ∷ codes "info" ∷ hw �
 given_line (Upload_started hw pos parts) = upload_line hw pos parts
 given_line Ended = line (codes "end" ∷ [])
 
--- a line of the trace, after which so many datagrams are posted
+-- a line of the trace, after which this many datagrams are posted
 abbrev pub step_line : (posted : ℕ) → TraceStep → List ℕ
 step_line posted (steps.Posted d) = post_line posted (datagram_view d)
 step_line posted (steps.Given happening) = given_line (happening_view happening)
@@ -145,7 +145,7 @@ abbrev pub posted_with : (posted : ℕ) → TraceStep → ℕ
 posted_with posted (steps.Posted d) = posted + 1
 posted_with posted step = posted
 
--- the lines of a trace before which so many datagrams were posted
+-- the lines of a trace before which this many datagrams were posted
 abbrev pub wire_from : (posted : ℕ) → List TraceStep → List ℕ
 wire_from posted [] = []
 wire_from posted (step ∷ later) = step_line (posted_with posted step) step ++ wire_from (posted_with posted step) later

@@ -35,7 +35,7 @@ pub(crate) enum PowerNote {
     Refused(RecoverFault),
 }
 
-/// Arms a loss of power so many calls ahead. For 0 power is lost at once, and a target that is up
+/// Arms a loss of power this many calls ahead. For 0 power is lost at once, and a target that is up
 /// goes down.
 pub(crate) fn cut_power<K: Power, R: Rule>(
     slot: &mut Option<Target<'_, R>>,

@@ -36,7 +36,7 @@ fn put_steps(alloc: Global, out: &mut Bytes, trace: &[TraceStep]) -> Result<(), 
     Ok(())
 }
 
-/// A line of the trace, after which so many datagrams are posted.
+/// A line of the trace, after which this many datagrams are posted.
 fn put_step(alloc: Global, out: &mut Bytes, posted: u64, step: &TraceStep) -> Result<(), NoMemory>
     ensures { OnOk result (out.new.items ≡ out.old.items ++ step_line posted step.now) }
 {
@@ -79,7 +79,9 @@ fn put_injected(alloc: Global, out: &mut Bytes, datagram: &Datagram) -> Result<(
 /// The ports and the payload of a datagram, and the end of the line.
 fn put_datagram(alloc: Global, out: &mut Bytes, datagram: &Datagram) -> Result<(), NoMemory>
     ensures { OnOk result
-        (out.new.items ≡ out.old.items ++ (32 ∷ decimal datagram.now.from ++ 32 ∷ decimal datagram.now.to ++ 32 ∷ encode_lower datagram.now.bytes.items ++ 10 ∷ [])) }
+        (out.new.items ≡ out.old.items ++ (32 ∷ decimal datagram.now.from
+        ++ 32 ∷ decimal datagram.now.to ++ 32 ∷ encode_lower datagram.now.bytes.items
+        ++ 10 ∷ [])) }
 {
     out.extend(b" ")?;
     put_number(alloc, out, u64::from(datagram.from))?;

@@ -5,7 +5,7 @@ use Rattle.exchange_trace.specs.Posts.{happenings_of, posted_in}
 use Rattle.exchange_trace.specs.Steps.{Step, steps_of}
 use Rattle.loader_machine.specs.Machine.{LoaderState, media_of, session_view}
 use Rattle.accept_rules.specs.Interlocks.{Follows}
-use Rattle.upload_replay.specs.Drives.{NeverBoots, GoesOn, IsRun, TellsLink}
+use Rattle.upload_replay.specs.Drives.{NeverBoots, RunGoesOn, IsRun, TellsLink}
 use Rattle.upload_replay.specs.Turns.{target_kept}
 use Rattle.upload_replay.specs.Powers.{RoseBy, disk_stops}
 use Rattle.upload_replay.specs.Moments.{HoldsThroughout}
@@ -18,7 +18,7 @@ use Rattle.upload_replay.proofs.Ended.{first_refusal, of_last, of_run, refused_s
 use Rattle.upload_replay.proofs.driving.drive.Goals as goal
 
 pub returns-in-Err-clause-no_config : goal.returns-in-Err-clause-no_config
-returns-in-Err-clause-no_config g c = rw c.first_fault.ensures (first_refusal c.in-Err.fault (g.K.Disk.state c.args.disk.now) (g.K.Disk.state c.boot.new.disk) c.in-Err.ensures.refused)
+returns-in-Err-clause-no_config g c = rw c.first_fault.ensures (first_refusal c.in-Err.fault (g.K.Disk.state c.args.disk.now) (g.K.Disk.state c.boot.new.disk) c.in-Err.ensures.refused c.in-Err.ensures.reads_disk.only_reads c.in-Err.ensures.reads_disk.err)
 
 pub returns-in_err-run_to_end-clause-no_config : goal.returns-in_err-run_to_end-clause-no_config
 returns-in_err-run_to_end-clause-no_config g c =
@@ -40,11 +40,11 @@ returns-clause-run g c =
     let one = c.an_image_holds_one_configuration.ensures.one_standing in
     let sessions = map session_view c.into_sessions.result.items in
     let standing = option_map standing_view c.in_ok-standing.standing in
-    let start : GoesOn set began c.new.result c.new-2.result.view (Some target.view) began = rw (c.new.ensures, c.new-2.ensures) (begins set began target.view c.requires.nothing_posted
+    let start : RunGoesOn set began c.new.result c.new-2.result.view (Some target.view) began = rw (c.new.ensures, c.new-2.ensures) (begins set began target.view c.requires.nothing_posted
     (comes_up_with c.args.interlock.now target (g.K.Disk.state c.args.disk.now) image set.start c.in-Ok.ensures.comes_up told is.start (one image))) in
     let media = is.media ∙ ap (λ (l : LoaderState). media_of l.set) (sym c.new-2.ensures) in
     let rule = subst (λ rule. Follows g.R.Rule.may_say rule set.accepts) (sym c.in-Ok.ensures.comes_up.rule_is) is.accepts in
-    let on : GoesOn set began c.run_to_end.new.run.recording c.run_to_end.new.run.loader.view (target_kept c.run_to_end.new.run.target) (g.L.Link.state c.run_to_end.new.link) = elim all [
+    let on : RunGoesOn set began c.run_to_end.new.run.recording c.run_to_end.new.run.loader.view (target_kept c.run_to_end.new.run.target) (g.L.Link.state c.run_to_end.new.link) = elim all [
       | inl none_boots ↦ c.in_ok-run_to_end.ensures.goes_on set began media is.accepts rule (λ none. start) (subst (λ (steps : List Step). NeverBoots steps) c.into_trace.ensures.steps none_boots)
       | inr settled ↦ (c.in_ok-run_to_end.ensures.held set began (g.K.Disk.state c.args.disk.now).clock media is.accepts rule
           (ready one set c.args.interlock.now target (g.K.Disk.state c.args.disk.now) (g.K.Disk.state c.boot.new.disk) image began c.new.result c.new-2.result c.requires.nothing_posted settled told (g.met.K.Disk.reads_now c.args.disk.now image told) is.start
