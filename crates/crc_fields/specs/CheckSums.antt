@@ -2,7 +2,7 @@
 use Rattle.std.specs.Prelude.{ℕ, zero, suc, ◌*◌, ◌-◌, ◌/◌, ◌%◌, ◌^◌, List, [], ◌∷◌, fold, bit_xor, ◌==◌, if◌then◌else◌}
 use Rattle.std.specs.List.{flat_map}
 
--- the lowest bits of a number, so many of them, the most significant first
+-- the lowest bits of a number, this many of them, the most significant first
 unfoldable pub lowest_bits : (count number : ℕ) → List ℕ
 lowest_bits zero number = []
 lowest_bits (suc count) number = number / 2 ^ count % 2 ∷ lowest_bits count number
@@ -27,7 +27,7 @@ register_after_bits width polynomial register bits = fold (register_after_bit wi
 unfoldable pub register_after : (width polynomial register : ℕ) → List ℕ → ℕ
 register_after width polynomial register bytes = register_after_bits width polynomial register (bits_of bytes)
 
--- a number of so many bits, with each bit inverted
+-- a number of this many bits, with each bit inverted
 abbrev pub inverted : (width number : ℕ) → ℕ
 inverted width number = 2 ^ width - 1 - number
 

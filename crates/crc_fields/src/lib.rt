@@ -32,7 +32,7 @@ pub fn crc32(bytes: &[u8]) -> u32
     sum.value()
 }
 
-/// Laws of both check sums, for callers that join or compare pieces themselves.
+/// Laws of both check sums, a clause each, for callers that join or compare pieces themselves.
 // For the proof: does nothing.
 #[tactic(auto, using(crate::proofs::Laws::laws))]
 pub fn check_sum_laws()

@@ -50,13 +50,13 @@ ends : (k : Result (Unit {0} × Cursor) ManifestFault) (x : LoadEntry) (xs : Lis
 ends (Ok u) x xs = refl
 ends (Err f) x xs = refl
 
-behind : (r : Result (List LoadEntry × Cursor) ManifestFault) (x : LoadEntry) → first_of (then_end (put_before x r)) ≡ with_these (x ∷ []) (first_of (then_end r))
-behind (Ok y) x = ends (read (ended Wrong) y.1) x y.0
-behind (Err f) x = refl
+put_first : (r : Result (List LoadEntry × Cursor) ManifestFault) (x : LoadEntry) → first_of (then_end (put_before x r)) ≡ with_these (x ∷ []) (first_of (then_end r))
+put_first (Ok y) x = ends (read (ended Wrong) y.1) x y.0
+put_first (Err f) x = refl
 
 one_load : (n : ℕ) (c d : Cursor) (x : LoadEntry) → read load_entry c ≡ Ok (x, d) → loads_from (suc n) c ≡ with_these (x ∷ []) (loads_from n d)
 unfolding times
-one_load n c d x here = rw here (behind (read (times n load_entry) d) x)
+one_load n c d x here = rw here (put_first (read (times n load_entry) d) x)
 
 no_load : (n : ℕ) (c : Cursor) (fault : ManifestFault) → read load_entry c ≡ Err fault → loads_from (suc n) c ≡ Err fault
 unfolding times

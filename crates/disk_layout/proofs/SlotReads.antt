@@ -5,7 +5,7 @@ use Rattle.disk_model.specs.Image.{Image, range}
 use Rattle.disk_model.specs.RangeLaws.{byte_of_range, take_range, drop_range}
 use Rattle.disk_layout.specs.Offsets.{number_at}
 
--- the number in so many bytes of what was read, and in the image
+-- the number in this many bytes of what was read, and in the image
 pub number_read : (bytes : List ℕ) (image : Image) (at n k size : ℕ) → bytes ≡ range image at n → k + size ≤ n
     → big_number size (take size (drop k bytes)) ≡ number_at size image (at + k)
 unfolding number_at

@@ -14,7 +14,7 @@ use Rattle.disk_layout.specs.declared.fault.RecoverFault.{RecoverFault}
 use Rattle.disk_layout.specs.declared.fault.RecoverFault.TheVariants.{NotFormatted, NoOpenSlot, BadSlot, BadManifest, DiskFailed, Memory}
 use Rattle.disk_layout.specs.declared.manifest.ManifestFault.TheVariants.{Wrong}
 
--- a standing without the room of its lists
+-- a standing without the spare capacity of its lists
 pub record StandingView : Type 0 where
   pub identity : Identity
   pub bank : ℕ

@@ -30,9 +30,9 @@ record Says {F A : Type 0} (g : Grammar F A) (before : List ℕ) (fields : List 
   follows : Follows g before fields after value
 
 -- one part and then another
-behind : {F A B : Type 0} (g : Grammar F A) (k : A → Grammar F B) (before : List ℕ) (first others : List (List ℕ)) (after : ℕ) (x : A) (y : B)
+then_follows : {F A B : Type 0} (g : Grammar F A) (k : A → Grammar F B) (before : List ℕ) (first others : List (List ℕ)) (after : ℕ) (x : A) (y : B)
     → Says g before first (length (concat others) + after) x → Says (k x) (before ++ concat first) others after y → Says (seq g k) before (first ++ others) after y
-behind g k before first others after x y one two = record { follows = (x, first, others, refl, one.follows, two.follows) }
+then_follows g k before first others after x y one two = record { follows = (x, first, others, refl, one.follows, two.follows) }
 
 says_byte : (byte : ℕ) (before : List ℕ) (after : ℕ) → byte < 256 → Says (exact_byte byte) before (number_fields 1 byte) after tt
 unfolding exact_byte
@@ -97,11 +97,11 @@ signature_fields = byte_field 0x41 ++ (byte_field 0x36 ++ (byte_field 0x31 ++ (b
 says_signature : (before : List ℕ) (after : ℕ) → Says signature before signature_fields after tt
 unfolding signature
 says_signature before after =
-    behind _ _ before (byte_field 0x41) _ after tt tt (says_byte 0x41 before _ (omega arith))
-    (behind _ _ _ (byte_field 0x36) _ after tt tt (says_byte 0x36 _ _ (omega arith))
-    (behind _ _ _ (byte_field 0x31) _ after tt tt (says_byte 0x31 _ _ (omega arith))
-    (behind _ _ _ (byte_field 0x35) _ after tt tt (says_byte 0x35 _ _ (omega arith))
-    (behind _ _ _ (byte_field 0) _ after tt tt (says_byte 0 _ _ (omega arith)) (says_byte 1 _ after (omega arith))))))
+    then_follows _ _ before (byte_field 0x41) _ after tt tt (says_byte 0x41 before _ (omega arith))
+    (then_follows _ _ _ (byte_field 0x36) _ after tt tt (says_byte 0x36 _ _ (omega arith))
+    (then_follows _ _ _ (byte_field 0x31) _ after tt tt (says_byte 0x31 _ _ (omega arith))
+    (then_follows _ _ _ (byte_field 0x35) _ after tt tt (says_byte 0x35 _ _ (omega arith))
+    (then_follows _ _ _ (byte_field 0) _ after tt tt (says_byte 0 _ _ (omega arith)) (says_byte 1 _ after (omega arith))))))
 
 abbrev identity_fields : Identity → ℕ → List (List ℕ)
 identity_fields id sum = signature_fields ++ (number_fields 4 id.bank ++ (short_fields id.hw ++ (short_fields id.pos ++ (short_fields id.serial ++ (number_fields 2 sum ++ [])))))
@@ -142,12 +142,12 @@ says_identity id after is small =
     let sum : Says check_sum (before_sum id) (number_fields 2 (crc16_of (identity_prefix id))) (0 + after) tt =
     subst (λ (before : List ℕ). Says check_sum (before_sum id) (number_fields 2 (crc16_of before)) (0 + after) tt) (before_sum_is id)
     (says_sum (before_sum id) (0 + after) (rw (before_sum_is id) small)) in
-    behind _ _ [] signature_fields _ after tt id (says_signature [] _)
-    (behind _ _ _ (number_fields 4 id.bank) _ after id.bank id (says_bank_size _ _ id.bank is.bank)
-    (behind _ _ _ (short_fields id.hw) _ after id.hw id (says_ident _ _ id.hw is.hw)
-    (behind _ _ _ (short_fields id.pos) _ after id.pos id (says_ident _ _ id.pos is.pos)
-    (behind _ _ _ (short_fields id.serial) _ after id.serial id (says_ident _ _ id.serial is.serial)
-    (behind _ _ _ (number_fields 2 (crc16_of (identity_prefix id))) [] after tt id sum (says_all _ after id))))))
+    then_follows _ _ [] signature_fields _ after tt id (says_signature [] _)
+    (then_follows _ _ _ (number_fields 4 id.bank) _ after id.bank id (says_bank_size _ _ id.bank is.bank)
+    (then_follows _ _ _ (short_fields id.hw) _ after id.hw id (says_ident _ _ id.hw is.hw)
+    (then_follows _ _ _ (short_fields id.pos) _ after id.pos id (says_ident _ _ id.pos is.pos)
+    (then_follows _ _ _ (short_fields id.serial) _ after id.serial id (says_ident _ _ id.serial is.serial)
+    (then_follows _ _ _ (number_fields 2 (crc16_of (identity_prefix id))) [] after tt id sum (says_all _ after id))))))
 
 pub identity_is_short : (id : Identity) → IsIdentity id → length (identity_text id) ≤ longest_identity
 unfolding identity_text identity_prefix

@@ -17,7 +17,7 @@ use Rattle.disk_layout.specs.declared.manifest.ManifestFile.{ManifestFile}
 use Rattle.disk_layout.specs.declared.manifest.ManifestLoad.{ManifestLoad}
 use Rattle.disk_layout.specs.declared.manifest.ManifestReader.{ManifestReader}
 
--- a load of a manifest, without the room of its list
+-- a load of a manifest, without the spare capacity of its list
 pub record LoadEntry : Type 0 where
   pub part : List ℕ
   pub files : List ManifestFile
@@ -29,12 +29,12 @@ abbrev pub manifest_view : Manifest → List LoadEntry
 manifest_view manifest = map entry_view manifest.loads.items
 
 -- how many bytes these files have together
-abbrev pub size_of : List ManifestFile → ℕ
-size_of files = sum_by (λ (f : ManifestFile). f.length) files
+abbrev pub entries_length : List ManifestFile → ℕ
+entries_length files = sum_by (λ (f : ManifestFile). f.length) files
 
 -- how many bytes the files of these loads have together
 abbrev pub total_length : List LoadEntry → ℕ
-total_length loads = size_of (flat_map (λ (l : LoadEntry). l.files) loads)
+total_length loads = entries_length (flat_map (λ (l : LoadEntry). l.files) loads)
 
 -- ---- the fields
 
@@ -67,7 +67,7 @@ to_file p = record { name = p.0; length = p.1 }
 unfoldable pub file_entry : Grammar ManifestFault ManifestFile
 file_entry = mapped to_file (pair file_name file_length)
 
--- a count, and so many files
+-- a count, and that many files
 abbrev pub counted_files : Grammar ManifestFault (List ManifestFile)
 counted_files = do
   count ← file_count
@@ -76,11 +76,11 @@ counted_files = do
 abbrev pub to_load : List ℕ × List ManifestFile → LoadEntry
 to_load p = record { part = p.0; files = p.1 }
 
--- a load: its part number, a count, and so many files
+-- a load: its part number, a count, and that many files
 unfoldable pub load_entry : Grammar ManifestFault LoadEntry
 load_entry = mapped to_load (pair part counted_files)
 
--- a count, and so many loads
+-- a count, and that many loads
 abbrev pub counted_loads : Grammar ManifestFault (List LoadEntry)
 counted_loads = do
   count ← load_count
@@ -95,14 +95,14 @@ manifest = do
 
 -- ---- as it is read load by load
 
--- so many loads, and nothing more
+-- this many loads, and nothing more
 abbrev pub loads_only : ℕ → Grammar ManifestFault (List LoadEntry)
 loads_only n = do
   loads ← times n load_entry
   ended Wrong
   give loads
 
--- so many loads from a position on, or the first fault
+-- this many loads from a position on, or the first fault
 abbrev pub loads_from : ℕ → Cursor → Result (List LoadEntry) ManifestFault
 loads_from n c = read (loads_only n) c then (λ x. Ok x.0)
 
@@ -110,7 +110,7 @@ loads_from n c = read (loads_only n) c then (λ x. Ok x.0)
 abbrev pub left_in : ManifestReader → Result (List LoadEntry) ManifestFault
 left_in r = loads_from r.left r.reader
 
--- so many loads are left, where nothing is wrong
+-- this many loads are left, where nothing is wrong
 abbrev pub AreLeftIn : ManifestReader → ℕ → Type 0
 AreLeftIn r n = (loads : List LoadEntry) → left_in r ≡ Ok loads → length loads ≡ n
 

@@ -36,6 +36,6 @@ most_loads = 32
 abbrev pub most_files : ℕ
 most_files = 256
 
--- the number in so many bytes from an offset on, the highest first
+-- the number in this many bytes from an offset on, the highest first
 unfoldable pub number_at : ℕ → Image → ℕ → ℕ
 number_at bytes image offset = big_number bytes (range image offset bytes)

@@ -1,5 +1,5 @@
 //! The slots and the banks of a disk, and what is active on it (docs/DISK.md).
-ghost use Rattle.std.specs.Prelude.{◌≡◌, ◌+◌, ◌<◌, ◌≤◌, IfSome, IfNone};
+ghost use Rattle.std.specs.Prelude.{◌≡◌, ◌+◌, ◌<◌, ◌≤◌};
 ghost use Rattle.disk_layout.specs.Offsets.{IsBankSize, bank_at};
 ghost use Rattle.disk_layout.specs.Slots.{slot_offset, other_slot, bank_number, other_bank};
 
@@ -23,6 +23,7 @@ impl Slot {
         }
     }
 
+    /// The slot that isn't this one.
     pub fn other(self) -> Slot
         ensures { slot_offset result ≡ other_slot (slot_offset self) }
     {
@@ -60,6 +61,7 @@ impl Bank {
         }
     }
 
+    /// The bank that isn't this one.
     pub fn other(self) -> Bank
         ensures { bank_number result ≡ other_bank (bank_number self) }
     {

@@ -1,4 +1,4 @@
-//! Who a target is, and how that stands at the prefix of its disk.
+//! Who a target is, and how that stands at the start of its disk.
 ghost use Rattle.std.specs.Prelude.{◌≡◌, ◌≤◌, length, IfOk, IfErr};
 ghost use Rattle.field_grammar.specs.Grammar.{SpelledAtStart, Fault};
 ghost use Rattle.disk_layout.specs.Offsets.{IsBankSize, longest_identity};
@@ -23,7 +23,7 @@ pub struct Identity {
 }
 
 impl Identity {
-    /// The identity at the prefix of these bytes, or the first byte offset at which they can't go
+    /// The identity at the start of these bytes, or the first byte offset at which they can't go
     /// on.
     pub fn decode(prefix: &[u8]) -> Result<Identity, u64>
         ensures found { IfOk result (λ id. SpelledAtStart identity prefix.now id) }

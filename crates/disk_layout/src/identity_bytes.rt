@@ -1,5 +1,5 @@
 //! The bytes of an identity, as they are written.
-ghost use Rattle.std.specs.Prelude.{◌≡◌, ◌+◌, ◌≤◌, [], ◌++◌, length};
+ghost use Rattle.std.specs.Prelude.{◌≡◌, ◌+◌, ◌≤◌, ◌++◌, length};
 ghost use Rattle.field_grammar.specs.Fields.{short_text};
 ghost use Rattle.disk_layout.specs.Identity.{IsIdentity, identity_prefix, identity_text};
 ghost use Rattle.disk_layout.specs.Offsets.{IsBankSize, longest_identity};
@@ -65,7 +65,7 @@ impl IdentityBytes {
 
     fn put_short(&mut self, text: &[u8])
         requires short { length text.now ≤ 20 }
-        requires room { length self.old + (1 + length text.now) ≤ longest_identity }
+        requires fits { length self.old + (1 + length text.now) ≤ longest_identity }
         ensures { self.new ≡ self.old ++ short_text text.now }
     {
         self.put(&u8_bytes(text.len() as u8));
@@ -81,6 +81,7 @@ impl IdentityBytes {
         self.len = end;
     }
 
+    /// The bytes, as they stand at the start of a disk.
     pub fn as_slice(&self) -> &[u8]
         ensures { result.now ≡ self.now }
     {

@@ -38,7 +38,8 @@ pub struct Manifest {
 }
 
 impl Manifest {
-    /// The manifest that the bytes spell, or the first byte offset at which they can't go on.
+    /// The manifest that the bytes spell, or the first byte offset at which they can't go on, or
+    /// Memory.
     pub fn decode(alloc: Global, bytes: &[u8]) -> Result<Manifest, ManifestFault>
         ensures found { IfOk result (λ m. Spelled manifest bytes.now (manifest_view m)) }
         ensures fits { IfOk result (λ m. ManifestFits (manifest_view m)) }
@@ -77,7 +78,7 @@ impl<'a> ManifestReader<'a> {
     }
 
     /// Reads the next load, where one is left, or gives the first byte offset at which its bytes
-    /// can't go on.
+    /// can't go on, or Memory.
     pub fn next_load(&mut self, alloc: Global) -> Result<ManifestLoad, ManifestFault>
         requires { 1 ≤ self.old.left }
         ensures reads { Decodes Memory entry_view load_entry self.old.reader result

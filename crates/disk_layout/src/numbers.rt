@@ -4,6 +4,7 @@ ghost use Rattle.field_grammar.specs.Fields.{number_bytes};
 
 use byteorder::{BigEndian, ByteOrder};
 
+/// One byte.
 #[tactic(auto, unfolding(field_grammar::specs::Fields::number_bytes))]
 pub fn u8_bytes(value: u8) -> [u8; 1]
     ensures { result ≡ number_bytes 1 value }
@@ -11,6 +12,7 @@ pub fn u8_bytes(value: u8) -> [u8; 1]
     [value]
 }
 
+/// Two bytes, the high one first.
 #[tactic(auto, unfolding(field_grammar::specs::Fields::number_bytes))]
 pub fn u16_bytes(value: u16) -> [u8; 2]
     ensures { result ≡ number_bytes 2 value }
@@ -20,6 +22,7 @@ pub fn u16_bytes(value: u16) -> [u8; 2]
     bytes
 }
 
+/// Four bytes, the high ones first.
 #[tactic(auto, unfolding(field_grammar::specs::Fields::number_bytes))]
 pub fn u32_bytes(value: u32) -> [u8; 4]
     ensures { result ≡ number_bytes 4 value }

@@ -58,7 +58,7 @@ pub fn following_a_script()
 {}
 
 /// What some scripts say, and how some are refused: the words of the definitions computed
-/// (docs/FORMATS.md, "Script").
+/// (docs/FORMATS.md, "Script"), a clause for each script.
 pub fn worked_scripts()
     // Lines that are empty or begin with `#` say nothing, and are counted.
     ensures information { script_said (lines (codes "info HW1 L" ∷ codes "# late" ∷ codes "lose 3"

@@ -130,14 +130,14 @@ unfolding padded_size
 part_is_whole c f fits fault =
     let n : ℕ = number_in 2 c.rest in
     let named = text_fault (length c.before) in
-    let behind : length (drop 2 c.rest) ≡ length c.rest - 2 = length-drop 2 c.rest in
+    let fewer : length (drop 2 c.rest) ≡ length c.rest - 2 = length-drop 2 c.rest in
     elim fault [
-      | inl few ↦ inl (omega (arith, few.0, behind), ap named few.1)
+      | inl few ↦ inl (omega (arith, few.0, fewer), ap named few.1)
       | inr later ↦
           elim later.1 [
             | inl few ↦
                 let left : length (drop n (drop 2 c.rest)) ≡ length (drop 2 c.rest) - n = length-drop n (drop 2 c.rest) in
-                inl (omega (arith, few.0, left, behind, later.0, fits), ap named few.1)
+                inl (omega (arith, few.0, left, fewer, later.0, fits), ap named few.1)
             | inr bad ↦ inr (subst (λ (d : Cursor). IsBadPad n d (named f)) (advanced-advanced 2 n c) (bad.0, bad.1, ap named bad.2))
           ]
     ]

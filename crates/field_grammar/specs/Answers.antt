@@ -18,7 +18,7 @@ abbrev pub ReadsAt : {F T X : Type 0} → (T → X) → Grammar F X → List ℕ
 ReadsAt view g bytes offset (Ok x) = (x.1 ≤ length bytes) × (read g (cursor_at bytes offset) ≡ Ok (view x.0, cursor_at bytes x.1))
 ReadsAt view g bytes offset (Err e) = read g (cursor_at bytes offset) ≡ Err e
 
--- The same of a function that may want memory: nothing is said of its reader after a refusal.
+-- The same of a function that may run out of memory: nothing is said of its reader after a refusal.
 abbrev pub Decodes : {F T X : Type 0} → F → (T → X) → Grammar F X → Cursor → Result T F → Cursor → Type 0
 Decodes memory view g old (Ok x) new = read g old ≡ Ok (view x, new)
 Decodes memory view g old (Err e) new = (e ≡ memory) ⊎ (read g old ≡ Err e)

@@ -24,5 +24,5 @@ abbrev pub at : List ℕ → List (List ℕ) → List ℕ → Cursor
 at before fields rest = record { before = before; rest = concat fields ++ rest }
 
 -- the position after these fields
-abbrev pub behind : List ℕ → List (List ℕ) → List ℕ → Cursor
-behind before fields rest = record { before = before ++ concat fields; rest = rest }
+abbrev pub past : List ℕ → List (List ℕ) → List ℕ → Cursor
+past before fields rest = record { before = before ++ concat fields; rest = rest }

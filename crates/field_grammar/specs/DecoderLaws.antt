@@ -15,7 +15,7 @@ gives_also memory view (Err f) a b gives same = elim gives [ inl wants ↦ inl w
 
 -- ---- refusals
 
--- a refusal is want of memory, or the fault
+-- a refusal is out of memory, or the fault
 pub refused : {F T X : Type 0} (memory : F) (view : T → X) (g : Grammar F X) (bytes : List ℕ) (r : Result T F) → IsBytes bytes
     → Gives memory view r (answer g bytes) → IfErr r (λ e. (e ≡ memory) ⊎ Fault g bytes e)
 refused memory view g bytes (Ok x) fit gives = tt

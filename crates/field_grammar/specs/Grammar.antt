@@ -192,7 +192,7 @@ Stops (renamed {E = E} m g) before fields rest fault = (e : E) × Stops g before
 pub record MovesOn (from to : Cursor) : Type 0 where
   pub passed : List ℕ
   pub parts : from.rest ≡ passed ++ to.rest
-  pub behind : to.before ≡ from.before ++ passed
+  pub moved : to.before ≡ from.before ++ passed
 
 -- From one position to the other stand fields that follow the format and say this value.
 pub record Took {F A : Type 0} (g : Grammar F A) (from to : Cursor) (value : A) : Type 0 where

@@ -5,14 +5,14 @@ use Rattle.std.specs.List.{concat}
 use Rattle.std.proofs.lemmas.Bool.{ltb-false, ltb-true, lt-ltb}
 use Rattle.std.proofs.lemmas.List.{append-nil, take-append-drop, length-append, length-take}
 use Rattle.std.proofs.lemmas.List.Folds.{concat-append}
-use Rattle.field_grammar.specs.Cursor.{Cursor, advanced, at, behind}
+use Rattle.field_grammar.specs.Cursor.{Cursor, advanced, at, past}
 use Rattle.field_grammar.specs.Grammar.{Grammar, give, judge, check, choose, field, zero_ended, prefix, left, seq, renamed, read, Follows, Stops, Took, Stopped, IsBytes, zero_ended_at, before_zero}
-use Rattle.field_grammar.specs.StepLaws.{IsBytes-take, IsBytes-behind, said, same_value, then_ok, then_err, guard_ok, guard_err, renamed_ok, renamed_err, field_at-append, zero_ended_at-append, split_at_zero}
+use Rattle.field_grammar.specs.StepLaws.{IsBytes-take, IsBytes-after, said, same_value, then_ok, then_err, guard_ok, guard_err, renamed_ok, renamed_err, field_at-append, zero_ended_at-append, split_at_zero}
 
 -- ---- from fields to what is read
 
 pub what_follows_is_read : {F A : Type 0} (g : Grammar F A) (before : List ℕ) (fields : List (List ℕ)) (rest : List ℕ) (value : A)
-    → Follows g before fields (length rest) value → read g (at before fields rest) ≡ Ok (value, behind before fields rest)
+    → Follows g before fields (length rest) value → read g (at before fields rest) ≡ Ok (value, past before fields rest)
 what_follows_is_read (give x) before fields rest value h = rw (h.0, h.1, append-nil) refl
 what_follows_is_read (judge r) before fields rest value h = rw (h.0, h.1, append-nil) refl
 what_follows_is_read (check b f) before fields rest tt h = rw (h.0, h.1, append-nil) refl
@@ -102,7 +102,7 @@ what_is_read_follows left c d value fit e = took_none left c d (length c.rest) v
 what_is_read_follows (seq g k) c d value fit e =
     let (x, first, second) = then_ok (read g c) (λ x. read (k x.0) x.1) (value, d) e in
     let one = what_is_read_follows g c x.1 x.0 fit first in
-    let fit' : IsBytes x.1.rest = IsBytes-behind (concat one.fields) x.1.rest (subst IsBytes one.parts fit) in
+    let fit' : IsBytes x.1.rest = IsBytes-after (concat one.fields) x.1.rest (subst IsBytes one.parts fit) in
     let two = what_is_read_follows (k x.0) x.1 d value fit' second in
     let size : length x.1.rest ≡ length (concat two.fields) + length d.rest = ap length two.parts ∙ length-append (concat two.fields) d.rest in
     record {
@@ -149,7 +149,7 @@ what_is_refused_stops (seq g k) c fault fit e =
       | inr later ↦
           let (x, first, second) = later in
           let one = what_is_read_follows g c x.1 x.0 fit first in
-          let fit' : IsBytes x.1.rest = IsBytes-behind (concat one.fields) x.1.rest (subst IsBytes one.parts fit) in
+          let fit' : IsBytes x.1.rest = IsBytes-after (concat one.fields) x.1.rest (subst IsBytes one.parts fit) in
           let two = what_is_refused_stops (k x.0) x.1 fault fit' second in
           let size : length x.1.rest ≡ length (concat two.fields) + length two.rest = ap length two.parts ∙ length-append (concat two.fields) two.rest in
           record {

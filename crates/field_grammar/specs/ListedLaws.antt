@@ -30,8 +30,8 @@ listed_to item s P one (suc n) so_far before fields after value follows =
     let (xs, is, same, size, all) = listed_to item s P one n (so_far ++ x ∷ []) (before ++ concat first) others after value later in
     let whole : fields ≡ s so_far x ++ listed_fields s (so_far ++ x ∷ []) xs = parts ∙ (ap (λ (f : List (List ℕ)). f ++ others) a.0 ∙ ap (λ (o : List (List ℕ)). s so_far x ++ o) same) in
     let here : P so_far before (length (concat (listed_fields s (so_far ++ x ∷ []) xs)) + after) x = subst (λ (o : List (List ℕ)). P so_far before (length (concat o) + after) x) same a.1 in
-    let behind : AllPlaced s P (so_far ++ x ∷ []) (before ++ concat (s so_far x)) after xs = subst (λ (f : List (List ℕ)). AllPlaced s P (so_far ++ x ∷ []) (before ++ concat f) after xs) a.0 all in
-    (x ∷ xs, is ∙ append_assoc so_far (x ∷ []) xs, whole, ap suc size, (here, behind))
+    let others_are : AllPlaced s P (so_far ++ x ∷ []) (before ++ concat (s so_far x)) after xs = subst (λ (f : List (List ℕ)). AllPlaced s P (so_far ++ x ∷ []) (before ++ concat f) after xs) a.0 all in
+    (x ∷ xs, is ∙ append_assoc so_far (x ∷ []) xs, whole, ap suc size, (here, others_are))
 
 listed_from : {F A : Type 0} (item : List A → Grammar F A) (s : List A → A → List (List ℕ)) (P : List A → List ℕ → ℕ → A → Type 0) → ((so_far : List A) → IsPlacedBy (item so_far) (λ before. s so_far) (P so_far))
     → (xs so_far : List A) (before : List ℕ) (after : ℕ) → AllPlaced s P so_far before after xs → Follows (listed (length xs) item so_far) before (listed_fields s so_far xs) after (so_far ++ xs)

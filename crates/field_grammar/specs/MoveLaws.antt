@@ -6,16 +6,16 @@ use Rattle.field_grammar.specs.Grammar.{Grammar, give, judge, check, choose, fie
 use Rattle.field_grammar.specs.StepLaws.{said, same_value, then_ok, guard_ok, renamed_ok}
 
 stays_there : (c : Cursor) → MovesOn c c
-stays_there c = record { passed = []; parts = refl; behind = sym (append-nil c.before) }
+stays_there c = record { passed = []; parts = refl; moved = sym (append-nil c.before) }
 
 advances : (n : ℕ) (c : Cursor) → MovesOn c (advanced n c)
-advances n c = record { passed = take n c.rest; parts = sym (take-append-drop n c.rest); behind = refl }
+advances n c = record { passed = take n c.rest; parts = sym (take-append-drop n c.rest); moved = refl }
 
 goes_further : (b c d : Cursor) → MovesOn b c → MovesOn c d → MovesOn b d
 goes_further b c d one two = record {
   passed = one.passed ++ two.passed;
   parts = one.parts ∙ (ap (λ (l : List ℕ). one.passed ++ l) two.parts ∙ sym (append_assoc one.passed two.passed d.rest));
-  behind = two.behind ∙ (ap (λ (l : List ℕ). l ++ two.passed) one.behind ∙ append_assoc b.before one.passed two.passed);
+  moved = two.moved ∙ (ap (λ (l : List ℕ). l ++ two.passed) one.moved ∙ append_assoc b.before one.passed two.passed);
 }
 
 -- a step to this position
@@ -50,7 +50,7 @@ moves_on (renamed m g) c d value e = moves_on g c d value (renamed_ok m (read g 
 pub offset_goes_on : {F A : Type 0} (g : Grammar F A) (c d : Cursor) (value : A) → read g c ≡ Ok (value, d) → length c.before ≤ length d.before
 offset_goes_on g c d value e =
     let moves = moves_on g c d value e in
-    omega (arith, ap length moves.behind, length-append c.before moves.passed)
+    omega (arith, ap length moves.moved, length-append c.before moves.passed)
 
 -- no more bytes are left than there were
 pub fewer_left : {F A : Type 0} (g : Grammar F A) (c d : Cursor) (value : A) → read g c ≡ Ok (value, d) → length d.rest ≤ length c.rest
@@ -62,4 +62,4 @@ fewer_left g c d value e =
 pub same_bytes : {F A : Type 0} (g : Grammar F A) (c d : Cursor) (value : A) → read g c ≡ Ok (value, d) → c.before ++ c.rest ≡ d.before ++ d.rest
 same_bytes g c d value e =
     let moves = moves_on g c d value e in
-    ap (λ (l : List ℕ). c.before ++ l) moves.parts ∙ (sym (append_assoc c.before moves.passed d.rest) ∙ ap (λ (l : List ℕ). l ++ d.rest) (sym moves.behind))
+    ap (λ (l : List ℕ). c.before ++ l) moves.parts ∙ (sym (append_assoc c.before moves.passed d.rest) ∙ ap (λ (l : List ℕ). l ++ d.rest) (sym moves.moved))

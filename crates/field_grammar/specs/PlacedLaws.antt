@@ -56,9 +56,9 @@ placed-before {A = A} g h s t P Q one two = record {
       let b = (two x).to (before ++ concat first) second (length (concat none) + after) tt fu in
       let there : List ℕ = before ++ concat (s before x) in
       let same : before ++ concat first ≡ there = ap (λ (f : List (List ℕ)). before ++ concat f) a.0 in
-      let behind : others ≡ t x there tt = parts2 ∙ (ap (λ (n : List (List ℕ)). second ++ n) last.0 ∙ (append-nil second ∙ (b.0 ∙ ap (λ (l : List ℕ). t x l tt) same))) in
-      let whole : fields ≡ s before x ++ t x there tt = parts ∙ (ap (λ (f : List (List ℕ)). f ++ others) a.0 ∙ ap (λ (o : List (List ℕ)). s before x ++ o) behind) in
-      let p : P before (length (concat (t x there tt)) + after) x = subst (λ (o : List (List ℕ)). P before (length (concat o) + after) x) behind a.1 in
+      let others_are : others ≡ t x there tt = parts2 ∙ (ap (λ (n : List (List ℕ)). second ++ n) last.0 ∙ (append-nil second ∙ (b.0 ∙ ap (λ (l : List ℕ). t x l tt) same))) in
+      let whole : fields ≡ s before x ++ t x there tt = parts ∙ (ap (λ (f : List (List ℕ)). f ++ others) a.0 ∙ ap (λ (o : List (List ℕ)). s before x ++ o) others_are) in
+      let p : P before (length (concat (t x there tt)) + after) x = subst (λ (o : List (List ℕ)). P before (length (concat o) + after) x) others_are a.1 in
       let q : Q x there after tt = subst (λ (n : ℕ). Q x there n tt) (none_behind none after last.0) (subst (λ (l : List ℕ). Q x l (length (concat none) + after) tt) same b.1) in
       subst (λ (v : A). (fields ≡ s before v ++ t v (before ++ concat (s before v)) tt)
       × (P before (length (concat (t v (before ++ concat (s before v)) tt)) + after) v × Q v (before ++ concat (s before v)) after tt)) last.1 (whole, (p, q));
@@ -139,9 +139,9 @@ placed-sized g bytes_of wrong s P one = record {
   to = λ before fields after value follows.
       let (size, f1, o1, parts1, h1, (said, f2, o2, parts2, h2, (u, f3, o3, parts3, h3, last))) = follows in
       let a = one.to (before ++ concat f1) f2 (length (concat o2) + after) said h2 in
-      let behind : o1 ≡ s said = rw (parts2, parts3, h3.0, last.0, a.0, append-nil) refl in
-      let whole : fields ≡ s said = rw (parts1, h1.0, behind) refl in
-      let counted : length (concat (s said)) + after ≡ size = subst (λ (o : List (List ℕ)). length (concat o) + after ≡ size) behind h1.1 in
+      let others_are : o1 ≡ s said = rw (parts2, parts3, h3.0, last.0, a.0, append-nil) refl in
+      let whole : fields ≡ s said = rw (parts1, h1.0, others_are) refl in
+      let counted : length (concat (s said)) + after ≡ size = subst (λ (o : List (List ℕ)). length (concat o) + after ≡ size) others_are h1.1 in
       let says : bytes_of said ≡ length (concat (s said)) + after = eqb-true _ _ h3.1 ∙ sym counted in
       subst (λ (v : ℕ). (fields ≡ s v) × (P v × (bytes_of v ≡ length (concat (s v)) + after))) last.1 (whole, (a.1, says));
   from = λ before after value fits. (

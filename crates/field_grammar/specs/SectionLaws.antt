@@ -4,28 +4,28 @@ use Rattle.std.specs.List.{concat}
 use Rattle.std.proofs.lemmas.Bool.{eqb-true, eq-eqb}
 use Rattle.std.proofs.lemmas.List.{append-nil}
 use Rattle.std.proofs.lemmas.List.Folds.{concat-append}
-use Rattle.field_grammar.specs.Spelling.{IsPlacedBy, size_of}
+use Rattle.field_grammar.specs.Spelling.{IsPlacedBy, spelled_length}
 use Rattle.field_grammar.specs.Fields.{section, number_fields, short_fields, padded_fields}
 use Rattle.field_grammar.specs.NumberLaws.{length_number_bytes}
 use Rattle.field_grammar.specs.TextLaws.{length_pad_bytes}
 
 -- ---- how many bytes fields take
 
-pub size_more : (f g : List (List ℕ)) → size_of (f ++ g) ≡ size_of f + size_of g
+pub size_more : (f g : List (List ℕ)) → spelled_length (f ++ g) ≡ spelled_length f + spelled_length g
 size_more f g = ap (λ (l : List ℕ). length l) (concat-append f g) ∙ length-append (concat f) (concat g)
 
-pub size_number : (n value : ℕ) → size_of (number_fields n value) ≡ n
+pub size_number : (n value : ℕ) → spelled_length (number_fields n value) ≡ n
 size_number n value = simp (append-nil, length_number_bytes) refl
 
-pub size_short : (text : List ℕ) → size_of (short_fields text) ≡ 1 + length text
+pub size_short : (text : List ℕ) → spelled_length (short_fields text) ≡ 1 + length text
 size_short text = simp (length-append, length_number_bytes) (omega arith)
 
-pub size_padded : (text : List ℕ) → size_of (padded_fields text) ≡ 2 + length text + length text % 2
+pub size_padded : (text : List ℕ) → spelled_length (padded_fields text) ≡ 2 + length text + length text % 2
 size_padded text = simp (length-append, append-nil, length_number_bytes, length_pad_bytes) (omega arith)
 
 -- the position after fields
-pub offset_after : (before : List ℕ) (f s : List (List ℕ)) → f ≡ s → length (before ++ concat f) ≡ length before + size_of s
-offset_after before f s same = length-append before (concat f) ∙ ap (λ (g : List (List ℕ)). length before + size_of g) same
+pub offset_after : (before : List ℕ) (f s : List (List ℕ)) → f ≡ s → length (before ++ concat f) ≡ length before + spelled_length s
+offset_after before f s same = length-append before (concat f) ∙ ap (λ (g : List (List ℕ)). length before + spelled_length g) same
 
 -- ---- sections
 

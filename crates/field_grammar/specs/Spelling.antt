@@ -15,8 +15,8 @@ pub record IsPlacedBy {F A : Type 0} (g : Grammar F A) (spelling : List ℕ → 
   pub from : (before : List ℕ) (after : ℕ) (value : A) → Fits before after value → Follows g before (spelling before value) after value
 
 -- how many bytes fields take
-abbrev pub size_of : List (List ℕ) → ℕ
-size_of fields = length (concat fields)
+abbrev pub spelled_length : List (List ℕ) → ℕ
+spelled_length fields = length (concat fields)
 
 -- the fields of a value after those so far, where the last of N values is spelled otherwise
 abbrev pub with_last : {A : Type 0} → (Bool → A → List (List ℕ)) → ℕ → List A → A → List (List ℕ)

@@ -21,8 +21,8 @@ IsBytes-take n bytes fit i =
     ]
 
 -- what stands after a part of bytes is bytes
-pub IsBytes-behind : (prefix rest : List ℕ) → IsBytes (prefix ++ rest) → IsBytes rest
-IsBytes-behind prefix rest fit = subst IsBytes (drop_at prefix rest (length prefix) refl) (IsBytes-drop (length prefix) (prefix ++ rest) fit)
+pub IsBytes-after : (prefix rest : List ℕ) → IsBytes (prefix ++ rest) → IsBytes rest
+IsBytes-after prefix rest fit = subst IsBytes (drop_at prefix rest (length prefix) refl) (IsBytes-drop (length prefix) (prefix ++ rest) fit)
 
 -- n bytes further on in the same bytes
 pub advanced-cursor_at : (n offset : ℕ) (bytes : List ℕ) → advanced n (cursor_at bytes offset) ≡ cursor_at bytes (offset + n)

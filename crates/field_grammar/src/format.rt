@@ -1,6 +1,6 @@
 ghost use Rattle.std.specs.Prelude.{◌≡◌, ◌++◌, ℕ, List, length};
 ghost use Rattle.std.specs.List.{concat};
-ghost use Rattle.field_grammar.specs.Cursor.{Cursor, at, behind};
+ghost use Rattle.field_grammar.specs.Cursor.{Cursor, at, past};
 ghost use Rattle.field_grammar.specs.Grammar.{IsBytes, EndsTheBytes, IsDecided, IsDecidedAtStart};
 ghost use Rattle.field_grammar.specs.Grammar.{Follows, Stops, Took, Stopped, MovesOn, read};
 
@@ -22,7 +22,7 @@ pub fn reading_is_exact<G: Format>()
     // What follows the format is read.
     ensures follows { (before : List ℕ) (fields : List (List ℕ)) (rest : List ℕ) (value : G.Value)
         → Follows G.grammar before fields (length rest) value
-        → read G.grammar (at before fields rest) ≡ Ok (value, behind before fields rest) }
+        → read G.grammar (at before fields rest) ≡ Ok (value, past before fields rest) }
     // What is read follows it.
     ensures read { (from to : Cursor) (value : G.Value) → IsBytes from.rest
         → read G.grammar from ≡ Ok (value, to) → Took G.grammar from to value }

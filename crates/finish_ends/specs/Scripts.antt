@@ -32,7 +32,7 @@ FinishPassesOn = (set : Setting) (script : List Line) (steps more : List Step) (
 
 -- ---- a whole script
 
--- The most happenings up to the end of a line, where so many came before it. Each of those has posted two datagrams at most.
+-- The most happenings up to the end of a line, where this many came before it. Each of those has posted two datagrams at most.
 abbrev pub most_with : ℕ → Line → ℕ
 most_with before (Next k) = before + k
 most_with before Finish = before + (most_of_finish + 2 * (2 * before))

@@ -88,7 +88,7 @@ has_ended (s ∷ earlier) = is_end s.given
 abbrev pub gone_on : Setting → List Line → List Step → List Step
 gone_on set script steps = if has_ended steps then steps else next_step set script steps ∷ steps
 
--- the first steps of a run, so many if it has them
+-- the first steps of a run, this many if it has them
 abbrev pub first_steps : Setting → List Line → ℕ → List Step
 first_steps set script zero = []
 first_steps set script (suc n) = gone_on set script (first_steps set script n)

@@ -3,7 +3,7 @@ use Rattle.std.specs.Prelude.{◌≡◌, ℕ, ◌+◌, ◌/◌, ◌%◌, ◌<◌
 use Rattle.std.specs.List.{flat_map}
 use Rattle.field_grammar.specs.Grammar.{IsBytes}
 use Rattle.field_grammar.specs.Fields.{number_fields, padded_fields}
-use Rattle.field_grammar.specs.Spelling.{size_of, with_last, listed_fields}
+use Rattle.field_grammar.specs.Spelling.{spelled_length, with_last, listed_fields}
 use Rattle.header_sections.specs.Sections.{distance_of}
 
 -- a count, and the texts
@@ -24,7 +24,7 @@ pub record IsUserData (user : List ℕ) : Type 0 where
 
 -- how many bytes an entry takes, with its distance
 abbrev pub entry_size : {E : Type 0} → (E → List (List ℕ)) → E → ℕ
-entry_size body_fields this = 2 + size_of (body_fields this)
+entry_size body_fields this = 2 + spelled_length (body_fields this)
 
 -- an entry: its distance is half its length, and 0 for the last of its list
 abbrev pub entry_fields : {E : Type 0} → (E → List (List ℕ)) → Bool → E → List (List ℕ)

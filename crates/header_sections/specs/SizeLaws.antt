@@ -4,7 +4,7 @@ use Rattle.std.specs.List.{flat_map}
 use Rattle.std.proofs.lemmas.Bool.{eqb-false, ne_eqb}
 use Rattle.std.proofs.lemmas.List.{append-nil, take_more, take_all}
 use Rattle.std.proofs.lemmas.List.Concat.{flat_map-cons, flat_map-append}
-use Rattle.field_grammar.specs.Spelling.{size_of, listed_fields}
+use Rattle.field_grammar.specs.Spelling.{spelled_length, listed_fields}
 use Rattle.field_grammar.specs.SectionLaws.{size_more, size_number, size_padded}
 use Rattle.field_grammar.specs.Fields.{number_fields, padded_fields}
 use Rattle.field_grammar.specs.NumberLaws.{length_number_bytes}
@@ -13,36 +13,36 @@ use Rattle.header_sections.specs.SectionFields.{texts_fields, user_fields, entry
 
 -- ---- values back to back
 
-pub even_all : {A : Type 0} (s : A → List (List ℕ)) → ((x : A) → size_of (s x) % 2 ≡ 0) → (xs : List A) → size_of (flat_map s xs) % 2 ≡ 0
+pub even_all : {A : Type 0} (s : A → List (List ℕ)) → ((x : A) → spelled_length (s x) % 2 ≡ 0) → (xs : List A) → spelled_length (flat_map s xs) % 2 ≡ 0
 even_all s each [] = refl
 even_all s each (x ∷ xs) =
-    let parts : size_of (flat_map s (x ∷ xs)) ≡ size_of (s x) + size_of (flat_map s xs) = ap (λ (f : List (List ℕ)). size_of f) (flat_map-cons s x xs) ∙ size_more (s x) (flat_map s xs) in
+    let parts : spelled_length (flat_map s (x ∷ xs)) ≡ spelled_length (s x) + spelled_length (flat_map s xs) = ap (λ (f : List (List ℕ)). spelled_length f) (flat_map-cons s x xs) ∙ size_more (s x) (flat_map s xs) in
     omega (arith, parts, each x, even_all s each xs)
 
 -- one more of them
 pub size_taken : {X : Type 0} (f : X → List (List ℕ)) (xs : List X) (i : ℕ) (d : X) → i < length xs
-    → size_of (flat_map f (take (i + 1) xs)) ≡ size_of (flat_map f (take i xs)) + size_of (f (get_or xs i d))
+    → spelled_length (flat_map f (take (i + 1) xs)) ≡ spelled_length (flat_map f (take i xs)) + spelled_length (f (get_or xs i d))
 size_taken f xs i d lt =
     let one : flat_map f (get_or xs i d ∷ []) ≡ f (get_or xs i d) = flat_map-cons f (get_or xs i d) [] ∙ append-nil (f (get_or xs i d)) in
-    ap (λ (l : List _). size_of (flat_map f l)) (take_more xs i d lt)
-    ∙ (ap (λ (l : List (List ℕ)). size_of l) (flat_map-append f (take i xs) (get_or xs i d ∷ [])) ∙ (size_more (flat_map f (take i xs)) (flat_map f (get_or xs i d ∷ [])) ∙ ap (λ (l : List (List ℕ)). size_of (flat_map f (take i xs)) + size_of l) one))
+    ap (λ (l : List _). spelled_length (flat_map f l)) (take_more xs i d lt)
+    ∙ (ap (λ (l : List (List ℕ)). spelled_length l) (flat_map-append f (take i xs) (get_or xs i d ∷ [])) ∙ (size_more (flat_map f (take i xs)) (flat_map f (get_or xs i d ∷ [])) ∙ ap (λ (l : List (List ℕ)). spelled_length (flat_map f (take i xs)) + spelled_length l) one))
 
 -- ---- texts and user data
 
-pub even_padded : (text : List ℕ) → size_of (padded_fields text) % 2 ≡ 0
+pub even_padded : (text : List ℕ) → spelled_length (padded_fields text) % 2 ≡ 0
 even_padded text = omega (arith, size_padded text)
 
-pub size_texts : (texts : List (List ℕ)) → size_of (texts_fields texts) ≡ 2 + size_of (flat_map padded_fields texts)
+pub size_texts : (texts : List (List ℕ)) → spelled_length (texts_fields texts) ≡ 2 + spelled_length (flat_map padded_fields texts)
 unfolding texts_fields
 size_texts texts = omega (arith, size_more (number_fields 2 (length texts)) (flat_map padded_fields texts), size_number 2 (length texts))
 
-pub even_texts : (texts : List (List ℕ)) → size_of (texts_fields texts) % 2 ≡ 0
+pub even_texts : (texts : List (List ℕ)) → spelled_length (texts_fields texts) % 2 ≡ 0
 even_texts texts = omega (arith, size_texts texts, even_all padded_fields even_padded texts)
 
-pub all_texts : (texts : List (List ℕ)) (i : ℕ) → length texts ≤ i → 2 + size_of (flat_map padded_fields (take i texts)) ≡ size_of (texts_fields texts)
-all_texts texts i le = ap (λ (l : List (List ℕ)). 2 + size_of (flat_map padded_fields l)) (take_all i texts le) ∙ sym (size_texts texts)
+pub all_texts : (texts : List (List ℕ)) (i : ℕ) → length texts ≤ i → 2 + spelled_length (flat_map padded_fields (take i texts)) ≡ spelled_length (texts_fields texts)
+all_texts texts i le = ap (λ (l : List (List ℕ)). 2 + spelled_length (flat_map padded_fields l)) (take_all i texts le) ∙ sym (size_texts texts)
 
-pub size_user : (user : List ℕ) → size_of (user_fields user) ≡ 2 + length user
+pub size_user : (user : List ℕ) → spelled_length (user_fields user) ≡ 2 + length user
 unfolding user_fields
 size_user user = simp (length-append, append-nil, length_number_bytes) refl
 
@@ -53,18 +53,18 @@ abbrev pub total_of : {E : Type 0} → (E → List (List ℕ)) → List E → �
 total_of f [] = 0
 total_of f (e ∷ es) = entry_size f e + total_of f es
 
-size_entry : {E : Type 0} (f : E → List (List ℕ)) (n : ℕ) (so_far : List E) (e : E) → size_of (entry_fields_after f n so_far e) ≡ entry_size f e
+size_entry : {E : Type 0} (f : E → List (List ℕ)) (n : ℕ) (so_far : List E) (e : E) → spelled_length (entry_fields_after f n so_far e) ≡ entry_size f e
 size_entry f n so_far e =
     let due : ℕ = distance_of (length so_far + 1 == n) (entry_size f e) in
     omega (arith, size_more (number_fields 2 due) (f e), size_number 2 due)
 
-size_listed : {E : Type 0} (f : E → List (List ℕ)) (n : ℕ) (so_far es : List E) → size_of (listed_fields (entry_fields_after f n) so_far es) ≡ total_of f es
+size_listed : {E : Type 0} (f : E → List (List ℕ)) (n : ℕ) (so_far es : List E) → spelled_length (listed_fields (entry_fields_after f n) so_far es) ≡ total_of f es
 unfolding listed_fields
 size_listed f n so_far [] = refl
 size_listed f n so_far (e ∷ es) =
     omega (arith, size_more (entry_fields_after f n so_far e) (listed_fields (entry_fields_after f n) (so_far ++ e ∷ []) es), size_entry f n so_far e, size_listed f n (so_far ++ e ∷ []) es)
 
-pub size_entries : {E : Type 0} (f : E → List (List ℕ)) (es : List E) → size_of (entries_fields f es) ≡ 2 + total_of f es
+pub size_entries : {E : Type 0} (f : E → List (List ℕ)) (es : List E) → spelled_length (entries_fields f es) ≡ 2 + total_of f es
 unfolding entries_fields
 size_entries f es =
     let all : List (List ℕ) = listed_fields (entry_fields_after f (length es)) [] es in
@@ -82,7 +82,7 @@ total_append f (x ∷ es) e = omega (arith, total_append f es e)
 pub total_more : {E : Type 0} (f : E → List (List ℕ)) (es : List E) (i : ℕ) (d : E) → i < length es → total_of f (take (i + 1) es) ≡ total_of f (take i es) + entry_size f (get_or es i d)
 total_more f es i d lt = ap (λ (l : List _). total_of f l) (take_more es i d lt) ∙ total_append f (take i es) (get_or es i d)
 
-pub total_taken : {E : Type 0} (f : E → List (List ℕ)) (es : List E) (i : ℕ) → length es ≤ i → 2 + total_of f (take i es) ≡ size_of (entries_fields f es)
+pub total_taken : {E : Type 0} (f : E → List (List ℕ)) (es : List E) (i : ℕ) → length es ≤ i → 2 + total_of f (take i es) ≡ spelled_length (entries_fields f es)
 total_taken f es i le = ap (λ (l : List _). 2 + total_of f l) (take_all i es le) ∙ sym (size_entries f es)
 
 -- an entry that isn't the last is short enough for its distance

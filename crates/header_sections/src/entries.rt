@@ -1,7 +1,7 @@
 //! Lists of entries, each after its distance.
 ghost use Rattle.std.specs.Prelude.{◌≡◌, ◌++◌, ◌+◌, ◌*◌, ◌==◌, ◌<◌, ◌≤◌, ◌^◌, length, false, OnOk};
 ghost use Rattle.std.specs.List.{concat, All};
-ghost use Rattle.field_grammar.specs.Spelling.{size_of};
+ghost use Rattle.field_grammar.specs.Spelling.{spelled_length};
 ghost use Rattle.header_sections.specs.Sections.{distance_of};
 ghost use Rattle.header_sections.specs.SectionFields.{entry_size, entry_fields, entries_fields};
 ghost use Rattle.header_sections.specs.SectionFields.{HaveDistances};
@@ -22,7 +22,7 @@ pub trait Entry {
     /// The bytes of these fields.
     fn body_size(&self) -> u64
         requires { Fits self.now }
-        ensures size { result ≡ size_of (body_fields self.now) }
+        ensures size { result ≡ spelled_length (body_fields self.now) }
         ensures small { result < 2 ^ 32 };
 
     /// Writes these fields.
@@ -44,7 +44,7 @@ pub fn is_distance(said: u16, size: usize, last: bool) -> bool
 pub fn entries_size<E: Entry>(entries: &[E]) -> u64
     requires count { length entries.now < 2 ^ 16 }
     requires each { All E.Fits entries.now }
-    ensures size { result ≡ size_of (entries_fields E.body_fields entries.now) }
+    ensures size { result ≡ spelled_length (entries_fields E.body_fields entries.now) }
     ensures small { result ≤ 2 + 2 ^ 33 * length entries.now }
 {
     let mut size = 2;

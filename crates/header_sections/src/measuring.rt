@@ -5,7 +5,7 @@ ghost use Rattle.load_base.specs.Name.{IsName};
 ghost use Rattle.load_base.specs.Text.{IsText};
 ghost use Rattle.part_number.specs.PartNumber.{IsPartNumberText};
 ghost use Rattle.field_grammar.specs.Grammar.{IsBytes};
-ghost use Rattle.field_grammar.specs.Spelling.{size_of};
+ghost use Rattle.field_grammar.specs.Spelling.{spelled_length};
 ghost use Rattle.field_grammar.specs.Fields.{padded_fields};
 ghost use Rattle.header_sections.specs.SectionFields.{texts_fields, user_fields};
 
@@ -23,7 +23,7 @@ fn padded_size(length: usize) -> u64
 /// The bytes of a padded text, at most 258.
 #[tactic(auto, using(field_grammar::specs::SectionLaws::size_padded))]
 pub fn text_size(text: &Text) -> u64
-    ensures size { result ≡ size_of (padded_fields text.now) }
+    ensures size { result ≡ spelled_length (padded_fields text.now) }
     ensures small { result ≤ 258 }
     ensures text { IsText text.now }
 {
@@ -33,7 +33,7 @@ pub fn text_size(text: &Text) -> u64
 /// The bytes of a padded file name, at most 66.
 #[tactic(auto, using(field_grammar::specs::SectionLaws::size_padded))]
 pub fn name_size(name: &Name) -> u64
-    ensures size { result ≡ size_of (padded_fields name.now) }
+    ensures size { result ≡ spelled_length (padded_fields name.now) }
     ensures small { result ≤ 66 }
     ensures name { IsName name.now }
 {
@@ -43,7 +43,7 @@ pub fn name_size(name: &Name) -> u64
 /// The bytes of a padded part number, which are 18.
 #[tactic(auto, using(field_grammar::specs::SectionLaws::size_padded, part_number::specs::VerdictLaws::part_size))]
 pub fn part_size(part: &PartNumber) -> u64
-    ensures size { result ≡ size_of (padded_fields part.now) }
+    ensures size { result ≡ spelled_length (padded_fields part.now) }
     ensures small { result ≡ 18 }
     ensures part { IsPartNumberText part.now }
 {
@@ -54,7 +54,7 @@ pub fn part_size(part: &PartNumber) -> u64
 #[tactic(auto, using(crate::specs::SizeLaws::all_texts))]
 pub fn texts_size(texts: &[Text]) -> u64
     requires { length texts.now < 65536 }
-    ensures size { result ≡ size_of (texts_fields texts.now) }
+    ensures size { result ≡ spelled_length (texts_fields texts.now) }
     ensures small { result ≤ 2 + 258 * length texts.now }
     ensures texts { AllByRecursion IsText texts.now }
 {
@@ -69,7 +69,7 @@ pub fn texts_size(texts: &[Text]) -> u64
 #[tactic(auto, using(crate::specs::SizeLaws::size_user))]
 pub fn user_size(user: &[u8]) -> u64
     requires { length user.now < 2 ^ 32 }
-    ensures size { result ≡ size_of (user_fields user.now) }
+    ensures size { result ≡ spelled_length (user_fields user.now) }
     ensures exact { result ≡ 2 + length user.now }
     ensures bytes { IsBytes user.now }
 {

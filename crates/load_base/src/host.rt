@@ -1,5 +1,5 @@
 //! The files that the tools read and write.
-ghost use Rattle.std.specs.Prelude.{◌≡◌, ℕ, ◌≤◌, List, Option, length, IfOk};
+ghost use Rattle.std.specs.Prelude.{◌≡◌, ℕ, ◌≤◌, Option, length, IfOk};
 ghost use Rattle.load_base.specs.Host.{Files, ReadsFile, WritesFile, HasReadCause, longest_file};
 ghost use Rattle.load_base.specs.Sink.{HasWriteCause};
 

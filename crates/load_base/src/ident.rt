@@ -1,5 +1,5 @@
 //! The names of targets: of their hardware, their positions and themselves.
-ghost use Rattle.std.specs.Prelude.{◌≡◌, ◌↔◌, IsOk, IfOk, IfErr, IfSome, IfNone};
+ghost use Rattle.std.specs.Prelude.{◌≡◌, IsOk, IfOk, IfErr, IfSome, IfNone};
 ghost use Rattle.load_base.specs.Bytes.{AllGood, IsFirstBad};
 ghost use Rattle.load_base.specs.Ident.{IsIdent, IsIdentFault, is_ident_byte as is_good};
 ghost use Rattle.load_base.specs.Verdicts.{judged, ident_fault_of};

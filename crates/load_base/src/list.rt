@@ -1,5 +1,5 @@
 //! Lists that can reserve spare capacity.
-ghost use Rattle.std.specs.Prelude.{◌≡◌, ℕ, ◌+◌, ◌<◌, ◌≤◌, ◌↔◌, [], ◌∷◌, ◌++◌, length, IsOk};
+ghost use Rattle.std.specs.Prelude.{◌≡◌, ◌+◌, ◌<◌, ◌≤◌, ◌↔◌, [], ◌∷◌, ◌++◌, length, IsOk};
 ghost use Rattle.std.specs.Prelude.{IsTrue, IsNone, IfNone, IfSome, OnOk, OnErr};
 
 use std::alloc::{AllocError, AllocFailed, Global};

@@ -10,7 +10,7 @@ use Rattle.load_base.specs.Name.{IsName}
 use Rattle.load_base.specs.Text.{IsText}
 use Rattle.part_number.specs.PartNumber.{IsPartNumberText}
 use Rattle.field_grammar.specs.Grammar.{IsBytes}
-use Rattle.field_grammar.specs.Spelling.{size_of}
+use Rattle.field_grammar.specs.Spelling.{spelled_length}
 use Rattle.field_grammar.specs.Fields.{number_bytes, number_fields, padded_fields}
 use Rattle.field_grammar.specs.NumberLaws.{length_number_bytes}
 use Rattle.field_grammar.specs.SectionLaws.{size_more, size_number}
@@ -26,7 +26,7 @@ use Rattle.load_header.proofs.Sizes.{size_body}
 
 -- ---- how many bytes its spelling has
 
-size_sections : (h : HeaderView) → size_of (sections_fields h) + 46 ≡ header_size h
+size_sections : (h : HeaderView) → spelled_length (sections_fields h) + 46 ≡ header_size h
 unfolding sections_fields identity_fields targets_fields all_files_fields header_size
 size_sections h =
     let a : List (List ℕ) = padded_fields h.part ++ type_fields h in
@@ -45,7 +45,7 @@ size_sections h =
       size_number 2 0,
     )
 
-size_covered : (h : HeaderView) → size_of (covered_fields h) + 6 ≡ header_size h
+size_covered : (h : HeaderView) → spelled_length (covered_fields h) + 6 ≡ header_size h
 unfolding covered_fields
 size_covered h =
     let head : List (List ℕ) = head_fields (header_size h) h.flags (pointers_of h) in
@@ -112,7 +112,7 @@ same_entries (x ∷ xs) (y ∷ ys) same =
     let parts : length x.part ≡ length y.part = ap (λ (t : List ℕ × List ℕ). length t.1) first in
     omega (arith, size_body x, size_body y, names, parts, same_entries xs ys others)
 
-same_files : (xs ys : List FileEntry) → map file_texts xs ≡ map file_texts ys → size_of (files_fields xs) ≡ size_of (files_fields ys)
+same_files : (xs ys : List FileEntry) → map file_texts xs ≡ map file_texts ys → spelled_length (files_fields xs) ≡ spelled_length (files_fields ys)
 same_files xs ys same = omega (arith, size_entries file_body_fields xs, size_entries file_body_fields ys, same_entries xs ys same)
 
 pub same_size : (one other : HeaderView) → HaveSameTexts one other → header_size one ≡ header_size other
@@ -120,15 +120,15 @@ unfolding header_size
 same_size one other same =
     omega (
       arith,
-      ap (λ (t : List ℕ). size_of (padded_fields t)) same.part,
+      ap (λ (t : List ℕ). spelled_length (padded_fields t)) same.part,
       size_type one,
       size_type other,
       ap (λ (t : List ℕ). length t) same.type_name,
-      ap (λ (t : List (List ℕ)). size_of (texts_fields t)) same.hardware,
-      ap (λ (t : List HardwareAtView). size_of (positions_fields t)) same.positions,
+      ap (λ (t : List (List ℕ)). spelled_length (texts_fields t)) same.hardware,
+      ap (λ (t : List HardwareAtView). spelled_length (positions_fields t)) same.positions,
       same_files one.data_files other.data_files same.data_files,
       same_files one.support_files other.support_files same.support_files,
-      ap (λ (u : List ℕ). size_of (user_fields u)) same.user,
+      ap (λ (u : List ℕ). spelled_length (user_fields u)) same.user,
     )
 
 files_again : (xs ys : List FileEntry) → map file_texts xs ≡ map file_texts ys → AllByRecursion IsHeaderFile xs → AllByRecursion HasFileNumbers ys → AllByRecursion IsHeaderFile ys

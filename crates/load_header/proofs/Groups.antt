@@ -7,7 +7,7 @@ use Rattle.crc_fields.specs.CheckSums.{crc16_of}
 use Rattle.crc_fields.specs.WidthLaws.{crc16_fits}
 use Rattle.load_base.specs.Text.{IsText}
 use Rattle.part_number.specs.PartNumber.{IsPartNumberText}
-use Rattle.field_grammar.specs.Spelling.{size_of, IsPlacedBy}
+use Rattle.field_grammar.specs.Spelling.{spelled_length, IsPlacedBy}
 use Rattle.field_grammar.specs.Fields.{number_fields, padded_fields}
 use Rattle.field_grammar.specs.PlacedLaws.{placed-renamed}
 use Rattle.field_grammar.specs.SectionLaws.{offset_after}
@@ -31,7 +31,7 @@ identity_parts v = padded_fields v.0 ++ (padded_fields v.1 ++ number_fields 2 v.
 pub record IsIdentity (offsets : Pointers) (before : List ℕ) (v : Identity) : Type 0 where
   pub part_offset : offsets.part ≡ length before / 2
   pub part : IsPartNumberText v.0
-  pub type_offset : offsets.type_name ≡ (length before + size_of (padded_fields v.0)) / 2
+  pub type_offset : offsets.type_name ≡ (length before + spelled_length (padded_fields v.0)) / 2
   pub type_name : IsText v.1
   pub type_id : v.2 < 2 ^ 16
 
@@ -47,14 +47,14 @@ placed-identity offsets = record {
       let a2 = (placed-section 2 offsets.type_name).to b2 f2 (length (concat o2) + after) u2 h2 in
       let a3 = spelled-text.to (b2 ++ concat f2) f3 (length (concat o3) + after) title h3 in
       let a4 = spelled-u16.to ((b2 ++ concat f2) ++ concat f3) f4 (length (concat o4) + after) id h4 in
-      let size : length b2 ≡ length before + size_of (padded_fields number) = omega (arith, offset_after before f0 [] a0.0, offset_after b1 f1 (padded_fields number) a1.0) in
+      let size : length b2 ≡ length before + spelled_length (padded_fields number) = omega (arith, offset_after before f0 [] a0.0, offset_after b1 f1 (padded_fields number) a1.0) in
       let is : Identity = (number, title, id) in
       let whole : fields ≡ identity_parts is = rw (e0, e1, e2, e3, e4, last.0, a0.0, a1.0, a2.0, a3.0, a4.0) refl in
       let fits : IsIdentity offsets before is = record { part_offset = a0.1; part = a1.1; type_offset = a2.1 ∙ ap (λ (n : ℕ). n / 2) size; type_name = a3.1; type_id = a4.1 } in
       subst (λ (v : Identity). (fields ≡ identity_parts v) × IsIdentity offsets before v) last.1 (whole, fits);
   from = λ before after value fits.
       let b2 : List ℕ = (before ++ []) ++ concat (padded_fields value.0) in
-      let size : length b2 ≡ length before + size_of (padded_fields value.0) = omega (arith, offset_after before [] [] refl, offset_after (before ++ []) (padded_fields value.0) (padded_fields value.0) refl) in
+      let size : length b2 ≡ length before + spelled_length (padded_fields value.0) = omega (arith, offset_after before [] [] refl, offset_after (before ++ []) (padded_fields value.0) (padded_fields value.0) refl) in
       let type_part : List (List ℕ) = padded_fields value.1 ++ number_fields 2 value.2 in (
         tt,
         [],
@@ -97,7 +97,7 @@ targets_parts v = texts_fields v.0 ++ positions_fields v.1
 pub record AreTargets (offsets : Pointers) (before : List ℕ) (v : Targets) : Type 0 where
   pub hardware_offset : offsets.hardware ≡ length before / 2
   pub hardware : AreTexts v.0
-  pub positions_offset : offsets.positions ≡ (length before + size_of (texts_fields v.0)) / 2
+  pub positions_offset : offsets.positions ≡ (length before + spelled_length (texts_fields v.0)) / 2
   pub positions : (length v.1 < 2 ^ 16) × AllByRecursion IsHardwareAt v.1
 
 pub placed-targets : (offsets : Pointers) → IsPlacedBy (targets offsets) (λ before. targets_parts) (λ before after v. AreTargets offsets before v)
@@ -111,14 +111,14 @@ placed-targets offsets = record {
       let a1 = spelled-texts.to b1 f1 (length (concat o1) + after) hardware h1 in
       let a2 = (placed-section 4 offsets.positions).to b2 f2 (length (concat o2) + after) u2 h2 in
       let a3 = spelled-positions.to (b2 ++ concat f2) f3 (length (concat o3) + after) list h3 in
-      let size : length b2 ≡ length before + size_of (texts_fields hardware) = omega (arith, offset_after before f0 [] a0.0, offset_after b1 f1 (texts_fields hardware) a1.0) in
+      let size : length b2 ≡ length before + spelled_length (texts_fields hardware) = omega (arith, offset_after before f0 [] a0.0, offset_after b1 f1 (texts_fields hardware) a1.0) in
       let is : Targets = (hardware, list) in
       let whole : fields ≡ targets_parts is = rw (e0, e1, e2, e3, last.0, a0.0, a1.0, a2.0, a3.0, append-nil) refl in
       let fits : AreTargets offsets before is = record { hardware_offset = a0.1; hardware = a1.1; positions_offset = a2.1 ∙ ap (λ (n : ℕ). n / 2) size; positions = a3.1 } in
       subst (λ (v : Targets). (fields ≡ targets_parts v) × AreTargets offsets before v) last.1 (whole, fits);
   from = λ before after value fits.
       let b2 : List ℕ = (before ++ []) ++ concat (texts_fields value.0) in
-      let size : length b2 ≡ length before + size_of (texts_fields value.0) = omega (arith, offset_after before [] [] refl, offset_after (before ++ []) (texts_fields value.0) (texts_fields value.0) refl) in (
+      let size : length b2 ≡ length before + spelled_length (texts_fields value.0) = omega (arith, offset_after before [] [] refl, offset_after (before ++ []) (texts_fields value.0) (texts_fields value.0) refl) in (
         tt,
         [],
         targets_parts value,
@@ -153,7 +153,7 @@ all_files_parts v = files_fields v.0 ++ files_fields v.1
 pub record AreFiles (offsets : Pointers) (before : List ℕ) (v : AllFiles) : Type 0 where
   pub data_offset : offsets.data_files ≡ length before / 2
   pub data_files : AllByRecursion IsHeaderFile v.0
-  pub support_offset : offsets.support_files ≡ (length before + size_of (files_fields v.0)) / 2
+  pub support_offset : offsets.support_files ≡ (length before + spelled_length (files_fields v.0)) / 2
   pub support_files : AllByRecursion IsHeaderFile v.1
   pub few : length v.0 + length v.1 ≤ 255
 
@@ -260,7 +260,7 @@ tail_parts before v = user_fields v.0 ++ (number_fields 2 0 ++ sums_parts ((befo
 pub record IsTail (offsets : Pointers) (before : List ℕ) (after : ℕ) (v : Tail) : Type 0 where
   pub user_offset : offsets.user ≡ length before / 2
   pub user : IsUserData v.0
-  pub check_offset : offsets.check_value ≡ (length before + size_of (user_fields v.0)) / 2
+  pub check_offset : offsets.check_value ≡ (length before + spelled_length (user_fields v.0)) / 2
   pub load_crc : v.1 < 2 ^ 32
   pub none : after ≡ 0
 

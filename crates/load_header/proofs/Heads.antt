@@ -3,7 +3,7 @@ use Rattle.std.proofs.Common.{◌≡◌, ℕ, ◌+◌, ◌*◌, ◌/◌, ◌<◌
 use Rattle.std.specs.List.{concat}
 use Rattle.std.proofs.lemmas.List.{append-nil}
 use Rattle.field_grammar.specs.Grammar.{Follows}
-use Rattle.field_grammar.specs.Spelling.{size_of, IsSpelledBy, IsPlacedBy}
+use Rattle.field_grammar.specs.Spelling.{spelled_length, IsSpelledBy, IsPlacedBy}
 use Rattle.field_grammar.specs.Fields.{number_fields}
 use Rattle.field_grammar.specs.PlacedLaws.{placed-renamed}
 use Rattle.field_grammar.specs.NumberLaws.{length_number_bytes}
@@ -93,11 +93,11 @@ spelled-pointers = record {
       );
 }
 
-pub size_head : (size flags : ℕ) (p : Pointers) → size_of (head_fields size flags p) ≡ 40
+pub size_head : (size flags : ℕ) (p : Pointers) → spelled_length (head_fields size flags p) ≡ 40
 unfolding head_fields pointers_fields
 size_head size flags p = simp (length-append, length_number_bytes) refl
 
-size_behind : (flags : ℕ) (p : Pointers) → size_of (number_fields 2 flags ++ pointers_fields p) ≡ 34
+size_behind : (flags : ℕ) (p : Pointers) → spelled_length (number_fields 2 flags ++ pointers_fields p) ≡ 34
 unfolding pointers_fields
 size_behind flags p = simp (length-append, length_number_bytes) refl
 

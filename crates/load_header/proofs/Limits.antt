@@ -6,7 +6,7 @@ use Rattle.std.proofs.lemmas.List.Elements.{All-nil, All-cons}
 use Rattle.std.proofs.lemmas.Bool.{leb-true, ltb-true, lt-leb, lt-ltb, le-leb, eqb-true, eq-eqb, and_from}
 use Rattle.std.proofs.lemmas.List.{take_all, length-map}
 use Rattle.std.proofs.lemmas.List.Concat.{flat_map-cons}
-use Rattle.field_grammar.specs.Spelling.{size_of}
+use Rattle.field_grammar.specs.Spelling.{spelled_length}
 use Rattle.field_grammar.specs.Fields.{number_fields, padded_fields}
 use Rattle.load_header.specs.Header.{HeaderView, hardware_at_view, header_view}
 use Rattle.load_header.specs.HeaderFields.{hardware_at_fields, positions_fields, file_body_fields, type_fields, check_offset, header_size, pointers_of, IsHardwareAt, IsHeaderFile, IsHeader}
@@ -55,7 +55,7 @@ total_size h s n are whole = omega (arith, whole, are.part, are.type_name, are.h
 pub few_of_each : (h : HeaderView) → few_members h ≡ true → list_all few_positions h.positions ≡ true
 few_of_each h few = (later_members h few).1
 
-pub size_type : (h : HeaderView) → size_of (type_fields h) ≡ 2 + length h.type_name + length h.type_name % 2 + 2
+pub size_type : (h : HeaderView) → spelled_length (type_fields h) ≡ 2 + length h.type_name + length h.type_name % 2 + 2
 unfolding type_fields
 size_type h = omega (arith, size_more (padded_fields h.type_name) (number_fields 2 h.type_id), size_number 2 h.type_id, size_padded h.type_name)
 
@@ -77,19 +77,19 @@ pub kinds_all : (list : List HardwareAt) → AllByRecursion IsKind list → AllB
 kinds_all [] all = tt
 kinds_all (h ∷ list) all = (all.0, kinds_all list all.1)
 
-pub size_kind : (h : HardwareAt) → size_of (hardware_at_fields (hardware_at_view h)) ≡ size_of (padded_fields h.hardware) + size_of (texts_fields h.positions.items)
+pub size_kind : (h : HardwareAt) → spelled_length (hardware_at_fields (hardware_at_view h)) ≡ spelled_length (padded_fields h.hardware) + spelled_length (texts_fields h.positions.items)
 size_kind h = size_more (padded_fields h.hardware) (texts_fields h.positions.items)
 
 pub positions_few : (h : HardwareAt) → few_positions (hardware_at_view h) ≡ true → length h.positions.items < 65536
 positions_few h few = ltb-true (length h.positions.items) 65536 few
 
-pub all_kinds : (list : List HardwareAt) (i : ℕ) → length list ≤ i → 2 + size_of (flat_map kind_fields (take i list)) ≡ size_of (positions_fields (map hardware_at_view list))
+pub all_kinds : (list : List HardwareAt) (i : ℕ) → length list ≤ i → 2 + spelled_length (flat_map kind_fields (take i list)) ≡ spelled_length (positions_fields (map hardware_at_view list))
 unfolding positions_fields
 all_kinds list i le =
     let whole : take i list ≡ list = take_all i list le in
     let kinds : List (List ℕ) = flat_map hardware_at_fields (map hardware_at_view list) in
     let viewed : flat_map kind_fields list ≡ kinds = kinds_viewed list in
-    rw whole (ap (λ (l : List (List ℕ)). 2 + size_of l) viewed ∙ sym (size_more (number_fields 2 (length (map hardware_at_view list))) kinds ∙ ap (λ (n : ℕ). n + size_of kinds) (size_number 2 (length (map hardware_at_view list)))))
+    rw whole (ap (λ (l : List (List ℕ)). 2 + spelled_length l) viewed ∙ sym (size_more (number_fields 2 (length (map hardware_at_view list))) kinds ∙ ap (λ (n : ℕ). n + spelled_length kinds) (size_number 2 (length (map hardware_at_view list)))))
 
 pub few_at : (list : List HardwareAt) (i : ℕ) (d : HardwareAt) → i < length list → list_all few_positions (map hardware_at_view list) ≡ true → few_positions (hardware_at_view (get_or list i d)) ≡ true
 few_at [] i d lt all = absurd (omega arith)

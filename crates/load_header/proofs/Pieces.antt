@@ -7,7 +7,7 @@ use Rattle.load_base.specs.Name.{IsName}
 use Rattle.load_base.specs.Text.{IsText}
 use Rattle.part_number.specs.PartNumber.{IsPartNumberText}
 use Rattle.field_grammar.specs.Grammar.{renamed, listed}
-use Rattle.field_grammar.specs.Spelling.{size_of, IsSpelledBy, IsPlacedBy, listed_fields, AllPlaced}
+use Rattle.field_grammar.specs.Spelling.{spelled_length, IsSpelledBy, IsPlacedBy, listed_fields, AllPlaced}
 use Rattle.field_grammar.specs.Fields.{number, number_fields, padded_fields}
 use Rattle.field_grammar.specs.CombinedLaws.{spelled-as, spelled-renamed, spelled-counted, spelled-measured}
 use Rattle.field_grammar.specs.ListedLaws.{placed-listed}
@@ -164,7 +164,7 @@ distance_fits : (last : Bool) (n : ℕ) → n < 2 ^ 17 → distance_of last n < 
 distance_fits true n small = omega arith
 distance_fits false n small = omega (arith, small)
 
-body_small : (f : FileEntry) → IsHeaderFile f → 2 + size_of (file_body_fields f) < 2 ^ 17
+body_small : (f : FileEntry) → IsHeaderFile f → 2 + spelled_length (file_body_fields f) < 2 ^ 17
 body_small f is = omega (arith, size_body f, is.name.size.1, is.part.size)
 
 spelled-file_entry : (file : ℕ) (last : Bool) → IsSpelledBy (file_entry file last) (entry_fields file_body_fields last) IsHeaderFile

@@ -6,7 +6,7 @@ use Rattle.std.proofs.lemmas.List.{append-nil}
 use Rattle.std.proofs.lemmas.List.Folds.{concat-append}
 use Rattle.crc_fields.specs.CheckSums.{crc16_of}
 use Rattle.field_grammar.specs.Grammar.{Follows}
-use Rattle.field_grammar.specs.Spelling.{size_of, IsPlacedBy, SpellsWhole}
+use Rattle.field_grammar.specs.Spelling.{spelled_length, IsPlacedBy, SpellsWhole}
 use Rattle.field_grammar.specs.Fields.{number_fields, padded_fields}
 use Rattle.field_grammar.specs.SectionLaws.{size_more, size_number, offset_after}
 use Rattle.header_sections.specs.SectionFields.{texts_fields, user_fields, IsUserData}
@@ -57,17 +57,17 @@ files_of h = (h.data_files, h.support_files)
 abbrev stop_of : HeaderView → Tail
 stop_of h = (h.user, h.load_crc)
 
-size_identity : (h : HeaderView) → size_of (identity_parts (what_of h)) ≡ size_of (padded_fields h.part) + size_of (type_fields h)
+size_identity : (h : HeaderView) → spelled_length (identity_parts (what_of h)) ≡ spelled_length (padded_fields h.part) + spelled_length (type_fields h)
 unfolding type_fields
 size_identity h = size_more (padded_fields h.part) (padded_fields h.type_name ++ number_fields 2 h.type_id)
 
-size_targets : (h : HeaderView) → size_of (targets_parts (whom_of h)) ≡ size_of (texts_fields h.hardware) + size_of (positions_fields h.positions)
+size_targets : (h : HeaderView) → spelled_length (targets_parts (whom_of h)) ≡ spelled_length (texts_fields h.hardware) + spelled_length (positions_fields h.positions)
 size_targets h = size_more (texts_fields h.hardware) (positions_fields h.positions)
 
-size_files : (h : HeaderView) → size_of (all_files_parts (files_of h)) ≡ size_of (files_fields h.data_files) + size_of (files_fields h.support_files)
+size_files : (h : HeaderView) → spelled_length (all_files_parts (files_of h)) ≡ spelled_length (files_fields h.data_files) + spelled_length (files_fields h.support_files)
 size_files h = size_more (files_fields h.data_files) (files_fields h.support_files)
 
-size_tail : (before : List ℕ) (v : Tail) → size_of (tail_parts before v) ≡ size_of (user_fields v.0) + 8
+size_tail : (before : List ℕ) (v : Tail) → spelled_length (tail_parts before v) ≡ spelled_length (user_fields v.0) + 8
 size_tail before v =
     let sums : List (List ℕ) = sums_parts ((before ++ concat (user_fields v.0)) ++ concat (number_fields 2 0)) v.1 in
     omega (
@@ -129,14 +129,14 @@ follow_on fields f1 f2 f3 f4 o1 o2 o3 o4 a b c d e1 z1 e2 z2 e3 z3 e4 z4 none = 
 abbrev rest_fields : HeaderView → List ℕ → List (List ℕ)
 rest_fields h before = identity_parts (what_of h) ++ (targets_parts (whom_of h) ++ (all_files_parts (files_of h) ++ tail_parts before (stop_of h)))
 
-size_rest : (h : HeaderView) (before : List ℕ) → 40 + size_of (rest_fields h before) ≡ header_size h
+size_rest : (h : HeaderView) (before : List ℕ) → 40 + spelled_length (rest_fields h before) ≡ header_size h
 unfolding header_size
 size_rest h before =
     let a : List (List ℕ) = identity_parts (what_of h) in
     let b : List (List ℕ) = targets_parts (whom_of h) in
     let c : List (List ℕ) = all_files_parts (files_of h) in
     let d : List (List ℕ) = tail_parts before (stop_of h) in
-    let whole : size_of (a ++ (b ++ (c ++ d))) ≡ size_of a + (size_of b + (size_of c + size_of d)) = omega (arith, size_more a (b ++ (c ++ d)), size_more b (c ++ d), size_more c d) in
+    let whole : spelled_length (a ++ (b ++ (c ++ d))) ≡ spelled_length a + (spelled_length b + (spelled_length c + spelled_length d)) = omega (arith, size_more a (b ++ (c ++ d)), size_more b (c ++ d), size_more c d) in
     omega (arith, whole, size_identity h, size_targets h, size_files h, size_tail before (stop_of h))
 
 same_prefix : (f0 f1 f2 f3 f4 a b c d : List (List ℕ)) → f0 ≡ [] → f1 ≡ a → f2 ≡ b → f3 ≡ c → f4 ≡ d
@@ -167,16 +167,16 @@ header_to fields after value follows =
     let s4 : length b4 ≡ user_offset is = omega (arith, s3, offset_after b3 f4 (all_files_parts parts) a4.0, size_files is) in
     let offsets : start.1 ≡ pointers_of is = same_pointers _ _ _ _ _ _ _ _ _ _ _ _ _ _ _ _
     (a2.1.part_offset ∙ half (length b1) 40 s1)
-    (a2.1.type_offset ∙ half (length b1 + size_of (padded_fields what.0)) (type_offset is) (omega (arith, s1)))
+    (a2.1.type_offset ∙ half (length b1 + spelled_length (padded_fields what.0)) (type_offset is) (omega (arith, s1)))
     (a3.1.hardware_offset ∙ half (length b2) (hardware_offset is) s2)
-    (a3.1.positions_offset ∙ half (length b2 + size_of (texts_fields whom.0)) (positions_offset is) (omega (arith, s2)))
+    (a3.1.positions_offset ∙ half (length b2 + spelled_length (texts_fields whom.0)) (positions_offset is) (omega (arith, s2)))
     (a4.1.data_offset ∙ half (length b3) (data_offset is) s3)
-    (a4.1.support_offset ∙ half (length b3 + size_of (files_fields parts.0)) (support_offset is) (omega (arith, s3)))
+    (a4.1.support_offset ∙ half (length b3 + spelled_length (files_fields parts.0)) (support_offset is) (omega (arith, s3)))
     (a5.1.user_offset ∙ half (length b4) (user_offset is) s4)
-    (a5.1.check_offset ∙ half (length b4 + size_of (user_fields stop.0)) (check_offset is) (omega (arith, s4))) in
+    (a5.1.check_offset ∙ half (length b4 + spelled_length (user_fields stop.0)) (check_offset is) (omega (arith, s4))) in
     let others : o1 ≡ rest_fields is b4 =
     follow_on o1 f2 f3 f4 f5 o2 o3 o4 o5 (identity_parts what) (targets_parts whom) (all_files_parts parts) (tail_parts b4 stop) e2 a2.0 e3 a3.0 e4 a4.0 e5 a5.0 last.0 in
-    let total : said ≡ header_size is = omega (arith, ap (λ (o : List (List ℕ)). size_of o) others, size_rest is b4, none) in
+    let total : said ≡ header_size is = omega (arith, ap (λ (o : List (List ℕ)). spelled_length o) others, size_rest is b4, none) in
     let prefix : b4 ≡ prefix_of said start.1 is =
     same_prefix f0 f1 f2 f3 f4 (head_fields said start.0 start.1) (identity_parts what) (targets_parts whom) (all_files_parts parts) a0.0 a1.0 a2.0 a3.0 a4.0 in
     let grouped : fields ≡ group_fields said start.1 is b4 =
@@ -186,8 +186,8 @@ header_to fields after value follows =
     let pointed : fields ≡ group_fields (header_size is) (pointers_of is) is (prefix_of (header_size is) (pointers_of is) is) =
     subst (λ (p : Pointers). fields ≡ group_fields (header_size is) p is (prefix_of (header_size is) p is)) offsets sized in
     let whole : fields ≡ header_fields is = pointed ∙ groups_are is in
-    let first : size_of o0 ≡ 40 + size_of o1 =
-    omega (arith, ap (λ (o : List (List ℕ)). size_of o) e1, size_more f1 o1, ap (λ (f : List (List ℕ)). size_of f) a1.0, size_head said start.0 start.1) in
+    let first : spelled_length o0 ≡ 40 + spelled_length o1 =
+    omega (arith, ap (λ (o : List (List ℕ)). spelled_length o) e1, size_more f1 o1, ap (λ (f : List (List ℕ)). spelled_length f) a1.0, size_head said start.0 start.1) in
     let fits : IsHeader is = record {
       flags = a1.1.flags;
       part = a2.1.part;
@@ -252,7 +252,7 @@ header_from value fits =
     let s3 : length b3 ≡ data_offset value = omega (arith, s2, offset_after b2 c c refl, size_targets value) in
     let s4 : length b4 ≡ user_offset value = omega (arith, s3, offset_after b3 d d refl, size_files value) in
     let total : 40 + after ≡ size = omega (arith, size_rest value b4) in
-    let whole : size_of (a ++ rest) ≡ size = omega (arith, size_more a rest, size_head size value.flags offsets, total) in
+    let whole : spelled_length (a ++ rest) ≡ size = omega (arith, size_more a rest, size_head size value.flags offsets, total) in
     let is_head : IsHead after start = record {
       size = omega (arith, total, fits.size);
       whole = omega (arith, total, even_size value fits);
@@ -263,20 +263,20 @@ header_from value fits =
     let is_identity : IsIdentity offsets b1 (what_of value) = record {
       part_offset = half 40 (length b1) (sym s1);
       part = fits.part;
-      type_offset = half (type_offset value) (length b1 + size_of (padded_fields value.part)) (omega (arith, s1));
+      type_offset = half (type_offset value) (length b1 + spelled_length (padded_fields value.part)) (omega (arith, s1));
       type_name = fits.type_name;
       type_id = fits.type_id;
     } in
     let are_targets : AreTargets offsets b2 (whom_of value) = record {
       hardware_offset = half (hardware_offset value) (length b2) (sym s2);
       hardware = fits.hardware;
-      positions_offset = half (positions_offset value) (length b2 + size_of (texts_fields value.hardware)) (omega (arith, s2));
+      positions_offset = half (positions_offset value) (length b2 + spelled_length (texts_fields value.hardware)) (omega (arith, s2));
       positions = (fits.positions_count, fits.positions);
     } in
     let are_files : AreFiles offsets b3 (files_of value) = record {
       data_offset = half (data_offset value) (length b3) (sym s3);
       data_files = fits.data_files;
-      support_offset = half (support_offset value) (length b3 + size_of (files_fields value.data_files)) (omega (arith, s3));
+      support_offset = half (support_offset value) (length b3 + spelled_length (files_fields value.data_files)) (omega (arith, s3));
       support_files = fits.support_files;
       few = fits.files;
     } in
@@ -284,7 +284,7 @@ header_from value fits =
     let is_tail : IsTail offsets b4 (0 + 0) (stop_of value) = record {
       user_offset = half (user_offset value) (length b4) (sym s4);
       user = is_user;
-      check_offset = half (check_offset value) (length b4 + size_of (user_fields value.user)) (omega (arith, s4));
+      check_offset = half (check_offset value) (length b4 + spelled_length (user_fields value.user)) (omega (arith, s4));
       load_crc = fits.load_crc;
       none = refl;
     } in

@@ -4,7 +4,7 @@ use Rattle.std.specs.List.{AllByRecursion, list_all}
 use Rattle.load_base.specs.Text.{IsText}
 use Rattle.part_number.specs.PartNumber.{IsPartNumberText}
 use Rattle.field_grammar.specs.Grammar.{IsBytes}
-use Rattle.field_grammar.specs.Spelling.{size_of}
+use Rattle.field_grammar.specs.Spelling.{spelled_length}
 use Rattle.field_grammar.specs.Fields.{padded_fields}
 use Rattle.load_header.specs.Header.{HeaderView, HardwareAtView, hardware_at_view}
 use Rattle.header_sections.specs.SectionFields.{texts_fields, user_fields}
@@ -36,13 +36,13 @@ short_enough h = (length h.user % 2 == 0) && nat_le (header_size h) 65536
 
 -- how many bytes the sections take
 pub record AreSizes (h : HeaderView) (s : Sizes) : Type 0 where
-  pub part : s.part ≡ size_of (padded_fields h.part)
-  pub type_name : s.type_name ≡ size_of (type_fields h)
-  pub hardware : s.hardware ≡ size_of (texts_fields h.hardware)
-  pub positions : s.positions ≡ size_of (positions_fields h.positions)
-  pub data_files : s.data_files ≡ size_of (files_fields h.data_files)
-  pub support_files : s.support_files ≡ size_of (files_fields h.support_files)
-  pub user : s.user ≡ size_of (user_fields h.user)
+  pub part : s.part ≡ spelled_length (padded_fields h.part)
+  pub type_name : s.type_name ≡ spelled_length (type_fields h)
+  pub hardware : s.hardware ≡ spelled_length (texts_fields h.hardware)
+  pub positions : s.positions ≡ spelled_length (positions_fields h.positions)
+  pub data_files : s.data_files ≡ spelled_length (files_fields h.data_files)
+  pub support_files : s.support_files ≡ spelled_length (files_fields h.support_files)
+  pub user : s.user ≡ spelled_length (user_fields h.user)
 
 -- small enough to be added in 64 bits
 pub record AreSmall (s : Sizes) : Type 0 where

@@ -6,7 +6,7 @@ use Rattle.load_base.specs.Name.{IsName}
 use Rattle.load_base.specs.Text.{IsText}
 use Rattle.part_number.specs.PartNumber.{IsPartNumberText}
 use Rattle.field_grammar.specs.Grammar.{IsBytes}
-use Rattle.field_grammar.specs.Spelling.{size_of}
+use Rattle.field_grammar.specs.Spelling.{spelled_length}
 use Rattle.field_grammar.specs.Fields.{number_fields, padded_fields}
 use Rattle.header_sections.specs.SectionFields.{texts_fields, user_fields, entries_fields}
 use Rattle.load_header.specs.Header.{HeaderView, HardwareAtView}
@@ -42,25 +42,25 @@ abbrev pub head_size : ℕ
 head_size = 40
 
 abbrev pub type_offset : HeaderView → ℕ
-type_offset h = head_size + size_of (padded_fields h.part)
+type_offset h = head_size + spelled_length (padded_fields h.part)
 
 abbrev pub hardware_offset : HeaderView → ℕ
-hardware_offset h = type_offset h + size_of (type_fields h)
+hardware_offset h = type_offset h + spelled_length (type_fields h)
 
 abbrev pub positions_offset : HeaderView → ℕ
-positions_offset h = hardware_offset h + size_of (texts_fields h.hardware)
+positions_offset h = hardware_offset h + spelled_length (texts_fields h.hardware)
 
 abbrev pub data_offset : HeaderView → ℕ
-data_offset h = positions_offset h + size_of (positions_fields h.positions)
+data_offset h = positions_offset h + spelled_length (positions_fields h.positions)
 
 abbrev pub support_offset : HeaderView → ℕ
-support_offset h = data_offset h + size_of (files_fields h.data_files)
+support_offset h = data_offset h + spelled_length (files_fields h.data_files)
 
 abbrev pub user_offset : HeaderView → ℕ
-user_offset h = support_offset h + size_of (files_fields h.support_files)
+user_offset h = support_offset h + spelled_length (files_fields h.support_files)
 
 abbrev pub check_offset : HeaderView → ℕ
-check_offset h = user_offset h + size_of (user_fields h.user)
+check_offset h = user_offset h + spelled_length (user_fields h.user)
 
 -- the whole: the length of the check value, the check sum of the header and that of the load have 8 bytes
 unfoldable pub header_size : HeaderView → ℕ

@@ -6,7 +6,8 @@ ghost use Rattle.field_grammar.specs.Fields.{number_bytes};
 ghost use Rattle.load_header.specs.HeaderFields.{header_size, IsHeader, HeaderSpells};
 ghost use Rattle.load_header.specs.HeaderChanges.{HaveSameTexts, HasNumbers, with_load_crc};
 
-/// Laws of the format of load headers, for callers that compare headers and their bytes.
+/// Laws of the format of load headers, a clause each, for callers that compare headers and their
+/// bytes.
 pub fn header_laws()
     // Whatever the bytes, they spell one header, or fail with one fault, and never both.
     ensures decided { (bytes : List ℕ) → IsBytes bytes → IsDecided header bytes }

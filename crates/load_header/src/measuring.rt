@@ -2,7 +2,7 @@
 ghost use Rattle.std.specs.Prelude.{◌≡◌, ◌↔◌, ◌+◌, ◌*◌, ◌<◌, ◌≤◌, length, map, true, IsTrue};
 ghost use Rattle.std.specs.List.{list_all, AllByRecursion};
 ghost use Rattle.load_header.specs.Header.{hardware_at_view, header_view};
-ghost use Rattle.field_grammar.specs.Spelling.{size_of};
+ghost use Rattle.field_grammar.specs.Spelling.{spelled_length};
 ghost use Rattle.load_header.specs.HeaderFields.{hardware_at_fields, positions_fields};
 ghost use Rattle.load_header.specs.HeaderFields.{header_size as size_of_header, IsHardwareAt};
 ghost use Rattle.load_header.specs.HeaderFields.{IsHeaderFile, IsHeader};
@@ -176,7 +176,7 @@ pub(crate) fn sizes_of(header: &LoadHeader) -> Sizes
 #[tactic(auto, using(crate::proofs::Limits::size_kind, crate::proofs::Limits::positions_few))]
 fn kind_size(at: &HardwareAt) -> u64
     requires { few_positions (hardware_at_view at.now) ≡ true }
-    ensures size { result ≡ size_of (hardware_at_fields (hardware_at_view at.now)) }
+    ensures size { result ≡ spelled_length (hardware_at_fields (hardware_at_view at.now)) }
     ensures small { result ≤ 17000000 }
     ensures kind { IsKind at.now }
 {
@@ -187,7 +187,7 @@ fn kind_size(at: &HardwareAt) -> u64
 fn positions_size(list: &[HardwareAt]) -> u64
     requires count { length list.now < 65536 }
     requires each { list_all few_positions (map hardware_at_view list.now) ≡ true }
-    ensures size { result ≡ size_of (positions_fields (map hardware_at_view list.now)) }
+    ensures size { result ≡ spelled_length (positions_fields (map hardware_at_view list.now)) }
     ensures small { result ≤ 2 + 17000000 * length list.now }
     ensures kinds { AllByRecursion IsHardwareAt (map hardware_at_view list.now) }
 {

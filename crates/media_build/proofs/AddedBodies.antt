@@ -15,7 +15,7 @@ use Rattle.media_check.specs.Openings.{total_of, largest_set}
 use Rattle.media_build.specs.Accepted.{IsRecipe}
 use Rattle.media_build.specs.Building.{AddsLoad, AreBodies, CanTake, HasShortHeader, HaveShortHeaders, IsHeaderIfShort, IsShortView, TakesLoad, TakesSources, body_place, bodies_length, header_length, headers_length, source_names, sources_in, sources_of, unread}
 use Rattle.media_build.specs.NoFindings.{body_view}
-use Rattle.media_build.specs.RecipeSets.{BodyView, LoadView, Sources, header_start, load_bodies, loads_of, recipe_bodies}
+use Rattle.media_build.specs.RecipeSets.{BodyView, RecipeLoadView, Sources, header_start, load_bodies, loads_of, recipe_bodies}
 use Rattle.media_build.specs.declared.building_fault.BuildFault.{BuildFault}
 use Rattle.media_build.specs.declared.statements.RecipeLine.{RecipeLine}
 use Rattle.media_build.proofs.BuiltHeaders.{second_part}
@@ -26,10 +26,10 @@ use Rattle.media_build.proofs.Taking.{told_also, told_both, told_anyway, take_no
 -- ---- some loads
 
 -- the names of the sources of loads
-abbrev names_of : List LoadView → List (List ℕ)
+abbrev names_of : List RecipeLoadView → List (List ℕ)
 names_of loads = flat_map sources_of loads
 
-abbrev bodies_of : Sources → List LoadView → List BodyView
+abbrev bodies_of : Sources → List RecipeLoadView → List BodyView
 bodies_of sources loads = flat_map (load_bodies sources) loads
 
 -- one more
@@ -43,14 +43,14 @@ headers_small lines is short =
     omega (arith, loads, headers_bound (loads_of lines) short)
 
 -- what the host tells of the sources of these loads
-pub record ToldSoFar (before : List LoadView) (headers total : ℕ) (bodies : List BodyView) (told : Files) : Type 0 where
+pub record ToldSoFar (before : List RecipeLoadView) (headers total : ℕ) (bodies : List BodyView) (told : Files) : Type 0 where
   pub taken : CanTake told headers (names_of before)
   pub are : bodies ≡ bodies_of (sources_in told) before
   pub total_is : total ≡ headers + total_of told (names_of before)
 
 -- of the loads of these lines these are left, and those before them have these files
-pub record BodiesSoFar (o : Option Files) (lines : List RecipeLine) (left : List LoadView) (headers total : ℕ) (bodies : List BodyView) : Type 0 where
-  pub before : List LoadView
+pub record BodiesSoFar (o : Option Files) (lines : List RecipeLine) (left : List RecipeLoadView) (headers total : ℕ) (bodies : List BodyView) : Type 0 where
+  pub before : List RecipeLoadView
   pub stands : loads_of lines ≡ before ++ left
   pub places : map body_place bodies ≡ map body_place (bodies_of unread before)
   pub short : All IsShortView bodies
@@ -58,7 +58,7 @@ pub record BodiesSoFar (o : Option Files) (lines : List RecipeLine) (left : List
   pub small : total ≤ largest_set
   pub told : ForSome o (ToldSoFar before headers total bodies)
 
-pub no_bodies : (o : Option Files) (lines : List RecipeLine) (left : List LoadView) (headers : ℕ) (bodies : List BodyView) → left ≡ loads_of lines → bodies ≡ [] → headers ≤ largest_set
+pub no_bodies : (o : Option Files) (lines : List RecipeLine) (left : List RecipeLoadView) (headers : ℕ) (bodies : List BodyView) → left ≡ loads_of lines → bodies ≡ [] → headers ≤ largest_set
     → BodiesSoFar o lines left headers headers bodies
 no_bodies o lines left headers bodies all none small = record {
   before = [];
@@ -70,7 +70,7 @@ no_bodies o lines left headers bodies all none small = record {
   told = told_anyway o _ (λ told. record { taken = take_none told headers small; are = none; total_is = omega arith });
 }
 
-pub bodies_more : (o : Option Files) (lines : List RecipeLine) (left rest : List LoadView) (load : LoadView) (headers total sum : ℕ) (old : List BodyView) (new : Listed Placed)
+pub bodies_more : (o : Option Files) (lines : List RecipeLine) (left rest : List RecipeLoadView) (load : RecipeLoadView) (headers total sum : ℕ) (old : List BodyView) (new : Listed Placed)
     → BodiesSoFar o lines left headers total old → left ≡ load ∷ rest → AddsLoad load total old (map body_view new.items) sum
     → ForSome o (TakesSources total (sources_of load) (TakesLoad load total old) (Ok (new, sum))) → BodiesSoFar o lines rest headers sum (map body_view new.items)
 bodies_more o lines left rest load headers total sum old new so_far is adds takes =
@@ -82,7 +82,7 @@ bodies_more o lines left rest load headers total sum old new so_far is adds take
     let bytes : bodies_length (map body_view new.items) ≡ bodies_length old + bodies_length adds.bodies = ap (λ (b : List BodyView). bodies_length b) adds.new_are ∙ sum_by-append size old adds.bodies in
     record {
       before = before ++ load ∷ [];
-      stands = so_far.stands ∙ (ap (λ (l : List LoadView). before ++ l) is ∙ sym (append_assoc before (load ∷ []) rest));
+      stands = so_far.stands ∙ (ap (λ (l : List RecipeLoadView). before ++ l) is ∙ sym (append_assoc before (load ∷ []) rest));
       places =
           ap (λ (b : List BodyView). map body_place b) adds.new_are ∙ (map-append body_place old adds.bodies
           ∙ (ap (λ (p : List (List ℕ × ℕ)). p ++ map body_place adds.bodies) so_far.places ∙ (ap (λ (p : List (List ℕ × ℕ)). map body_place (bodies_of unread before) ++ p) adds.places
@@ -104,47 +104,47 @@ bodies_more o lines left rest load headers total sum old new so_far is adds take
 abbrev NamesBodies : List RecipeLine → Files → Listed Placed → Type 0
 NamesBodies lines files bodies = map body_view bodies.items ≡ recipe_bodies (sources_in files) lines
 
-pub bodies_stop : {T : Type 0} (o : Option Files) (lines : List RecipeLine) (left rest : List LoadView) (load : LoadView) (headers total : ℕ) (old : List BodyView) (P : Files → T → Type 0) (fault : BuildFault)
+pub bodies_stop : {T : Type 0} (o : Option Files) (lines : List RecipeLine) (left rest : List RecipeLoadView) (load : RecipeLoadView) (headers total : ℕ) (old : List BodyView) (P : Files → T → Type 0) (fault : BuildFault)
     → BodiesSoFar o lines left headers total old → left ≡ load ∷ rest → ForSome o (TakesSources total (sources_of load) (TakesLoad load total old) (Err fault))
     → ForSome o (TakesSources headers (source_names lines) P (Err fault))
 bodies_stop {T = T} o lines left rest load headers total old P fault so_far is stop =
     told_both o _ _ _ so_far.told stop (λ told first refused.
     let names : source_names lines ≡ names_of so_far.before ++ (sources_of load ++ names_of rest) =
-    ap (λ (l : List LoadView). names_of l) (so_far.stands ∙ ap (λ (l : List LoadView). so_far.before ++ l) is) ∙ flat_map-append sources_of so_far.before (load ∷ rest) in
+    ap (λ (l : List RecipeLoadView). names_of l) (so_far.stands ∙ ap (λ (l : List RecipeLoadView). so_far.before ++ l) is) ∙ flat_map-append sources_of so_far.before (load ∷ rest) in
     let here = subst (λ (n : ℕ). TakesSources n (sources_of load) (TakesLoad load total old) (Err fault) told) first.total_is refused in
     subst (λ (n : List (List ℕ)). TakesSources headers n P (Err fault) told) (sym names)
     (takes_stop {S = Listed Placed × ℕ} {T = T} told headers (names_of so_far.before) (sources_of load) (names_of rest) (TakesLoad load total old) P fault first.taken here))
 
-all_before : (o : Option Files) (lines : List RecipeLine) (left : List LoadView) (headers total : ℕ) (bodies : List BodyView) (so_far : BodiesSoFar o lines left headers total bodies) → left ≡ []
+all_before : (o : Option Files) (lines : List RecipeLine) (left : List RecipeLoadView) (headers total : ℕ) (bodies : List BodyView) (so_far : BodiesSoFar o lines left headers total bodies) → left ≡ []
     → so_far.before ≡ loads_of lines
-all_before o lines left headers total bodies so_far none = sym (so_far.stands ∙ (ap (λ (l : List LoadView). so_far.before ++ l) none ∙ append-nil so_far.before))
+all_before o lines left headers total bodies so_far none = sym (so_far.stands ∙ (ap (λ (l : List RecipeLoadView). so_far.before ++ l) none ∙ append-nil so_far.before))
 
-pub bodies_taken : (o : Option Files) (lines : List RecipeLine) (left : List LoadView) (headers total : ℕ) (bodies : Listed Placed) → BodiesSoFar o lines left headers total (map body_view bodies.items)
+pub bodies_taken : (o : Option Files) (lines : List RecipeLine) (left : List RecipeLoadView) (headers total : ℕ) (bodies : Listed Placed) → BodiesSoFar o lines left headers total (map body_view bodies.items)
     → left ≡ [] → ForSome o (TakesSources headers (source_names lines) (NamesBodies lines) (Ok bodies))
 unfolding recipe_bodies
 bodies_taken o lines left headers total bodies so_far none =
     let all = all_before o lines left headers total (map body_view bodies.items) so_far none in
     told_also o _ _ so_far.told (λ told first. (
-      subst (λ (l : List LoadView). CanTake told headers (names_of l)) all first.taken,
-      first.are ∙ ap (λ (l : List LoadView). bodies_of (sources_in told) l) all,
+      subst (λ (l : List RecipeLoadView). CanTake told headers (names_of l)) all first.taken,
+      first.are ∙ ap (λ (l : List RecipeLoadView). bodies_of (sources_in told) l) all,
     ))
 
-pub bodies_are : (o : Option Files) (lines : List RecipeLine) (left : List LoadView) (headers total : ℕ) (bodies : List BodyView) → BodiesSoFar o lines left headers total bodies → left ≡ []
+pub bodies_are : (o : Option Files) (lines : List RecipeLine) (left : List RecipeLoadView) (headers total : ℕ) (bodies : List BodyView) → BodiesSoFar o lines left headers total bodies → left ≡ []
     → headers ≡ headers_length (loads_of lines) → AreBodies lines bodies
 unfolding recipe_bodies
 bodies_are o lines left headers total bodies so_far none size =
     let all = all_before o lines left headers total bodies so_far none in
     record {
-      places = so_far.places ∙ ap (λ (l : List LoadView). map body_place (bodies_of unread l)) all;
+      places = so_far.places ∙ ap (λ (l : List RecipeLoadView). map body_place (bodies_of unread l)) all;
       short = so_far.short;
-      together = omega (arith, so_far.together, so_far.small, ap (λ (l : List LoadView). headers_length l) all, size);
+      together = omega (arith, so_far.together, so_far.small, ap (λ (l : List RecipeLoadView). headers_length l) all, size);
     }
 
 -- the header of the next load meets the limits of its format
-pub next_header : (o : Option Files) (lines : List RecipeLine) (left rest : List LoadView) (load : LoadView) (headers total : ℕ) (bodies : List BodyView) → BodiesSoFar o lines left headers total bodies
+pub next_header : (o : Option Files) (lines : List RecipeLine) (left rest : List RecipeLoadView) (load : RecipeLoadView) (headers total : ℕ) (bodies : List BodyView) → BodiesSoFar o lines left headers total bodies
     → left ≡ load ∷ rest → IsRecipe lines → HaveShortHeaders lines → IsHeader (header_start unread load)
 next_header o lines left rest load headers total bodies so_far is recipe short =
-    let split = so_far.stands ∙ ap (λ (l : List LoadView). so_far.before ++ l) is in
+    let split = so_far.stands ∙ ap (λ (l : List RecipeLoadView). so_far.before ++ l) is in
     let fits = second_part IsHeaderIfShort so_far.before (load ∷ rest) (subst (AllByRecursion IsHeaderIfShort) split (each_fits lines recipe)) in
     let small = second_part HasShortHeader so_far.before (load ∷ rest) (subst (AllByRecursion HasShortHeader) split short) in
     fits.0 small.0

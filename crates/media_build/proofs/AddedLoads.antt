@@ -17,7 +17,7 @@ use Rattle.media_check.specs.Openings.{total_of}
 use Rattle.media_build.specs.Building.{AddsLoad, CanTake, IsShortView, ReadsFiles, TakesFiles, TakesLoad, TakesSources, body_place, bodies_length, files_length, header_length, source_in, sources_in, sources_of, unread}
 use Rattle.media_build.specs.NoFindings.{body_view}
 use Rattle.media_build.specs.Parts.{AreFiles, FileBytes, IsShortSource, LoadFilesView, all_files, body_of, bodies_with, crc_with, entry_of, files_from, header_with, whole_header}
-use Rattle.media_build.specs.RecipeSets.{BodyView, LoadView, data_of, file_body, file_entry, files_of, header_bytes, header_start, load_bodies, support_of}
+use Rattle.media_build.specs.RecipeSets.{BodyView, RecipeLoadView, data_of, file_body, file_entry, files_of, header_bytes, header_start, load_bodies, support_of}
 use Rattle.media_build.specs.declared.statements.FileLine.{FileLine}
 use Rattle.media_build.specs.declared.statements.Statement.{Statement}
 use Rattle.media_build.proofs.BuiltHeaders.{with_crc}
@@ -44,7 +44,7 @@ same_entries : (lines : List FileLine) (files : List FileBytes) → map (λ (fil
     → map file_texts (map (file_entry unread) lines) ≡ map file_texts (map entry_of files)
 same_entries lines files are = texts_start lines ∙ sym (texts_of files ∙ ap (λ (l : List FileLine). map (λ (line : FileLine). (line.name, line.part)) l) are)
 
-pub same_texts : (load : LoadView) (files : LoadFilesView) → AreFiles load.own files → HaveSameTexts (header_start unread load) (header_with load files)
+pub same_texts : (load : RecipeLoadView) (files : LoadFilesView) → AreFiles load.own files → HaveSameTexts (header_start unread load) (header_with load files)
 unfolding header_start header_with
 same_texts load files are = record {
   part = refl;
@@ -62,7 +62,7 @@ entry_numbers (file ∷ files) all =
     let short : length file.bytes ≤ longest_file = all 0 file (omega arith) in
     ((omega (arith, short), crc16_fits file.bytes), entry_numbers files (λ k d lt. all (suc k) d (omega (arith, lt))))
 
-numbers : (load : LoadView) (files : LoadFilesView) → AreFiles load.own files → IsHeader (header_start unread load) → HasNumbers (header_with load files)
+numbers : (load : RecipeLoadView) (files : LoadFilesView) → AreFiles load.own files → IsHeader (header_start unread load) → HasNumbers (header_with load files)
 unfolding header_start header_with
 numbers load files are is = record {
   flags = omega arith;
@@ -83,10 +83,10 @@ HaveSameSize = (g h : HeaderView) → HaveSameTexts g h → header_size g ≡ he
 abbrev HaveLength : Type 0
 HaveLength = (h : HeaderView) (bytes : List ℕ) → HeaderSpells h bytes → length bytes ≡ header_size h
 
-pub still_fits : StaysHeader → (load : LoadView) (files : LoadFilesView) → AreFiles load.own files → IsHeader (header_start unread load) → IsHeader (header_with load files)
+pub still_fits : StaysHeader → (load : RecipeLoadView) (files : LoadFilesView) → AreFiles load.own files → IsHeader (header_start unread load) → IsHeader (header_with load files)
 still_fits stays load files are is = stays (header_start unread load) (header_with load files) is (same_texts load files are) (numbers load files are is)
 
-whole_texts : (load : LoadView) (files : LoadFilesView) → AreFiles load.own files → HaveSameTexts (header_start unread load) (whole_header load files)
+whole_texts : (load : RecipeLoadView) (files : LoadFilesView) → AreFiles load.own files → HaveSameTexts (header_start unread load) (whole_header load files)
 unfolding whole_header
 whole_texts load files are =
     let same = same_texts load files are in
@@ -100,11 +100,11 @@ whole_texts load files are =
       user = same.user;
     }
 
-whole_fits : StaysHeader → (load : LoadView) (files : LoadFilesView) → AreFiles load.own files → IsHeader (header_start unread load) → IsHeader (whole_header load files)
+whole_fits : StaysHeader → (load : RecipeLoadView) (files : LoadFilesView) → AreFiles load.own files → IsHeader (header_start unread load) → IsHeader (whole_header load files)
 unfolding whole_header crc_with
 whole_fits stays load files are is = with_crc (header_with load files) (crc_with load files) (crc32_fits _) (still_fits stays load files are is)
 
-whole_length : StaysHeader → HaveSameSize → HaveLength → (load : LoadView) (files : LoadFilesView) → AreFiles load.own files → IsHeader (header_start unread load)
+whole_length : StaysHeader → HaveSameSize → HaveLength → (load : RecipeLoadView) (files : LoadFilesView) → AreFiles load.own files → IsHeader (header_start unread load)
     → length (header_bytes (whole_header load files)) ≡ header_length load
 whole_length stays sizes lengths load files are is =
     lengths (whole_header load files) (header_bytes (whole_header load files)) (whole_fits stays load files are is, refl)
@@ -123,12 +123,12 @@ places_start : (lines : List FileLine) → map body_place (map (file_body unread
 places_start [] = refl
 places_start (line ∷ lines) = ap (λ (l : List (List ℕ × ℕ)). (line.name, line.member) ∷ l) (places_start lines)
 
-lines_are : (load : LoadView) (files : LoadFilesView) → AreFiles load.own files → map (λ (file : FileBytes). file.line) (all_files files) ≡ files_of load
+lines_are : (load : RecipeLoadView) (files : LoadFilesView) → AreFiles load.own files → map (λ (file : FileBytes). file.line) (all_files files) ≡ files_of load
 lines_are load files are =
     map-append (λ (file : FileBytes). file.line) files.data_files files.support_files
     ∙ (ap (λ (l : List FileLine). l ++ map (λ (file : FileBytes). file.line) files.support_files) are.data_lines ∙ ap (λ (l : List FileLine). data_of load ++ l) are.support_lines)
 
-load_places : (load : LoadView) (files : LoadFilesView) → AreFiles load.own files → map body_place (bodies_with load files) ≡ map body_place (load_bodies unread load)
+load_places : (load : RecipeLoadView) (files : LoadFilesView) → AreFiles load.own files → map body_place (bodies_with load files) ≡ map body_place (load_bodies unread load)
 unfolding bodies_with load_bodies
 load_places load files are =
     ap (λ (l : List (List ℕ × ℕ)). (load.load.name, load.load.member) ∷ l)
@@ -144,20 +144,20 @@ sizes_of : (files : List FileBytes) → sum_by size (map body_of files) ≡ sum_
 sizes_of [] = refl
 sizes_of (file ∷ files) = omega (arith, sum_by-cons size (body_of file) (map body_of files), sum_by-cons file_size file files, sizes_of files)
 
-load_size : (load : LoadView) (files : LoadFilesView) → bodies_length (bodies_with load files) ≡ length (header_bytes (whole_header load files)) + files_length files
+load_size : (load : RecipeLoadView) (files : LoadFilesView) → bodies_length (bodies_with load files) ≡ length (header_bytes (whole_header load files)) + files_length files
 unfolding bodies_with
 load_size load files =
     let first : BodyView = record { name = load.load.name; member = load.load.member; bytes = header_bytes (whole_header load files) } in
     omega (arith, sum_by-cons size first (map body_of (all_files files)), sizes_of (all_files files), sum_by-append file_size files.data_files files.support_files)
 
-load_short : (load : LoadView) (files : LoadFilesView) → AreFiles load.own files → length (header_bytes (whole_header load files)) ≤ longest_file → All IsShortView (bodies_with load files)
+load_short : (load : RecipeLoadView) (files : LoadFilesView) → AreFiles load.own files → length (header_bytes (whole_header load files)) ≤ longest_file → All IsShortView (bodies_with load files)
 unfolding bodies_with
 load_short load files are header =
     let first : BodyView = record { name = load.load.name; member = load.load.member; bytes = header_bytes (whole_header load files) } in
     All-cons IsShortView first (map body_of (all_files files)) header
     (All-map IsShortView body_of (all_files files) (All-append IsShortSource files.data_files files.support_files are.data_short are.support_short))
 
-pub load_added : StaysHeader → HaveSameSize → HaveLength → (load : LoadView) (own : List Statement) (others total : ℕ) (files : LoadFilesView) (old new : List BodyView)
+pub load_added : StaysHeader → HaveSameSize → HaveLength → (load : RecipeLoadView) (own : List Statement) (others total : ℕ) (files : LoadFilesView) (old new : List BodyView)
     → IsHeader (header_start unread load) → own ≡ load.own → ReadsFiles own others files total → new ≡ old ++ bodies_with load files → AddsLoad load others old new total
 load_added stays sizes lengths load own others total files old new is same reads added =
     let are : AreFiles load.own files = subst (λ (o : List Statement). AreFiles o files) same reads.are in
@@ -171,7 +171,7 @@ load_added stays sizes lengths load own others total files old new is same reads
       small = reads.small;
     }
 
-pub load_taken : (o : Option Files) (load : LoadView) (own : List Statement) (others total : ℕ) (files : LoadFilesView) (old : List BodyView) (bodies : Listed Placed) → own ≡ load.own
+pub load_taken : (o : Option Files) (load : RecipeLoadView) (own : List Statement) (others total : ℕ) (files : LoadFilesView) (old : List BodyView) (bodies : Listed Placed) → own ≡ load.own
     → map body_view bodies.items ≡ old ++ bodies_with load files → ForSome o (TakesSources others (flat_map source_in own) (TakesFiles own others) (Ok (files, total)))
     → ForSome o (TakesSources others (sources_of load) (TakesLoad load others old) (Ok (bodies, total)))
 load_taken o load own others total files old bodies same added takes =

@@ -17,7 +17,7 @@ use Rattle.media_build.specs.Accepted.{IsMemberOf, IsRecipe}
 use Rattle.media_build.specs.Building.{AnswersSizes, AreBodies, Builds, CanTake, HasLists, HasShortHeader, HaveShortHeaders, HaveSizes, IsAfterSizes, IsShortView, IsSmall, body_place, bodies_length, files_beside, files_bytes, headers_length, loads_bytes, of_member, source_names, sources_in, unread}
 use Rattle.media_build.specs.Lines.{members_of}
 use Rattle.media_build.specs.NoFindings.{HasShortSources, IsShortLoad, SizesFit, body_view, built_view}
-use Rattle.media_build.specs.RecipeSets.{BodyView, BuiltView, LoadView, Sources, files_list_bytes, files_of, listed_body, load_entry, loads_list_bytes, loads_of, recipe_bodies, recipe_files, recipe_loads, recipe_set, set_of}
+use Rattle.media_build.specs.RecipeSets.{BodyView, BuiltView, RecipeLoadView, Sources, files_list_bytes, files_of, listed_body, load_entry, loads_list_bytes, loads_of, recipe_bodies, recipe_files, recipe_loads, recipe_set, set_of}
 use Rattle.media_build.specs.declared.building_fault.BuildFault.{BuildFault}
 use Rattle.media_build.specs.declared.statements.RecipeLine.{RecipeLine}
 use Rattle.media_build.proofs.BuiltLists.{IsSoundBody, bodies_fit, files_fit, files_with, has_start, loads_fit, map_map, sound_bodies}
@@ -26,12 +26,12 @@ use Rattle.media_build.proofs.HeaderLimits.{no_bytes_short}
 
 -- ---- the sizes
 
-few_hardware : (members : ℕ) (loads : List LoadView) → AllByRecursion HasShortHeader loads → AllByRecursion (IsListedLoad members) (map load_entry loads)
+few_hardware : (members : ℕ) (loads : List RecipeLoadView) → AllByRecursion HasShortHeader loads → AllByRecursion (IsListedLoad members) (map load_entry loads)
     → AllByRecursion (IsShortLoad unread) loads
 few_hardware members [] short listed = tt
 few_hardware members (load ∷ loads) short listed = (record { header = short.0; hardware = listed.0.few }, few_hardware members loads short.1 listed.1)
 
-no_sources : (loads : List LoadView) → AllByRecursion (HasShortSources unread) loads
+no_sources : (loads : List RecipeLoadView) → AllByRecursion (HasShortSources unread) loads
 no_sources [] = tt
 no_sources (load ∷ loads) = (no_bytes_short (files_of load), no_sources loads)
 

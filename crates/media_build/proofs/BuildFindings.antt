@@ -10,7 +10,7 @@ use Rattle.load_header.specs.HeaderFields.{header_size}
 use Rattle.media_check.specs.declared.built.Built.{Built}
 use Rattle.media_build.specs.Building.{unread, HaveSizes, IsThere, Builds, source_in, sources_of, source_names, sources_in}
 use Rattle.media_build.specs.NoFindings.{SizesFit}
-use Rattle.media_build.specs.RecipeSets.{LoadView, loads_of}
+use Rattle.media_build.specs.RecipeSets.{RecipeLoadView, loads_of}
 use Rattle.media_build.specs.declared.statements.RecipeLine.{RecipeLine}
 use Rattle.media_build.specs.declared.statements.Statement.{Statement}
 use Rattle.media_build.specs.declared.statements.Statement.TheVariants.{Set, Members, Load, Hardware, Position, Data, Support, User}
@@ -30,7 +30,7 @@ same_sources : (own : List Statement) → flat_map source_in own ≡ flat_map so
 same_sources [] = refl
 same_sources (s ∷ own) = rw (same_source s, same_sources own) refl
 
-same_names : (loads : List LoadView) → flat_map sources_of loads ≡ sources_named loads
+same_names : (loads : List RecipeLoadView) → flat_map sources_of loads ≡ sources_named loads
 same_names [] = refl
 same_names (load ∷ loads) = rw (same_sources load.own, same_names loads) refl
 

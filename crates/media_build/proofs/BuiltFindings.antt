@@ -23,7 +23,7 @@ use Rattle.media_build.specs.Accepted.{IsFileLine, IsRecipe}
 use Rattle.media_build.specs.Lines.{members_of}
 use Rattle.media_build.specs.NoFindings.{SizesFit, HaveSet}
 use Rattle.media_build.specs.Recipes.{ends_with, is_body_name}
-use Rattle.media_build.specs.RecipeSets.{Sources, LoadView, BodyView, set_of, loads_of, hardware_of, data_of, support_of, files_of, bytes_of, file_entry, header_start, header_bytes, load_crc_of, header_of, file_body, load_bodies, recipe_bodies, load_entry, recipe_loads, listed_body, recipe_files}
+use Rattle.media_build.specs.RecipeSets.{Sources, RecipeLoadView, BodyView, set_of, loads_of, hardware_of, data_of, support_of, files_of, bytes_of, file_entry, header_start, header_bytes, load_crc_of, header_of, file_body, load_bodies, recipe_bodies, load_entry, recipe_loads, listed_body, recipe_files}
 use Rattle.media_build.specs.declared.statements.FileLine.{FileLine}
 use Rattle.media_build.specs.declared.statements.RecipeLine.{RecipeLine}
 use Rattle.media_build.proofs.BuiltHeaders.{first_part, second_part, IsGoodLoad, start_spells, header_spells, good_loads}
@@ -135,17 +135,17 @@ listed_behind : (first : LoadEntryView) (name : List ℕ) (loads : List LoadEntr
 unfolding is_listed
 listed_behind first name loads e = or_true (same_bytes first.header_name name) (is_listed load_name name loads) e
 
-abbrev AreListed : List LoadEntryView → List LoadView → Type 0
+abbrev AreListed : List LoadEntryView → List RecipeLoadView → Type 0
 AreListed entries loads = AllByRecursion (λ load. is_listed load_name load.load.name entries ≡ true) loads
 
-all_listed : (loads : List LoadView) → AreListed (map load_entry loads) loads
+all_listed : (loads : List RecipeLoadView) → AreListed (map load_entry loads) loads
 unfolding is_listed
 all_listed [] = tt
 all_listed (load ∷ loads) =
     let here : is_listed load_name load.load.name (map load_entry (load ∷ loads)) ≡ true = rw (itself load.load.name) refl in
-    (here, all_same _ _ (λ (other : LoadView) listed. listed_behind (load_entry load) other.load.name (map load_entry loads) listed) loads (all_listed loads))
+    (here, all_same _ _ (λ (other : RecipeLoadView) listed. listed_behind (load_entry load) other.load.name (map load_entry loads) listed) loads (all_listed loads))
 
-bodies_are_named : (sources : Sources) (members : ℕ) (entries : List LoadEntryView) (load : LoadView) → IsGoodLoad sources members load → is_listed load_name load.load.name entries ≡ true
+bodies_are_named : (sources : Sources) (members : ℕ) (entries : List LoadEntryView) (load : RecipeLoadView) → IsGoodLoad sources members load → is_listed load_name load.load.name entries ≡ true
     → AllByRecursion (IsNamed entries) (load_bodies sources load)
 unfolding load_bodies
 bodies_are_named sources members entries load is listed =
@@ -153,7 +153,7 @@ bodies_are_named sources members entries load is listed =
     let head : BodyView = record { name = load.load.name; member = load.load.member; bytes = header_bytes (header_of sources load) } in
     (header_is_named entries head listed, all_map (IsFileLine members) (IsNamed entries) (file_body sources) (file_is_named sources members entries) (files_of load) files)
 
-all_named : (sources : Sources) (members : ℕ) (entries : List LoadEntryView) (loads : List LoadView) → AllByRecursion (IsGoodLoad sources members) loads → AreListed entries loads
+all_named : (sources : Sources) (members : ℕ) (entries : List LoadEntryView) (loads : List RecipeLoadView) → AllByRecursion (IsGoodLoad sources members) loads → AreListed entries loads
     → AllByRecursion (IsNamed entries) (flat_map (load_bodies sources) loads)
 all_named sources members entries [] good listed = tt
 all_named sources members entries (load ∷ loads) good listed =
@@ -187,15 +187,15 @@ same_crc there a b e = rw (eq-eqb a b e) (by there)
     by false = refl
 
 -- what a load has in the set: its header, and its files
-record IsThere (sources : Sources) (set : SetView) (load : LoadView) : Type 0 where
+record IsThere (sources : Sources) (set : SetView) (load : RecipeLoadView) : Type 0 where
   header : find set load.load.name ≡ Some (record { member = load.load.member; bytes = Some (header_bytes (header_of sources load)) })
   files : AllByRecursion (HasSource sources set) (files_of load)
 
-entries_are : (sources : Sources) (load : LoadView) → findings.files_of (header_of sources load) ≡ map (file_entry sources) (files_of load)
+entries_are : (sources : Sources) (load : RecipeLoadView) → findings.files_of (header_of sources load) ≡ map (file_entry sources) (files_of load)
 unfolding header_of header_start
 entries_are sources load = sym (map-append (file_entry sources) (data_of load) (support_of load))
 
-crc_agrees : (sources : Sources) (members : ℕ) (set : SetView) (load : LoadView) → FormatLaws → IsGoodLoad sources members load → AllByRecursion (HasSource sources set) (files_of load)
+crc_agrees : (sources : Sources) (members : ℕ) (set : SetView) (load : RecipeLoadView) → FormatLaws → IsGoodLoad sources members load → AllByRecursion (HasSource sources set) (files_of load)
     → findings.load_crc_of set (header_bytes (header_of sources load)) (findings.files_of (header_of sources load)) ≡ load_crc_of sources load
 unfolding findings.load_crc_of load_crc_of header_of
 crc_agrees sources members set load laws good files =
@@ -206,11 +206,11 @@ crc_agrees sources members set load laws good files =
     let contents_are = same_sources sources set (files_of load) files in
     rw (entries, contents_are, ← before) refl
 
-same_part : (sources : Sources) (load : LoadView) → same_bytes (header_of sources load).part load.load.part ≡ true
+same_part : (sources : Sources) (load : RecipeLoadView) → same_bytes (header_of sources load).part load.load.part ≡ true
 unfolding header_of header_start
 same_part sources load = itself load.load.part
 
-same_hardware : (sources : Sources) (load : LoadView) → pointwise same_bytes (header_of sources load).hardware (hardware_of load) ≡ true
+same_hardware : (sources : Sources) (load : RecipeLoadView) → pointwise same_bytes (header_of sources load).hardware (hardware_of load) ≡ true
 unfolding header_of header_start
 same_hardware sources load = alike same_bytes (hardware_of load) itself
 
@@ -223,17 +223,17 @@ none_at : (condition : Bool) (finding : Finding) → condition ≡ false → whe
 none_at true finding e = absurd cc
 none_at false finding e = refl
 
-crc_of_header : (sources : Sources) (load : LoadView) → load_crc_of sources load ≡ (header_of sources load).load_crc
+crc_of_header : (sources : Sources) (load : RecipeLoadView) → load_crc_of sources load ≡ (header_of sources load).load_crc
 unfolding header_of
 crc_of_header sources load = refl
 
-crc_is_right : (sources : Sources) (members : ℕ) (set : SetView) (load : LoadView) → FormatLaws → IsGoodLoad sources members load → AllByRecursion (HasSource sources set) (files_of load)
+crc_is_right : (sources : Sources) (members : ℕ) (set : SetView) (load : RecipeLoadView) → FormatLaws → IsGoodLoad sources members load → AllByRecursion (HasSource sources set) (files_of load)
     → has_other_crc set (header_bytes (header_of sources load)) (header_of sources load) ≡ false
 unfolding has_other_crc
 crc_is_right sources members set load laws good files =
     same_crc _ _ _ (crc_agrees sources members set load laws good files ∙ crc_of_header sources load)
 
-no_header_finding : (sources : Sources) (members : ℕ) (set : SetView) (load : LoadView) → FormatLaws → IsGoodLoad sources members load → AllByRecursion (HasSource sources set) (files_of load)
+no_header_finding : (sources : Sources) (members : ℕ) (set : SetView) (load : RecipeLoadView) → FormatLaws → IsGoodLoad sources members load → AllByRecursion (HasSource sources set) (files_of load)
     → header_findings set (load_entry load) load.load.member (header_bytes (header_of sources load)) (header_of sources load) ≡ []
 unfolding header_findings
 no_header_finding sources members set load laws good files =
@@ -242,7 +242,7 @@ no_header_finding sources members set load laws good files =
     (none_both _ _ (subst (λ (l : List FileEntry). flat_map (file_findings set) l ≡ []) (sym (entries_are sources load)) (no_file_findings sources set (files_of load) files))
     (none_at _ (plain 12 load.load.member load.load.name) (crc_is_right sources members set load laws good files))))
 
-no_load_finding : (sources : Sources) (members : ℕ) (set : SetView) (load : LoadView) → FormatLaws → IsGoodLoad sources members load → IsThere sources set load
+no_load_finding : (sources : Sources) (members : ℕ) (set : SetView) (load : RecipeLoadView) → FormatLaws → IsGoodLoad sources members load → IsThere sources set load
     → load_findings set (load_entry load) ≡ []
 unfolding load_findings
 no_load_finding sources members set load laws good there =
@@ -252,7 +252,7 @@ no_load_finding sources members set load laws good there =
 
 -- ---- the whole
 
-each_load_is_there : (sources : Sources) (set : SetView) (loads : List LoadView) → AllByRecursion (IsFound set) (flat_map (load_bodies sources) loads) → AllByRecursion (IsThere sources set) loads
+each_load_is_there : (sources : Sources) (set : SetView) (loads : List RecipeLoadView) → AllByRecursion (IsFound set) (flat_map (load_bodies sources) loads) → AllByRecursion (IsThere sources set) loads
 unfolding load_bodies
 each_load_is_there sources set [] found = tt
 each_load_is_there sources set (load ∷ loads) found =

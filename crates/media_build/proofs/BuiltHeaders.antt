@@ -9,7 +9,7 @@ use Rattle.load_base.specs.Host.{longest_file}
 use Rattle.field_grammar.specs.Fields.{number_fields, padded_fields}
 use Rattle.field_grammar.specs.Grammar.{IsBytes}
 use Rattle.field_grammar.specs.SectionLaws.{size_more, size_number, size_padded}
-use Rattle.field_grammar.specs.Spelling.{size_of}
+use Rattle.field_grammar.specs.Spelling.{spelled_length}
 use Rattle.header_sections.specs.SectionFields.{texts_fields}
 use Rattle.header_sections.specs.SizeLaws.{size_texts}
 use Rattle.load_header.specs.Header.{HeaderView, HardwareAtView}
@@ -18,7 +18,7 @@ use Rattle.load_header.specs.HeaderChanges.{with_load_crc}
 use Rattle.media_build.specs.Accepted.{IsWord, IsFileLine, IsSound, IsSmallLoad, IsRecipe}
 use Rattle.media_build.specs.Lines.{members_of}
 use Rattle.media_build.specs.NoFindings.{IsShortLoad, HasShortSources, SizesFit}
-use Rattle.media_build.specs.RecipeSets.{Sources, LoadView, position_in, user_in, loads_of, hardware_of, data_of, support_of, distinct, positions_at, gathered, bytes_of, file_entry, header_start, header_bytes, load_crc_of, header_of}
+use Rattle.media_build.specs.RecipeSets.{Sources, RecipeLoadView, position_in, user_in, loads_of, hardware_of, data_of, support_of, distinct, positions_at, gathered, bytes_of, file_entry, header_start, header_bytes, load_crc_of, header_of}
 use Rattle.media_build.specs.declared.statements.FileLine.{FileLine}
 use Rattle.media_build.specs.declared.statements.RecipeLine.{RecipeLine}
 use Rattle.media_build.specs.declared.statements.Statement.{Statement}
@@ -73,11 +73,11 @@ gathered_words pairs all =
     all_map (IsWord 64) AreWords (positions_at pairs) (at_words pairs all) (distinct (map (λ pair. pair.0) pairs)) (all_distinct (IsWord 64) (map (λ pair. pair.0) pairs) ids)
 
 -- texts take more bytes than they are
-few_texts : (texts : List (List ℕ)) → length texts ≤ size_of (flat_map padded_fields texts)
+few_texts : (texts : List (List ℕ)) → length texts ≤ spelled_length (flat_map padded_fields texts)
 few_texts [] = omega arith
 few_texts (text ∷ texts) = omega (arith, few_texts texts, size_more (padded_fields text) (flat_map padded_fields texts), size_padded text)
 
-few_positions : (most : ℕ) (list : List HardwareAtView) → size_of (flat_map hardware_at_fields list) ≤ most → AllByRecursion (λ at. length at.positions ≤ most) list
+few_positions : (most : ℕ) (list : List HardwareAtView) → spelled_length (flat_map hardware_at_fields list) ≤ most → AllByRecursion (λ at. length at.positions ≤ most) list
 few_positions most [] small = tt
 few_positions most (at ∷ list) small =
     let one = size_more (padded_fields at.hardware) (texts_fields at.positions) in
@@ -86,7 +86,7 @@ few_positions most (at ∷ list) small =
     let few = few_texts at.positions in
     (omega (arith, small, one, parts, texts, few), few_positions most list (omega (arith, small, parts)))
 
-few_kinds : (list : List HardwareAtView) → length list ≤ size_of (flat_map hardware_at_fields list)
+few_kinds : (list : List HardwareAtView) → length list ≤ spelled_length (flat_map hardware_at_fields list)
 few_kinds [] = omega arith
 few_kinds (at ∷ list) =
     omega (
@@ -97,11 +97,11 @@ few_kinds (at ∷ list) =
       size_padded at.hardware,
     )
 
-size_positions : (list : List HardwareAtView) → size_of (positions_fields list) ≡ 2 + size_of (flat_map hardware_at_fields list)
+size_positions : (list : List HardwareAtView) → spelled_length (positions_fields list) ≡ 2 + spelled_length (flat_map hardware_at_fields list)
 unfolding positions_fields
 size_positions list = omega (arith, size_more (number_fields 2 (length list)) (flat_map hardware_at_fields list), size_number 2 (length list))
 
-positions_within : (h : HeaderView) → size_of (positions_fields h.positions) ≤ header_size h
+positions_within : (h : HeaderView) → spelled_length (positions_fields h.positions) ≤ header_size h
 unfolding header_size
 positions_within h = omega arith
 
@@ -160,18 +160,18 @@ user_of members (s ∷ own) all = user_more (user_in s) (flat_map user_in own) (
 -- ---- headers
 
 -- what a recipe and its sizes say of a load
-pub record IsGoodLoad (sources : Sources) (members : ℕ) (load : LoadView) : Type 0 where
+pub record IsGoodLoad (sources : Sources) (members : ℕ) (load : RecipeLoadView) : Type 0 where
   pub sound : IsSoundLoad members load
   pub small : IsSmallLoad load
   pub short : IsShortLoad sources load
   pub files : HasShortSources sources load
 
-hardware_within : (h : HeaderView) → size_of (texts_fields h.hardware) ≤ header_size h
+hardware_within : (h : HeaderView) → spelled_length (texts_fields h.hardware) ≤ header_size h
 unfolding header_size
 hardware_within h = omega arith
 
 -- a header of at most 65,536 bytes
-pub short_is_header : (sources : Sources) (members : ℕ) (load : LoadView) → IsSoundLoad members load → IsSmallLoad load → HasShortSources sources load
+pub short_is_header : (sources : Sources) (members : ℕ) (load : RecipeLoadView) → IsSoundLoad members load → IsSmallLoad load → HasShortSources sources load
     → header_size (header_start sources load) ≤ 65536 → IsHeader (header_start sources load)
 unfolding header_start
 short_is_header sources members load sound small files short =
@@ -180,11 +180,11 @@ short_is_header sources members load sound small files short =
     let words = gathered_words pairs (all_flat (IsSound members) IsPair position_in (pair_in members) load.own sound.own) in
     let size : header_size h ≤ 65536 = short in
     let within = positions_within h in
-    let texts : size_of (texts_fields (hardware_of load)) ≤ 65536 = omega (arith, size, hardware_within h) in
+    let texts : spelled_length (texts_fields (hardware_of load)) ≤ 65536 = omega (arith, size, hardware_within h) in
     let few : length (hardware_of load) < 65536 = omega (arith, texts, size_texts (hardware_of load), few_texts (hardware_of load)) in
     let total = size_positions (gathered pairs) in
     let kinds = few_kinds (gathered pairs) in
-    let room : size_of (flat_map hardware_at_fields (gathered pairs)) ≤ 65536 - 2 = omega (arith, size, within, total) in
+    let room : spelled_length (flat_map hardware_at_fields (gathered pairs)) ≤ 65536 - 2 = omega (arith, size, within, total) in
     let each = all_both AreWords (λ at. length at.positions ≤ 65536 - 2) (gathered pairs) words (few_positions (65536 - 2) (gathered pairs) room) in
     let user = user_of members load.own sound.own in
     let data_sources = first_part (λ file. length (bytes_of sources file) ≤ longest_file) (data_of load) (support_of load) files in
@@ -208,7 +208,7 @@ short_is_header sources members load sound small files short =
       size = size;
     }
 
-pub start_is_header : (sources : Sources) (members : ℕ) (load : LoadView) → IsGoodLoad sources members load → IsHeader (header_start sources load)
+pub start_is_header : (sources : Sources) (members : ℕ) (load : RecipeLoadView) → IsGoodLoad sources members load → IsHeader (header_start sources load)
 start_is_header sources members load is = short_is_header sources members load is.sound is.small is.files is.short.header
 
 pub with_crc : (h : HeaderView) (crc : ℕ) → crc < 2 ^ 32 → IsHeader h → IsHeader (with_load_crc h crc)
@@ -230,14 +230,14 @@ with_crc h crc fits is = record {
   size = is.size;
 }
 
-crc_within : (sources : Sources) (load : LoadView) → load_crc_of sources load < 2 ^ 32
+crc_within : (sources : Sources) (load : RecipeLoadView) → load_crc_of sources load < 2 ^ 32
 unfolding load_crc_of
 crc_within sources load = crc32_fits _
 
-pub start_spells : (sources : Sources) (members : ℕ) (load : LoadView) → IsGoodLoad sources members load → HeaderSpells (header_start sources load) (header_bytes (header_start sources load))
+pub start_spells : (sources : Sources) (members : ℕ) (load : RecipeLoadView) → IsGoodLoad sources members load → HeaderSpells (header_start sources load) (header_bytes (header_start sources load))
 start_spells sources members load is = (start_is_header sources members load is, refl)
 
-pub header_spells : (sources : Sources) (members : ℕ) (load : LoadView) → IsGoodLoad sources members load → HeaderSpells (header_of sources load) (header_bytes (header_of sources load))
+pub header_spells : (sources : Sources) (members : ℕ) (load : RecipeLoadView) → IsGoodLoad sources members load → HeaderSpells (header_of sources load) (header_bytes (header_of sources load))
 unfolding header_of
 header_spells sources members load is =
     (with_crc (header_start sources load) (load_crc_of sources load) (crc_within sources load) (start_is_header sources members load is), refl)
@@ -246,7 +246,7 @@ header_spells sources members load is =
 pub good_loads : (sources : Sources) (lines : List RecipeLine) → IsRecipe lines → SizesFit sources lines → AllByRecursion (IsGoodLoad sources (members_of lines)) (loads_of lines)
 good_loads sources lines is fits = by (loads_of lines) (sound_loads lines is) is.loads fits.loads fits.files
   where
-    by : (loads : List LoadView) → AllByRecursion (IsSoundLoad (members_of lines)) loads → AllByRecursion IsSmallLoad loads → AllByRecursion (IsShortLoad sources) loads
+    by : (loads : List RecipeLoadView) → AllByRecursion (IsSoundLoad (members_of lines)) loads → AllByRecursion IsSmallLoad loads → AllByRecursion (IsShortLoad sources) loads
         → AllByRecursion (HasShortSources sources) loads → AllByRecursion (IsGoodLoad sources (members_of lines)) loads
     by [] sound small short files = tt
     by (load ∷ loads) sound small short files =

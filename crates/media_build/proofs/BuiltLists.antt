@@ -12,7 +12,7 @@ use Rattle.field_grammar.specs.Fields.{number_fields, padded_fields}
 use Rattle.field_grammar.specs.NumberLaws.{length_number_bytes}
 use Rattle.field_grammar.specs.TextLaws.{length_pad_bytes}
 use Rattle.field_grammar.specs.SectionLaws.{size_more, size_number, size_padded}
-use Rattle.field_grammar.specs.Spelling.{size_of}
+use Rattle.field_grammar.specs.Spelling.{spelled_length}
 use Rattle.header_sections.specs.SectionFields.{texts_fields, user_fields, entry_size, entries_fields, HaveDistances}
 use Rattle.header_sections.specs.SizeLaws.{size_texts, size_user, size_entries, total_of}
 use Rattle.load_base.specs.Bytes.{same_bytes}
@@ -25,7 +25,7 @@ use Rattle.media_lists.specs.declared.lists.ListedFile.{ListedFile}
 use Rattle.media_build.specs.Accepted.{IsWord, IsMemberOf, IsLoadLine, IsFileLine, IsSound, IsRecipe, is_of_loads}
 use Rattle.media_build.specs.Lines.{is_load, members_of}
 use Rattle.media_build.specs.NoFindings.{IsShortLoad, SizesFit}
-use Rattle.media_build.specs.RecipeSets.{Sources, LoadView, BodyView, set_in, set_of, hardware_in, data_in, support_in, load_at, loads_of, hardware_of, data_of, support_of, files_of, file_body, load_bodies, recipe_bodies, load_entry, recipe_loads, listed_body, recipe_files}
+use Rattle.media_build.specs.RecipeSets.{Sources, RecipeLoadView, BodyView, set_in, set_of, hardware_in, data_in, support_in, load_at, loads_of, hardware_of, data_of, support_of, files_of, file_body, load_bodies, recipe_bodies, load_entry, recipe_loads, listed_body, recipe_files}
 use Rattle.media_build.specs.declared.statements.FileLine.{FileLine}
 use Rattle.media_build.specs.declared.statements.RecipeLine.{RecipeLine}
 use Rattle.media_build.specs.declared.statements.Statement.{Statement}
@@ -72,7 +72,7 @@ words_are_texts (word ∷ words) all = (word_is_text 64 word (omega arith) all.0
 
 -- ---- loads of which each line is sound
 
-pub record IsSoundLoad (members : ℕ) (load : LoadView) : Type 0 where
+pub record IsSoundLoad (members : ℕ) (load : RecipeLoadView) : Type 0 where
   pub line : IsLoadLine members load.load
   pub own : AllByRecursion (IsSound members) load.own
 
@@ -136,13 +136,13 @@ support_file members (Data file) is = tt
 support_file members (Support file) is = (is, tt)
 support_file members (User bytes) is = tt
 
-pub hardware_words : (members : ℕ) (load : LoadView) → IsSoundLoad members load → AllByRecursion (IsWord 64) (hardware_of load)
+pub hardware_words : (members : ℕ) (load : RecipeLoadView) → IsSoundLoad members load → AllByRecursion (IsWord 64) (hardware_of load)
 hardware_words members load is = all_flat (IsSound members) (IsWord 64) hardware_in (hardware_word members) load.own is.own
 
-pub data_files : (members : ℕ) (load : LoadView) → IsSoundLoad members load → AllByRecursion (IsFileLine members) (data_of load)
+pub data_files : (members : ℕ) (load : RecipeLoadView) → IsSoundLoad members load → AllByRecursion (IsFileLine members) (data_of load)
 data_files members load is = all_flat (IsSound members) (IsFileLine members) data_in (data_file members) load.own is.own
 
-pub support_files : (members : ℕ) (load : LoadView) → IsSoundLoad members load → AllByRecursion (IsFileLine members) (support_of load)
+pub support_files : (members : ℕ) (load : RecipeLoadView) → IsSoundLoad members load → AllByRecursion (IsFileLine members) (support_of load)
 support_files members load is = all_flat (IsSound members) (IsFileLine members) support_in (support_file members) load.own is.own
 
 -- ---- the set
@@ -208,12 +208,12 @@ module _ (lines : List RecipeLine) (is : IsRecipe lines) where
 abbrev load_limit : ℕ
 load_limit = 131070
 
-size_words : (words : List (List ℕ)) → AllByRecursion (IsWord 64) words → size_of (flat_map padded_fields words) ≤ 66 * length words
+size_words : (words : List (List ℕ)) → AllByRecursion (IsWord 64) words → spelled_length (flat_map padded_fields words) ≤ 66 * length words
 size_words [] all = omega arith
 size_words (word ∷ words) all =
     omega (arith, size_more (padded_fields word) (flat_map padded_fields words), size_padded word, all.0.few, size_words words all.1)
 
-size_load : (l : LoadEntryView) → size_of (load_body_fields l) ≡ size_of (padded_fields l.part) + size_of (padded_fields l.header_name) + 2 + size_of (texts_fields l.hardware)
+size_load : (l : LoadEntryView) → spelled_length (load_body_fields l) ≡ spelled_length (padded_fields l.part) + spelled_length (padded_fields l.header_name) + 2 + spelled_length (texts_fields l.hardware)
 unfolding load_body_fields
 size_load l =
     omega (
@@ -224,7 +224,7 @@ size_load l =
       size_number 2 l.member,
     )
 
-short_entry : (members : ℕ) (load : LoadView) → IsSoundLoad members load → length (hardware_of load) ≤ 1024 → entry_size load_body_fields (load_entry load) ≤ load_limit
+short_entry : (members : ℕ) (load : RecipeLoadView) → IsSoundLoad members load → length (hardware_of load) ≤ 1024 → entry_size load_body_fields (load_entry load) ≤ load_limit
 short_entry members load is few =
     omega (
       arith,
@@ -246,7 +246,7 @@ distances f view (x ∷ y ∷ xs) all = (all.0, distances f view (y ∷ xs) all.
 member_is : (members member : ℕ) → members ≤ 255 → IsMemberOf members member → IsMember members member
 member_is members member few is = (is.first, is.last, omega (arith, is.last))
 
-listed_load : (sources : Sources) (members : ℕ) (load : LoadView) → members ≤ 255 → IsSoundLoad members load × IsShortLoad sources load → IsListedLoad members (load_entry load)
+listed_load : (sources : Sources) (members : ℕ) (load : RecipeLoadView) → members ≤ 255 → IsSoundLoad members load × IsShortLoad sources load → IsListedLoad members (load_entry load)
 listed_load sources members load few is = record {
   part = is.0.line.part;
   header_name = is.0.line.name;
@@ -255,12 +255,12 @@ listed_load sources members load few is = record {
   hardware = words_are_texts (hardware_of load) (hardware_words members load is.0);
 }
 
-size_identity : (set : List ℕ) (member members : ℕ) → size_of (identity_fields set member members) ≡ 4 + length set + length set % 2
+size_identity : (set : List ℕ) (member members : ℕ) → spelled_length (identity_fields set member members) ≡ 4 + length set + length set % 2
 unfolding identity_fields
 size_identity set member members =
     omega (arith, size_more (padded_fields set) (number_fields 1 member ++ number_fields 1 members), size_more (number_fields 1 member) (number_fields 1 members), size_number 1 member, size_number 1 members, size_padded set)
 
-whole_size : {E : Type 0} (f : E → List (List ℕ)) (v : ListView E) → list_size f v ≡ 26 + length v.set + length v.set % 2 + size_of (entries_fields f v.entries) + size_of (user_fields v.user)
+whole_size : {E : Type 0} (f : E → List (List ℕ)) (v : ListView E) → list_size f v ≡ 26 + length v.set + length v.set % 2 + spelled_length (entries_fields f v.entries) + spelled_length (user_fields v.user)
 unfolding list_size
 whole_size f v = omega (arith, size_identity v.set v.member v.members)
 
@@ -302,7 +302,7 @@ pub record IsSoundBody (members : ℕ) (body : BodyView) : Type 0 where
 body_of_file : (sources : Sources) (members : ℕ) (file : FileLine) → IsFileLine members file → IsSoundBody members (file_body sources file)
 body_of_file sources members file is = record { name = is.name; member = is.member }
 
-bodies_of_load : (sources : Sources) (members : ℕ) (load : LoadView) → IsSoundLoad members load → AllByRecursion (IsSoundBody members) (load_bodies sources load)
+bodies_of_load : (sources : Sources) (members : ℕ) (load : RecipeLoadView) → IsSoundLoad members load → AllByRecursion (IsSoundBody members) (load_bodies sources load)
 unfolding load_bodies
 bodies_of_load sources members load is =
     let files = all_append (IsFileLine members) (data_of load) (support_of load) (data_files members load is) (support_files members load is) in
@@ -316,7 +316,7 @@ sound_bodies sources lines is =
 listed_file : (members : ℕ) (body : BodyView) → members ≤ 255 → IsSoundBody members body → IsListedFile members (listed_body body)
 listed_file members body few is = record { name = is.name; path = root; member = member_is members body.member few is.member; sum = crc16_fits body.bytes }
 
-size_file : (f : ListedFile) → size_of (file_body_fields f) ≡ (2 + length f.name + length f.name % 2) + (2 + length f.path + length f.path % 2) + 4
+size_file : (f : ListedFile) → spelled_length (file_body_fields f) ≡ (2 + length f.name + length f.name % 2) + (2 + length f.path + length f.path % 2) + 4
 unfolding file_body_fields
 size_file f = simp (length-append, length_number_bytes, length_pad_bytes) (omega arith)
 

@@ -11,7 +11,7 @@ use Rattle.media_lists.specs.Entries.{is_listed}
 use Rattle.media_lists.specs.ListFields.{AreNew}
 use Rattle.media_build.specs.Accepted.{IsRecipe}
 use Rattle.media_build.specs.Lines.{names_in, names_of}
-use Rattle.media_build.specs.RecipeSets.{Sources, LoadView, BodyView, load_at, loads_of, data_in, support_in, data_of, support_of, files_of, file_body, load_bodies, recipe_bodies}
+use Rattle.media_build.specs.RecipeSets.{Sources, RecipeLoadView, BodyView, load_at, loads_of, data_in, support_in, data_of, support_of, files_of, file_body, load_bodies, recipe_bodies}
 use Rattle.media_build.specs.declared.statements.FileLine.{FileLine}
 use Rattle.media_build.specs.declared.statements.RecipeLine.{RecipeLine}
 use Rattle.media_build.specs.declared.statements.Statement.{Statement}
@@ -38,7 +38,7 @@ abbrev pub file_names : List FileLine → List (List ℕ)
 file_names files = map (λ file. file.name) files
 
 -- the name of the header, and those of the files
-abbrev pub load_names : LoadView → List (List ℕ)
+abbrev pub load_names : RecipeLoadView → List (List ℕ)
 load_names load = load.load.name ∷ (file_names (data_of load) ++ file_names (support_of load))
 
 abbrev own_names : (List ℕ → Bool) → List Statement → ℕ
@@ -59,7 +59,7 @@ names_split p (line ∷ later) =
     by (Set part) e = omega (arith, e)
     by (Members count) e = omega (arith, e)
     by (Load load) e =
-        let this : LoadView = record { number = line.number; load = load; own = own later } in
+        let this : RecipeLoadView = record { number = line.number; load = load; own = own later } in
         let files = occurs-append p (file_names (data_of this)) (file_names (support_of this)) in
         let both = occurs-append p (file_names (data_of this) ++ file_names (support_of this)) (flat_map load_names (loads_of later)) in
         omega (arith, e, files, both)
@@ -78,12 +78,12 @@ names_of_bodies : (sources : Sources) (files : List FileLine) → map body_name 
 names_of_bodies sources [] = refl
 names_of_bodies sources (file ∷ files) = ap (λ (l : List (List ℕ)). file.name ∷ l) (names_of_bodies sources files)
 
-names_of_load : (sources : Sources) (load : LoadView) → map body_name (load_bodies sources load) ≡ load_names load
+names_of_load : (sources : Sources) (load : RecipeLoadView) → map body_name (load_bodies sources load) ≡ load_names load
 unfolding load_bodies
 names_of_load sources load =
     ap (λ (l : List (List ℕ)). load.load.name ∷ l) (names_of_bodies sources (files_of load) ∙ map-append (λ (file : FileLine). file.name) (data_of load) (support_of load))
 
-names_of_loads : (sources : Sources) (loads : List LoadView) → map body_name (flat_map (load_bodies sources) loads) ≡ flat_map load_names loads
+names_of_loads : (sources : Sources) (loads : List RecipeLoadView) → map body_name (flat_map (load_bodies sources) loads) ≡ flat_map load_names loads
 names_of_loads sources [] = refl
 names_of_loads sources (load ∷ loads) =
     map-append body_name (load_bodies sources load) (flat_map (load_bodies sources) loads)
@@ -169,10 +169,10 @@ bodies_are_distinct sources lines is =
 
 -- ---- the names of headers
 
-abbrev pub header_name_of : LoadView → List ℕ
+abbrev pub header_name_of : RecipeLoadView → List ℕ
 header_name_of load = load.load.name
 
-header_occurs : (p : List ℕ → Bool) (loads : List LoadView) → occurs p (map header_name_of loads) ≤ occurs p (flat_map load_names loads)
+header_occurs : (p : List ℕ → Bool) (loads : List RecipeLoadView) → occurs p (map header_name_of loads) ≤ occurs p (flat_map load_names loads)
 header_occurs p [] = omega arith
 header_occurs p (load ∷ loads) =
     omega (arith, header_occurs p loads, occurs-append p (file_names (data_of load) ++ file_names (support_of load)) (flat_map load_names loads))

@@ -16,7 +16,7 @@ use Rattle.load_header.specs.HeaderFields.{header_size, HeaderSpells}
 use Rattle.media_lists.specs.Files.{FilesListView, files_list, FilesSpells}
 use Rattle.media_lists.specs.Loads.{LoadsListView, loads_list, LoadsSpells}
 use Rattle.media_check.specs.BuiltSets.{member_list, body_of, built_media}
-use Rattle.media_check.specs.Sets.{Media, MemberView, FileView, SetView, found_as, found_in, lists_in, file_in, set_with, set_in}
+use Rattle.media_check.specs.Sets.{Media, MemberView, ListedFileView, SetView, found_as, found_in, lists_in, file_in, set_with, set_in}
 use Rattle.media_check.specs.declared.built.Built.{Built}
 use Rattle.media_check.specs.declared.built.Placed.{Placed}
 use Rattle.media_check.specs.declared.found.Found.{Found}
@@ -54,7 +54,7 @@ nth f members member is =
 abbrev pub lists_of_member : Sources → List RecipeLine → ℕ → MemberView
 lists_of_member sources lines member = record { loads = Read (recipe_loads lines member); files = Read (recipe_files sources lines member) }
 
-abbrev pub file_there : BodyView → FileView
+abbrev pub file_there : BodyView → ListedFileView
 file_there body = record { member = body.member; bytes = Some body.bytes }
 
 abbrev pub read_set : Sources → List RecipeLine → SetView
@@ -68,7 +68,7 @@ same_lists : (a b : Found LoadsListView) (c d : Found FilesListView) → a ≡ b
     → (let one : MemberView = record { loads = a; files = c } in one) ≡ record { loads = b; files = d }
 same_lists a b c d e f = rw (e, f) refl
 
-same_set : (first : MemberView) (a b : List MemberView) (c d : List (List ℕ × FileView)) → a ≡ b → c ≡ d
+same_set : (first : MemberView) (a b : List MemberView) (c d : List (List ℕ × ListedFileView)) → a ≡ b → c ≡ d
     → (let one : SetView = record { first = first; further = a; files = c } in one) ≡ record { first = first; further = b; files = d }
 same_set first a b c d e f = rw (e, f) refl
 
@@ -99,7 +99,7 @@ module _ (media : Media) (sources : Sources) (lines : List RecipeLine) (has : Ha
       rw (member_found from here, rest) refl
 
   file_found : (body : BodyView) → media.listed (listed_body body) ≡ Some body.bytes → file_in media (listed_body body) ≡ named body_name file_there body
-  file_found body found = ap (λ (bytes : Option (List ℕ)). let file : List ℕ × FileView = (body.name, record { member = body.member; bytes = bytes }) in file) found
+  file_found body found = ap (λ (bytes : Option (List ℕ)). let file : List ℕ × ListedFileView = (body.name, record { member = body.member; bytes = bytes }) in file) found
 
   files_there : (bodies : List BodyView) → AllByRecursion (λ body. media.listed (listed_body body) ≡ Some body.bytes) bodies
       → map (file_in media) (map listed_body bodies) ≡ map (named body_name file_there) bodies

@@ -9,7 +9,7 @@ use Rattle.load_header.specs.HeaderFields.{header_size}
 use Rattle.media_lists.specs.Loads.{IsListedLoad, IsLoadsList}
 use Rattle.media_build.specs.Lines.{members_of}
 use Rattle.media_build.specs.NoFindings.{IsShortLoad, HasShortSources, SizesFit}
-use Rattle.media_build.specs.RecipeSets.{Sources, LoadView, loads_of, data_of, support_of, data_in, support_in, bytes_of, file_entry, header_start, load_entry, recipe_loads}
+use Rattle.media_build.specs.RecipeSets.{Sources, RecipeLoadView, loads_of, data_of, support_of, data_in, support_in, bytes_of, file_entry, header_start, load_entry, recipe_loads}
 use Rattle.media_build.specs.declared.statements.FileLine.{FileLine}
 use Rattle.media_build.specs.declared.statements.RecipeLine.{RecipeLine}
 use Rattle.media_build.specs.declared.statements.Statement.{Statement}
@@ -23,7 +23,7 @@ same_entries : (sources others : Sources) (files : List FileLine) → map file_t
 same_entries sources others files = map_map file_texts (file_entry sources) files ∙ sym (map_map file_texts (file_entry others) files)
 
 -- headers of two sources differ in numbers alone
-pub same_texts : (sources others : Sources) (load : LoadView) → HaveSameTexts (header_start sources load) (header_start others load)
+pub same_texts : (sources others : Sources) (load : RecipeLoadView) → HaveSameTexts (header_start sources load) (header_start others load)
 unfolding header_start
 same_texts sources others load = record {
   part = refl;
@@ -72,10 +72,10 @@ short_support sources (Support file ∷ own) all = (all.0, short_support sources
 short_support sources (User bytes ∷ own) all = short_support sources own all
 
 -- the sources that the lines of loads name
-abbrev pub sources_named : List LoadView → List (List ℕ)
+abbrev pub sources_named : List RecipeLoadView → List (List ℕ)
 sources_named loads = flat_map (λ load. flat_map source_named load.own) loads
 
-pub short_sources : (sources : Sources) (loads : List LoadView) → AllByRecursion (IsShortSource sources) (sources_named loads) → AllByRecursion (HasShortSources sources) loads
+pub short_sources : (sources : Sources) (loads : List RecipeLoadView) → AllByRecursion (IsShortSource sources) (sources_named loads) → AllByRecursion (HasShortSources sources) loads
 short_sources sources [] all = tt
 short_sources sources (load ∷ loads) all =
     let mine = first_part (IsShortSource sources) (flat_map source_named load.own) (sources_named loads) all in
@@ -84,7 +84,7 @@ short_sources sources (load ∷ loads) all =
 
 -- ---- the whole
 
-short_loads : (sources others : Sources) (members : ℕ) (loads : List LoadView) → ((g h : HeaderView) → HaveSameTexts g h → header_size g ≡ header_size h)
+short_loads : (sources others : Sources) (members : ℕ) (loads : List RecipeLoadView) → ((g h : HeaderView) → HaveSameTexts g h → header_size g ≡ header_size h)
     → AllByRecursion (λ load. header_size (header_start others load) ≤ 65536) loads → AllByRecursion (IsListedLoad members) (map load_entry loads) → AllByRecursion (IsShortLoad sources) loads
 short_loads sources others members [] same short listed = tt
 short_loads sources others members (load ∷ loads) same short listed =

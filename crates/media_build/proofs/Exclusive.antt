@@ -4,7 +4,7 @@ use Rattle.std.specs.Prelude.{All}
 use Rattle.std.specs.List.{AllByRecursion}
 use Rattle.std.proofs.lemmas.List.Sums.{sum_by-cons}
 use Rattle.load_base.specs.Host.{Files}
-use Rattle.media_check.specs.Openings.{size_of, total_of}
+use Rattle.media_check.specs.Openings.{length_on_host, total_of}
 use Rattle.media_build.specs.Building.{CanTake, HasShortHeader, HaveSizes, IsFirstRefused, IsSizeFault, IsSourceFault, IsThere}
 use Rattle.media_build.specs.declared.building_fault.BuildFault.{BuildFault}
 use Rattle.media_build.specs.declared.building_fault.BuildFault.TheVariants.{Absent, TooLong, TooLarge, HeaderTooLong, ListTooLong, Failed, Memory}
@@ -32,13 +32,13 @@ pub no_source_is_refused : (files : Files) (others : ℕ) (names : List (List �
 no_source_is_refused files others names fault taken first =
     let all = subst (AllByRecursion (IsThere files)) first.stands (by_parts (IsThere files) names taken.there) in
     let this = (second_part (IsThere files) first.before (first.name ∷ first.after) all).0 in
-    let sum : total_of files names ≡ total_of files first.before + (size_of files first.name + total_of files first.after) =
+    let sum : total_of files names ≡ total_of files first.before + (length_on_host files first.name + total_of files first.after) =
     ap (λ (n : List (List ℕ)). total_of files n) first.stands ∙ (total_both files first.before (first.name ∷ first.after)
-    ∙ ap (λ (n : ℕ). total_of files first.before + n) (sum_by-cons (size_of files) first.name first.after)) in
+    ∙ ap (λ (n : ℕ). total_of files first.before + n) (sum_by-cons (length_on_host files) first.name first.after)) in
     by fault this first.refused (omega (arith, sum, taken.together))
   where
     by : (fault : BuildFault) → IsThere files first.name → IsSourceFault files (others + total_of files first.before) first.name fault
-        → (others + total_of files first.before) + size_of files first.name ≤ 268435456 → ⊥
+        → (others + total_of files first.before) + length_on_host files first.name ≤ 268435456 → ⊥
     by (Absent name) there refused small = there.some refused.1
     by (TooLong name) there refused small = omega (arith, there.short, refused.1)
     by TooLarge there refused small = omega (arith, refused.1, small)

@@ -10,7 +10,7 @@ use Rattle.std.proofs.lemmas.Grind.{flat_map-append}
 use Rattle.load_base.specs.Host.{Files, longest_file}
 use Rattle.load_base.specs.Listed.{Listed}
 use Rattle.media_check.specs.Kept.{contents}
-use Rattle.media_check.specs.Openings.{size_of, total_of, largest_set}
+use Rattle.media_check.specs.Openings.{length_on_host, total_of, largest_set}
 use Rattle.media_build.specs.Building.{CanTake, IsSmallSource, ReadsFiles, ReadsLine, TakesSources, TakesLine, TakesFiles, files_length, source_in, sources_in, with_source}
 use Rattle.media_build.specs.Parts.{FileBytes, IsShortSource, LoadFilesView, bytes_from, files_from, statements, with_file}
 use Rattle.media_build.specs.RecipeSets.{Sources, data_in, support_in}
@@ -85,7 +85,7 @@ pub one_taken : (o : Option Files) (s : Statement) (name : List ℕ) (files new 
 one_taken o s name files new others total bytes named is sum taken =
     told_also o _ _ taken (λ told read.
     let has : bytes.items ≡ sources_in told name = sym (ap contents read.1) in
-    let size : size_of told name ≡ length bytes.items = rw read.1 refl in
+    let size : length_on_host told name ≡ length bytes.items = rw read.1 refl in
     (rw named read.0, record { new = is ∙ of_source (sources_in told) s name bytes.items files named has; total = rw named (omega (arith, sum, size)) }))
 
 pub one_untaken : {T : Type 0} (o : Option Files) (s : Statement) (name : List ℕ) (others : ℕ) (fault : BuildFault) (P : Files → T → Type 0) → source_in s ≡ name ∷ []

@@ -8,7 +8,7 @@ use Rattle.crc_fields.specs.CheckSums.{crc16_of}
 use Rattle.field_grammar.specs.Fields.{number_fields}
 use Rattle.field_grammar.specs.NumberLaws.{length_number_bytes}
 use Rattle.field_grammar.specs.SectionLaws.{size_more, size_number}
-use Rattle.field_grammar.specs.Spelling.{size_of}
+use Rattle.field_grammar.specs.Spelling.{spelled_length}
 use Rattle.header_sections.specs.SectionFields.{user_fields, entries_fields}
 use Rattle.load_base.specs.Host.{Files, longest_file}
 use Rattle.load_header.specs.HeaderFields.{header_size}
@@ -25,7 +25,7 @@ use Rattle.media_check.specs.declared.built.Placed.{Placed}
 use Rattle.media_build.specs.Accepted.{IsMemberOf, IsRecipe}
 use Rattle.media_build.specs.Lines.{members_of}
 use Rattle.media_build.specs.NoFindings.{SizesFit, body_view, built_view, HaveSet}
-use Rattle.media_build.specs.RecipeSets.{Sources, LoadView, BodyView, BuiltView, loads_of, files_of, header_bytes, header_of, file_body, load_bodies, recipe_bodies, recipe_loads, recipe_files, listed_body, loads_list_bytes, files_list_bytes, recipe_set}
+use Rattle.media_build.specs.RecipeSets.{Sources, RecipeLoadView, BodyView, BuiltView, loads_of, files_of, header_bytes, header_of, file_body, load_bodies, recipe_bodies, recipe_loads, recipe_files, listed_body, loads_list_bytes, files_list_bytes, recipe_set}
 use Rattle.media_build.specs.declared.statements.RecipeLine.{RecipeLine}
 use Rattle.media_build.proofs.BuiltHeaders.{IsGoodLoad, header_spells, good_loads}
 use Rattle.media_build.proofs.BuiltLists.{all_append, all_flat, all_map, all_both, has_start, loads_fit, files_fit}
@@ -37,7 +37,7 @@ by_index P (x ∷ xs) all = All-cons P x xs all.0 (by_index P xs all.1)
 
 -- ---- lengths
 
-size_head : {E : Type 0} (version size : ℕ) (f : E → List (List ℕ)) (v : ListView E) → size_of (head_fields version size (pointers_of f v)) ≡ 20
+size_head : {E : Type 0} (version size : ℕ) (f : E → List (List ℕ)) (v : ListView E) → spelled_length (head_fields version size (pointers_of f v)) ≡ 20
 unfolding head_fields
 size_head version size f v = simp (length-append, length_number_bytes) refl
 
@@ -76,7 +76,7 @@ short_files_list sources lines member is in_set =
 abbrev IsShortFile : BodyView → Type 0
 IsShortFile body = length body.bytes ≤ longest_file
 
-short_of_load : (sources : Sources) (members : ℕ) (load : LoadView) → FormatLaws → IsGoodLoad sources members load → AllByRecursion IsShortFile (load_bodies sources load)
+short_of_load : (sources : Sources) (members : ℕ) (load : RecipeLoadView) → FormatLaws → IsGoodLoad sources members load → AllByRecursion IsShortFile (load_bodies sources load)
 unfolding load_bodies
 short_of_load sources members load laws good =
     let spells = header_spells sources members load good in
@@ -114,7 +114,7 @@ module _ (folder : List ℕ) (files : Files) (sources : Sources) (lines : List R
   total_listed : (bodies : List BodyView) → AllByRecursion (IsThere folder files) bodies → total_of files (map (listed_name folder) (map listed_body bodies)) ≡ sum_by (λ body. length body.bytes) bodies
   total_listed [] all = refl
   total_listed (body ∷ bodies) all =
-      sum_by-cons (openings.size_of files) (listed_name folder (listed_body body)) (map (listed_name folder) (map listed_body bodies))
+      sum_by-cons (openings.length_on_host files) (listed_name folder (listed_body body)) (map (listed_name folder) (map listed_body bodies))
       ∙ (rw (all.0, total_listed bodies all.1) refl ∙ sym (sum_by-cons (λ (b : BodyView). length b.bytes) body bodies))
 
   can_read_rest : sum_by (λ body. length body.bytes) (recipe_bodies sources lines) ≤ largest_set → CanRead files (whole_reading folder (lists_of_member sources lines 1))

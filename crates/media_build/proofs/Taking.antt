@@ -6,7 +6,7 @@ use Rattle.std.proofs.lemmas.List.Sums.{sum_by-append}
 use Rattle.load_base.specs.Host.{Files, ReadsFile, longest_file}
 use Rattle.load_base.specs.Listed.{Listed}
 use Rattle.load_base.specs.declared.host.ReadFault.TheVariants as reading
-use Rattle.media_check.specs.Openings.{size_of, total_of, largest_set}
+use Rattle.media_check.specs.Openings.{length_on_host, total_of, largest_set}
 use Rattle.media_build.specs.Building.{IsThere, CanTake, IsSourceFault, IsFirstRefused, TakesSources}
 use Rattle.media_build.specs.declared.building_fault.BuildFault.{BuildFault}
 use Rattle.media_build.specs.declared.building_fault.BuildFault.TheVariants.{Absent, TooLong, TooLarge}
@@ -25,7 +25,7 @@ told_anyway o P f = λ x told. f x
 -- ---- more sources
 
 pub total_both : (files : Files) (before more : List (List ℕ)) → total_of files (before ++ more) ≡ total_of files before + total_of files more
-total_both files before more = sum_by-append (size_of files) before more
+total_both files before more = sum_by-append (length_on_host files) before more
 
 pub take_none : (files : Files) (others : ℕ) → others ≤ largest_set → CanTake files others []
 take_none files others small = record { there = All-nil (IsThere files); together = omega (arith, small) }
@@ -64,7 +64,7 @@ pub one_there : (o : Option Files) (others : ℕ) (name : List ℕ) (bytes : Lis
 one_there o others name bytes reads short small files told =
     let has : files name ≡ Some bytes.items = subst (λ (f : Option Files). ReadsFile f name (Ok bytes)) told reads in
     let there : IsThere files name = record { some = λ none. let no = rw has at none in cc; short = rw has short } in
-    let size : size_of files name ≡ length bytes.items = rw has refl in
+    let size : length_on_host files name ≡ length bytes.items = rw has refl in
     (record { there = All-push (IsThere files) [] name (All-nil (IsThere files)) there; together = omega (arith, size, small) }, has)
 
 first_one : (files : Files) (others : ℕ) (name : List ℕ) (fault : BuildFault) → others ≤ largest_set → IsSourceFault files others name fault → IsFirstRefused files others (name ∷ []) fault
@@ -84,7 +84,7 @@ pub one_large : {T : Type 0} (o : Option Files) (others : ℕ) (name : List ℕ)
 one_large o others name bytes P reads short small large files told =
     let has : files name ≡ Some bytes.items = subst (λ (f : Option Files). ReadsFile f name (Ok bytes)) told reads in
     let there : IsThere files name = record { some = λ none. let no = rw has at none in cc; short = rw has short } in
-    let size : size_of files name ≡ length bytes.items = rw has refl in
+    let size : length_on_host files name ≡ length bytes.items = rw has refl in
     inr (inr (first_one files others name TooLarge small (there, omega (arith, size, large))))
 
 pub one_absent : {T : Type 0} (o : Option Files) (others : ℕ) (name : List ℕ) (refused : Listed ℕ) (P : Files → T → Type 0) → ReadsFile o name (Err reading.Absent) → refused.items ≡ name

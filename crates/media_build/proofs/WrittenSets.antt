@@ -18,7 +18,7 @@ use Rattle.media_build.specs.Accepted.{IsMemberOf, IsFileLine, IsRecipe}
 use Rattle.media_build.specs.HostWrites.{Written, after_writes, written_body, is_of, written_bodies, written_member, written_files}
 use Rattle.media_build.specs.Lines.{members_of}
 use Rattle.media_build.specs.NoFindings.{body_view, built_view, HaveSet}
-use Rattle.media_build.specs.RecipeSets.{Sources, LoadView, BodyView, BuiltView, loads_of, data_of, support_of, files_of, header_bytes, header_of, file_body, load_bodies, recipe_bodies, loads_list_bytes, files_list_bytes, recipe_set}
+use Rattle.media_build.specs.RecipeSets.{Sources, RecipeLoadView, BodyView, BuiltView, loads_of, data_of, support_of, files_of, header_bytes, header_of, file_body, load_bodies, recipe_bodies, loads_list_bytes, files_list_bytes, recipe_set}
 use Rattle.media_build.specs.Recipes.{ends_with, is_header_name, is_body_name}
 use Rattle.media_build.specs.declared.statements.RecipeLine.{RecipeLine}
 use Rattle.media_build.proofs.BuiltFindings.{all_of_map}
@@ -148,7 +148,7 @@ body_is_no_list : (body : BodyView) → is_body_name body.name ≡ true → IsNo
 unfolding ends_with
 body_is_no_list body is = no_list_by is_body_name body is refl refl
 
-no_lists_of_load : (sources : Sources) (members : ℕ) (load : LoadView) → IsSoundLoad members load → AllByRecursion IsNoList (load_bodies sources load)
+no_lists_of_load : (sources : Sources) (members : ℕ) (load : RecipeLoadView) → IsSoundLoad members load → AllByRecursion IsNoList (load_bodies sources load)
 unfolding load_bodies
 no_lists_of_load sources members load is =
     let files = all_append (IsFileLine members) (data_of load) (support_of load) (data_files members load is) (support_files members load is) in

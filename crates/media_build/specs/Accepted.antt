@@ -7,7 +7,7 @@ use Rattle.load_base.specs.PartText.{is_graphic}
 use Rattle.part_number.specs.PartNumber.{IsPartNumberText}
 use Rattle.field_grammar.specs.Grammar.{IsBytes}
 use Rattle.media_build.specs.Lines.{is_user, names_of, members_of}
-use Rattle.media_build.specs.RecipeSets.{LoadView, loads_of, files_of}
+use Rattle.media_build.specs.RecipeSets.{RecipeLoadView, loads_of, files_of}
 use Rattle.media_build.specs.Recipes.{is_header_name, is_body_name}
 use Rattle.media_build.specs.declared.statements.FileLine.{FileLine}
 use Rattle.media_build.specs.declared.statements.LoadLine.{LoadLine}
@@ -84,7 +84,7 @@ pub record IsInOrder (lines : List RecipeLine) : Type 0 where
 -- ---- the whole
 
 -- at most 255 data and support files, and at most one line of user data
-pub record IsSmallLoad (load : LoadView) : Type 0 where
+pub record IsSmallLoad (load : RecipeLoadView) : Type 0 where
   pub files : length (files_of load) ≤ 255
   pub user : length (filter is_user load.own) ≤ 1
 

@@ -12,12 +12,12 @@ use Rattle.media_lists.specs.Loads.{LoadsListView, IsLoadsList, load_body_fields
 use Rattle.media_lists.specs.declared.lists.LoadsList.{LoadsList}
 use Rattle.media_check.specs.BuiltSets.{HasShortBodies}
 use Rattle.media_check.specs.Kept.{contents}
-use Rattle.media_check.specs.Openings.{IsShort, size_of, total_of, largest_set}
+use Rattle.media_check.specs.Openings.{IsShort, length_on_host, total_of, largest_set}
 use Rattle.media_check.specs.declared.built.Built.{Built}
 use Rattle.media_check.specs.declared.built.Placed.{Placed}
 use Rattle.media_build.specs.NoFindings.{body_view, built_view}
 use Rattle.media_build.specs.Parts.{LoadFilesView, AreFiles, bytes_from, files_from, with_file}
-use Rattle.media_build.specs.RecipeSets.{LoadView, listed_body, BodyView, load_bodies, recipe_bodies, data_in, support_in, Sources, loads_of, header_start, recipe_loads, recipe_files, recipe_set}
+use Rattle.media_build.specs.RecipeSets.{RecipeLoadView, listed_body, BodyView, load_bodies, recipe_bodies, data_in, support_in, Sources, loads_of, header_start, recipe_loads, recipe_files, recipe_set}
 use Rattle.media_build.specs.declared.building_fault.BuildFault.{BuildFault}
 use Rattle.media_build.specs.declared.building_fault.BuildFault.TheVariants.{Absent, TooLong, TooLarge, HeaderTooLong, ListTooLong, Failed, Memory}
 use Rattle.media_build.specs.declared.statements.RecipeLine.{RecipeLine}
@@ -31,15 +31,15 @@ abbrev pub unread : Sources
 unread name = []
 
 -- how many bytes the header of a load has
-abbrev pub header_length : LoadView → ℕ
+abbrev pub header_length : RecipeLoadView → ℕ
 header_length load = header_size (header_start unread load)
 
 -- how many all headers have together
-abbrev pub headers_length : List LoadView → ℕ
+abbrev pub headers_length : List RecipeLoadView → ℕ
 headers_length loads = sum_by header_length loads
 
 -- at most 65,536 bytes
-abbrev pub HasShortHeader : LoadView → Type 0
+abbrev pub HasShortHeader : RecipeLoadView → Type 0
 HasShortHeader load = header_length load ≤ 65536
 
 abbrev pub HaveShortHeaders : List RecipeLine → Type 0
@@ -47,9 +47,9 @@ HaveShortHeaders lines = AllByRecursion HasShortHeader (loads_of lines)
 
 -- The load on this line is the first whose header has more.
 pub record IsFirstLongHeader (lines : List RecipeLine) (line : ℕ) : Type 0 where
-  pub before : List LoadView
-  pub load : LoadView
-  pub after : List LoadView
+  pub before : List RecipeLoadView
+  pub load : RecipeLoadView
+  pub after : List RecipeLoadView
   pub stands : loads_of lines ≡ before ++ load ∷ after
   pub others : AllByRecursion HasShortHeader before
   pub number : load.number ≡ line
@@ -97,7 +97,7 @@ abbrev pub source_in : Statement → List (List ℕ)
 source_in statement = option_to_list (source_of statement)
 
 -- the names of the sources of a load, in the order of its lines
-abbrev pub sources_of : LoadView → List (List ℕ)
+abbrev pub sources_of : RecipeLoadView → List (List ℕ)
 sources_of load = flat_map source_in load.own
 
 -- those of all loads
@@ -121,8 +121,8 @@ pub record CanTake (files : Files) (others : ℕ) (names : List (List ℕ)) : Ty
 -- why a source is refused, beside this many other bytes
 abbrev pub IsSourceFault : (files : Files) (others : ℕ) (name : List ℕ) → BuildFault → Type 0
 IsSourceFault files others name (Absent refused) = (refused.items ≡ name) × (files name ≡ None)
-IsSourceFault files others name (TooLong refused) = (refused.items ≡ name) × (longest_file < size_of files name)
-IsSourceFault files others name TooLarge = IsThere files name × (largest_set < others + size_of files name)
+IsSourceFault files others name (TooLong refused) = (refused.items ≡ name) × (longest_file < length_on_host files name)
+IsSourceFault files others name TooLarge = IsThere files name × (largest_set < others + length_on_host files name)
 IsSourceFault files others name (HeaderTooLong line) = ⊥
 IsSourceFault files others name ListTooLong = ⊥
 IsSourceFault files others name Failed = ⊥
@@ -177,11 +177,11 @@ pub record IsSmall (built : Built) : Type 0 where
 -- ---- sizes of headers
 
 -- the limits of the format are met by a header that isn't too long
-abbrev pub IsHeaderIfShort : LoadView → Type 0
+abbrev pub IsHeaderIfShort : RecipeLoadView → Type 0
 IsHeaderIfShort load = HasShortHeader load → IsHeader (header_start unread load)
 
 -- the length of a header, or the refusal of one that is too long
-abbrev pub AnswersHeader : LoadView → Result ℕ BuildFault → Type 0
+abbrev pub AnswersHeader : RecipeLoadView → Result ℕ BuildFault → Type 0
 AnswersHeader load (Ok length) = HasShortHeader load × (length ≡ header_length load)
 AnswersHeader load (Err (HeaderTooLong line)) = (load.number ≡ line) × (65536 < header_length load)
 AnswersHeader load (Err Memory) = Unit {0}
@@ -254,7 +254,7 @@ bodies_length bodies = sum_by (λ body. length body.bytes) bodies
 
 -- What a load adds to the files of the set beside this many bytes of headers and sources: its files, whatever their
 -- bytes are, and the bytes of its sources.
-pub record AddsLoad (load : LoadView) (others : ℕ) (old new : List BodyView) (total : ℕ) : Type 0 where
+pub record AddsLoad (load : RecipeLoadView) (others : ℕ) (old new : List BodyView) (total : ℕ) : Type 0 where
   pub bodies : List BodyView
   pub new_are : new ≡ old ++ bodies
   pub places : map body_place bodies ≡ map body_place (load_bodies unread load)
@@ -263,7 +263,7 @@ pub record AddsLoad (load : LoadView) (others : ℕ) (old new : List BodyView) (
   pub small : total ≤ largest_set
 
 -- What was taken for a load: its files as the recipe names them, and the bytes of all.
-pub record TakesLoad (load : LoadView) (others : ℕ) (old : List BodyView) (files : Files) (read : Listed Placed × ℕ) : Type 0 where
+pub record TakesLoad (load : RecipeLoadView) (others : ℕ) (old : List BodyView) (files : Files) (read : Listed Placed × ℕ) : Type 0 where
   pub new : map body_view read.0.items ≡ old ++ load_bodies (sources_in files) load
   pub total : read.1 ≡ others + total_of files (sources_of load)
 

@@ -2,7 +2,7 @@
 use Rattle.std.specs.Prelude.{ℕ, List, [], ◌∷◌, codes}
 use Rattle.exchange_trace.specs.Scripts.{lines}
 use Rattle.media_build.specs.Generator.{generated}
-use Rattle.media_build.specs.RecipeSets.{BuiltView, LoadView, Sources}
+use Rattle.media_build.specs.RecipeSets.{BuiltView, RecipeLoadView, Sources}
 use Rattle.media_build.specs.declared.statements.FileLine.{FileLine}
 use Rattle.media_build.specs.declared.statements.LoadLine.{LoadLine}
 use Rattle.media_build.specs.declared.statements.RecipeLine.{RecipeLine}
@@ -27,7 +27,7 @@ generated_lines =
     ∷ record { number = 3; statement = Load generated_load } ∷ record { number = 4; statement = Hardware (codes "HW1") }
     ∷ record { number = 5; statement = Data generated_file } ∷ []
 
-abbrev pub generated_load_view : LoadView
+abbrev pub generated_load_view : RecipeLoadView
 generated_load_view = record { number = 3; load = generated_load; own = Hardware (codes "HW1") ∷ Data generated_file ∷ [] }
 
 -- each source has these bytes

@@ -9,7 +9,7 @@ unfoldable pub state_at : (number steps : ℕ) → ℕ
 state_at number zero = number
 state_at number (suc steps) = next_state (state_at number steps)
 
--- So many bytes from a number: each is the upper byte of the state after one more step.
+-- This many bytes from a number: each is the upper byte of the state after one more step.
 unfoldable pub generated : (number count : ℕ) → List ℕ
 generated number zero = []
 generated number (suc count) = generated number count ++ (state_at number (suc count) / 2 ^ 24) ∷ []

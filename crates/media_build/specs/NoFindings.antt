@@ -10,18 +10,18 @@ use Rattle.media_check.specs.declared.built.Built.{Built}
 use Rattle.media_check.specs.declared.built.Placed.{Placed}
 use Rattle.media_build.specs.Accepted.{IsMemberOf}
 use Rattle.media_build.specs.Lines.{members_of}
-use Rattle.media_build.specs.RecipeSets.{Sources, LoadView, loads_of, hardware_of, files_of, bytes_of, header_start, recipe_loads, loads_list_bytes, files_list_bytes, listed_body, recipe_bodies, BodyView, BuiltView}
+use Rattle.media_build.specs.RecipeSets.{Sources, RecipeLoadView, loads_of, hardware_of, files_of, bytes_of, header_start, recipe_loads, loads_list_bytes, files_list_bytes, listed_body, recipe_bodies, BodyView, BuiltView}
 use Rattle.media_build.specs.declared.statements.RecipeLine.{RecipeLine}
 
 -- ---- the limits
 
 -- a header of at most 65,536 bytes, for at most 1,024 kinds of hardware
-pub record IsShortLoad (sources : Sources) (load : LoadView) : Type 0 where
+pub record IsShortLoad (sources : Sources) (load : RecipeLoadView) : Type 0 where
   pub header : header_size (header_start sources load) ≤ 65536
   pub hardware : length (hardware_of load) ≤ 1024
 
 -- the sources of a load have at most 16,777,215 bytes each
-abbrev pub HasShortSources : Sources → LoadView → Type 0
+abbrev pub HasShortSources : Sources → RecipeLoadView → Type 0
 HasShortSources sources load = AllByRecursion (λ file. length (bytes_of sources file) ≤ longest_file) (files_of load)
 
 -- No header, list or source is too long. FILES.LUM never is, since a set has at most 1,024 files.

@@ -7,7 +7,7 @@ use Rattle.load_base.specs.Host.{longest_file}
 use Rattle.load_header.specs.Header.{HeaderView, HardwareAtView}
 use Rattle.load_header.specs.HeaderChanges.{with_load_crc}
 use Rattle.load_header.specs.declared.header.FileEntry.{FileEntry}
-use Rattle.media_build.specs.RecipeSets.{LoadView, BodyView, Sources, bytes_of, hardware_of, gathered, position_in, data_in, support_in, user_in, header_bytes}
+use Rattle.media_build.specs.RecipeSets.{RecipeLoadView, BodyView, Sources, bytes_of, hardware_of, gathered, position_in, data_in, support_in, user_in, header_bytes}
 use Rattle.media_build.specs.declared.statements.FileLine.{FileLine}
 use Rattle.media_build.specs.declared.statements.LoadLine.{LoadLine}
 use Rattle.media_build.specs.declared.statements.RecipeLine.{RecipeLine}
@@ -68,7 +68,7 @@ pub record AreFiles (own : List Statement) (files : LoadFilesView) : Type 0 wher
   pub support_short : All IsShortSource files.support_files
 
 -- the header of a load with these files, but for its load CRC, which is 0
-unfoldable pub header_with : LoadView → LoadFilesView → HeaderView
+unfoldable pub header_with : RecipeLoadView → LoadFilesView → HeaderView
 header_with load files = record {
   flags = 0;
   part = load.load.part;
@@ -118,16 +118,16 @@ abbrev pub all_files : LoadFilesView → List FileBytes
 all_files files = files.data_files ++ files.support_files
 
 -- the CRC-32 over the header of a load but its last 4 bytes, and over its files
-unfoldable pub crc_with : LoadView → LoadFilesView → ℕ
+unfoldable pub crc_with : RecipeLoadView → LoadFilesView → ℕ
 crc_with load files =
     let start = header_bytes (header_with load files) in
     crc32_of (take (length start - 4) start ++ flat_map (λ file. file.bytes) (all_files files))
 
 -- the whole header of a load with these files
-unfoldable pub whole_header : LoadView → LoadFilesView → HeaderView
+unfoldable pub whole_header : RecipeLoadView → LoadFilesView → HeaderView
 whole_header load files = with_load_crc (header_with load files) (crc_with load files)
 
 -- the header of a load, its data files and its support files
-unfoldable pub bodies_with : LoadView → LoadFilesView → List BodyView
+unfoldable pub bodies_with : RecipeLoadView → LoadFilesView → List BodyView
 bodies_with load files =
     record { name = load.load.name; member = load.load.member; bytes = header_bytes (whole_header load files) } ∷ map body_of (all_files files)

@@ -48,13 +48,13 @@ user_in statement = []
 -- ---- loads
 
 -- a load: the number of its line, what that says, and what the lines say that follow it up to the next load
-pub record LoadView : Type 0 where
+pub record RecipeLoadView : Type 0 where
   pub number : ℕ
   pub load : LoadLine
   pub own : List Statement
 
 -- the load that begins with this line, if one does
-abbrev pub load_at : (number : ℕ) → Statement → (later : List RecipeLine) → List LoadView
+abbrev pub load_at : (number : ℕ) → Statement → (later : List RecipeLine) → List RecipeLoadView
 load_at number (Load load) later = record {
   number = number;
   load = load;
@@ -63,21 +63,21 @@ load_at number (Load load) later = record {
 load_at number statement later = []
 
 -- the loads of a recipe, in their order
-abbrev pub loads_of : List RecipeLine → List LoadView
+abbrev pub loads_of : List RecipeLine → List RecipeLoadView
 loads_of [] = []
 loads_of (line ∷ later) = load_at line.number line.statement later ++ loads_of later
 
-abbrev pub hardware_of : LoadView → List (List ℕ)
+abbrev pub hardware_of : RecipeLoadView → List (List ℕ)
 hardware_of load = flat_map hardware_in load.own
 
-abbrev pub data_of : LoadView → List FileLine
+abbrev pub data_of : RecipeLoadView → List FileLine
 data_of load = flat_map data_in load.own
 
-abbrev pub support_of : LoadView → List FileLine
+abbrev pub support_of : RecipeLoadView → List FileLine
 support_of load = flat_map support_in load.own
 
 -- the data files and then the support files
-abbrev pub files_of : LoadView → List FileLine
+abbrev pub files_of : RecipeLoadView → List FileLine
 files_of load = data_of load ++ support_of load
 
 -- each of these texts once, where it stands first
@@ -107,7 +107,7 @@ abbrev pub file_entry : Sources → FileLine → FileEntry
 file_entry sources file = record { name = file.name; part = file.part; length = length (bytes_of sources file); crc16 = crc16_of (bytes_of sources file) }
 
 -- the header of a load but for its load CRC, which is 0
-unfoldable pub header_start : Sources → LoadView → HeaderView
+unfoldable pub header_start : Sources → RecipeLoadView → HeaderView
 header_start sources load = record {
   flags = 0;
   part = load.load.part;
@@ -125,13 +125,13 @@ abbrev pub header_bytes : HeaderView → List ℕ
 header_bytes h = concat (header_fields h)
 
 -- the CRC-32 over the header but its last 4 bytes, and its files
-unfoldable pub load_crc_of : Sources → LoadView → ℕ
+unfoldable pub load_crc_of : Sources → RecipeLoadView → ℕ
 load_crc_of sources load =
     let start = header_bytes (header_start sources load) in
     crc32_of (take (length start - 4) start ++ flat_map (bytes_of sources) (files_of load))
 
 -- the header of a load
-unfoldable pub header_of : Sources → LoadView → HeaderView
+unfoldable pub header_of : Sources → RecipeLoadView → HeaderView
 header_of sources load = with_load_crc (header_start sources load) (load_crc_of sources load)
 
 -- ---- files
@@ -146,7 +146,7 @@ abbrev pub file_body : Sources → FileLine → BodyView
 file_body sources file = record { name = file.name; member = file.member; bytes = bytes_of sources file }
 
 -- the header of a load, its data files and its support files
-unfoldable pub load_bodies : Sources → LoadView → List BodyView
+unfoldable pub load_bodies : Sources → RecipeLoadView → List BodyView
 load_bodies sources load =
     record { name = load.load.name; member = load.load.member; bytes = header_bytes (header_of sources load) } ∷ map (file_body sources) (files_of load)
 
@@ -160,7 +160,7 @@ recipe_bodies sources lines = flat_map (load_bodies sources) (loads_of lines)
 abbrev pub set_of : List RecipeLine → List ℕ
 set_of lines = concat (flat_map (λ line. set_in line.statement) lines)
 
-abbrev pub load_entry : LoadView → LoadEntryView
+abbrev pub load_entry : RecipeLoadView → LoadEntryView
 load_entry load = record { part = load.load.part; header_name = load.load.name; member = load.load.member; hardware = hardware_of load }
 
 -- `LOADS.LUM` of a member

@@ -1,6 +1,6 @@
 -- A recipe of one load with one data file.
 use Rattle.std.specs.Prelude.{List, [], ◌∷◌, codes}
-use Rattle.media_build.specs.RecipeSets.{LoadView, Sources}
+use Rattle.media_build.specs.RecipeSets.{RecipeLoadView, Sources}
 use Rattle.media_build.specs.declared.statements.LoadLine.{LoadLine}
 use Rattle.media_build.specs.declared.statements.RecipeLine.{RecipeLine}
 use Rattle.media_build.specs.declared.statements.Statement.{Statement}
@@ -17,7 +17,7 @@ abbrev pub own_lines : List Statement
 own_lines =
     Hardware (codes "HW1") ∷ Data (record { name = codes "APP.BIN"; member = 1; source = codes "app.bin"; part = codes "APP1" }) ∷ []
 
-abbrev pub one_load : LoadView
+abbrev pub one_load : RecipeLoadView
 one_load = record { number = 3; load = load_line; own = own_lines }
 
 abbrev pub one_load_recipe : List RecipeLine
@@ -31,7 +31,7 @@ abbrev pub no_bytes : Sources
 no_bytes name = []
 
 -- a load with a hardware, a position, two data files, a support file and user data
-abbrev pub three_files : LoadView
+abbrev pub three_files : RecipeLoadView
 three_files = record {
   number = 3;
   load = record { part = codes "ABC41-0000-0001"; name = codes "NAV.LUH"; member = 1; type_id = 7; type_name = codes "NAVDATA" };

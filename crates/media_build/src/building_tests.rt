@@ -214,7 +214,7 @@ fn the_first_source_is_refused(rt: HostRuntime) -> Result<(), Fail> {
     Ok(())
 }
 
-// The lines of a load for this many kinds of hardware, with so many bytes of user data and a source
+// The lines of a load for this many kinds of hardware, with this many bytes of user data and a source
 // that is absent.
 fn sized(alloc: Global, hardware: u16, user: u32) -> Result<Bytes, Fail> {
     let mut text = Bytes::new(alloc);

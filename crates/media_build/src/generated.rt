@@ -5,7 +5,7 @@ ghost use Rattle.media_build.specs.Generator.{generated, next_state as state_aft
 use load_base::{Bytes, NoMemory};
 use std::alloc::Global;
 
-/// So many bytes of the generator that starts at this number (docs/FORMATS.md, "Generated set").
+/// This many bytes of the generator that starts at this number (docs/FORMATS.md, "Generated set").
 #[tactic(auto, using(crate::proofs::Generating::generated_none, crate::proofs::Generating::state_none, crate::proofs::Generating::state_more, crate::proofs::Generating::generated_more))]
 pub fn generated_bytes(alloc: Global, number: u32, count: usize) -> Result<Bytes, NoMemory>
     ensures { IfOk result (λ bytes. bytes.items ≡ generated number count) }

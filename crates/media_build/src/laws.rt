@@ -149,7 +149,7 @@ pub fn building_laws()
 {}
 
 /// What some recipes say, and how some are refused: the words of the definitions computed
-/// (docs/FORMATS.md, "Recipe").
+/// (docs/FORMATS.md, "Recipe"), a clause for each recipe.
 pub fn worked_recipes()
     // Lines that are empty or begin with `#` say nothing, and are counted.
     ensures smallest { recipe_said (lines (codes "set XYZ5A-0000-0001" ∷ codes "members 1"

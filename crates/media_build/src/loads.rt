@@ -20,9 +20,9 @@ pub(crate) struct LoadPart<'a> {
 
 impl<'a> Model for LoadPart<'a> {
     ghost use Rattle.media_build.specs.Parts.{statements};
-    ghost use Rattle.media_build.specs.RecipeSets.{LoadView};
+    ghost use Rattle.media_build.specs.RecipeSets.{RecipeLoadView};
 
-    ghost Value = { LoadView };
+    ghost Value = { RecipeLoadView };
 
     ghost view = { λ part. record {
       number = part.number;
@@ -62,9 +62,9 @@ pub(crate) struct Loads<'a> {
 
 impl<'a> Model for Loads<'a> {
     ghost use Rattle.std.specs.Prelude.{List};
-    ghost use Rattle.media_build.specs.RecipeSets.{LoadView, loads_of};
+    ghost use Rattle.media_build.specs.RecipeSets.{RecipeLoadView, loads_of};
 
-    ghost Value = { List LoadView };
+    ghost Value = { List RecipeLoadView };
 
     ghost view = { λ loads. loads_of loads.rest.now };
 }

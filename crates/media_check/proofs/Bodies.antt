@@ -14,7 +14,7 @@ use Rattle.media_lists.specs.Files.{file_name}
 use Rattle.media_lists.specs.declared.lists.ListedFile.{ListedFile}
 use Rattle.media_check.specs.BuiltSets.{body_of, file_with, built_lists, built_media, IsShortBody}
 use Rattle.media_check.specs.Kept.{bytes_view, contents}
-use Rattle.media_check.specs.Sets.{MemberView, FileView, SetView, file_in, file_view, files_view, lists_in, lists_view, further_members, entries_of, set_in, set_with}
+use Rattle.media_check.specs.Sets.{MemberView, ListedFileView, SetView, file_in, file_view, files_view, lists_in, lists_view, further_members, entries_of, set_in, set_with}
 use Rattle.media_check.specs.declared.built.Built.{Built}
 use Rattle.media_check.specs.declared.built.Placed.{Placed}
 use Rattle.media_check.specs.declared.set.KeptFile.{KeptFile}
@@ -84,12 +84,12 @@ pub files_more : (bodies : List (List ℕ × Listed ℕ)) (entries : List Listed
     → new ≡ old ++ (entry.name, record { member = entry.member; bytes = bytes }) ∷ [] → bytes ≡ lookup (same_bytes entry.name) bodies → files_view old ≡ map (file_with bodies) entries
     → files_view new ≡ map (file_with bodies) (entries ++ entry ∷ [])
 files_more bodies entries entry old new bytes is found so_far =
-    ap files_view is ∙ seen_more old entry.name (record { member = entry.member; bytes = bytes }) ∙ ap (λ (l : List (List ℕ × FileView)). l ++ (entry.name, file_view (record { member = entry.member; bytes = bytes })) ∷ []) so_far
-    ∙ ap (λ (b : Option (Listed ℕ)). map (file_with bodies) entries ++ (let file : List ℕ × FileView = (entry.name, record { member = entry.member; bytes = bytes_view b }) in file) ∷ []) found
+    ap files_view is ∙ seen_more old entry.name (record { member = entry.member; bytes = bytes }) ∙ ap (λ (l : List (List ℕ × ListedFileView)). l ++ (entry.name, file_view (record { member = entry.member; bytes = bytes })) ∷ []) so_far
+    ∙ ap (λ (b : Option (Listed ℕ)). map (file_with bodies) entries ++ (let file : List ℕ × ListedFileView = (entry.name, record { member = entry.member; bytes = bytes_view b }) in file) ∷ []) found
     ∙ sym (map-append (file_with bodies) entries (entry ∷ []))
 
 -- the parts of a set that was built
-pub parts_joined : (built : Built) (first : MemberView) (further : List MemberView) (files : List (List ℕ × FileView)) → first ≡ lists_in (built_media built) 1
+pub parts_joined : (built : Built) (first : MemberView) (further : List MemberView) (files : List (List ℕ × ListedFileView)) → first ≡ lists_in (built_media built) 1
     → further ≡ map (lists_in (built_media built)) (further_members first.loads) → files ≡ map (file_in (built_media built)) (entries_of first.files)
     → (let set : SetView = record { first = first; further = further; files = files } in set) ≡ set_in (built_media built)
 parts_joined built first further files one others listed = rw (others, listed) (ap (set_with (built_media built)) one)

@@ -18,8 +18,8 @@ use Rattle.media_lists.specs.ListFields.{AreNew}
 use Rattle.media_lists.specs.declared.lists.ListedFile.{ListedFile}
 use Rattle.media_check.specs.HostNames.{host_media, listed_name}
 use Rattle.media_check.specs.Kept.{bytes_view, contents, IsShortFile}
-use Rattle.media_check.specs.Openings.{IsShort, ReadsNames, KeepsNext, KeepsListed, size_of, total_of, largest_set}
-use Rattle.media_check.specs.Sets.{FileView, file_view, files_view, file_in}
+use Rattle.media_check.specs.Openings.{IsShort, ReadsNames, KeepsNext, KeepsListed, length_on_host, total_of, largest_set}
+use Rattle.media_check.specs.Sets.{ListedFileView, file_view, files_view, file_in}
 use Rattle.media_check.specs.declared.fault.OpenFault.{OpenFault}
 use Rattle.media_check.specs.declared.fault.OpenFault.TheVariants.{TooLong, TooLarge, Failed, Memory}
 use Rattle.media_check.specs.declared.set.KeptFile.{KeptFile}
@@ -36,7 +36,7 @@ only_name name refused (b ∷ c ∷ before) after is = absurd cc
 -- one more file as it is seen
 pub seen_more : (old : List (List ℕ × KeptFile)) (name : List ℕ) (file : KeptFile) → files_view (old ++ (name, file) ∷ []) ≡ files_view old ++ (name, file_view file) ∷ []
 seen_more [] name file = refl
-seen_more (e ∷ old) name file = ap (λ (l : List (List ℕ × FileView)). (e.0, file_view e.1) ∷ l) (seen_more old name file)
+seen_more (e ∷ old) name file = ap (λ (l : List (List ℕ × ListedFileView)). (e.0, file_view e.1) ∷ l) (seen_more old name file)
 
 pub next_unread : (o : Option Files) (folder : List ℕ) (entry : ListedFile) (name : List ℕ) (total : ℕ) (old new : List (List ℕ × KeptFile)) (fault : OpenFault) → name ≡ listed_name folder entry
     → ForSome o (ReadsNames (name ∷ []) (λ files (f : Option (Listed ℕ)). bytes_view f ≡ files name) (Err fault)) → ForSome o (KeepsNext folder entry total old new (Err fault))
@@ -45,7 +45,7 @@ next_unread o folder entry name total old new fault same reads = told_also o _ _
     go : (files : Files) (fault : OpenFault) → ReadsNames (name ∷ []) (λ files (f : Option (Listed ℕ)). bytes_view f ≡ files name) (Err fault) files → KeepsNext folder entry total old new (Err fault) files
     go files (TooLong refused) long =
         let is : refused.items ≡ name = only_name name refused.items long.before long.after long.stands in
-        (is ∙ same, subst (λ (n : List ℕ). longest_file < size_of files n) (is ∙ same) long.long)
+        (is ∙ same, subst (λ (n : List ℕ). longest_file < length_on_host files n) (is ∙ same) long.long)
     go files TooLarge never = absurd never
     go files Failed _ = tt
     go files Memory _ = tt
@@ -55,20 +55,20 @@ pub next_large : (o : Option Files) (folder : List ℕ) (entry : ListedFile) (na
     → ForSome o (KeepsNext folder entry total old new (Err TooLarge))
 next_large o folder entry name total sum old new bytes same reads is passes =
     told_also o _ _ reads (λ files read.
-    let size : length (contents (bytes_view bytes)) ≡ size_of files name = ap (λ (b : Option (List ℕ)). length (contents b)) read.1 in
-    subst (λ (n : List ℕ). IsShort files n × (largest_set < total + size_of files n)) same (read.0 0 name (omega arith), omega (arith, size, is, passes)))
+    let size : length (contents (bytes_view bytes)) ≡ length_on_host files name = ap (λ (b : Option (List ℕ)). length (contents b)) read.1 in
+    subst (λ (n : List ℕ). IsShort files n × (largest_set < total + length_on_host files n)) same (read.0 0 name (omega arith), omega (arith, size, is, passes)))
 
 pub next_read : (o : Option Files) (folder : List ℕ) (entry : ListedFile) (name : List ℕ) (total sum : ℕ) (old new : List (List ℕ × KeptFile)) (bytes : Option (Listed ℕ)) → name ≡ listed_name folder entry
     → ForSome o (ReadsNames (name ∷ []) (λ files (f : Option (Listed ℕ)). bytes_view f ≡ files name) (Ok bytes)) → sum ≡ total + length (contents (bytes_view bytes))
     → new ≡ old ++ (entry.name, record { member = entry.member; bytes = bytes }) ∷ [] → ForSome o (KeepsNext folder entry total old new (Ok sum))
 next_read o folder entry name total sum old new bytes same reads is appended =
     told_also o _ _ reads (λ files read.
-    let size : length (contents (bytes_view bytes)) ≡ size_of files name = ap (λ (b : Option (List ℕ)). length (contents b)) read.1 in
+    let size : length (contents (bytes_view bytes)) ≡ length_on_host files name = ap (λ (b : Option (List ℕ)). length (contents b)) read.1 in
     let there : bytes_view bytes ≡ files (listed_name folder entry) = read.1 ∙ ap files same in (
       subst (IsShort files) same (read.0 0 name (omega arith)),
-      is ∙ ap (λ (n : ℕ). total + n) (size ∙ ap (size_of files) same),
+      is ∙ ap (λ (n : ℕ). total + n) (size ∙ ap (length_on_host files) same),
       ap files_view appended ∙ seen_more old entry.name (record { member = entry.member; bytes = bytes })
-          ∙ ap (λ (b : Option (List ℕ)). files_view old ++ (let file : List ℕ × FileView = (entry.name, record { member = entry.member; bytes = b }) in file) ∷ []) there,
+          ∙ ap (λ (b : Option (List ℕ)). files_view old ++ (let file : List ℕ × ListedFileView = (entry.name, record { member = entry.member; bytes = b }) in file) ∷ []) there,
     ))
 
 -- ---- all of them
@@ -88,8 +88,8 @@ kept_more o folder entries entry total sum old new so_far next =
     told_both o _ _ _ so_far next (λ files before here.
     let names : map (listed_name folder) (entries ++ entry ∷ []) ≡ map (listed_name folder) entries ++ listed_name folder entry ∷ [] = map-append (listed_name folder) entries (entry ∷ []) in
     let together : total_of files (map (listed_name folder) entries ++ listed_name folder entry ∷ []) ≡ total_of files (map (listed_name folder) entries) + total_of files (listed_name folder entry ∷ []) =
-    sum_by-append (size_of files) (map (listed_name folder) entries) (listed_name folder entry ∷ []) in
-    let one : total_of files (listed_name folder entry ∷ []) ≡ size_of files (listed_name folder entry) = omega arith in
+    sum_by-append (length_on_host files) (map (listed_name folder) entries) (listed_name folder entry ∷ []) in
+    let one : total_of files (listed_name folder entry ∷ []) ≡ length_on_host files (listed_name folder entry) = omega arith in
     record {
       total_is = rw names (omega (arith, together, one, before.total_is, here.1));
       short = subst (All (IsShort files)) (sym names) (All-push (IsShort files) (map (listed_name folder) entries) (listed_name folder entry) before.short here.0);
@@ -117,7 +117,7 @@ listed_unread {M = M} o some entries_in folder entries others all entry total ol
         after = map (listed_name folder) others;
         stands = rw refused.0 names;
         others = before.short;
-        long = subst (λ (n : List ℕ). longest_file < size_of files n) (sym refused.0) refused.1;
+        long = subst (λ (n : List ℕ). longest_file < length_on_host files n) (sym refused.0) refused.1;
       };
       together = omega (arith, small, before.total_is);
     }

@@ -6,17 +6,17 @@ use Rattle.load_header.specs.Header.{header}
 use Rattle.load_header.specs.declared.header.FileEntry.{FileEntry}
 use Rattle.media_lists.specs.Loads.{LoadEntryView}
 use Rattle.media_check.specs.Findings.{load_findings, read_findings, plain, are_there}
-use Rattle.media_check.specs.Sets.{SetView, FileView, find, bytes_of}
+use Rattle.media_check.specs.Sets.{SetView, ListedFileView, find, bytes_of}
 
 pub load_unlisted : (set : SetView) (load : LoadEntryView) → find set load.header_name ≡ None → load_findings set load ≡ plain 5 0 load.header_name ∷ []
 unfolding load_findings
 load_unlisted set load found = rw found refl
 
-pub load_absent : (set : SetView) (load : LoadEntryView) (file : FileView) → find set load.header_name ≡ Some file → file.bytes ≡ None → load_findings set load ≡ []
+pub load_absent : (set : SetView) (load : LoadEntryView) (file : ListedFileView) → find set load.header_name ≡ Some file → file.bytes ≡ None → load_findings set load ≡ []
 unfolding load_findings
 load_absent set load file found is = rw (found, is) refl
 
-pub load_listed : (set : SetView) (load : LoadEntryView) (file : FileView) (bytes : List ℕ) → find set load.header_name ≡ Some file → file.bytes ≡ Some bytes
+pub load_listed : (set : SetView) (load : LoadEntryView) (file : ListedFileView) (bytes : List ℕ) → find set load.header_name ≡ Some file → file.bytes ≡ Some bytes
     → load_findings set load ≡ read_findings set load file.member bytes (answer header bytes)
 unfolding load_findings
 load_listed set load file bytes found is = rw (found, is) refl

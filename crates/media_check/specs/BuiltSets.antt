@@ -8,7 +8,7 @@ use Rattle.media_lists.specs.Files.{files_list}
 use Rattle.media_lists.specs.Loads.{loads_list}
 use Rattle.media_lists.specs.declared.lists.ListedFile.{ListedFile}
 use Rattle.media_check.specs.Kept.{bytes_view, contents}
-use Rattle.media_check.specs.Sets.{Media, MemberView, FileView, found_in}
+use Rattle.media_check.specs.Sets.{Media, MemberView, ListedFileView, found_in}
 use Rattle.media_check.specs.declared.built.Built.{Built}
 use Rattle.media_check.specs.declared.built.Placed.{Placed}
 
@@ -36,7 +36,7 @@ built_lists loads files member = record {
 }
 
 -- a listed file, with the bytes that stand under its name
-abbrev pub file_with : List (List ℕ × Listed ℕ) → ListedFile → List ℕ × FileView
+abbrev pub file_with : List (List ℕ × Listed ℕ) → ListedFile → List ℕ × ListedFileView
 file_with bodies entry = (entry.name, record { member = entry.member; bytes = bytes_view (lookup (same_bytes entry.name) bodies) })
 
 -- at most 16,777,215 bytes stand under each name

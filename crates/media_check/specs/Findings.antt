@@ -16,7 +16,7 @@ use Rattle.media_lists.specs.Lists.{ListView}
 use Rattle.media_lists.specs.Loads.{LoadsListView, LoadEntryView, load_name}
 use Rattle.media_lists.specs.declared.lists.ListedFile.{ListedFile}
 use Rattle.media_check.specs.Kept.{contents}
-use Rattle.media_check.specs.Sets.{MemberView, FileView, SetView, find, bytes_of}
+use Rattle.media_check.specs.Sets.{MemberView, ListedFileView, SetView, find, bytes_of}
 use Rattle.media_check.specs.declared.finding.Finding.{Finding}
 use Rattle.media_check.specs.declared.found.Found.{Found}
 use Rattle.media_check.specs.declared.found.Found.TheVariants.{Missing, Refused, Read}
@@ -102,11 +102,11 @@ unfoldable pub is_file : FileEntry → List ℕ → Bool
 is_file file bytes = (length bytes == file.length) && (crc16_of bytes == file.crc16)
 
 -- a listed file of a load
-abbrev pub changed_findings : FileEntry → FileView → Option (List ℕ) → List Finding
+abbrev pub changed_findings : FileEntry → ListedFileView → Option (List ℕ) → List Finding
 changed_findings file found None = []
 changed_findings file found (Some bytes) = where_it_holds (not (is_file file bytes)) (plain 11 found.member file.name)
 
-abbrev pub file_findings_as : FileEntry → Option FileView → List Finding
+abbrev pub file_findings_as : FileEntry → Option ListedFileView → List Finding
 file_findings_as file None = plain 5 0 file.name ∷ []
 file_findings_as file (Some found) = changed_findings file found found.bytes
 
@@ -144,11 +144,11 @@ read_findings set load member bytes (Ok h) = header_findings set load member byt
 read_findings set load member bytes (Err fault) = detailed 7 member load.header_name (header_fault_text fault) ∷ []
 
 -- a load whose header is listed
-abbrev pub listed_findings : SetView → LoadEntryView → FileView → Option (List ℕ) → List Finding
+abbrev pub listed_findings : SetView → LoadEntryView → ListedFileView → Option (List ℕ) → List Finding
 listed_findings set load found None = []
 listed_findings set load found (Some bytes) = read_findings set load found.member bytes (answer header bytes)
 
-abbrev pub load_findings_as : SetView → LoadEntryView → Option FileView → List Finding
+abbrev pub load_findings_as : SetView → LoadEntryView → Option ListedFileView → List Finding
 load_findings_as set load None = plain 5 0 load.header_name ∷ []
 load_findings_as set load (Some found) = listed_findings set load found found.bytes
 

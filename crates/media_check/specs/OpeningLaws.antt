@@ -4,7 +4,7 @@ use Rattle.std.specs.Prelude.{All}
 use Rattle.std.proofs.lemmas.List.Sums.{sum_by-append}
 use Rattle.load_base.specs.Host.{Files}
 use Rattle.media_check.specs.HostNames.{Reading}
-use Rattle.media_check.specs.Openings.{IsShort, IsFirstLong, CanRead, IsTooLong, IsTooLarge, size_of, total_of}
+use Rattle.media_check.specs.Openings.{IsShort, IsFirstLong, CanRead, IsTooLong, IsTooLarge, length_on_host, total_of}
 
 -- what holds of each holds of the one between others
 between : (P : List ℕ → Type 0) (before after : List (List ℕ)) (x : List ℕ) → All P (before ++ x ∷ after) → P x
@@ -24,7 +24,7 @@ pub not_too_large : (files : Files) (reading : Reading) → CanRead files readin
 not_too_large files reading can refused =
     let large = refused.1 in
     let whole : total_of files reading.files ≡ total_of files large.before + total_of files (large.name ∷ large.after) =
-    ap (total_of files) large.stands ∙ sum_by-append (size_of files) large.before (large.name ∷ large.after) in
-    let rest : total_of files (large.name ∷ large.after) ≡ total_of files (large.name ∷ []) + total_of files large.after = sum_by-append (size_of files) (large.name ∷ []) large.after in
-    let one : total_of files (large.name ∷ []) ≡ size_of files large.name = omega arith in
+    ap (total_of files) large.stands ∙ sum_by-append (length_on_host files) large.before (large.name ∷ large.after) in
+    let rest : total_of files (large.name ∷ large.after) ≡ total_of files (large.name ∷ []) + total_of files large.after = sum_by-append (length_on_host files) (large.name ∷ []) large.after in
+    let one : total_of files (large.name ∷ []) ≡ length_on_host files large.name = omega arith in
     absurd (omega (arith, whole, rest, one, can.together, large.passes))

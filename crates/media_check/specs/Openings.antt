@@ -20,16 +20,16 @@ abbrev pub largest_set : ℕ
 largest_set = 268435456
 
 -- how many bytes the host has under this name
-abbrev pub size_of : Files → List ℕ → ℕ
-size_of files name = length (contents (files name))
+abbrev pub length_on_host : Files → List ℕ → ℕ
+length_on_host files name = length (contents (files name))
 
 -- there is no file of this name, or it has at most 16,777,215 bytes
 abbrev pub IsShort : Files → List ℕ → Type 0
-IsShort files name = size_of files name ≤ longest_file
+IsShort files name = length_on_host files name ≤ longest_file
 
 -- how many bytes the files of these names have together
 abbrev pub total_of : Files → List (List ℕ) → ℕ
-total_of files names = sum_by (size_of files) names
+total_of files names = sum_by (length_on_host files) names
 
 -- No file is too long, and the listed files aren't too large together.
 pub record CanRead (files : Files) (reading : Reading) : Type 0 where
@@ -43,7 +43,7 @@ pub record IsFirstLong (files : Files) (names : List (List ℕ)) (name : List �
   pub after : List (List ℕ)
   pub stands : names ≡ before ++ name ∷ after
   pub others : All (IsShort files) before
-  pub long : longest_file < size_of files name
+  pub long : longest_file < length_on_host files name
 
 -- This is the first of these names whose file is too long, and those before it aren't too large together.
 pub record IsLongBeforeLarge (files : Files) (names : List (List ℕ)) (name : List ℕ) : Type 0 where
@@ -59,7 +59,7 @@ pub record IsFirstLarge (files : Files) (names : List (List ℕ)) : Type 0 where
   pub others : All (IsShort files) before
   pub this : IsShort files name
   pub together : total_of files before ≤ largest_set
-  pub passes : largest_set < total_of files before + size_of files name
+  pub passes : largest_set < total_of files before + length_on_host files name
 
 -- This name is what an opening refuses as too long: of a list, or of a listed file once all lists were read.
 abbrev pub IsTooLong : Files → Reading → List ℕ → Type 0
@@ -111,12 +111,12 @@ pub record HasOpenCause {T : Type 0} (before now : ℕ) (result : Result T OpenF
 -- The next listed file was read, and is kept with those before it, which have `total` bytes together; or it is refused.
 abbrev pub KeepsNext : (folder : List ℕ) → ListedFile → (total : ℕ) → (old new : List (List ℕ × KeptFile)) → Result ℕ OpenFault → Files → Type 0
 KeepsNext folder entry total old new (Ok sum) files =
-    IsShort files (listed_name folder entry) × (sum ≡ total + size_of files (listed_name folder entry))
+    IsShort files (listed_name folder entry) × (sum ≡ total + length_on_host files (listed_name folder entry))
     × (files_view new ≡ files_view old ++ file_in (host_media files folder) entry ∷ [])
 KeepsNext folder entry total old new (Err (TooLong name)) files =
-    (name.items ≡ listed_name folder entry) × (longest_file < size_of files (listed_name folder entry))
+    (name.items ≡ listed_name folder entry) × (longest_file < length_on_host files (listed_name folder entry))
 KeepsNext folder entry total old new (Err TooLarge) files =
-    IsShort files (listed_name folder entry) × (largest_set < total + size_of files (listed_name folder entry))
+    IsShort files (listed_name folder entry) × (largest_set < total + length_on_host files (listed_name folder entry))
 KeepsNext folder entry total old new (Err Failed) files = Unit {0}
 KeepsNext folder entry total old new (Err Memory) files = Unit {0}
 

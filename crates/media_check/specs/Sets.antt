@@ -24,7 +24,7 @@ pub record MemberView : Type 0 where
   pub files : Found FilesListView
 
 -- a listed file: the member that its entry names, and its bytes, or None where it is absent
-pub record FileView : Type 0 where
+pub record ListedFileView : Type 0 where
   pub member : ℕ
   pub bytes : Option (List ℕ)
 
@@ -33,7 +33,7 @@ pub record FileView : Type 0 where
 pub record SetView : Type 0 where
   pub first : MemberView
   pub further : List MemberView
-  pub files : List (List ℕ × FileView)
+  pub files : List (List ℕ × ListedFileView)
 
 -- the list, where it was read
 abbrev pub list_of : {V : Type 0} → Found V → Option V
@@ -42,10 +42,10 @@ list_of Missing = None
 list_of (Refused fault) = None
 
 -- the listed file of this name
-abbrev pub find : SetView → List ℕ → Option FileView
+abbrev pub find : SetView → List ℕ → Option ListedFileView
 find set name = lookup (same_bytes name) set.files
 
-abbrev pub bytes_found : Option FileView → Option (List ℕ)
+abbrev pub bytes_found : Option ListedFileView → Option (List ℕ)
 bytes_found None = None
 bytes_found (Some file) = file.bytes
 
@@ -92,7 +92,7 @@ entries_of Missing = []
 entries_of (Refused fault) = []
 
 -- a listed file by its name, with the bytes that the media have of it
-abbrev pub file_in : Media → ListedFile → List ℕ × FileView
+abbrev pub file_in : Media → ListedFile → List ℕ × ListedFileView
 file_in media entry = (entry.name, record { member = entry.member; bytes = media.listed entry })
 
 -- the set with these lists of member 1
@@ -118,11 +118,11 @@ found_view view (Read list) = Read (view list)
 abbrev pub lists_view : MemberLists → MemberView
 lists_view lists = record { loads = found_view loads_list_view lists.loads; files = found_view files_list_view lists.files }
 
-abbrev pub file_view : KeptFile → FileView
+abbrev pub file_view : KeptFile → ListedFileView
 file_view file = record { member = file.member; bytes = bytes_view file.bytes }
 
 -- files by their names
-abbrev pub files_view : List (List ℕ × KeptFile) → List (List ℕ × FileView)
+abbrev pub files_view : List (List ℕ × KeptFile) → List (List ℕ × ListedFileView)
 files_view files = map (λ e. (e.0, file_view e.1)) files
 
 abbrev pub set_view : MediaSet → SetView

@@ -29,7 +29,7 @@ not_true : (b : Bool) → not b ≡ true → b ≡ false
 not_true true e = absurd cc
 not_true false e = refl
 
--- how an entry fits after those so far, in a list of so many
+-- how an entry fits after those so far, in a list of this many
 abbrev Fits : {E : Type 0} → (E → List ℕ) → (E → List (List ℕ)) → (E → Type 0) → ℕ → List E → List ℕ → ℕ → E → Type 0
 Fits name_of f P count so_far before after e = ((distance_of (length so_far + 1 == count) (entry_size f e) < 2 ^ 16) × P e) × (is_listed name_of (name_of e) so_far ≡ false)
 

@@ -6,7 +6,7 @@ use Rattle.std.proofs.lemmas.Bool.{leb-true, le-leb}
 use Rattle.std.proofs.lemmas.List.{append-nil, take_more, take-map, get_or-map, length-map}
 use Rattle.std.proofs.lemmas.List.Elements.{All-nil, All-cons}
 use Rattle.part_number.specs.VerdictLaws.{part_size}
-use Rattle.field_grammar.specs.Spelling.{size_of}
+use Rattle.field_grammar.specs.Spelling.{spelled_length}
 use Rattle.part_number.specs.PartNumber.{IsPartNumberText}
 use Rattle.field_grammar.specs.Grammar.{IsBytes}
 use Rattle.media_lists.specs.Lists.{ListView}
@@ -80,7 +80,7 @@ true_or_false false one other = absurd cc
 -- a list that meets all limits but that of its size
 pub list_tells : {E : Type 0} (P : ℕ → E → Type 0) (name_of : E → List ℕ) (f : E → List (List ℕ)) (v : ListView E) (entries size : ℕ) → IsPartNumberText v.set → v.members < 2 ^ 8 → IsBytes v.user
     → IsMember v.members v.member → (length v.user % 2 ≡ 0) × (length v.user ≤ 131070) → AreEntries (P v.members) name_of f v.entries
-    → entries ≡ size_of (entries_fields f v.entries) → size ≡ 44 + entries + length v.user
+    → entries ≡ spelled_length (entries_fields f v.entries) → size ≡ 44 + entries + length v.user
     → (IsTrue (leb size 1048576) → IsMediaList P name_of f v) × (IsMediaList P name_of f v → IsTrue (leb size 1048576))
 list_tells P name_of f v entries size set members bytes member user meet is total =
     let whole = whole_size f v entries (part_size v.set set) is in (

@@ -4,7 +4,7 @@ use Rattle.std.specs.List.{concat}
 use Rattle.crc_fields.specs.CheckSums.{crc16_of}
 use Rattle.part_number.specs.PartNumber.{IsPartNumberText}
 use Rattle.field_grammar.specs.Grammar.{Follows, expected}
-use Rattle.field_grammar.specs.Spelling.{IsSpelledBy, IsPlacedBy, size_of}
+use Rattle.field_grammar.specs.Spelling.{IsSpelledBy, IsPlacedBy, spelled_length}
 use Rattle.field_grammar.specs.Fields.{number_fields, padded_fields}
 use Rattle.field_grammar.specs.CombinedLaws.{spelled-expected}
 use Rattle.field_grammar.specs.PlacedLaws.{placed-renamed}
@@ -32,7 +32,7 @@ placed-beginning version small =
 abbrev behind_parts : Pointers → List (List ℕ)
 behind_parts p = number_fields 2 0 ++ pointers_parts p
 
-size_behind : (p : Pointers) → size_of (behind_parts p) ≡ 14
+size_behind : (p : Pointers) → spelled_length (behind_parts p) ≡ 14
 size_behind p = simp (length-append, length_number_bytes) refl
 
 pub record IsHead (after : ℕ) (p : Pointers) : Type 0 where

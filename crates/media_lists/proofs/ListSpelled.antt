@@ -5,7 +5,7 @@ use Rattle.std.proofs.lemmas.List.{append-nil}
 use Rattle.std.proofs.lemmas.List.Folds.{concat-append}
 use Rattle.crc_fields.specs.CheckSums.{crc16_of}
 use Rattle.field_grammar.specs.Grammar.{Grammar, Follows}
-use Rattle.field_grammar.specs.Spelling.{IsSpelledBy, SpellsWhole, size_of}
+use Rattle.field_grammar.specs.Spelling.{IsSpelledBy, SpellsWhole, spelled_length}
 use Rattle.field_grammar.specs.SectionLaws.{size_more, size_number}
 use Rattle.field_grammar.specs.Fields.{number_fields}
 use Rattle.media_lists.specs.Lists.{head, ListView, media_list}
@@ -71,14 +71,14 @@ list_to {E = E} version body name_of f P small has fields after value follows =
     let others : o1 ≡ w ++ (l ++ (u ++ sum)) =
     e2 ∙ (ap (λ (f : List (List ℕ)). f ++ o2) a2.0 ∙ ap (λ (o : List (List ℕ)). w ++ o)
     (e3 ∙ (ap (λ (f : List (List ℕ)). f ++ o3) a3.0 ∙ ap (λ (o : List (List ℕ)). l ++ o) (e4 ∙ (ap (λ (o : List (List ℕ)). f4 ++ o) last.0 ∙ (append-nil f4 ∙ a4.0)))))) in
-    let two : size_of sum ≡ 2 = size_number 2 (crc16_of (b3 ++ concat u)) in
-    let rest : length (concat o1) ≡ size_of w + (size_of l + (size_of u + 2)) =
-    ap (λ (o : List (List ℕ)). size_of o) others ∙ omega (arith, two, size_more w (l ++ (u ++ sum)), size_more l (u ++ sum), size_more u sum) in
+    let two : spelled_length sum ≡ 2 = size_number 2 (crc16_of (b3 ++ concat u)) in
+    let rest : length (concat o1) ≡ spelled_length w + (spelled_length l + (spelled_length u + 2)) =
+    ap (λ (o : List (List ℕ)). spelled_length o) others ∙ omega (arith, two, size_more w (l ++ (u ++ sum)), size_more l (u ++ sum), size_more u sum) in
     let size : 20 + (length (concat o1) + after) ≡ list_size f v = omega (arith, rest, done) in
     let offset0 : length b0 ≡ 0 = rw a0.0 refl in
-    let offset1 : length b1 ≡ 20 = length-append b0 (concat f1) ∙ omega (arith, offset0, ap (λ (f : List (List ℕ)). size_of f) a1.0, size_head version (20 + (length (concat o1) + after)) offsets) in
-    let offset2 : length b2 ≡ entries_offset v = length-append b1 (concat f2) ∙ omega (arith, offset1, ap (λ (f : List (List ℕ)). size_of f) a2.0) in
-    let offset3 : length b3 ≡ user_offset f v = length-append b2 (concat f3) ∙ omega (arith, offset2, ap (λ (f : List (List ℕ)). size_of f) a3.0) in
+    let offset1 : length b1 ≡ 20 = length-append b0 (concat f1) ∙ omega (arith, offset0, ap (λ (f : List (List ℕ)). spelled_length f) a1.0, size_head version (20 + (length (concat o1) + after)) offsets) in
+    let offset2 : length b2 ≡ entries_offset v = length-append b1 (concat f2) ∙ omega (arith, offset1, ap (λ (f : List (List ℕ)). spelled_length f) a2.0) in
+    let offset3 : length b3 ≡ user_offset f v = length-append b2 (concat f3) ∙ omega (arith, offset2, ap (λ (f : List (List ℕ)). spelled_length f) a3.0) in
     let set_is : offsets.set ≡ 10 = a2.1.offset ∙ ap (λ (n : ℕ). n / 2) offset1 in
     let entries_is : offsets.entries ≡ entries_offset v / 2 = a3.1.0 ∙ ap (λ (n : ℕ). n / 2) offset2 in
     let user_is : offsets.user ≡ user_offset f v / 2 = a4.1.0.0 ∙ ap (λ (n : ℕ). n / 2) offset3 in
@@ -89,7 +89,7 @@ list_to {E = E} version body name_of f P small has fields after value follows =
     let parts : fields ≡ h ++ (w ++ (l ++ (u ++ sum))) = e0 ∙ (ap (λ (f : List (List ℕ)). f ++ o0) a0.0 ∙ (e1 ∙ (ap (λ (f : List (List ℕ)). f ++ o1) head_is ∙ ap (λ (o : List (List ℕ)). h ++ o) others))) in
     let whole : fields ≡ list_fields version f v = parts ∙ ap (λ (s : List (List ℕ)). h ++ (w ++ (l ++ (u ++ s)))) (ap end_of before_is) ∙ simp append_assoc refl in
     let gone : length (concat o0) ≡ list_size f v =
-    omega (arith, size, done, ap (λ (o : List (List ℕ)). size_of o) e1, size_more f1 o1, ap (λ (f : List (List ℕ)). size_of f) a1.0, size_head version (20 + (length (concat o1) + after)) offsets) in
+    omega (arith, size, done, ap (λ (o : List (List ℕ)). spelled_length o) e1, size_more f1 o1, ap (λ (f : List (List ℕ)). spelled_length f) a1.0, size_head version (20 + (length (concat o1) + after)) offsets) in
     let fits : IsMediaList P name_of f v = record {
       set = a2.1.set;
       member = a2.1.member.0;
@@ -130,7 +130,7 @@ list_from {E = E} version body name_of f P small has v fits =
     let offset3 : length b3 ≡ user_offset f v = length-append b2 (concat l) ∙ omega (arith, offset2) in
     let total : 20 + after ≡ size =
     omega (arith, size_more w (l ++ (u ++ sum)), size_more l (u ++ sum), size_more u sum, size_number 2 (crc16_of (b3 ++ concat u))) in
-    let whole : size_of (h ++ rest) ≡ size = omega (arith, size_more h rest, size_head version size offsets, total) in
+    let whole : spelled_length (h ++ rest) ≡ size = omega (arith, size_more h rest, size_head version size offsets, total) in
     let even : size % 2 ≡ 0 = even_size f has.even v fits.user_even in
     let is_head : IsHead after offsets = record { size = omega (arith, total, fits.size); whole = omega (arith, total, even); pointers = pointers_fit f v fits.size } in
     let head_follows = subst (λ (n : ℕ). Follows (head version) b0 (head_fields version n offsets) after offsets) total (head_from version small b0 after offsets is_head) in

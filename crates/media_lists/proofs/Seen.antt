@@ -1,4 +1,4 @@
--- Entries, whether or not the rooms of their lists are seen.
+-- Entries, whether or not the spare capacity of their lists is seen.
 use Rattle.std.proofs.Common.{◌≡◌, ℕ, List, [], ◌∷◌, ◌++◌, length, Bool, refl, sym, ap, ◌∙◌}
 use Rattle.std.specs.Prelude.{map, ◌||◌, ◌+◌, ◌==◌}
 use Rattle.std.specs.List.{list_any, AllByRecursion}

@@ -1,6 +1,6 @@
 -- How many bytes the sections of a list take.
 use Rattle.std.proofs.Common.{◌≡◌, ℕ, ◌+◌, ◌%◌, List, ◌++◌, length, refl, arith, length-append}
-use Rattle.field_grammar.specs.Spelling.{size_of}
+use Rattle.field_grammar.specs.Spelling.{spelled_length}
 use Rattle.field_grammar.specs.SectionLaws.{size_more, size_number, size_padded}
 use Rattle.field_grammar.specs.Fields.{number_fields, padded_fields}
 use Rattle.field_grammar.specs.NumberLaws.{length_number_bytes}
@@ -14,25 +14,25 @@ use Rattle.media_lists.specs.Loads.{load_body_fields, LoadEntryView}
 use Rattle.media_lists.specs.declared.lists.ListedFile.{ListedFile}
 use Rattle.media_lists.specs.declared.reading.Pointers.{Pointers}
 
-pub size_head : (version size : ℕ) (p : Pointers) → size_of (head_fields version size p) ≡ 20
+pub size_head : (version size : ℕ) (p : Pointers) → spelled_length (head_fields version size p) ≡ 20
 unfolding head_fields
 size_head version size p = simp (length-append, length_number_bytes) refl
 
-pub size_identity : (set : List ℕ) (member members : ℕ) → size_of (identity_fields set member members) ≡ 4 + length set + length set % 2
+pub size_identity : (set : List ℕ) (member members : ℕ) → spelled_length (identity_fields set member members) ≡ 4 + length set + length set % 2
 unfolding identity_fields
 size_identity set member members =
     omega (arith, size_more (padded_fields set) (number_fields 1 member ++ number_fields 1 members), size_more (number_fields 1 member) (number_fields 1 members), size_number 1 member, size_number 1 members, size_padded set)
 
 -- ---- entries
 
-pub size_file : (f : ListedFile) → size_of (file_body_fields f) ≡ (2 + length f.name + length f.name % 2) + (2 + length f.path + length f.path % 2) + 4
+pub size_file : (f : ListedFile) → spelled_length (file_body_fields f) ≡ (2 + length f.name + length f.name % 2) + (2 + length f.path + length f.path % 2) + 4
 unfolding file_body_fields
 size_file f = simp (length-append, length_number_bytes, length_pad_bytes) (omega arith)
 
 pub even_file : (f : ListedFile) → entry_size file_body_fields f % 2 ≡ 0
 even_file f = omega (arith, size_file f)
 
-pub size_load : (l : LoadEntryView) → size_of (load_body_fields l) ≡ size_of (padded_fields l.part) + size_of (padded_fields l.header_name) + 2 + size_of (texts_fields l.hardware)
+pub size_load : (l : LoadEntryView) → spelled_length (load_body_fields l) ≡ spelled_length (padded_fields l.part) + spelled_length (padded_fields l.header_name) + 2 + spelled_length (texts_fields l.hardware)
 unfolding load_body_fields
 size_load l =
     omega (
@@ -56,9 +56,9 @@ even_size f each v even =
 
 -- ---- as the code measures them
 
-pub size_file_parts : (f : ListedFile) → size_of (file_body_fields f) ≡ size_of (padded_fields f.name) + size_of (padded_fields f.path) + 4
+pub size_file_parts : (f : ListedFile) → spelled_length (file_body_fields f) ≡ spelled_length (padded_fields f.name) + spelled_length (padded_fields f.path) + 4
 size_file_parts f = omega (arith, size_file f, size_padded f.name, size_padded f.path)
 
-pub whole_size : {E : Type 0} (f : E → List (List ℕ)) (v : ListView E) (entries : ℕ) → length v.set ≡ 15 → entries ≡ size_of (entries_fields f v.entries) → list_size f v ≡ 44 + entries + length v.user
+pub whole_size : {E : Type 0} (f : E → List (List ℕ)) (v : ListView E) (entries : ℕ) → length v.set ≡ 15 → entries ≡ spelled_length (entries_fields f v.entries) → list_size f v ≡ 44 + entries + length v.user
 unfolding list_size
 whole_size f v entries fifteen is = omega (arith, is, size_identity v.set v.member v.members, size_user v.user, fifteen)

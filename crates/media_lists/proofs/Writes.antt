@@ -4,7 +4,7 @@ use Rattle.std.specs.List.{concat}
 use Rattle.std.proofs.lemmas.List.{append-nil}
 use Rattle.std.proofs.lemmas.List.Folds.{concat-append}
 use Rattle.crc_fields.specs.CheckSums.{crc16_of}
-use Rattle.field_grammar.specs.Spelling.{size_of}
+use Rattle.field_grammar.specs.Spelling.{spelled_length}
 use Rattle.field_grammar.specs.Fields.{number_bytes, number_fields}
 use Rattle.media_lists.specs.Lists.{ListView}
 use Rattle.header_sections.specs.SectionFields.{entries_fields, user_fields}
@@ -27,7 +27,7 @@ sections_written f v o0 o1 o2 o3 e1 e2 e3 =
     grouped a b c = simp append_assoc refl
 
 -- all that the check sum covers
-pub covered_written : {E : Type 0} (version : ℕ) (f : E → List (List ℕ)) (v : ListView E) (size entries : ℕ) (o0 o1 o2 : List ℕ) → length v.set ≡ 15 → entries ≡ size_of (entries_fields f v.entries)
+pub covered_written : {E : Type 0} (version : ℕ) (f : E → List (List ℕ)) (v : ListView E) (size entries : ℕ) (o0 o1 o2 : List ℕ) → length v.set ≡ 15 → entries ≡ spelled_length (entries_fields f v.entries)
     → size ≡ 44 + entries + length v.user → o0 ≡ [] → o1 ≡ o0 ++ concat (head_fields version size (record { set = 10; entries = 20; user = (40 + entries) / 2 })) → o2 ≡ o1 ++ concat (sections_fields f v)
     → o2 ≡ concat (covered_fields version f v)
 unfolding covered_fields pointers_of

@@ -4,7 +4,7 @@ use Rattle.std.specs.List.{concat, AllByRecursion}
 use Rattle.crc_fields.specs.CheckSums.{crc16_of}
 use Rattle.part_number.specs.PartNumber.{IsPartNumberText}
 use Rattle.field_grammar.specs.Grammar.{IsBytes}
-use Rattle.field_grammar.specs.Spelling.{size_of}
+use Rattle.field_grammar.specs.Spelling.{spelled_length}
 use Rattle.field_grammar.specs.Fields.{number_fields, padded_fields}
 use Rattle.header_sections.specs.SectionFields.{user_fields, entries_fields, HaveDistances}
 use Rattle.media_lists.specs.Lists.{ListView}
@@ -24,14 +24,14 @@ identity_fields set member members = padded_fields set ++ (number_fields 1 membe
 
 -- the head has 20 bytes
 abbrev pub entries_offset : {E : Type 0} → ListView E → ℕ
-entries_offset v = 20 + size_of (identity_fields v.set v.member v.members)
+entries_offset v = 20 + spelled_length (identity_fields v.set v.member v.members)
 
 abbrev pub user_offset : {E : Type 0} → (E → List (List ℕ)) → ListView E → ℕ
-user_offset body_fields v = entries_offset v + size_of (entries_fields body_fields v.entries)
+user_offset body_fields v = entries_offset v + spelled_length (entries_fields body_fields v.entries)
 
 -- the whole, with the two bytes of the check sum
 unfoldable pub list_size : {E : Type 0} → (E → List (List ℕ)) → ListView E → ℕ
-list_size body_fields v = user_offset body_fields v + size_of (user_fields v.user) + 2
+list_size body_fields v = user_offset body_fields v + spelled_length (user_fields v.user) + 2
 
 -- the pointers: half the offsets
 unfoldable pub pointers_of : {E : Type 0} → (E → List (List ℕ)) → ListView E → Pointers

@@ -82,7 +82,7 @@ fn files_list(alloc: Global, files: List<ListedFile>, user: usize) -> Result<Fil
     })
 }
 
-/// So many files, each with a name of its own, the last of which comes first in their order.
+/// This many files, each with a name of its own, the last of which comes first in their order.
 fn many_files(alloc: Global, count: usize, path: &[u8]) -> Result<List<ListedFile>, ListFault> {
     let mut files = List::new(alloc);
     for number in 0..count {
@@ -106,7 +106,7 @@ fn files_there_and_back(alloc: Global, list: &FilesList) -> Result<Bytes, ListFa
     Ok(bytes)
 }
 
-/// How many bytes a list takes of so many files with this path and N bytes of user data, or 0 where
+/// How many bytes a list takes of this many files with this path and N bytes of user data, or 0 where
 /// it doesn't fit.
 fn files_length(alloc: Global, count: usize, path: &[u8], user: usize) -> Result<usize, ListFault> {
     let list = files_list(alloc, many_files(alloc, count, path)?, user)?;
@@ -188,7 +188,7 @@ fn loads_there_and_back(alloc: Global, list: &LoadsList) -> Result<Bytes, ListFa
     Ok(bytes)
 }
 
-/// How many bytes a list takes of so many loads, each for as many kinds of hardware of 255 bytes,
+/// How many bytes a list takes of this many loads, each for as many kinds of hardware of 255 bytes,
 /// and N bytes of user data, or 0 where it doesn't fit.
 fn loads_length(
     alloc: Global,

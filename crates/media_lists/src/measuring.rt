@@ -1,6 +1,6 @@
 //! How many bytes the parts of a list take.
 ghost use Rattle.std.specs.Prelude.{◌≡◌, ◌+◌, ◌<◌, ◌≤◌, ◌^◌, length};
-ghost use Rattle.field_grammar.specs.Spelling.{size_of};
+ghost use Rattle.field_grammar.specs.Spelling.{spelled_length};
 ghost use Rattle.media_lists.specs.Loads.{load_entry_view, load_body_fields, HasWords};
 
 use crate::lists::LoadEntry;
@@ -10,7 +10,7 @@ use header_sections::{name_size, part_size, texts_size};
 #[tactic(auto, using(crate::proofs::Sizes::size_load))]
 pub(crate) fn load_body_size(load: &LoadEntry) -> u64
     requires { length load.now.hardware.items ≤ 1024 }
-    ensures size { result ≡ size_of (load_body_fields (load_entry_view load.now)) }
+    ensures size { result ≡ spelled_length (load_body_fields (load_entry_view load.now)) }
     ensures small { result ≤ 300000 }
     ensures words { HasWords (load_entry_view load.now) }
 {

@@ -79,7 +79,7 @@ fn each_changed_byte_of_the_files_has_its_refusal(rt: HostRuntime) -> Result<(),
         (5, 0xFF, true),
         (6, 0x01, false),
         (7, 0xFF, true),
-        (8, 0x01, false),
+        (11, 0x0B, false),
         (12, 0x01, false),
         (16, 0x01, true),
         (20, 0x01, false),
@@ -131,7 +131,7 @@ L3 4
 L3 41215
 L4 256
 L4 255
-L5 1 16777226 10
+L5 1 11 10
 L5 2 16777236 20
 L5 3 16777317 101
 L1 22

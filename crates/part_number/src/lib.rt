@@ -138,7 +138,7 @@ pub fn part_number_equality_law()
         → Decides (⟦<PartNumber as PartialEq>⟧.eq one other) (one ≡ other) }
 {}
 
-/// Laws of part numbers and of their faults, for callers that compare them.
+/// Laws of part numbers and of their faults, a clause each, for callers that compare them.
 // For the proof: does nothing.
 #[tactic(auto, using(crate::proofs::Laws::laws))]
 pub fn part_number_laws()

@@ -67,7 +67,7 @@ coded_is_text code numbers good short small = record {
   good = all_good is_printable _ (list_all-append is_printable code (flat_map number_text numbers) ∙ rw (good, numbers_print numbers small) refl);
 }
 
--- so many bytes are put once all numbers are
+-- this many bytes are put once all numbers are
 pub all_put : (code numbers out : List ℕ) (k : ℕ) → length numbers ≤ k → out ≡ code ++ flat_map number_text (take k numbers) → out ≡ coded code numbers
 unfolding coded
 all_put code numbers out k all is = is ∙ rw (take_all k numbers all) refl

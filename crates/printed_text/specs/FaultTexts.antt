@@ -1,5 +1,5 @@
--- How faults are printed: the code, and each field in decimal after one space; a nested fault in its offset in
--- the same way (docs/FORMATS.md, "Printed text").
+-- How faults are printed: the code, and each field in decimal after one space; a nested fault stands where its field
+-- would, printed in the same way (docs/FORMATS.md, "Printed text").
 use Rattle.std.specs.Prelude.{ℕ, ◌+◌, ◌*◌, List, [], ◌∷◌, ◌++◌, length, codes}
 use Rattle.std.specs.Fmt.{decimal}
 use Rattle.std.specs.List.{flat_map}

@@ -81,15 +81,15 @@ by_next set r e (inl same) = inl same
 by_next set r e (inr new) = inr (ap (λ (x : StandingView). x.sequence) new.next)
 
 -- what holds of the target from before a step to after it
-abbrev GoesOn : (before after : TargetState) → Type 0
-GoesOn before after = IsNext (active_in before) (active_in after) × DownFits after
+abbrev IsNextAndFits : (before after : TargetState) → Type 0
+IsNextAndFits before after = IsNext (active_in before) (active_in after) × DownFits after
 
-gone_on : (before after : TargetState) → IsNext (active_in before) (active_in after) → DownFits before → is_up before ≡ is_up after → GoesOn before (gone_down before after)
+gone_on : (before after : TargetState) → IsNext (active_in before) (active_in after) → DownFits before → is_up before ≡ is_up after → IsNextAndFits before (gone_down before after)
 gone_on (Is_up r) (Is_up then) next fits same = (inl refl, changed_fits r.active then.active next)
 gone_on (Is_up r) (Is_down active interrupted) next fits same = absurd (let wrong : true ≡ false = same in cc)
 gone_on (Is_down active interrupted) after next fits same = (inl refl, fits)
 
-come_on : (first_port sequence : ℕ) (state : TargetState) → DownFits state → GoesOn state (come_up first_port sequence state)
+come_on : (first_port sequence : ℕ) (state : TargetState) → DownFits state → IsNextAndFits state (come_up first_port sequence state)
 come_on first_port sequence (Is_up r) fits = (inl refl, tt)
 come_on first_port sequence (Is_down active interrupted) fits = (settled_next sequence active interrupted fits, tt)
 
@@ -98,7 +98,7 @@ down_is : (state : TargetState) → active_in (gone_down state state) ≡ active
 down_is (Is_up r) = refl
 down_is (Is_down active interrupted) = refl
 
-reached_on : (set : Setting) (state : TargetState) (e : Option Event) → TargetStaysOrIsNew set state (reached set e state) → DownFits state → GoesOn state (reached set e state) × (is_up state ≡ is_up (reached set e state))
+reached_on : (set : Setting) (state : TargetState) (e : Option Event) → TargetStaysOrIsNew set state (reached set e state) → DownFits state → IsNextAndFits state (reached set e state) × (is_up state ≡ is_up (reached set e state))
 reached_on set (Is_up r) None stays fits = ((inl refl, tt), refl)
 reached_on set (Is_up r) (Some e) stays fits = ((by_next set r e stays, tt), refl)
 reached_on set (Is_down active interrupted) None stays fits = ((inl refl, fits), refl)
@@ -119,7 +119,7 @@ reached_at_boot set posted h state boots = ap (λ (x : Option Event). reached se
 
 module _ (set : Setting) where
   step_on : (s : Step) (earlier : List Step) (notes : List Note) → NotedAs (first_port_after earlier) s.given notes → TargetStaysOrIsNew set (target_at set earlier) (reached set (event_for sides.Target (posted_in earlier) s.given) (target_at set earlier)) → DownFits (target_at set earlier)
-      → GoesOn (target_at set earlier) (noted notes (target_at set earlier) (reached set (event_for sides.Target (posted_in earlier) s.given) (target_at set earlier)))
+      → IsNextAndFits (target_at set earlier) (noted notes (target_at set earlier) (reached set (event_for sides.Target (posted_in earlier) s.given) (target_at set earlier)))
   step_on s earlier notes nothing_noted stays fits = (reached_on set (target_at set earlier) (event_for sides.Target (posted_in earlier) s.given) stays fits).0
   step_on s earlier notes went_down stays fits =
       let (on, same) = reached_on set (target_at set earlier) (event_for sides.Target (posted_in earlier) s.given) stays fits in
@@ -135,7 +135,7 @@ module _ (set : Setting) where
       let (on, same) = reached_on set (target_at set earlier) (event_for sides.Target (posted_in earlier) s.given) stays fits in
       gone_on (target_at set earlier) (reached set (event_for sides.Target (posted_in earlier) s.given) (target_at set earlier)) on.0 fits same
 
-  trace_step : (s : Step) (earlier : List Step) → AllNoted set (s ∷ earlier) → AllStayOrAreNew set (s ∷ earlier) → DownFits (target_at set earlier) → GoesOn (target_at set earlier) (target_at set (s ∷ earlier))
+  trace_step : (s : Step) (earlier : List Step) → AllNoted set (s ∷ earlier) → AllStayOrAreNew set (s ∷ earlier) → DownFits (target_at set earlier) → IsNextAndFits (target_at set earlier) (target_at set (s ∷ earlier))
   trace_step s earlier noted_so stays fits = step_on s earlier s.notes (noted_as (is_up (target_at set earlier)) (first_port_after earlier) s.given s.notes noted_so.0) stays.0 fits
 
   down_fits : (steps : List Step) → AllNoted set steps → AllStayOrAreNew set steps → DownFits (target_at set steps)

@@ -40,7 +40,7 @@ Pointers = Domain identity
 
 -- ---- fields
 
--- a header is read within so many bytes
+-- a header is read within this many bytes
 abbrev pub most : ℕ
 most = 65536
 

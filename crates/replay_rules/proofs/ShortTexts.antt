@@ -17,7 +17,7 @@ use Rattle.printed_text.specs.FaultTexts.{coded, nested, number_text}
 abbrev pub IsLittle : ℕ → Type 0
 IsLittle n = n < 2 ^ 64
 
--- a text that people read, of at most so many bytes
+-- a text that people read, of at most this many bytes
 pub record IsTextOf (n : ℕ) (text : List ℕ) : Type 0 where
   pub printable : list_all is_printable text ≡ true
   pub size : length text ≤ n

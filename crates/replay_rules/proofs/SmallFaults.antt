@@ -1,4 +1,4 @@
--- What holds of all faults of a format, where it reads no more bytes than so many.
+-- What holds of all faults of a format, where it reads no more bytes than this many.
 use Rattle.std.proofs.Common.{◌≡◌, ℕ, zero, suc, ◌+◌, ◌<◌, ◌≤◌, Bool, true, false, cond, List, [], ◌∷◌, ◌++◌, length, length-append, take, drop, Result, Ok, Err, ap, subst, arith}
 use Rattle.std.specs.Prelude.{nat_lt}
 use Rattle.std.specs.Result.{result_map_both}
@@ -28,7 +28,7 @@ drop_bytes zero xs a i = a i
 drop_bytes (suc n) [] a i = omega arith
 drop_bytes (suc n) (x ∷ xs) a i = drop_bytes n xs (λ k. a (suc k)) i
 
--- ---- what is read within so many bytes
+-- ---- what is read within this many bytes
 
 pub record Within (most : ℕ) (c : Cursor) : Type 0 where
   pub room : length c.before + length c.rest ≤ most
@@ -53,7 +53,7 @@ abbrev pub IsSo : {F A : Type 0} → ℕ → (F → Type 0) → (A → Type 0) �
 IsSo most P Q (Ok x) = Q x.0 × Within most x.1
 IsSo most P Q (Err fault) = P fault
 
--- What the format reads within so many bytes is such a value, or such a fault.
+-- What the format reads within this many bytes is such a value, or such a fault.
 pub record ReadsSo {F A : Type 0} (most : ℕ) (P : F → Type 0) (Q : A → Type 0) (g : Grammar F A) : Type 0 where
   pub reads : (c : Cursor) → Within most c → IsSo most P Q (read g c)
 
@@ -126,7 +126,7 @@ module _ {F : Type 0} (most : ℕ) (P : F → Type 0) where
   so_times Q zero g h = so_give (λ (xs : List _). Unit {0}) [] tt
   so_times Q (suc n) g h = so_seq Q (λ (xs : List _). Unit {0}) g _ h (λ x q. so_seq (λ (xs : List _). Unit {0}) (λ (xs : List _). Unit {0}) (times n g) _ (so_times Q n g h) (λ xs u. so_give (λ (ys : List _). Unit {0}) (x ∷ xs) tt))
 
-  -- so many values, each after those so far
+  -- this many values, each after those so far
   pub so_listed : {A : Type 0} (count n : ℕ) (item : List A → Grammar F A) (so_far : List A) → ((xs : List A) → length xs < count → ReadsSo most P (λ (x : A). Unit {0}) (item xs)) → length so_far + n ≡ count → ReadsSo most P (λ (xs : List A). length xs ≡ count) (listed n item so_far)
   unfolding listed
   so_listed count zero item so_far each e = so_give (λ (xs : List _). length xs ≡ count) so_far (omega (arith, e))

@@ -47,7 +47,7 @@ IsUndisturbed before (Power_cut calls pick) = ⊥
 IsUndisturbed before Booted = ⊥
 IsUndisturbed before h = ⊤
 
--- a step since the start of the upload, before which so many datagrams were posted
+-- a step since the start of the upload, before which this many datagrams were posted
 pub record IsSmooth (before : ℕ) (s : Step) : Type 0 where
   pub no_start : IsNoStart s.given
   pub undisturbed : IsUndisturbed before s.given
@@ -107,7 +107,7 @@ pub record AreServed (set : Setting) (wanted : List Wanted) (loads : List LoadVi
 abbrev pub HasPorts : Reading → (ports : ℕ) → Type 0
 HasPorts r ports = next_port_of r + ports ≤ 65536
 
--- the target is up, with a sequence number that isn't the last, and with so many ports left
+-- the target is up, with a sequence number that isn't the last, and with this many ports left
 abbrev pub IsReadyFor : TargetState → (ports : ℕ) → Type 0
 IsReadyFor (Is_up r) ports = (r.active.sequence < 4294967295) × HasPorts r.end ports
 IsReadyFor (Is_down active interrupted) ports = ⊥

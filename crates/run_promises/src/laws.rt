@@ -54,8 +54,8 @@ pub fn a_set_that_is_read_can_be_told()
 
 /// Each run that came to its end keeps what is promised of it, through losses, repeats, other
 /// orders, power losses and boots: what may be active is good, what a target reports as installed
-/// is active, each session came to its outcome by its cause, where nothing was injected what is told of sessions is true, and a fault-free run
-/// that is left to `finish` completes.
+/// is active, each session came to its outcome by its cause, where nothing was injected what is
+/// told of sessions is true, and a fault-free run that is left to `finish` completes.
 pub fn a_run_keeps_its_promises()
     ensures { RunsKeepPromises }
 {

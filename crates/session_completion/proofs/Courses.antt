@@ -193,7 +193,7 @@ module _ (joins : SumsJoin) (set : Setting) (wanted : List Wanted) where
   short_file file small = record { some = omega arith; most = omega arith; few = omega arith }
 
   module _ (loads : List LoadView) where
-    -- so many transfers lead from here to the end
+    -- this many transfers lead from here to the end
     abbrev pub LeadsTo : ℕ → RowView → Type 0
     LeadsTo n row = (more : ℕ) × (more + 1 ≡ n) × Course set wanted loads more row
 
@@ -203,7 +203,7 @@ module _ (joins : SumsJoin) (set : Setting) (wanted : List Wanted) where
         as_sum : (more : ℕ) → suc more ≡ more + 1
         as_sum more = omega arith
 
-    -- what comes after so many files
+    -- what comes after this many files
     abbrev end_of_load : List LoadEntry → Next
     end_of_load done = cond (nat_lt (length done + 1) (length wanted)) Next_load Complete
 
@@ -563,7 +563,7 @@ unfolding need_of
 need_more xs ys =
     let files = flat_map-append (λ (l : LoadEntry). l.files) xs ys in
     let total : total_length (xs ++ ys) ≡ total_length xs + total_length ys =
-    ap (λ (fs : List ManifestFile). Rattle.disk_layout.specs.Manifest.size_of fs) files ∙ sum_by-append (λ (f : ManifestFile). f.length) (flat_map (λ (l : LoadEntry). l.files) xs) (flat_map (λ (l : LoadEntry). l.files) ys) in
+    ap (λ (fs : List ManifestFile). Rattle.disk_layout.specs.Manifest.entries_length fs) files ∙ sum_by-append (λ (f : ManifestFile). f.length) (flat_map (λ (l : LoadEntry). l.files) xs) (flat_map (λ (l : LoadEntry). l.files) ys) in
     let body : length (concat (flat_map load_entry_fields (xs ++ ys))) ≡ length (concat (flat_map load_entry_fields xs)) + length (concat (flat_map load_entry_fields ys)) =
     ap (λ (fs : List (List ℕ)). length (concat fs)) (flat_map-append load_entry_fields xs ys) ∙ ap length (concat-append (flat_map load_entry_fields xs) (flat_map load_entry_fields ys)) ∙ length-append (concat (flat_map load_entry_fields xs)) (concat (flat_map load_entry_fields ys)) in
     let one = manifest_size xs in

@@ -90,7 +90,7 @@ module _ (set : Setting) (loads : List LoadView) (laws : CleanLaws) where
     flows : Queued (drop n c.posts) queue → Budget n c queue l t
     rests : (x : DatagramView) (rest : List DatagramView) → drop n c.posts ≡ x ∷ rest → l + length rest ≤ 4 → t + length rest ≤ 4 → Budget n c queue l t
 
-  -- every world with a budget that stands where a clean one stands after so many deliveries comes to its end
+  -- every world with a budget that stands where a clean one stands after this many deliveries comes to its end
   abbrev AllEnd : ℕ → World → Type 0
   AllEnd n c = (w : World) (queue : List DatagramView) (l t : ℕ) (turn : Side) → StandsAt set loads n c w l t → AreAmong w.posts queue → Budget n c queue l t → Ends w queue turn
 

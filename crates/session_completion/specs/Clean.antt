@@ -24,7 +24,7 @@ abbrev pub IsBelow : ℕ → Option TransferView → Type 0
 IsBelow port None = Unit {0}
 IsBelow port (Some t) = t.own < port
 
--- Both ends before the start: neither waits, so many ports are left, and the ports that each draws from now on are above
+-- Both ends before the start: neither waits, this many ports are left, and the ports that each draws from now on are above
 -- the other's mark.
 pub record IsIdle (set : Setting) (ports : ℕ) (w : World) : Type 0 where
   pub loader : w.loader.live ≡ None
@@ -43,7 +43,7 @@ pub record IsIdle (set : Setting) (ports : ℕ) (w : World) : Type 0 where
   pub target_kept : IsBelow w.target.end.next_port w.target.end.kept
   pub identity : w.target.active.identity ≡ set.start.identity
 
--- So many datagrams were delivered, in the order of their posts. The upload's rows go well, and there are ports for them.
+-- This many datagrams were delivered, in the order of their posts. The upload's rows go well, and there are ports for them.
 pub data Clean (set : Setting) (loads : List LoadView) : ℕ → World → Type 0 where
   starts : (w : World) (parts : List (List ℕ)) (wanted : List Wanted) (more : ℕ) → IsIdle set (more + 1) w → Course set wanted loads more Gives_lui
       → length parts ≤ 32 → wanted_of set.media.loads parts ≡ Ok wanted
@@ -55,7 +55,7 @@ pub data Clean (set : Setting) (loads : List LoadView) : ℕ → World → Type 
 abbrev pub AreAmong : List DatagramView → List DatagramView → Type 0
 AreAmong all ds = AllByRecursion (λ (d : DatagramView). Contains all d) ds
 
--- A world stands where a clean upload stands after so many deliveries, with so many retries at its ends; whatever was posted
+-- A world stands where a clean upload stands after this many deliveries, with this many retries at its ends; whatever was posted
 -- in it was posted there.
 pub record StandsAt (set : Setting) (loads : List LoadView) (n : ℕ) (c w : World) (loader target : ℕ) : Type 0 where
   pub clean : Clean set loads n c

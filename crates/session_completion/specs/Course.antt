@@ -153,7 +153,7 @@ Completes set wanted loads (Writes_completion e entries) =
     IsFine set wanted (Writes_completion e entries) × (file_turn Serves_files (buffered (last_lus e e.reason)) ≡ Comes_to Completed) × (entries ≡ entries_of loads)
 Completes set wanted loads row = ⊥
 
--- From this row on, after so many transfers more than its own, the upload is completed.
+-- From this row on, after this many transfers more than its own, the upload is completed.
 abbrev pub Course : Setting → List Wanted → List LoadView → (more : ℕ) → RowView → Type 0
 Course set wanted loads zero row = Completes set wanted loads row
 Course set wanted loads (suc more) row = IsStep set wanted row × Course set wanted loads more (next_row set wanted row)

@@ -50,7 +50,7 @@ abbrev pub TwoAreQuiet : Type 0
 TwoAreQuiet = (set : Setting) (loads : List LoadView) (n : ℕ) (c : World) (d e : DatagramView) → Clean set loads n c → IsNext n c d → numbered c.posts (n + 2) ≡ Some e
     → (delivered set c d).posts ≡ c.posts
 
--- Uploads end: after so many deliveries none is next.
+-- Uploads end: after this many deliveries none is next.
 abbrev pub ComesOut : Setting → ℕ → ℕ → World → Type 0
 ComesOut set zero n c = numbered c.posts (n + 1) ≡ None
 ComesOut set (suc k) n c = (d : DatagramView) → IsNext n c d → ComesOut set k (n + 1) (delivered set c d)

@@ -73,7 +73,7 @@ pub record Meets (set : Setting) (n : ℕ) (c : World) (getter poster : Side) (o
   pub you_posted : waits c poster ≡ true → IsPosted c.posts (last_of c poster)
   pub identity : c.target.active.identity ≡ set.start.identity
 
--- so many ports are left from transfer i on
+-- this many ports are left from transfer i on
 pub record HasRoom (own peer i ports : ℕ) : Type 0 where
   pub own_ports : own + i + ports ≤ 65536
   pub peer_ports : peer + i + ports ≤ 65536
@@ -123,7 +123,7 @@ IsStepTo set wanted loads more row side = IsStep set wanted row × Course set wa
 
 -- ---- all stages
 
--- Where a clean upload stands after n deliveries. So many datagrams more are delivered at most.
+-- Where a clean upload stands after n deliveries. This many datagrams more are delivered at most.
 pub data Where (set : Setting) (wanted : List Wanted) (loads : List LoadView) (o : Outline) (n : ℕ) (c : World) : (budget : ℕ) → Type 0 where
   -- a request is next
   asked : (getter poster : Side) (own peer i : ℕ) (before : List DatagramView) (more : ℕ) (row : RowView) (told : Option ℕ)

@@ -46,7 +46,7 @@ retried_loader v retries = record { end = with_retries v.end retries; live = v.l
 abbrev pub retried_target : TargetView → ℕ → TargetView
 retried_target v retries = record { end = with_retries v.end retries; live = v.live; active = v.active; reason = v.reason }
 
--- the ends of this world with so many retries, and other posts
+-- the ends of this world with this many retries, and other posts
 abbrev pub retried : World → (loader target : ℕ) → List DatagramView → World
 retried w loader target posts = record { loader = retried_loader w.loader loader; target = retried_target w.target target; posts = posts }
 

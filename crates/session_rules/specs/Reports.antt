@@ -127,7 +127,7 @@ lus_view_of status text counter ratio loads =
 unfoldable pub ready_lus : List ℕ
 ready_lus = file_of (lus_fields (lus_view_of accepted [] 1 0 []))
 
--- so many loads have arrived
+-- this many loads have arrived
 unfoldable pub progress_lus : List Wanted → (arrived counter : ℕ) → List ℕ
 progress_lus loads arrived counter =
     file_of (lus_fields (lus_view_of in_progress [] counter (ratio_of arrived (length loads)) (load_statuses arrived in_progress accepted loads)))
@@ -136,7 +136,7 @@ progress_lus loads arrived counter =
 unfoldable pub completed_lus : List Wanted → (counter : ℕ) → List ℕ
 completed_lus loads counter = file_of (lus_fields (lus_view_of completed [] counter 100 (load_statuses (length loads) completed completed loads)))
 
--- the upload was stopped for this reason, where so many loads had arrived
+-- the upload was stopped for this reason, where this many loads had arrived
 unfoldable pub stopped_lus : List Wanted → (arrived counter : ℕ) → Reason → List ℕ
 stopped_lus loads arrived counter reason =
     file_of (lus_fields (lus_view_of stopped (reason_text reason) counter (ratio_of arrived (length loads)) (load_statuses arrived stopped stopped loads)))

@@ -122,7 +122,7 @@ pub data Next : Type 0 where
   Complete : Next  -- the installation
 
 pub data Judgement : Type 0 where
-  Stops_for : Reason → (arrived : ℕ) → Judgement  -- a test failed, where so many loads had arrived
+  Stops_for : Reason → (arrived : ℕ) → Judgement  -- a test failed, where this many loads had arrived
   Accepts_header : HeaderView → Next → Judgement
   Accepts_file : Next → Judgement
 
@@ -135,7 +135,7 @@ abbrev pub unless : Bool → Reason → Option Reason
 unless true reason = None
 unless false reason = Some reason
 
--- what comes next where the load has this header and so many files after it
+-- what comes next where the load has this header and this many files after it
 abbrev pub next_with : UploadView → HeaderView → (files : ℕ) → Next
 next_with u h files =
     if nat_lt files (length (files_of h)) then More_files

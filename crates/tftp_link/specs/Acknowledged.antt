@@ -23,7 +23,7 @@ IsAck k packet = ⊥
 abbrev pub PassesAck : (k : ℕ) → PacketView → Type 0
 PassesAck k packet = (IsError packet → ⊥) × (IsAck k packet → ⊥)
 
--- From block k on, so many blocks of a file with this many were acknowledged: their ACKs stand among the packets, each the
+-- From block k on, this many blocks of a file with this many were acknowledged: their ACKs stand among the packets, each the
 -- first of its number after the one before, up to that of the last block, an ERROR or the end.
 abbrev pub AcksStand : (last k : ℕ) → List PacketView → (count : ℕ) → Type 0
 AcksStand last k packets zero =

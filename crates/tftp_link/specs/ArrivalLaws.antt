@@ -123,7 +123,7 @@ one_stands size k packets one other is also = only size k packets one is ∙ sym
 
 -- ---- what a receiving end lends, and what it knows then
 
--- the end with so many blocks taken, in this phase
+-- the end with this many blocks taken, in this phase
 abbrev pub stage : Receiver → ℕ → Phase → Receiver
 stage r n phase = record { name = r.name; asked = r.asked; granted = r.granted; size = r.size; taken = n; phase = phase }
 

@@ -66,7 +66,7 @@ abbrev pub ServedWriteAcknowledges : Type 0
 ServedWriteAcknowledges = (asked : Options) (got : List PacketView) (payloads : List (List ℕ)) → Stand (block_size_of asked) 1 got payloads
     → receiver_packet (receiver_after_all (receiver_serving asked) got) ≡ (if length payloads == 0 then acceptance asked else Ack (length payloads))
 
--- What one that asked sent last, where so many blocks arrived among these packets of its transfer: their ACK, ACK 0 to an
+-- What one that asked sent last, where this many blocks arrived among these packets of its transfer: their ACK, ACK 0 to an
 -- OACK, and its request while it isn't answered, or where an ERROR answers it.
 abbrev pub asked_read_sent : List ℕ → Options → List PacketView → (count : ℕ) → PacketView
 asked_read_sent name asked [] count = Rrq name asked
@@ -96,7 +96,7 @@ ArrivesWhole = (file : List ℕ) (size : ℕ) (packets : List PacketView) (bytes
 
 -- ---- the sending end
 
--- After packets among which so many blocks from this one on were acknowledged, the sending end sent the next one last, or
+-- After packets among which this many blocks from this one on were acknowledged, the sending end sent the next one last, or
 -- the last of the file; and it is done exactly where all were acknowledged.
 pub record SendsAcknowledged (s : Sender) (last first : ℕ) (packets : List PacketView) : Type 0 where
   pub count : ℕ

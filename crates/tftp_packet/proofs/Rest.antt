@@ -37,18 +37,18 @@ text_takes c d text (Some n) found e =
     let less = zero_within c.rest n found in
     subst (λ (p : List ℕ × Cursor). length p.1.rest < length c.rest) is (omega (arith, less, length-drop (suc n) c.rest))
 
--- what stands behind the name of an option
-abbrev behind_name : Others → Seen → ℕ → List ℕ → Grammar PacketFault Seen
-behind_name others seen offset name =
+-- what stands after the name of an option
+abbrev after_name : Others → Seen → ℕ → List ℕ → Grammar PacketFault Seen
+after_name others seen offset name =
     check (may_follow others seen name) (faults.Option offset)
     >> (zero_text >>= (λ value. check (may_have others name value) (faults.Option offset) >> give (with_known seen (known_of name) (said_by (known_of name) value))))
 
 shorter : (others : Others) (seen : Seen) (c d : Cursor) (more : Seen) → read (one_option others seen) c ≡ Ok (more, d) → length d.rest < length c.rest
 unfolding one_option
 shorter others seen c d more e =
-    let (x, first, second) = then_ok (read zero_text c) (λ x. read (behind_name others seen (length c.before) x.0) x.1) (more, d) e in
+    let (x, first, second) = then_ok (read zero_text c) (λ x. read (after_name others seen (length c.before) x.0) x.1) (more, d) e in
     let one = text_takes c x.1 x.0 (before_zero c.rest) refl first in
-    let two = fewer_left (behind_name others seen (length c.before) x.0) x.1 d more second in
+    let two = fewer_left (after_name others seen (length c.before) x.0) x.1 d more second in
     omega (arith, one, two)
 
 -- ---- as many steps as there are bytes, or more

@@ -1,4 +1,4 @@
--- What stands behind the opcodes of packets: the fields that follow each format.
+-- What stands after the opcodes of packets: the fields that follow each format.
 use Rattle.std.proofs.Common.{◌≡◌, ℕ, zero, suc, ◌+◌, ◌<◌, ◌≤◌, ◌^◌, true, false, List, [], ◌∷◌, ◌++◌, length, refl, ap, sym, subst, ◌∙◌, arith}
 use Rattle.std.specs.Prelude.{min, option_map}
 use Rattle.std.specs.List.{concat}
@@ -92,13 +92,13 @@ unfolding all_options rest_of_options
 options_to others before fields after options follows =
     let (all, f1, o1, parts1, (size, f2, o2, parts2, h2, h3), last) = follows in
     let first = subst (λ (s : Seen). Follows (options_to_end size others s) (before ++ concat f2) o2 (length (concat o1) + after) all) (sym nothing_seen) h3 in
-    let behind = pairs_to size others [] (before ++ concat f2) o2 (length (concat o1) + after) all first in
+    let pairs = pairs_to size others [] (before ++ concat f2) o2 (length (concat o1) + after) all first in
     let whole : fields ≡ o2 = parts1 ∙ rw (parts2, h2.0, last.0, append-nil) refl in
     record {
-      pairs = behind.pairs;
-      are = are_options others behind.pairs (are_next others [] behind.pairs behind.next);
-      say = sym (ap (λ (s : Seen). s.options) behind.joined) ∙ last.1;
-      parts = whole ∙ behind.parts;
+      pairs = pairs.pairs;
+      are = are_options others pairs.pairs (are_next others [] pairs.pairs pairs.next);
+      say = sym (ap (λ (s : Seen). s.options) pairs.joined) ∙ last.1;
+      parts = whole ∙ pairs.parts;
     }
 
 pub options_from : (others : Others) (pairs : List Pair) (before : List ℕ) → AreOptions others pairs → Follows (all_options others) before (pairs_fields pairs) 0 (options_of pairs)

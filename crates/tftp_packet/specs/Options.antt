@@ -98,14 +98,14 @@ pub record AreOptions (others : Others) (pairs : List Pair) : Type 0 where
   pub once : (known : Known) → count_by (λ pair. is_named known pair.name) pairs ≤ 1
   pub allowed : AllByRecursion (λ pair. MayStand others pair) pairs
 
--- a text with a zero behind it
+-- a text with a zero after it
 abbrev pub ended_text : List ℕ → List ℕ
 ended_text text = text ++ 0 ∷ []
 
 abbrev pub pair_fields : Pair → List (List ℕ)
 pair_fields pair = ended_text pair.name ∷ ended_text pair.value ∷ []
 
--- the names and values one behind the other
+-- the names and values back to back
 abbrev pub pairs_fields : List Pair → List (List ℕ)
 pairs_fields pairs = flat_map pair_fields pairs
 
@@ -204,7 +204,7 @@ one_option others seen = do
   check (may_have others name value) (faults.Option (length before))
   give (with_known seen (known_of name) (said_by (known_of name) value))
 
--- so many options after those so far, or fewer, where the bytes end before
+-- this many options after those so far, or fewer, where the bytes end before
 unfoldable pub options_to_end : ℕ → Others → Seen → Grammar PacketFault Seen
 options_to_end zero others seen = give seen
 options_to_end (suc n) others seen = do

@@ -145,7 +145,7 @@ file_name = do
   bytes ← zero_text
   judge (verdict faults.Name (name_fault_of bytes) bytes)
 
--- behind the opcode of a request: a name, the mode octet, and options; others are passed over
+-- after the opcode of a request: a name, the mode octet, and options; others are passed over
 unfoldable pub request_body : Grammar PacketFault (List ℕ × Options)
 request_body = do
   file ← file_name
@@ -160,7 +160,7 @@ payload_bytes = do
   size ← left
   renamed unended (raw (min size 65464))
 
--- behind the opcode of a block: its number, its payload, and nothing more
+-- after the opcode of a block: its number, its payload, and nothing more
 unfoldable pub data_body : Grammar PacketFault (ℕ × List ℕ)
 data_body = do
   number ← word
@@ -168,14 +168,14 @@ data_body = do
   ended faults.Rest
   give (number, bytes)
 
--- behind the opcode of an acknowledgement: the number of a block, and nothing more
+-- after the opcode of an acknowledgement: the number of a block, and nothing more
 unfoldable pub ack_body : Grammar PacketFault ℕ
 ack_body = do
   number ← word
   ended faults.Rest
   give number
 
--- behind the opcode of an error: its code, its text, and nothing more
+-- after the opcode of an error: its code, its text, and nothing more
 unfoldable pub error_body : Grammar PacketFault (ℕ × List ℕ)
 error_body = do
   code ← word
@@ -183,7 +183,7 @@ error_body = do
   ended faults.Rest
   give (code, message)
 
--- behind the opcode
+-- after the opcode
 unfoldable pub body : ℕ → Grammar PacketFault PacketView
 body opcode =
     choose (opcode == 1) (mapped (λ p. Rrq p.0 p.1) request_body)
@@ -194,7 +194,7 @@ body opcode =
     (choose (opcode == 6) (mapped Oack (all_options Refused))
     (judge (Err (faults.Opcode opcode))))))))
 
--- an opcode, and what it says that stands behind it
+-- an opcode, and what it says that stands after it
 unfoldable pub packet : Grammar PacketFault PacketView
 packet = do
   opcode ← word

@@ -1,4 +1,4 @@
--- Pairs that stand one behind the other up to the end, and what is asked of all of them.
+-- Pairs that stand back to back up to the end, and what is asked of all of them.
 use Rattle.std.proofs.Common.{◌≡◌, ℕ, zero, suc, ◌+◌, ◌≤◌, Bool, true, false, cond, List, [], ◌∷◌, ◌++◌, length, Option, Some, None, refl, ap, sym, subst, ◌∙◌, append_assoc, arith, inl, inr}
 use Rattle.std.specs.Prelude.{◌==◌, nat_lt, ◌&&◌, not, count_by, MatchBool, ⊤}
 use Rattle.std.specs.Option.{is_some}
@@ -18,7 +18,7 @@ use Rattle.tftp_packet.specs.KeptLaws.{is_among, among-other, among-same, seen_o
 
 -- ---- one pair
 
--- what the format asks of a pair behind those so far
+-- what the format asks of a pair after those so far
 pub record IsNext (others : Others) (so_far : List Pair) (pair : Pair) : Type 0 where
   pub name : IsPacketText pair.name
   pub follows : may_follow others (seen_of so_far) pair.name ≡ true
@@ -82,14 +82,14 @@ AllNext others so_far [] = ⊤
 AllNext others so_far (pair ∷ pairs) = IsNext others so_far pair × AllNext others (so_far ++ pair ∷ []) pairs
 
 -- the pairs after those so far that fields say
-pub record Behind (others : Others) (so_far : List Pair) (fields : List (List ℕ)) (all : Seen) : Type 0 where
+pub record PairsTo (others : Others) (so_far : List Pair) (fields : List (List ℕ)) (all : Seen) : Type 0 where
   pub pairs : List Pair
   pub joined : all ≡ seen_of (so_far ++ pairs)
   pub parts : fields ≡ pairs_fields pairs
   pub next : AllNext others so_far pairs
 
-none_behind : (others : Others) (so_far : List Pair) (fields : List (List ℕ)) (all : Seen) → fields ≡ [] → seen_of so_far ≡ all → Behind others so_far fields all
-none_behind others so_far fields all none same = record { pairs = []; joined = sym (ap seen_of (append-nil so_far) ∙ same); parts = none; next = tt }
+no_pairs_to : (others : Others) (so_far : List Pair) (fields : List (List ℕ)) (all : Seen) → fields ≡ [] → seen_of so_far ≡ all → PairsTo others so_far fields all
+no_pairs_to others so_far fields all none same = record { pairs = []; joined = sym (ap seen_of (append-nil so_far) ∙ same); parts = none; next = tt }
 
 -- what a test chooses
 pub either : (b : Bool) (P Q R : Type 0) → (b ≡ true → P → R) → (b ≡ false → Q → R) → MatchBool b P Q → R
@@ -101,14 +101,14 @@ otherwise true P Q e q = absurd cc
 otherwise false P Q e q = q
 
 pub pairs_to : (n : ℕ) (others : Others) (so_far : List Pair) (before : List ℕ) (fields : List (List ℕ)) (after : ℕ) (all : Seen)
-    → Follows (options_to_end n others (seen_of so_far)) before fields after all → Behind others so_far fields all
+    → Follows (options_to_end n others (seen_of so_far)) before fields after all → PairsTo others so_far fields all
 unfolding options_to_end
-pairs_to zero others so_far before fields after all follows = none_behind others so_far fields all follows.0 follows.1
+pairs_to zero others so_far before fields after all follows = no_pairs_to others so_far fields all follows.0 follows.1
 pairs_to (suc n) others so_far before fields after all follows =
     let (size, f1, o1, parts1, h1, rest) = follows in
     let whole : fields ≡ o1 = rw (parts1, h1.0) refl in
-    subst (λ (f : List (List ℕ)). Behind others so_far f all) (sym whole) (
-    either (size == 0) _ _ (Behind others so_far o1 all) (λ _ r. none_behind others so_far o1 all r.0 r.1) (
+    subst (λ (f : List (List ℕ)). PairsTo others so_far f all) (sym whole) (
+    either (size == 0) _ _ (PairsTo others so_far o1 all) (λ _ r. no_pairs_to others so_far o1 all r.0 r.1) (
     λ _ r.
     let (then, f2, o2, parts2, h2, later) = r in
     let one = next_to others so_far (before ++ concat f1) f2 (length (concat o2) + after) then h2 in
@@ -157,7 +157,7 @@ pairs_from (suc n) others so_far (pair ∷ pairs) before fits next =
 size_of_one : (pair : Pair) → 2 ≤ length (concat (pair_fields pair))
 size_of_one pair = simp (length-append) (omega arith)
 
--- so many bytes have no more pairs than bytes, so that nothing stands behind all of them
+-- this many bytes have no more pairs than bytes, so that nothing stands after all of them
 pub at_end : (n : ℕ) (others : Others) (so_far : List Pair) (before : List ℕ) (fields : List (List ℕ)) (after : ℕ) (all : Seen)
     → length (concat fields) + after ≤ n → Follows (options_to_end n others (seen_of so_far)) before fields after all → after ≡ 0
 unfolding options_to_end
@@ -187,7 +187,7 @@ times_named known pairs = count_by (λ p. is_named known p.name) pairs
 abbrev said_already : Known → List Pair → ℕ
 said_already known so_far = cond (is_among known so_far) 1 0
 
--- the same of pairs behind others
+-- the same of pairs after others
 pub record AreNext (others : Others) (so_far pairs : List Pair) : Type 0 where
   pub texts : AllByRecursion (λ pair. IsPair pair) pairs
   pub once : (known : Known) → times_named known pairs + said_already known so_far ≤ 1

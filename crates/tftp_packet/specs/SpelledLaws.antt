@@ -19,7 +19,7 @@ use Rattle.tftp_packet.specs.BodyLaws.{spelled-word, SayOptions, options_to, opt
 
 -- ---- from fields to packets
 
--- the bytes of a packet with this opcode and these fields behind it
+-- the bytes of a packet with this opcode and these fields after it
 abbrev with_opcode : ℕ → List (List ℕ) → List ℕ
 with_opcode opcode fields = concat (number_bytes 2 opcode ∷ fields)
 
@@ -100,11 +100,11 @@ packet_is bytes p spelled =
 mapped_from : {A B : Type 0} (f : A → B) (g : Grammar PacketFault A) (before : List ℕ) (fields : List (List ℕ)) (x : A) → Follows g before fields 0 x → Follows (mapped f g) before fields 0 (f x)
 mapped_from f g before fields x follows = (x, fields, [], sym (append-nil fields), follows, (refl, refl))
 
--- what stands behind every opcode
-behind_opcode : (opcode : ℕ) (bytes : List ℕ) (fields : List (List ℕ)) (p : PacketView) → opcode < 2 ^ 16 → bytes ≡ with_opcode opcode fields
+-- what stands after every opcode
+after_opcode : (opcode : ℕ) (bytes : List ℕ) (fields : List (List ℕ)) (p : PacketView) → opcode < 2 ^ 16 → bytes ≡ with_opcode opcode fields
     → Follows (body opcode) ([] ++ concat (number_bytes 2 opcode ∷ [])) fields 0 p → Spelled packet bytes p
 unfolding packet
-behind_opcode opcode bytes fields p small whole follows =
+after_opcode opcode bytes fields p small whole follows =
     (number_bytes 2 opcode ∷ fields, whole, (opcode, number_bytes 2 opcode ∷ [], fields, refl, spelled-word.from [] (length (concat fields) + 0) opcode small, follows))
 
 abbrev start_of : ℕ → List ℕ
@@ -114,29 +114,29 @@ pub packet_from : (bytes : List ℕ) (p : PacketView) → PacketSpells p bytes �
 unfolding body
 packet_from bytes (Rrq name options) is =
     subst (λ (o : Options). Spelled packet bytes (Rrq name o)) is.say (
-    behind_opcode 1 bytes (ended_text name ∷ ended_text is.mode ∷ pairs_fields is.pairs) (Rrq name (options_of is.pairs)) (omega arith) is.parts (
+    after_opcode 1 bytes (ended_text name ∷ ended_text is.mode ∷ pairs_fields is.pairs) (Rrq name (options_of is.pairs)) (omega arith) is.parts (
     mapped_from (λ r. Rrq r.0 r.1) request_body (start_of 1) (ended_text name ∷ ended_text is.mode ∷ pairs_fields is.pairs) (name, options_of is.pairs)
     (request_from (start_of 1) name is.mode is.pairs is.is_name (octet_is_text is.mode is.octet) is.octet is.are_options)
     )
     )
 packet_from bytes (Wrq name options) is =
     subst (λ (o : Options). Spelled packet bytes (Wrq name o)) is.say (
-    behind_opcode 2 bytes (ended_text name ∷ ended_text is.mode ∷ pairs_fields is.pairs) (Wrq name (options_of is.pairs)) (omega arith) is.parts (
+    after_opcode 2 bytes (ended_text name ∷ ended_text is.mode ∷ pairs_fields is.pairs) (Wrq name (options_of is.pairs)) (omega arith) is.parts (
     mapped_from (λ r. Wrq r.0 r.1) request_body (start_of 2) (ended_text name ∷ ended_text is.mode ∷ pairs_fields is.pairs) (name, options_of is.pairs)
     (request_from (start_of 2) name is.mode is.pairs is.is_name (octet_is_text is.mode is.octet) is.octet is.are_options)
     )
     )
 packet_from bytes (Data block payload) is =
-    behind_opcode 3 bytes (number_bytes 2 block ∷ payload ∷ []) (Data block payload) (omega arith) is.parts
+    after_opcode 3 bytes (number_bytes 2 block ∷ payload ∷ []) (Data block payload) (omega arith) is.parts
     (mapped_from (λ d. Data d.0 d.1) data_body (start_of 3) (number_bytes 2 block ∷ payload ∷ []) (block, payload) (data_from (start_of 3) block payload is.number is.size is.are_bytes))
 packet_from bytes (Ack block) is =
-    behind_opcode 4 bytes (number_bytes 2 block ∷ []) (Ack block) (omega arith) is.parts (mapped_from Ack ack_body (start_of 4) (number_bytes 2 block ∷ []) block (ack_from (start_of 4) block is.number))
+    after_opcode 4 bytes (number_bytes 2 block ∷ []) (Ack block) (omega arith) is.parts (mapped_from Ack ack_body (start_of 4) (number_bytes 2 block ∷ []) block (ack_from (start_of 4) block is.number))
 packet_from bytes (Error code message) is =
-    behind_opcode 5 bytes (number_bytes 2 code ∷ ended_text message ∷ []) (Error code message) (omega arith) is.parts
+    after_opcode 5 bytes (number_bytes 2 code ∷ ended_text message ∷ []) (Error code message) (omega arith) is.parts
     (mapped_from (λ e. Error e.0 e.1) error_body (start_of 5) (number_bytes 2 code ∷ ended_text message ∷ []) (code, message) (error_from (start_of 5) code message is.number is.is_text))
 packet_from bytes (Oack options) is =
     subst (λ (o : Options). Spelled packet bytes (Oack o)) is.say (
-    behind_opcode 6 bytes (pairs_fields is.pairs) (Oack (options_of is.pairs)) (omega arith) is.parts
+    after_opcode 6 bytes (pairs_fields is.pairs) (Oack (options_of is.pairs)) (omega arith) is.parts
     (mapped_from Oack (all_options Refused) (start_of 6) (pairs_fields is.pairs) (options_of is.pairs) (options_from Refused is.pairs (start_of 6) is.are_options))
     )
 

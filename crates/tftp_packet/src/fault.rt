@@ -9,11 +9,11 @@ use load_base::NameFault;
 /// limits of what is accepted are this project's profile (docs/FORMATS.md, "TFTP packets").
 #[derive(Clone, Copy, Debug, PartialEq, Eq)]
 pub enum PacketFault {
-    /// T1: there is no packet with this opcode. It comes before what is missing behind the opcode.
+    /// T1: there is no packet with this opcode. It comes before what is missing after the opcode.
     Opcode(u64),
     /// T2: fewer than 2 bytes, or fewer than 4 of a DATA, an ACK or an ERROR; the number of bytes.
     Short(u64),
-    /// T3: a name, a mode, a name or value of an option or a text of an ERROR has no zero behind
+    /// T3: a name, a mode, a name or value of an option or a text of an ERROR has no zero after
     /// it; the offset where it begins.
     NoZero(u64),
     /// T4: the mode of a request isn't `octet`.
@@ -23,7 +23,7 @@ pub enum PacketFault {
     /// unknown one, all of them before their value is read; in an OACK also one with a value that
     /// isn't of its kind, once the value was read.
     Option(u64),
-    /// T6: bytes stand behind an ACK or an ERROR, or behind 65,464 bytes of a payload; the offset
+    /// T6: bytes stand after an ACK or an ERROR, or after 65,464 bytes of a payload; the offset
     /// of the first.
     Rest(u64),
     /// T7: the name in a request is no file name; what is wrong with it. It comes before the mode

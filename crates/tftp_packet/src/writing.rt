@@ -84,7 +84,7 @@ fn put_option(out: &mut Writer, known: Known, said: Option<u32>) -> Result<(), N
     Ok(())
 }
 
-/// A text, and the zero behind it.
+/// A text, and the zero after it.
 fn put_text(out: &mut Writer, text: &[u8]) -> Result<(), NoMemory>
     ensures { OnOk result (out.new ≡ out.old ++ ended_text text.now) }
 {

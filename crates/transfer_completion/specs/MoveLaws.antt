@@ -13,7 +13,7 @@ use Rattle.transfer_end.specs.Transfers.{Role, Reads, Writes, ServesRead, Serves
 use Rattle.transfer_end.specs.Views.{EndView, TransferView}
 use Rattle.transfer_end.specs.Moves.{datagram, heard_post, request, view_answered}
 use Rattle.transfer_completion.specs.Positions.{Position, HasAsked, IsIn, live_at, last_at, drawn, IsLast, IsMark, IsRunning, IsKept, StandsIn}
-use Rattle.transfer_completion.specs.Steps.{IsGoing, with_live, AsksFromRest, ServesFromRest, GoesOn, Binds, TakesTheLast, BindsWithTheLast, LastIsAcknowledged, MorePosts}
+use Rattle.transfer_completion.specs.Steps.{IsGoing, with_live, AsksFromRest, ServesFromRest, MovesItsTransfer, Binds, TakesTheLast, BindsWithTheLast, LastIsAcknowledged, MorePosts}
 
 abbrev transfer : ℕ → ℕ → LinkEnd → TransferView
 transfer own peer end = record { own = own; peer = Some peer; end = end }
@@ -88,7 +88,7 @@ goes_by side posts own peer i end v (Fails code) going runs stands = absurd goin
 lived : (side : Side) (posts : List DatagramView) (own peer i : ℕ) (position : Position) (v : EndView) → StandsIn side posts own peer i position v → StandsIn side posts own peer i position (with_live v (live_at position (own + i) (peer + i)))
 lived side posts own peer i position v stands = record { port = stands.port; mark = stands.mark; live = refl; last = stands.last; underway = stands.underway; kept = stands.kept }
 
-pub goes_on : GoesOn
+pub goes_on : MovesItsTransfer
 goes_on side posts own peer i end v p going runs stands = goes_by side posts own peer i end (with_live v (live_at (IsIn end) (own + i) (peer + i))) (end_answer end p) going runs (lived side posts own peer i (IsIn end) v stands)
 
 abbrev asked_transfer : ℕ → Role → TransferView

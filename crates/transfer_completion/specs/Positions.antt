@@ -34,7 +34,7 @@ heard Rests i = i
 heard (HasAsked role) i = i
 heard (IsIn end) i = i + 1
 
--- the greatest of so many ports of the other end is the mark
+-- the greatest of this many ports of the other end is the mark
 pub record IsMark (peer count mark : ℕ) : Type 0 where
   pub all : (j : ℕ) → j < count → peer + j ≤ mark
   pub none : mark < peer + count

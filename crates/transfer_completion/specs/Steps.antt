@@ -50,8 +50,8 @@ Binds = (side : Side) (posts : List DatagramView) (own peer i : ℕ) (role : Rol
     (view_after side (placed v (HasAsked role) own peer i) (Hears (peer + i) p))
 
 -- A packet moves its transfer.
-abbrev pub GoesOn : Type 0
-GoesOn = (side : Side) (posts : List DatagramView) (own peer i : ℕ) (end : LinkEnd) (v : EndView) (p : PacketView)
+abbrev pub MovesItsTransfer : Type 0
+MovesItsTransfer = (side : Side) (posts : List DatagramView) (own peer i : ℕ) (end : LinkEnd) (v : EndView) (p : PacketView)
     → IsGoing (end_answer end p) → IsRunning (end_moved end (end_answer end p)) → StandsIn side posts own peer i (IsIn end) v
     → StandsIn side (posts ++ posts_of side (placed v (IsIn end) own peer i) (Hears (peer + i) p)) own peer i (IsIn (end_moved end (end_answer end p)))
     (view_after side (placed v (IsIn end) own peer i) (Hears (peer + i) p))

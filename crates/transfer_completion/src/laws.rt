@@ -5,7 +5,7 @@ ghost use Rattle.transfer_completion.specs.Laws.{PastRequestIsSpent, ReadingBegi
 ghost use Rattle.transfer_completion.specs.Laws.{ReceiverGoesOn, RequestsAreRead, SenderGoesOn};
 ghost use Rattle.transfer_completion.specs.Laws.{TakenIsSmall, TalkIsRead, WritingBegins};
 ghost use Rattle.transfer_completion.specs.Retries.{MovesDoTheSame};
-ghost use Rattle.transfer_completion.specs.Steps.{AsksFromRest, Binds, BindsWithTheLast, GoesOn};
+ghost use Rattle.transfer_completion.specs.Steps.{AsksFromRest, Binds, BindsWithTheLast, MovesItsTransfer};
 ghost use Rattle.transfer_completion.specs.Steps.{LastIsAcknowledged, MorePosts, ServesFromRest};
 ghost use Rattle.transfer_completion.specs.Steps.{TakesTheLast};
 
@@ -54,7 +54,7 @@ pub fn ends_go_from_transfer_to_transfer()
     ensures serves { ServesFromRest }
     // In a transfer.
     ensures binds { Binds }
-    ensures goes_on { GoesOn }
+    ensures goes_on { MovesItsTransfer }
     // Its end.
     ensures takes_last { TakesTheLast }
     ensures binds_last { BindsWithTheLast }

@@ -21,7 +21,7 @@ use Rattle.transfer_end.specs.FirstPostLaws.{next_with, stopped_in_order}
 use Rattle.transfer_end.specs.FirstPosts.{AllInOrder, MovesPostInOrder, PostsInOrder, blocks_of, opening, posted_from, sent_by}
 use Rattle.transfer_end.specs.Laws.{CountUp, IsLive, PortsCountUp}
 use Rattle.transfer_end.specs.Moves.{Asks, Asks_size, Hears, Move, Recalls, Refuses, Repeats, Serves, Stops, all_posts, datagram, heard_post, kept_post, past_with, posts_of, reading_after, reading_answered, reading_unchanged, readings_after, recalled_post, request}
-use Rattle.transfer_end.specs.OtherEnds.{Among, IsNoTick, IsTick, MoveFits, MovesFit, OwnPortsRise, file_sent, size_of}
+use Rattle.transfer_end.specs.OtherEnds.{Among, IsNoTick, IsTick, MoveFits, MovesFit, OwnPortsRise, file_sent, end_block_size}
 use Rattle.transfer_end.specs.OtherEndLaws.{count_rise, first_stays, fits_any, kept_among, own_is_one, own_not_59}
 use Rattle.transfer_end.specs.Readings.{Reading, kept_in, next_port_of, port_past, port_with}
 use Rattle.transfer_end.specs.RfcLaws.{end_is_of_link, moves_count_up, sends_next_block}
@@ -36,34 +36,34 @@ abbrev IsNewIfWaiting : Sender → Type 0
 IsNewIfWaiting s = s.phase ≡ Waiting → s.sent ≡ 0
 
 -- what one packet does: the next block goes out, or nothing does
-abbrev GoesOn : Sender → Answer → Type 0
-GoesOn s answer =
+abbrev SendsNextOrNothing : Sender → Answer → Type 0
+SendsNextOrNothing s answer =
     ((is_sent_by answer ≡ true) × (((sender_moved s answer).size ≡ s.size) ⊎ (s.sent ≡ 0)))
     ⊎ ((is_sent_by answer ≡ false) × ((sender_moved s answer).sent ≡ s.sent) × ((sender_moved s answer).size ≡ s.size))
 
-goes_if : (s : Sender) (b : Bool) (x y : Answer) → GoesOn s x → GoesOn s y → GoesOn s (cond b x y)
+goes_if : (s : Sender) (b : Bool) (x y : Answer) → SendsNextOrNothing s x → SendsNextOrNothing s y → SendsNextOrNothing s (cond b x y)
 goes_if s true x y p q = p
 goes_if s false x y p q = q
 
-ack_goes : (s : Sender) (k : ℕ) (phase : Phase) → GoesOn s (ack_answer phase s k)
+ack_goes : (s : Sender) (k : ℕ) (phase : Phase) → SendsNextOrNothing s (ack_answer phase s k)
 ack_goes s k Waiting = goes_if s (k == 0) Proceeds Dropped (inl (refl, inl refl)) (inr (refl, refl, refl))
 ack_goes s k Running = goes_if s (k == s.sent) (awaited_answer s) Dropped (goes_if s (s.sent == last_block_of s) Completes Proceeds (inr (refl, refl, refl)) (inl (refl, inl refl))) (inr (refl, refl, refl))
 ack_goes s k Finished = inr (refl, refl, refl)
 ack_goes s k (Failed code) = inr (refl, refl, refl)
 
-oack_goes : (s : Sender) (o : Options) (phase : Phase) → s.phase ≡ phase → IsNewIfWaiting s → GoesOn s (sender_oack_answer phase s o)
+oack_goes : (s : Sender) (o : Options) (phase : Phase) → s.phase ≡ phase → IsNewIfWaiting s → SendsNextOrNothing s (sender_oack_answer phase s o)
 oack_goes s o Waiting e new = goes_if s (may_grant s.options o && fits_said (length s.file) o.blksize) (Grants o) Dropped (inl (refl, inr (new e))) (inr (refl, refl, refl))
 oack_goes s o Running e new = inr (refl, refl, refl)
 oack_goes s o Finished e new = inr (refl, refl, refl)
 oack_goes s o (Failed code) e new = inr (refl, refl, refl)
 
-error_goes : (s : Sender) (code : ℕ) (phase : Phase) → GoesOn s (error_answer phase code)
+error_goes : (s : Sender) (code : ℕ) (phase : Phase) → SendsNextOrNothing s (error_answer phase code)
 error_goes s code Waiting = inr (refl, refl, refl)
 error_goes s code Running = inr (refl, refl, refl)
 error_goes s code Finished = inr (refl, refl, refl)
 error_goes s code (Failed before) = inr (refl, refl, refl)
 
-packet_goes : (s : Sender) (p : PacketView) → IsNewIfWaiting s → GoesOn s (sender_answer s p)
+packet_goes : (s : Sender) (p : PacketView) → IsNewIfWaiting s → SendsNextOrNothing s (sender_answer s p)
 packet_goes s (Ack k) new = ack_goes s k s.phase
 packet_goes s (Oack o) new = oack_goes s o s.phase refl new
 packet_goes s (Error code m) new = error_goes s code s.phase
@@ -131,7 +131,7 @@ heard_blocks : (side : Side) (own : ℕ) (peer : Option ℕ) (from : ℕ) (file 
     ≡ map packet_bytes (blocks_of file s.size s.sent) ++ Bytes (heard_post side (record { own = own; peer = peer; end = Sends s }) from (sender_answer s p))
 heard_blocks side own peer from file s p h = by (packet_goes s p h.new)
   where
-    by : GoesOn s (sender_answer s p)
+    by : SendsNextOrNothing s (sender_answer s p)
         → map packet_bytes (blocks_of file (sender_after s p).size (sender_after s p).sent)
         ≡ map packet_bytes (blocks_of file s.size s.sent) ++ Bytes (heard_post side (record { own = own; peer = peer; end = Sends s }) from (sender_answer s p))
     by (inl (sent, size)) =
@@ -195,19 +195,19 @@ packet_in_order side t from p posts h = λ file e. by file e (end_sends t.role t
     more = heard_post side (transfer_view t) from (end_answer (end_in t) p)
 
     by : (file : List ℕ) → file_sent t.role ≡ Some file → EndSends file t.role t.got
-        → posted_from t.own (posts ++ more) ≡ map packet_bytes (opening t.role ++ blocks_of file (size_of (end_in (with_packet t from p))) (sent_by (end_in (with_packet t from p))))
+        → posted_from t.own (posts ++ more) ≡ map packet_bytes (opening t.role ++ blocks_of file (end_block_size (end_in (with_packet t from p))) (sent_by (end_in (with_packet t from p))))
     by file e s =
-        let blocks : map packet_bytes (blocks_of file (size_of (end_after (end_in t) p)) (sent_by (end_after (end_in t) p))) ≡ map packet_bytes (blocks_of file (size_of (end_in t)) (sent_by (end_in t))) ++ Bytes more =
-        subst (λ (end : LinkEnd). map packet_bytes (blocks_of file (size_of (end_after end p)) (sent_by (end_after end p)))
-        ≡ map packet_bytes (blocks_of file (size_of end) (sent_by end)) ++ Bytes (heard_post side (record { own = t.own; peer = t.peer; end = end }) from (end_answer end p))) (sym s.end)
+        let blocks : map packet_bytes (blocks_of file (end_block_size (end_after (end_in t) p)) (sent_by (end_after (end_in t) p))) ≡ map packet_bytes (blocks_of file (end_block_size (end_in t)) (sent_by (end_in t))) ++ Bytes more =
+        subst (λ (end : LinkEnd). map packet_bytes (blocks_of file (end_block_size (end_after end p)) (sent_by (end_after end p)))
+        ≡ map packet_bytes (blocks_of file (end_block_size end) (sent_by end)) ++ Bytes (heard_post side (record { own = t.own; peer = t.peer; end = end }) from (end_answer end p))) (sym s.end)
         (heard_blocks side t.own t.peer from file s.sender p s.sends) in
         posted_more t.own posts more
         ∙ ap (λ (x : List (List ℕ)). posted_from t.own posts ++ x) (all_from t.own more (heard_from (λ (port : ℕ). (port == t.own) ≡ true) side (transfer_view t) from (end_answer (end_in t) p) (equal t.own)))
-        ∙ ap (λ (x : List (List ℕ)). x ++ Bytes more) (h file e ∙ map-append packet_bytes (opening t.role) (blocks_of file (size_of (end_in t)) (sent_by (end_in t))))
-        ∙ append_assoc (map packet_bytes (opening t.role)) (map packet_bytes (blocks_of file (size_of (end_in t)) (sent_by (end_in t)))) (Bytes more)
+        ∙ ap (λ (x : List (List ℕ)). x ++ Bytes more) (h file e ∙ map-append packet_bytes (opening t.role) (blocks_of file (end_block_size (end_in t)) (sent_by (end_in t))))
+        ∙ append_assoc (map packet_bytes (opening t.role)) (map packet_bytes (blocks_of file (end_block_size (end_in t)) (sent_by (end_in t)))) (Bytes more)
         ∙ ap (λ (x : List (List ℕ)). map packet_bytes (opening t.role) ++ x) (sym blocks)
-        ∙ sym (map-append packet_bytes (opening t.role) (blocks_of file (size_of (end_after (end_in t) p)) (sent_by (end_after (end_in t) p))))
-        ∙ ap (λ (end : LinkEnd). map packet_bytes (opening t.role ++ blocks_of file (size_of end) (sent_by end))) (sym (end_of_more t.role t.got p))
+        ∙ sym (map-append packet_bytes (opening t.role) (blocks_of file (end_block_size (end_after (end_in t) p)) (sent_by (end_after (end_in t) p))))
+        ∙ ap (λ (end : LinkEnd). map packet_bytes (opening t.role ++ blocks_of file (end_block_size end) (sent_by end))) (sym (end_of_more t.role t.got p))
 
 -- ---- ports
 
@@ -351,7 +351,7 @@ recalls_now side r from p posts (Some x) is above counts h = record {
             λ file sends. received_sends_none _ u file (subst (λ (y : Transfer). is_received (end_in y) ≡ true) same found.1) sends
 
 -- a transfer begins with its first packet
-first_in_order : (role : Role) (file : List ℕ) → file_sent role ≡ Some file → packet_bytes (first_packet role) ∷ [] ≡ map packet_bytes (opening role ++ blocks_of file (size_of (end_of role [])) (sent_by (end_of role [])))
+first_in_order : (role : Role) (file : List ℕ) → file_sent role ≡ Some file → packet_bytes (first_packet role) ∷ [] ≡ map packet_bytes (opening role ++ blocks_of file (end_block_size (end_of role [])) (sent_by (end_of role [])))
 unfolding end_of
 first_in_order (Writes name o f) file e = refl
 first_in_order (ServesRead name o f) file e = by (is_empty (granted_to_reader (length f) o)) refl
@@ -360,7 +360,7 @@ first_in_order (ServesRead name o f) file e = by (is_empty (granted_to_reader (l
     same = some_is f file e
 
     by : (b : Bool) → is_empty (granted_to_reader (length f) o) ≡ b
-        → packet_bytes (first_packet (ServesRead name o f)) ∷ [] ≡ map packet_bytes (opening (ServesRead name o f) ++ blocks_of file (size_of (end_of (ServesRead name o f) [])) (sent_by (end_of (ServesRead name o f) [])))
+        → packet_bytes (first_packet (ServesRead name o f)) ∷ [] ≡ map packet_bytes (opening (ServesRead name o f) ++ blocks_of file (end_block_size (end_of (ServesRead name o f) [])) (sent_by (end_of (ServesRead name o f) [])))
     by true is = rw (is, same) refl
     by false is = rw is refl
 first_in_order (Reads name o) file e = absurd cc
@@ -376,7 +376,7 @@ begins_now r n d posts counts own empty from bytes h u (inl e) = subst (λ (x : 
     ∙ ap (λ (x : List (List ℕ)). x ++ posted_from n.own (d ∷ [])) (ap (λ (port : ℕ). posted_from port posts) own ∙ nothing_from (next_port_of r) posts h.below)
     ∙ all_from n.own (d ∷ []) (ap (λ (port : ℕ). port == n.own) from ∙ equal n.own, tt)
     ∙ ap (λ (x : List ℕ). x ∷ []) bytes ∙ first_in_order n.role file sends
-    ∙ ap (λ (got : List PacketView). map packet_bytes (opening n.role ++ blocks_of file (size_of (end_of n.role got)) (sent_by (end_of n.role got)))) (sym empty))
+    ∙ ap (λ (got : List PacketView). map packet_bytes (opening n.role ++ blocks_of file (end_block_size (end_of n.role got)) (sent_by (end_of n.role got)))) (sym empty))
 begins_now r n d posts counts own empty from bytes h u (inr a) =
     let less = own_below_next r counts u a in
     others_stay posts (d ∷ []) u (not_equal d.from u.own (λ e. omega (arith, less, own, from, e)), tt) (h.each u a)

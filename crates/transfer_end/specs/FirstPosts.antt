@@ -9,7 +9,7 @@ use Rattle.exchange_trace.specs.Happenings.{DatagramView}
 use Rattle.exchange_trace.specs.Logs.{Event}
 use Rattle.transfer_end.specs.Laws.{IsLive, PortsCountUp}
 use Rattle.transfer_end.specs.Moves.{Move, all_posts, past_with, readings_after}
-use Rattle.transfer_end.specs.OtherEnds.{Among, IsNoTick, MovesFit, file_sent, size_of}
+use Rattle.transfer_end.specs.OtherEnds.{Among, IsNoTick, MovesFit, file_sent, end_block_size}
 use Rattle.transfer_end.specs.Readings.{Reading, kept_in, next_port_of}
 use Rattle.transfer_end.specs.Transfers.{LinkEnd, Receives, Role, Sends, ServesRead, Transfer, Writes, end_in}
 use Rattle.transfer_end.specs.Views.{end_view, seen}
@@ -38,7 +38,7 @@ sent_by (Sends s) = s.sent
 -- OACK, if it has one, and then blocks 1, 2, 3 .. of its file in their order, each once.
 abbrev pub PostsInOrder : List DatagramView → Transfer → Type 0
 PostsInOrder posts t = (file : List ℕ) → file_sent t.role ≡ Some file
-    → posted_from t.own posts ≡ map packet_bytes (opening t.role ++ blocks_of file (size_of (end_in t)) (sent_by (end_in t)))
+    → posted_from t.own posts ≡ map packet_bytes (opening t.role ++ blocks_of file (end_block_size (end_in t)) (sent_by (end_in t)))
 
 -- so it is of all transfers of a log, and no datagram came from a port that was not drawn yet
 pub record AllInOrder (r : Reading) (posts : List DatagramView) : Type 0 where

@@ -50,9 +50,9 @@ file_sent (ServesRead name options file) = Some file
 file_sent role = None
 
 -- the block size of an end
-abbrev pub size_of : LinkEnd → ℕ
-size_of (Receives r) = r.size
-size_of (Sends s) = s.size
+abbrev pub end_block_size : LinkEnd → ℕ
+end_block_size (Receives r) = r.size
+end_block_size (Sends s) = s.size
 
 -- ---- what is posted
 
@@ -243,7 +243,7 @@ pub record BringsFile (t u : Transfer) : Type 0 where
   pub ends : AreEnds t u
   pub file : List ℕ
   pub sent : file_sent u.role ≡ Some file
-  pub blocks : TellsLength u.role → AllByRecursion (IsOfFile file (size_of (end_in t))) t.got
+  pub blocks : TellsLength u.role → AllByRecursion (IsOfFile file (end_block_size (end_in t))) t.got
   pub whole : TellsLength u.role → is_received (end_in t) ≡ true → arrived_of t ≡ file
 
 -- what a transfer gets comes from a transfer of the other side, or no block of a file came

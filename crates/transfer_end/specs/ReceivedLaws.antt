@@ -24,7 +24,7 @@ use Rattle.transfer_end.specs.ArrivalLaws.{taken_is_lent}
 use Rattle.transfer_end.specs.Came.{HasData, IsData}
 use Rattle.transfer_end.specs.CameLaws.{all_mapped}
 use Rattle.transfer_end.specs.OtherEndLaws.{all_at, first_is_sent, own_is_one, own_not_59, posted_by}
-use Rattle.transfer_end.specs.OtherEnds.{TellsLength, Among, AnswersRequest, AreEnds, Brought, BringsFile, ComesFromEnd, ReceivesWhatWasSent, is_receiving, of_end, of_none, BroughtFrom, HasBegun, IsAnsweredBy, IsFair, IsPostOf, IsPostOfSide, TookRequest, answered, file_sent, is_asking, of_refusal, of_transfer, refused, request_taken, served, size_of, unanswered}
+use Rattle.transfer_end.specs.OtherEnds.{TellsLength, Among, AnswersRequest, AreEnds, Brought, BringsFile, ComesFromEnd, ReceivesWhatWasSent, is_receiving, of_end, of_none, BroughtFrom, HasBegun, IsAnsweredBy, IsFair, IsPostOf, IsPostOfSide, TookRequest, answered, file_sent, is_asking, of_refusal, of_transfer, refused, request_taken, served, end_block_size, unanswered}
 use Rattle.transfer_end.specs.Packets.{packet_in}
 use Rattle.transfer_end.specs.RfcLaws.{end_is_of_link}
 use Rattle.transfer_end.specs.SentPacketLaws.{IsSendingFile, IsSmallAck, IsSomeData, IsThatData, all_sending, data_is_read, data_is_that, has_begun, read_is_spelled, sent_is_block, spelled_small, written_is_read}
@@ -99,12 +99,12 @@ data_first name o (Wrq n q) is taken = absurd is
 oack_first : (name : List ℕ) (o granted : Options) → (receiver_answer (receiver_asking name o) (Oack granted) ≡ Dropped → ⊥) → Asked name o (receiver_answer (receiver_asking name o) (Oack granted)) (block_size_of granted)
 oack_first name o granted taken = asked_if name o (block_size_of granted) (may_grant o granted) (Grants granted) Dropped (refl, refl) taken refl
 
-asked_size : (name : List ℕ) (o : Options) (got : List PacketView) (first : PacketView) (rest : List PacketView) (size : ℕ) → got ≡ first ∷ rest → Asked name o (receiver_answer (receiver_asking name o) first) size → size_of (end_of (Reads name o) got) ≡ size
+asked_size : (name : List ℕ) (o : Options) (got : List PacketView) (first : PacketView) (rest : List PacketView) (size : ℕ) → got ≡ first ∷ rest → Asked name o (receiver_answer (receiver_asking name o) first) size → end_block_size (end_of (Reads name o) got) ≡ size
 asked_size name o got first rest size e h =
-    ap size_of (end_is_of_link name [] o got).0 ∙ ap (λ (packets : List PacketView). (receiver_after_all (receiver_asking name o) packets).size) e ∙ size_stays (receiver_after (receiver_asking name o) first) rest h.1 ∙ h.0
+    ap end_block_size (end_is_of_link name [] o got).0 ∙ ap (λ (packets : List PacketView). (receiver_after_all (receiver_asking name o) packets).size) e ∙ size_stays (receiver_after (receiver_asking name o) first) rest h.1 ∙ h.0
 
-served_size : (name : List ℕ) (o : Options) (got : List PacketView) → size_of (end_of (ServesWrite name o) got) ≡ block_size_of o
-served_size name o got = ap size_of (end_is_of_link name [] o got).1 ∙ size_stays (receiver_serving o) got refl
+served_size : (name : List ℕ) (o : Options) (got : List PacketView) → end_block_size (end_of (ServesWrite name o) got) ≡ block_size_of o
+served_size name o got = ap end_block_size (end_is_of_link name [] o got).1 ∙ size_stays (receiver_serving o) got refl
 
 -- ---- options
 
@@ -194,7 +194,7 @@ writes_blocks name wanted file size got first rest e begun small (p ∷ heard) l
 -- the side that asked to read
 read_sizes : (name uname : List ℕ) (o uo : Options) (file : List ℕ) (own uown : ℕ) (peer upeer : Option ℕ) (got ugot : List PacketView) → length file ≤ 4294967295 → AreInRange uo
     → IsAnsweredBy (record { role = Reads name o; own = own; peer = peer; got = got }) (record { role = ServesRead uname uo file; own = uown; peer = upeer; got = ugot })
-    → size_of (end_of (Reads name o) got) ≡ block_size_of (granted_to_reader (length file) uo)
+    → end_block_size (end_of (Reads name o) got) ≡ block_size_of (granted_to_reader (length file) uo)
 read_sizes name uname o uo file own uown peer upeer got ugot few fits h = by (is_empty (granted_to_reader (length file) uo)) refl
   where
     G : Options
@@ -206,7 +206,7 @@ read_sizes name uname o uo file own uown peer upeer got ugot few fits h = by (is
     packet : (b : Bool) → is_empty G ≡ b → first_packet (ServesRead uname uo file) ≡ cond b (data_of file (block_size_of G) 1) (Oack G)
     packet b e = ap (λ (x : Bool). cond x (data_of file (block_size_of G) 1) (Oack G)) e
 
-    by : (b : Bool) → is_empty G ≡ b → size_of (end_of (Reads name o) got) ≡ block_size_of G
+    by : (b : Bool) → is_empty G ≡ b → end_block_size (end_of (Reads name o) got) ≡ block_size_of G
     by true e =
         let spells = read_is_spelled (packet_bytes (first_packet (ServesRead uname uo file))) h.first h.are_bytes h.sent in
         let block : IsSomeData h.first = data_is_read h.first 1 (block_of file (block_size_of G) 1) (subst (λ (p : PacketView). PacketSpells h.first (packet_bytes p)) (packet true e) spells) in
@@ -352,7 +352,7 @@ module _ (me them : Side) (mine theirs : List Transfer) (posted : List DatagramV
 pub record Sending (t u : Transfer) : Type 0 where
   pub file : List ℕ
   pub sent : file_sent u.role ≡ Some file
-  pub blocks : TellsLength u.role → SendsBlocks file (size_of (end_of t.role t.got)) u.role u.got
+  pub blocks : TellsLength u.role → SendsBlocks file (end_block_size (end_of t.role t.got)) u.role u.got
 
 -- the options of a request that was taken are in their range
 abbrev OptionsInRange : Role → Type 0
@@ -430,18 +430,18 @@ arrived_as : (role : Role) (r : Receiver) (got : List PacketView) → begin_of r
 unfolding arrived_in
 arrived_as role r got e = ap (λ (end : LinkEnd). concat (taken_from end got)) e ∙ ap concat (taken_is_lent r got)
 
-received_file : (role : Role) (got : List PacketView) (file : List ℕ) → is_receiving role ≡ true → AllByRecursion (IsOfFile file (size_of (end_of role got))) got → is_received (end_of role got) ≡ true → arrived_in role got ≡ file
+received_file : (role : Role) (got : List PacketView) (file : List ℕ) → is_receiving role ≡ true → AllByRecursion (IsOfFile file (end_block_size (end_of role got))) got → is_received (end_of role got) ≡ true → arrived_in role got ≡ file
 received_file (Reads name o) got file receives all whole =
     let end : end_of (Reads name o) got ≡ Receives (receiver_after_all (receiver_asking name o) got) = (end_is_of_link name [] o got).0 in
     arrived_as (Reads name o) (receiver_asking name o) got refl
     ∙ whole_is_file (receiver_asking name o) got _ (from_first (answers_read o) got) file (asked_read_arrives name o got)
-    (from_first_all (IsOfFile file (receiver_after_all (receiver_asking name o) got).size) (answers_read o) got (subst (λ (x : LinkEnd). AllByRecursion (IsOfFile file (size_of x)) got) end all))
+    (from_first_all (IsOfFile file (receiver_after_all (receiver_asking name o) got).size) (answers_read o) got (subst (λ (x : LinkEnd). AllByRecursion (IsOfFile file (end_block_size x)) got) end all))
     (finished_is _ (subst (λ (x : LinkEnd). is_received x ≡ true) end whole))
 received_file (ServesWrite name o) got file receives all whole =
     let end : end_of (ServesWrite name o) got ≡ Receives (receiver_after_all (receiver_serving o) got) = (end_is_of_link name [] o got).1 in
     arrived_as (ServesWrite name o) (receiver_serving o) got refl
     ∙ whole_is_file (receiver_serving o) got _ got file (served_write_arrives o got)
-    (subst (λ (x : LinkEnd). AllByRecursion (IsOfFile file (size_of x)) got) end all)
+    (subst (λ (x : LinkEnd). AllByRecursion (IsOfFile file (end_block_size x)) got) end all)
     (finished_is _ (subst (λ (x : LinkEnd). is_received x ≡ true) end whole))
 received_file (Writes name o f) got file receives all whole = absurd cc
 received_file (ServesRead name o f) got file receives all whole = absurd cc
@@ -524,7 +524,7 @@ module _ (me them : Side) (mine theirs : List Transfer) (posted : List DatagramV
 
   brings : (u : Transfer) → Among u theirs → Tie t u → Sending t u → BringsFile t u
   brings u b how s =
-      let all : TellsLength u.role → AllByRecursion (IsOfFile s.file (size_of (end_in t))) t.got = λ few. each_block u s.file (size_of (end_in t)) b how.ends.port (s.blocks few) in
+      let all : TellsLength u.role → AllByRecursion (IsOfFile s.file (end_block_size (end_in t))) t.got = λ few. each_block u s.file (end_block_size (end_in t)) b how.ends.port (s.blocks few) in
       record {
         ends = how.ends;
         file = s.file;

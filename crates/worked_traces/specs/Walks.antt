@@ -73,7 +73,7 @@ pub record WorkedRun : Type 0 where
 abbrev pub steps_in : WorkedRun → List Step
 steps_in run = onto run.trace []
 
--- only its first steps, so many
+-- only its first steps, this many
 abbrev pub first_steps : ℕ → WorkedRun → List Step
 first_steps count run = onto (take count run.trace) []
 

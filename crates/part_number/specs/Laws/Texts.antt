@@ -23,7 +23,7 @@ unfolding check_of
 check_of-lt maker product maker_good product_good =
     rw (fold-append bit_xor 0 maker product) (fold-lt (fold bit_xor 0 maker) product (fold-lt 0 maker (omega arith) maker_good) product_good)
 
--- a text in its offsets, from three characters, two check digits and eight characters
+-- a text with its hyphens, of three characters, two check digits and eight characters
 abbrev pub laid_out : (maker product : List ℕ) (high low : ℕ) → List ℕ
 laid_out maker product high low =
     slice_index maker 0 ∷ slice_index maker 1 ∷ slice_index maker 2 ∷ high ∷ low ∷ 45
@@ -37,7 +37,7 @@ high_digit maker product = hexadecimal_digit (check_of maker product / 16)
 abbrev low_digit : (maker product : List ℕ) → ℕ
 low_digit maker product = hexadecimal_digit (check_of maker product % 16)
 
--- the text that the definition gives, in its offsets
+-- the text that the definition gives, with its hyphens
 abbrev given : (maker product : List ℕ) → List ℕ
 given maker product = laid_out maker product (high_digit maker product) (low_digit maker product)
 

@@ -1,6 +1,6 @@
 use Rattle.std.proofs.Common.{List, ℕ, ◌++◌, arith, ap, sym, ◌∙◌}
 use Rattle.std.specs.List.{concat}
-use Rattle.field_grammar.specs.Spelling.{size_of}
+use Rattle.field_grammar.specs.Spelling.{spelled_length}
 use Rattle.media_lists.specs.Loads.{load_entry_view, loads_list_view, load_body_fields}
 use Rattle.part_number.specs.VerdictLaws.{part_size}
 use Rattle.media_lists.proofs.Fits.{few_hardware}
@@ -21,14 +21,14 @@ put_entries-requires-clause-distances c = rw c.as_slice-2.ensures (distances_see
 pub pointers_of-requires : goal.pointers_of-requires
 pointers_of-requires c =
     let kept = rw c.as_slice.ensures at c.entries_size-entries.ensures.size in
-    let entries = kept ∙ ap (λ (l : List (List ℕ)). size_of l) (sym (entries_seen load_body_fields load_entry_view c.args.list.now.loads.items)) in
+    let entries = kept ∙ ap (λ (l : List (List ℕ)). spelled_length l) (sym (entries_seen load_body_fields load_entry_view c.args.list.now.loads.items)) in
     omega (arith, whole_size load_body_fields (loads_list_view c.args.list.now) c.entries_size-entries.result (part_size c.args.list.now.set c.requires.set) entries, c.requires.size)
 
 pub returns : goal.returns
 returns c =
     let kept = rw c.as_slice.ensures at c.entries_size-entries.ensures.size in
     let seen = sym (entries_seen load_body_fields load_entry_view c.args.list.now.loads.items) in
-    let entries = kept ∙ ap (λ (l : List (List ℕ)). size_of l) seen in
+    let entries = kept ∙ ap (λ (l : List (List ℕ)). spelled_length l) seen in
     let head = rw c.pointers_of.ensures at c.in_ok-put_head.ensures in
     let put = rw c.as_slice-2.ensures at c.in_ok-put_entries.ensures in
     let sections = sections_written load_body_fields (loads_list_view c.args.list.now) c.put_head.new.out c.put_identity.new.out c.put_entries.new.out c.put_user.new.out
@@ -40,5 +40,5 @@ returns c =
 pub overflow_cast-size : goal.overflow_cast-size
 overflow_cast-size c =
     let kept = rw c.as_slice.ensures at c.entries_size-entries.ensures.size in
-    let entries = kept ∙ ap (λ (l : List (List ℕ)). size_of l) (sym (entries_seen load_body_fields load_entry_view c.args.list.now.loads.items)) in
+    let entries = kept ∙ ap (λ (l : List (List ℕ)). spelled_length l) (sym (entries_seen load_body_fields load_entry_view c.args.list.now.loads.items)) in
     omega (arith, whole_size load_body_fields (loads_list_view c.args.list.now) c.entries_size-entries.result (part_size c.args.list.now.set c.requires.set) entries, rw c.len.ensures at c.list_size-size.ensures, c.requires.size)

@@ -1,5 +1,5 @@
 use Rattle.std.proofs.Common.{rules, ap, sym, ◌∙◌, List, ℕ}
-use Rattle.field_grammar.specs.Spelling.{size_of}
+use Rattle.field_grammar.specs.Spelling.{spelled_length}
 use Rattle.media_lists.specs.Loads.{load_entry_view, loads_list_view, load_name, load_body_fields, IsListedLoad}
 use Rattle.media_lists.proofs.Fits.{few_hardware, list_tells}
 use Rattle.media_lists.proofs.Seen.{entries_seen}
@@ -8,7 +8,7 @@ use Rattle.media_lists.proofs.fitting.loads_fit.Goals as goal
 pub returns : goal.returns
 returns c =
     let kept = rw c.as_slice-loads.ensures at c.entries_size.ensures.size in
-    let entries = kept ∙ ap (λ (l : List (List ℕ)). size_of l) (sym (entries_seen load_body_fields load_entry_view c.args.list.now.loads.items)) in
+    let entries = kept ∙ ap (λ (l : List (List ℕ)). spelled_length l) (sym (entries_seen load_body_fields load_entry_view c.args.list.now.loads.items)) in
     let member = rw c.from.ensures at c.is_member.ensures in
     let meet = rw c.as_slice-loads.ensures at c.loads_meet_limits.ensures in
     let user = rw c.as_slice.ensures at c.is_user_data.ensures.fits in

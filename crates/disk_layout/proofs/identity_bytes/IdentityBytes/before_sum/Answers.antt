@@ -2,8 +2,8 @@ use Rattle.std.proofs.Common.{◌≡◌, ◌≤◌, length, ap, arith}
 use Rattle.disk_layout.proofs.Sizes.{number_more, short_more}
 use Rattle.disk_layout.proofs.identity_bytes.IdentityBytes.before_sum.Goals as goal
 
-pub put_short-requires-2-clause-room : goal.put_short-requires-2-clause-room
-put_short-requires-2-clause-room c =
+pub put_short-requires-2-clause-fits : goal.put_short-requires-2-clause-fits
+put_short-requires-2-clause-fits c =
     let one : length c.put.new.self ≡ 6 = ap length c.put.ensures in
     let two = number_more 4 c.args.identity.now.bank c.put.new.self c.put-2.new.self c.u32_bytes.result c.u32_bytes.ensures c.put-2.ensures in
     let three = short_more c.put-2.new.self c.put_short.new.self c.as_slice.result.now c.put_short.ensures in
@@ -11,8 +11,8 @@ put_short-requires-2-clause-room c =
     let pos : length c.as_slice-2.result.now ≤ 20 = rw c.as_slice-2.ensures.bytes c.as_slice-2.ensures.is_ident.size.1 in
     omega (arith, one, two, three, hw, pos)
 
-pub put_short-requires-3-clause-room : goal.put_short-requires-3-clause-room
-put_short-requires-3-clause-room c =
+pub put_short-requires-3-clause-fits : goal.put_short-requires-3-clause-fits
+put_short-requires-3-clause-fits c =
     let one : length c.put.new.self ≡ 6 = ap length c.put.ensures in
     let two = number_more 4 c.args.identity.now.bank c.put.new.self c.put-2.new.self c.u32_bytes.result c.u32_bytes.ensures c.put-2.ensures in
     let three = short_more c.put-2.new.self c.put_short.new.self c.as_slice.result.now c.put_short.ensures in
