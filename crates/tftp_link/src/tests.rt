@@ -285,11 +285,41 @@ fn letter(step: &Step<'_>) -> u8 {
     }
 }
 
+// The datagram that this letter stands for, in tests whose blocks have 8 bytes.
+fn datagram(letter: u8) -> &'static [u8] {
+    match letter {
+        // ACK 0, 1 and 2, and an ERROR.
+        b'0' => b"\0\x04\0\0",
+        b'1' => b"\0\x04\0\x01",
+        b'2' => b"\0\x04\0\x02",
+        b'e' => b"\0\x05\0\x01\0",
+        // An OACK without options, with a block size of 8 or 9, or with a timeout.
+        b'o' => b"\0\x06",
+        b'8' => b"\0\x06blksize\x008\0",
+        b'9' => b"\0\x06blksize\x009\0",
+        b't' => b"\0\x06timeout\x001\0",
+        // Block 1, full, too long or short.
+        b'f' => b"\0\x03\0\x0112345678",
+        b'l' => b"\0\x03\0\x01123456789",
+        b's' => b"\0\x03\0\x011234567",
+        // Block 2, full or empty.
+        b'g' => b"\0\x03\0\x0212345678",
+        b'h' => b"\0\x03\0\x02",
+        // Blocks 65,534 and 65,535, full.
+        b'x' => b"\0\x03\xFF\xFE12345678",
+        b'y' => b"\0\x03\xFF\xFF12345678",
+        // Blocks 0 and 65,535, empty.
+        b'm' => b"\0\x03\0\0",
+        b'z' => b"\0\x03\xFF\xFF",
+        _ => b"",
+    }
+}
+
 // How many datagrams, one after the other, become what the letters say.
-fn received(begin: Receiving, datagrams: &[&[u8]], letters: &[u8]) -> usize {
+fn received(begin: Receiving, datagrams: &[u8], letters: &[u8]) -> usize {
     let mut receiving = begin;
-    for (i, datagram) in datagrams.iter().enumerate() {
-        let Ok(packet) = Packet::decode(datagram) else {
+    for (i, which) in datagrams.iter().enumerate() {
+        let Ok(packet) = Packet::decode(datagram(*which)) else {
             return i;
         };
         if letters.get(i).copied() != Some(letter(&receiving.on_packet(&packet))) {
@@ -299,10 +329,10 @@ fn received(begin: Receiving, datagrams: &[&[u8]], letters: &[u8]) -> usize {
     datagrams.len()
 }
 
-fn sent(begin: Sending<'_>, datagrams: &[&[u8]], letters: &[u8]) -> usize {
+fn sent(begin: Sending<'_>, datagrams: &[u8], letters: &[u8]) -> usize {
     let mut sending = begin;
-    for (i, datagram) in datagrams.iter().enumerate() {
-        let Ok(packet) = Packet::decode(datagram) else {
+    for (i, which) in datagrams.iter().enumerate() {
+        let Ok(packet) = Packet::decode(datagram(*which)) else {
             return i;
         };
         if letters.get(i).copied() != Some(letter(&sending.on_packet(&packet))) {
@@ -311,40 +341,6 @@ fn sent(begin: Sending<'_>, datagrams: &[&[u8]], letters: &[u8]) -> usize {
     }
     datagrams.len()
 }
-
-const ACK_0: &[u8] = b"\0\x04\0\0";
-
-const ACK_1: &[u8] = b"\0\x04\0\x01";
-
-const ACK_2: &[u8] = b"\0\x04\0\x02";
-
-const ERROR: &[u8] = b"\0\x05\0\x01\0";
-
-const OACK: &[u8] = b"\0\x06";
-
-const OACK_8: &[u8] = b"\0\x06blksize\x008\0";
-
-const OACK_9: &[u8] = b"\0\x06blksize\x009\0";
-
-const OACK_TIMEOUT: &[u8] = b"\0\x06timeout\x001\0";
-
-const FULL_1: &[u8] = b"\0\x03\0\x0112345678";
-
-const LONG_1: &[u8] = b"\0\x03\0\x01123456789";
-
-const SHORT_1: &[u8] = b"\0\x03\0\x011234567";
-
-const FULL_2: &[u8] = b"\0\x03\0\x0212345678";
-
-const EMPTY_2: &[u8] = b"\0\x03\0\x02";
-
-const FULL_65_534: &[u8] = b"\0\x03\xFF\xFE12345678";
-
-const FULL_65_535: &[u8] = b"\0\x03\xFF\xFF12345678";
-
-const EMPTY_0: &[u8] = b"\0\x03\0\0";
-
-const EMPTY_65_535: &[u8] = b"\0\x03\xFF\xFF";
 
 // An end that asks to read in blocks of 8 bytes.
 fn reader(name: Name) -> Receiving {
@@ -355,42 +351,14 @@ fn reader(name: Name) -> Receiving {
 fn a_receiving_end_answers_what_it_awaits(rt: HostRuntime) -> Result<(), NameFault> {
     let name = Name::read(b"A.BIN")?;
     let agree = (
-        received(
-            reader(name),
-            &[OACK_8, OACK_8, FULL_1, OACK_8, FULL_1, EMPTY_2],
-            b"ssb.sl",
-        ),
-        received(
-            reader(name),
-            &[OACK_9, OACK_TIMEOUT, ACK_0, OACK, OACK, LONG_1],
-            b"...ssl",
-        ),
-        received(
-            reader(name),
-            &[OACK_8, FULL_2, LONG_1, EMPTY_65_535, EMPTY_0, FULL_1],
-            b"s....b",
-        ),
-        received(
-            reader(name),
-            &[OACK_8, SHORT_1, SHORT_1, OACK_8, FULL_2, ERROR],
-            b"sls...",
-        ),
-        received(
-            reader(name),
-            &[SHORT_1, OACK_8, SHORT_1, LONG_1, EMPTY_2, ACK_1],
-            b"l.ss..",
-        ),
-        received(
-            reader(name),
-            &[ERROR, OACK_8, FULL_1, ERROR, ACK_0, EMPTY_2],
-            b"e.....",
-        ),
+        received(reader(name), b"88f8fh", b"ssb.sl"),
+        received(reader(name), b"9t0ool", b"...ssl"),
+        received(reader(name), b"8glzmf", b"s....b"),
+        received(reader(name), b"8ss8ge", b"sls..."),
+        received(reader(name), b"s8slh1", b"l.ss.."),
+        received(reader(name), b"e8fe0h", b"e....."),
         // Nobody asked for an option.
-        received(
-            Receiving::ask(name, NONE),
-            &[OACK, OACK_8, ACK_0, FULL_2, ERROR, SHORT_1],
-            b"....e.",
-        ),
+        received(Receiving::ask(name, NONE), b"o80ges", b"....e."),
     );
     assert_eq!(rt; agree, (6, 6, 6, 6, 6, 6, 6));
     Ok(())
@@ -398,7 +366,7 @@ fn a_receiving_end_answers_what_it_awaits(rt: HostRuntime) -> Result<(), NameFau
 
 // What becomes of six datagrams at an end that sends a file of two blocks of 8 bytes, where it was
 // asked for, and where it asks.
-fn both_sent(name: Name, datagrams: &[&[u8]], served: &[u8], asked: &[u8]) -> (usize, usize) {
+fn both_sent(name: Name, datagrams: &[u8], served: &[u8], asked: &[u8]) -> (usize, usize) {
     let file = b"123456789".as_slice();
     (
         sent(
@@ -418,30 +386,10 @@ fn both_sent(name: Name, datagrams: &[&[u8]], served: &[u8], asked: &[u8]) -> (u
 fn a_sending_end_answers_what_it_awaits(rt: HostRuntime) -> Result<(), NameFault> {
     let name = Name::read(b"A.BIN")?;
     let agree = (
-        both_sent(
-            name,
-            &[ACK_1, ACK_0, ACK_0, ACK_1, ACK_1, ACK_2],
-            b".s.s.d",
-            b".s.d..",
-        ),
-        both_sent(
-            name,
-            &[OACK_9, OACK_8, OACK_8, ACK_0, ACK_1, ACK_2],
-            b"...ssd",
-            b".s..sd",
-        ),
-        both_sent(
-            name,
-            &[OACK_TIMEOUT, FULL_1, OACK, ACK_1, ACK_1, ERROR],
-            b".....e",
-            b"..sd..",
-        ),
-        both_sent(
-            name,
-            &[ERROR, ACK_0, ACK_1, OACK_8, ERROR, ACK_2],
-            b"e.....",
-            b"e.....",
-        ),
+        both_sent(name, b"100112", b".s.s.d", b".s.d.."),
+        both_sent(name, b"988012", b"...ssd", b".s..sd"),
+        both_sent(name, b"tfo11e", b".....e", b"..sd.."),
+        both_sent(name, b"e018e2", b"e.....", b"e....."),
     );
     assert_eq!(rt; agree, ((6, 6), (6, 6), (6, 6), (6, 6)));
     Ok(())
@@ -456,14 +404,7 @@ fn a_full_block_65_535_is_not_taken(rt: HostRuntime) {
             payload: b"12345678",
         });
     }
-    let datagrams = [
-        FULL_65_535,
-        FULL_65_534,
-        EMPTY_0,
-        EMPTY_65_535,
-        EMPTY_65_535,
-    ];
-    assert_eq!(rt; received(receiving, &datagrams, b".s.ls"), 5);
+    assert_eq!(rt; received(receiving, b"yxmzz", b".s.ls"), 5);
 }
 
 #[test]
@@ -486,7 +427,7 @@ fn a_request_is_answered_with_the_options_taken_up(rt: HostRuntime) -> Result<()
         b"\0\x06blksize\x001024\0tsize\x000\0".as_slice()
     );
     let bytes = Receiving::serve(NONE).first().encode(rt.alloc())?;
-    assert_eq!(rt; bytes.as_slice(), ACK_0);
+    assert_eq!(rt; bytes.as_slice(), datagram(b'0'));
     receiving_laws();
     arrival_laws();
     sending_laws();
