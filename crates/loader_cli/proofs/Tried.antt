@@ -2,8 +2,8 @@
 use Rattle.std.proofs.Common.{◌≡◌, ℕ, ◌+◌, ◌≤◌, ◌⊎◌, inl, inr, List, Option, ap, subst, ◌∙◌, arith}
 use Rattle.std.specs.Option.{ForSome}
 use Rattle.disk_model.specs.Image.{Image}
-use Rattle.disk_model.specs.MomentLaws.{settled_stays}
-use Rattle.disk_model.specs.State.{DiskState, KeepsPower, OnlyReads}
+use Rattle.disk_model.specs.MomentLaws.{power_kept, reads_joined, settled_stays}
+use Rattle.disk_model.specs.State.{DiskState, OnlyReads}
 use Rattle.disk_layout.specs.Holds.{StandingView}
 use Rattle.disk_layout.specs.Identity.{HasIdentity}
 use Rattle.disk_layout.specs.declared.fault.RecoverFault.{RecoverFault}
@@ -30,13 +30,6 @@ names_target reads surveyed found image is = (found image is).outline.has_active
 rose_since : (n before between now : ℕ) → before ≤ between → RoseBy n between now → RoseBy n before now
 rose_since n before between now later rose = grind (arith, later, rose)
 
-joined_power : (old mid new : DiskState) → KeepsPower old mid → KeepsPower mid new → KeepsPower old new
-joined_power old mid new first second = record {
-  steady = second.steady ∙ first.steady;
-  armings = second.armings ∙ first.armings;
-  armed = second.armed ∙ first.armed;
-}
-
 counts_since : (steps : List Step) (old mid new : DiskState) → OnlyReads old mid → CountsPower steps mid new → CountsPower steps old new
 counts_since steps old mid new read counts = record {
   stops = rose_since (disk_stops steps) old.faults mid.faults new.faults read.faults counts.stops;
@@ -49,24 +42,11 @@ counts_since steps old mid new read counts = record {
 held_since : (old mid : DiskState) → mid.reads ≡ old.reads → HoldsSome mid → HoldsSome old
 held_since old mid same held image is = held image (same ∙ is)
 
-reads_since : (old mid new : DiskState) → OnlyReads old mid → OnlyReads mid new → OnlyReads old new
-reads_since old mid new first second = record {
-  tells = second.tells ∙ first.tells;
-  power = joined_power old mid new first.power second.power;
-  faults = omega (arith, first.faults, second.faults);
-  refusals = omega (arith, first.refusals, second.refusals);
-  clock = second.clock ∙ first.clock;
-  now = λ image may. first.now image (second.now image may);
-  between = λ t u image may. first.between t u image (second.between t u image may);
-  keeps = λ t u image may. second.keeps t u image (first.keeps t u image may);
-  closed = λ steady at n closed. second.closed (first.power.steady ∙ steady) at n (first.closed steady at n closed);
-}
-
 none_since : (fault : RecoverFault) (old mid new : DiskState) → OnlyReads old mid → mid.reads ≡ old.reads → HeldNone fault mid new ⊎ (HoldsSome mid × HoldsNone fault new)
     → HeldNone fault old new ⊎ (HoldsSome old × HoldsNone fault new)
 none_since fault old mid new read same (inl held) = inl (record {
   none = λ image is. held.none image (same ∙ is);
-  only_reads = reads_since old mid new read held.only_reads;
+  only_reads = reads_joined old mid new read held.only_reads;
   running = record { reads = held.running.reads ∙ same; running = held.running.running };
 })
 none_since fault old mid new read same (inr (held, holds)) = inr (held_since old mid same held, holds)
@@ -102,6 +82,6 @@ run_since told set script old mid new handed status text read same (unknown run 
     unknown run (held_since old mid same held) is stands (runs_since set script old mid new run read same runs) (counts_since (steps_of run.trace) old mid new read counts)
     (rose_since (disk_stops (steps_of run.trace) + 1) old.faults mid.faults new.faults read.faults failed) stopped said tells
 run_since told set script old mid new handed status text read same (disk_failed is failed stopped clock power said tells) =
-    disk_failed is (rose_since 1 old.faults mid.faults new.faults read.faults failed) stopped (clock ∙ read.clock) (joined_power old mid new read.power power) said tells
+    disk_failed is (rose_since 1 old.faults mid.faults new.faults read.faults failed) stopped (clock ∙ read.clock) (power_kept old mid new read.power power) said tells
 run_since told set script old mid new handed status text read same (no_config fault is other holds said tells) =
     no_config fault is other (none_since fault old mid new read same holds) said tells
