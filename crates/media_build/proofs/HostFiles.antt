@@ -34,6 +34,13 @@ written_one this old new others here name = by (same_bytes name this.0) refl
     by true e = let same : name ≡ this.0 = (equal_bytes name this.0).0 e in rw e (ap new same ∙ here)
     by false e = rw e (others name (λ same. let yes = (equal_bytes name this.0).1 same in cc))
 
+untouched : (name : List ℕ) (old new : Files) → ((other : List ℕ) → other ≢ name → new other ≡ old other) → new name ≡ old name → (other : List ℕ) → new other ≡ old other
+untouched name old new others here other = by (same_bytes other name) refl
+  where
+    by : (b : Bool) → same_bytes other name ≡ b → new other ≡ old other
+    by true e = let same : other ≡ name = (equal_bytes other name).0 e in rw same here
+    by false e = others other (λ same. let yes = (equal_bytes other name).1 same in cc)
+
 pub writes_one : (name bytes : List ℕ) (old new : Option Files) (result : Result (Unit {0}) WriteFault) → WritesFile old new name bytes result
     → Writes ((name, bytes) ∷ []) old new result
 writes_one name bytes None new result is = record { told = tt }
@@ -41,7 +48,7 @@ writes_one name bytes (Some old) new (Ok x) is = record { told = (is.0, is.1, wr
 writes_one name bytes (Some old) new (Err writing.Failed) is =
     record { told = (is.0, is.1, record { before = []; this = (name, bytes); after = []; stands = refl; others = is.2 }) }
 writes_one name bytes (Some old) new (Err writing.Memory) is =
-    record { told = (is.0, is.1, record { before = []; this = (name, bytes); after = []; stands = refl; others = is.2.0 }) }
+    record { told = (is.0, is.1, record { before = []; after = (name, bytes) ∷ []; stands = refl; have = untouched name old is.0 is.2.0 is.2.1 }) }
 
 -- ---- one after the other
 
@@ -53,7 +60,13 @@ both : (front back : List Written) (old mid new : Files) (result : Result (Unit 
     → WritesFiles back mid new result → WritesFiles (front ++ back) old new result
 both front back old mid new (Ok x) first second =
     λ name. second name ∙ (after_same back mid (after_writes front old) first name ∙ sym (after_both front back old name))
-both front back old mid new (Err fault) first second = record {
+both front back old mid new (Err writing.Memory) first second = record {
+  before = front ++ second.before;
+  after = second.after;
+  stands = ap (λ (rest : List Written). front ++ rest) second.stands ∙ sym (append_assoc front second.before second.after);
+  have = λ name. second.have name ∙ (after_same second.before mid (after_writes front old) first name ∙ sym (after_both front second.before old name));
+}
+both front back old mid new (Err writing.Failed) first second = record {
   before = front ++ second.before;
   this = second.this;
   after = second.after;
@@ -68,24 +81,25 @@ writes_then front back (Some old) mid new done result first second =
     let told = rw first.told.1 at second.told in
     record { told = (told.0, told.1, both front back old first.told.0 told.0 result first.told.2 told.2) }
 
+stop : (front back : List Written) (old new : Files) (fault : WriteFault) → WritesFiles front old new (Err fault) → WritesFiles (front ++ back) old new (Err fault)
+stop front back old new writing.Failed cut = record {
+  before = cut.before;
+  this = cut.this;
+  after = cut.after ++ back;
+  stands = ap (λ (some : List Written). some ++ back) cut.stands ∙ append_assoc cut.before (cut.this ∷ cut.after) back;
+  others = cut.others;
+}
+stop front back old new writing.Memory cut = record {
+  before = cut.before;
+  after = cut.after ++ back;
+  stands = ap (λ (some : List Written). some ++ back) cut.stands ∙ append_assoc cut.before cut.after back;
+  have = cut.have;
+}
+
 -- a refusal in some files is one in all
 pub writes_stop : (front back : List Written) (old new : Option Files) (fault : WriteFault) → Writes front old new (Err fault) → Writes (front ++ back) old new (Err fault)
 writes_stop front back None new fault first = record { told = tt }
-writes_stop front back (Some old) new fault first =
-    let cut = first.told.2 in
-    record {
-      told = (
-        first.told.0,
-        first.told.1,
-        record {
-          before = cut.before;
-          this = cut.this;
-          after = cut.after ++ back;
-          stands = ap (λ (some : List Written). some ++ back) cut.stands ∙ append_assoc cut.before (cut.this ∷ cut.after) back;
-          others = cut.others;
-        },
-      );
-    }
+writes_stop front back (Some old) new fault first = record { told = (first.told.0, first.told.1, stop front back old first.told.0 fault first.told.2) }
 
 -- ---- the files of members
 

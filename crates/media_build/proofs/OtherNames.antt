@@ -9,6 +9,7 @@ use Rattle.load_base.specs.EqualityLaws.{equal_bytes}
 use Rattle.load_base.specs.Host.{Files}
 use Rattle.load_base.specs.Listed.{Listed}
 use Rattle.load_base.specs.declared.sink.WriteFault.{WriteFault}
+use Rattle.load_base.specs.declared.sink.WriteFault.TheVariants as writing
 use Rattle.media_check.specs.BuiltSets.{member_list}
 use Rattle.media_check.specs.HostNames.{loads_name, files_name}
 use Rattle.media_check.specs.declared.built.Built.{Built}
@@ -36,7 +37,10 @@ after_others (this ∷ later) files name apart =
 others_have : (written : List Written) (old new : Files) (result : Result (Unit {0}) WriteFault) (name : List ℕ) → AllByRecursion (λ w. name ≢ w.0) written → WritesFiles written old new result
     → new name ≡ old name
 others_have written old new (Ok x) name apart wrote = wrote name ∙ after_others written old name apart
-others_have written old new (Err fault) name apart wrote =
+others_have written old new (Err writing.Memory) name apart wrote =
+    let all = subst (AllByRecursion (λ (w : Written). name ≢ w.0)) wrote.stands apart in
+    wrote.have name ∙ after_others wrote.before old name (first_part (λ (w : Written). name ≢ w.0) wrote.before wrote.after all)
+others_have written old new (Err writing.Failed) name apart wrote =
     let all = subst (AllByRecursion (λ (w : Written). name ≢ w.0)) wrote.stands apart in
     wrote.others name (second_part (λ (w : Written). name ≢ w.0) wrote.before (wrote.this ∷ wrote.after) all).0
     ∙ after_others wrote.before old name (first_part (λ (w : Written). name ≢ w.0) wrote.before (wrote.this ∷ wrote.after) all)

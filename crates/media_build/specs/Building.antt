@@ -1,5 +1,5 @@
 -- What building a set answers: the set that a recipe names, or the first refusal (docs/FORMATS.md, "Recipe").
-use Rattle.std.specs.Prelude.{◌≡◌, ◌≢◌, ℕ, ◌+◌, ◌<◌, ◌≤◌, ◌⊎◌, List, [], ◌∷◌, ◌++◌, All, length, map, Option, Some, None, option_to_list, Result, Ok, Err, IsErrOf, IfErr}
+use Rattle.std.specs.Prelude.{◌≡◌, ◌≢◌, ℕ, ◌+◌, ◌<◌, ◌≤◌, ◌⊎◌, List, [], ◌∷◌, ◌++◌, All, length, map, Option, Some, None, option_to_list, Result, Ok, Err, IsErrOf, IfErr, OnOk}
 use Rattle.std.specs.List.{concat, flat_map, range_with_len, sum_by, AllByRecursion}
 use Rattle.load_base.specs.Counts.{Rose}
 use Rattle.load_base.specs.Host.{Files, longest_file}
@@ -143,15 +143,22 @@ abbrev pub TakesSources : {T : Type 0} → (others : ℕ) → (names : List (Lis
 TakesSources others names IsTaken (Ok x) files = CanTake files others names × IsTaken files x
 TakesSources others names IsTaken (Err fault) files = (fault ≡ Failed) ⊎ ((fault ≡ Memory) ⊎ IsFirstRefused files others names fault)
 
--- the host's count of faults hasn't fallen, and it rose where the host failed
+-- The host's count of faults hasn't fallen. A building that fails raised it, by one, and no other did: it stops at the first
+-- call that fails.
 pub record HasBuildCause {T : Type 0} (before now : ℕ) (result : Result T BuildFault) : Type 0 where
   pub later : before ≤ now
   pub failed : IsErrOf result Failed → Rose before now
+  pub once : now ≤ before + 1
+  pub ok : OnOk result (now ≡ before)
+  pub others : IfErr result (λ fault. fault ≢ Failed → now ≡ before)
 
 -- the same where sources are read, once all sizes were found right
 pub record HasSourceCause {T : Type 0} (before now : ℕ) (result : Result T BuildFault) : Type 0 where
   pub later : before ≤ now
   pub failed : IsErrOf result Failed → Rose before now
+  pub once : now ≤ before + 1
+  pub ok : OnOk result (now ≡ before)
+  pub others : IfErr result (λ fault. fault ≢ Failed → now ≡ before)
   pub after : IfErr result IsAfterSizes
 
 -- ---- what is built

@@ -5,6 +5,7 @@ use Rattle.std.specs.List.{flat_map, range_with_len}
 use Rattle.load_base.specs.Bytes.{same_bytes}
 use Rattle.load_base.specs.Host.{Files}
 use Rattle.load_base.specs.declared.sink.WriteFault.{WriteFault}
+use Rattle.load_base.specs.declared.sink.WriteFault.TheVariants as writing
 use Rattle.media_check.specs.BuiltSets.{member_list}
 use Rattle.media_check.specs.HostNames.{host_name, loads_name, files_name}
 use Rattle.media_check.specs.declared.built.Built.{Built}
@@ -50,7 +51,8 @@ abbrev pub after_writes : List Written → Files → Files
 after_writes [] files = files
 after_writes (this ∷ later) files = after_writes later (λ name. if same_bytes name this.0 then Some this.1 else files name)
 
--- One of the files wasn't written: those before it were, it may have anything, and each other name has what it had.
+-- The host failed at one of the files: those before it were written, it may have anything, and each other name has what it
+-- had.
 pub record IsCutShort (written : List Written) (old new : Files) : Type 0 where
   pub before : List Written
   pub this : Written
@@ -58,10 +60,18 @@ pub record IsCutShort (written : List Written) (old new : Files) : Type 0 where
   pub stands : written ≡ before ++ this ∷ after
   pub others : (name : List ℕ) → name ≢ this.0 → new name ≡ after_writes before old name
 
--- All were written in their order, or one of them wasn't.
+-- The first of the files were written, and nothing of the others.
+pub record IsPrefixWritten (written : List Written) (old new : Files) : Type 0 where
+  pub before : List Written
+  pub after : List Written
+  pub stands : written ≡ before ++ after
+  pub have : (name : List ℕ) → new name ≡ after_writes before old name
+
+-- All were written in their order, or the host failed at one of them, or memory ran out before one of them.
 abbrev pub WritesFiles : List Written → Files → Files → Result (Unit {0}) WriteFault → Type 0
 WritesFiles written old new (Ok x) = (name : List ℕ) → new name ≡ after_writes written old name
-WritesFiles written old new (Err fault) = IsCutShort written old new
+WritesFiles written old new (Err writing.Failed) = IsCutShort written old new
+WritesFiles written old new (Err writing.Memory) = IsPrefixWritten written old new
 
 -- The same of a host that may not tell its files; it goes on telling them.
 abbrev pub WritesTold : List Written → Option Files → Option Files → Result (Unit {0}) WriteFault → Type 0

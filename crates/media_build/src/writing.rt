@@ -19,9 +19,9 @@ use media_check::{Built, Placed};
 const LONGEST_NAME: usize = 256;
 
 /// Writes a set into this folder of the host, member by member: `LOADS.LUM`, `FILES.LUM`, and the
-/// member's files in the order of the set (docs/FORMATS.md). Where the host refuses a file, those
-/// before it were written, that one may have anything, and the others are as they were. It takes no
-/// memory of its own.
+/// member's files in the order of the set (docs/FORMATS.md). Where the host fails at a file, those
+/// before it were written, that one may have anything, and the others are as they were. Where the
+/// host is out of memory, that one is as it was too. It takes no memory of its own.
 #[tactic(auto, unfolding(crate::specs::HostWrites::written_files))]
 pub fn write<H: Host>(host: &mut H, folder: &[u8], built: &Built) -> Result<(), WriteFault>
     requires { length folder.now ≤ 150 }

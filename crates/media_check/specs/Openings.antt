@@ -1,5 +1,5 @@
 -- What an opening of a media set answers: the set, or the first refusal in reading order.
-use Rattle.std.specs.Prelude.{◌≡◌, ℕ, ◌+◌, ◌<◌, ◌≤◌, ◌⊎◌, List, [], ◌∷◌, ◌++◌, All, length, map, Result, Ok, Err, IsErrOf}
+use Rattle.std.specs.Prelude.{◌≡◌, ◌≢◌, ℕ, ◌+◌, ◌<◌, ◌≤◌, ◌⊎◌, List, [], ◌∷◌, ◌++◌, All, length, map, Result, Ok, Err, IsErrOf, IfErr, OnOk}
 use Rattle.std.specs.List.{sum_by}
 use Rattle.load_base.specs.Counts.{Rose}
 use Rattle.load_base.specs.Host.{Files, longest_file}
@@ -101,10 +101,14 @@ abbrev pub ReadsList : {L V : Type 0} → (L → V) → Grammar ListFault V → 
 ReadsList view format name result files =
     ReadsNames (name ∷ []) (λ files found. found_view view found ≡ found_in format (files name)) result files
 
--- the host's count of faults hasn't fallen, and it rose where the host failed
+-- The host's count of faults hasn't fallen. An opening that fails raised it, by one, and no other did: it stops at the first
+-- call that fails.
 pub record HasOpenCause {T : Type 0} (before now : ℕ) (result : Result T OpenFault) : Type 0 where
   pub later : before ≤ now
   pub failed : IsErrOf result Failed → Rose before now
+  pub once : now ≤ before + 1
+  pub ok : OnOk result (now ≡ before)
+  pub others : IfErr result (λ fault. fault ≢ Failed → now ≡ before)
 
 -- ---- the listed files
 

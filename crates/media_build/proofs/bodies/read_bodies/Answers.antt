@@ -16,7 +16,7 @@ loop-load-init g c =
     let small = headers_small lines c.requires.recipe c.requires.short in
     record {
       files = refl;
-      later = omega arith;
+      same = refl;
       so_far = no_bodies (g.H.Host.files c.args.host.now) lines c.new-loads.result c.args.headers (map body_view c.new-bodies.result.items) c.new-loads.ensures (rw c.new-bodies.ensures refl)
           (omega (arith, small, c.requires.headers));
     }
@@ -39,7 +39,7 @@ pub loop-load-preserved : goal.loop-load-preserved
 loop-load-preserved g c =
     record {
       files = c.in_ok-read.ensures.kept ∙ c.loop-load.invariant.files;
-      later = omega (arith, c.loop-load.invariant.later, c.in_ok-read.ensures.cause.later);
+      same = omega (arith, c.loop-load.invariant.same, c.in_ok-read.ensures.cause.ok);
       so_far = bodies_more (g.H.Host.files c.args.host.now) c.args.lines.now c.loop-load.loads c.next.new.self c.in-Some.load c.args.headers c.loop-load.total c.in_ok-read.read.1
           (map body_view c.loop-load.bodies.items) c.in_ok-read.read.0 c.loop-load.invariant.so_far c.in-Some.ensures c.in_ok-read.ensures.adds
           (rw c.loop-load.invariant.files at c.in_ok-read.ensures.takes);

@@ -7,7 +7,7 @@ use Rattle.media_build.proofs.bodies.read_bodies.Given as goal
 abbrev pub invariant-loop-load : goal.invariant-loop-load
 invariant-loop-load g l = record {
   files : g.H.Host.files l.host ≡ g.H.Host.files l.fn.host;
-  later : g.H.Host.faults l.fn.host ≤ g.H.Host.faults l.host;
+  same : g.H.Host.faults l.host ≡ g.H.Host.faults l.fn.host;
   so_far : BodiesSoFar (g.H.Host.files l.fn.host) l.lines l.loads l.headers l.total (map body_view l.bodies.items);
 }
 

@@ -29,7 +29,7 @@ loop-line-preserved g c =
     let more = statements_more own i line c.loop-line-test.true c.line-item.is in
     record {
       files = c.in_ok-read.ensures.kept ∙ c.loop-line.invariant.files;
-      later = omega (arith, c.loop-line.invariant.later, c.in_ok-read.ensures.cause.later);
+      same = omega (arith, c.loop-line.invariant.same, c.in_ok-read.ensures.cause.ok);
       reads = subst (λ (l : List Statement). ReadsFiles l c.args.others read.0 read.1) (sym more)
           (files_more (statements (take i own)) line.statement c.args.others c.loop-line.total read.1 c.loop-line.files read.0 c.loop-line.invariant.reads c.in_ok-read.ensures.reads);
       so_far = subst (λ (l : List Statement). ForSome o (SourcesSoFar l c.args.others read.0 read.1)) (sym more)

@@ -3,6 +3,13 @@ use Rattle.media_build.specs.HostWrites.{written_member}
 use Rattle.media_build.proofs.HostFiles.{writes_then, writes_stop}
 use Rattle.media_build.proofs.writing.write_member.Goals as goal
 
+pub returns-in_err-write_list-clause-files : goal.returns-in_err-write_list-clause-files
+unfolding written_member
+returns-in_err-write_list-clause-files g c =
+    let p = err_from_is_err_and c.from_residual.result c.from_residual.ensures.1 in
+    let loads = rw (c.list_of-loads.ensures, c.as_slice.ensures) at c.in_err-write_list.ensures.files in
+    rw (p.1, p.2) (writes_stop _ _ _ _ _ loads)
+
 pub returns-in_err-write_list-2-clause-files : goal.returns-in_err-write_list-2-clause-files
 unfolding written_member
 returns-in_err-write_list-2-clause-files g c =

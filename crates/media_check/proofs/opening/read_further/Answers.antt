@@ -26,7 +26,7 @@ loop-index-preserved g c =
     let folder = c.args.folder.now in
     record {
       kept = c.in_ok-lists.ensures.kept ∙ c.loop-index.invariant.kept;
-      later = omega (arith, c.loop-index.invariant.later, c.in_ok-lists.ensures.cause.later);
+      same = omega (arith, c.loop-index.invariant.same, c.in_ok-lists.ensures.cause.ok);
       few = omega (arith, c.loop-index.invariant.few, simp length-append at (ap length c.in_ok-push.ensures.ok));
       read =
           subst (λ (members : List ℕ). ForSome o (ReadsMembers folder members (Ok c.push.new.self))) (sym (range_more 2 c.loop-index.index))

@@ -33,7 +33,7 @@ loop-entry-preserved g c =
     let i = c.loop-entry.entry-index in
     record {
       files = c.in_ok-total.ensures.kept ∙ c.loop-entry.invariant.files;
-      later = omega (arith, c.loop-entry.invariant.later, c.in_ok-total.ensures.cause.later);
+      same = omega (arith, c.loop-entry.invariant.same, c.in_ok-total.ensures.cause.ok);
       small = c.in_ok-total.ensures.small;
       short = c.in_ok-total.ensures.short;
       names =

@@ -11,7 +11,7 @@ use Rattle.media_check.proofs.opening.read_listed.Given as goal
 abbrev pub invariant-loop-entry : goal.invariant-loop-entry
 invariant-loop-entry g l = record {
   files : g.H.Host.files l.host ≡ g.H.Host.files l.fn.host;
-  later : g.H.Host.faults l.fn.host ≤ g.H.Host.faults l.host;
+  same : g.H.Host.faults l.host ≡ g.H.Host.faults l.fn.host;
   small : l.total ≤ largest_set;
   short : All IsShortFile (values l.kept);
   names : keys l.kept ≡ map file_name (take l.entry-index l.entries);
