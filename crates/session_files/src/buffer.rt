@@ -1,5 +1,5 @@
 //! What is kept of a header or a protocol file while it arrives.
-ghost use Rattle.std.specs.Prelude.{◌≡◌, ◌≤◌, OnOk, length};
+ghost use Rattle.std.specs.Prelude.{◌≡◌, ◌≤◌, OnErr, OnOk, length};
 ghost use Rattle.session_rules.specs.Buffers.{Buffer, buffer_size, buffered_more, empty_buffer};
 ghost use Rattle.session_rules.specs.Buffers.{is_too_long};
 ghost use Rattle.session_files.specs.Prefixes.{IsFilled};
@@ -58,14 +58,16 @@ impl FileBuffer {
         self.count = 0;
     }
 
-    /// Takes the next bytes of the file.
+    /// Takes the next bytes of the file. A refusal leaves it as it was.
     pub fn take(&mut self, bytes: &[u8]) -> Result<(), NoMemory>
-        ensures { OnOk result (self.new ≡ buffered_more self.old bytes.now) }
+        ensures takes { OnOk result (self.new ≡ buffered_more self.old bytes.now) }
+        ensures kept { OnErr result (self.new ≡ self.old) }
     {
+        // No file has so many bytes that a u64 can't count them.
+        let count = self.count.checked_add(bytes.len() as u64).ok_or(NoMemory)?;
         let spare = MOST_BYTES.saturating_sub(self.prefix.len());
         self.prefix.extend(&bytes[..spare.min(bytes.len())])?;
-        // No file has so many bytes that a u64 can't count them.
-        self.count = self.count.checked_add(bytes.len() as u64).ok_or(NoMemory)?;
+        self.count = count;
         Ok(())
     }
 

@@ -20,7 +20,7 @@ returns-in_ok-take-in-ReadsFile-clause-brings g c = λ active s x kept installs.
 
 pub returns-in_ok-take-in_default : goal.returns-in_ok-take-in_default
 returns-in_ok-take-in_default g c = record {
-  takes = λ active. row_takes active c.args.self.now.row c.args.self.now.arriving c.take-in_default.new.self c.args.payload.now c.in_default.not-ReadsFile c.in_ok-take-in_default.ensures;
+  takes = λ active. row_takes active c.args.self.now.row c.args.self.now.arriving c.take-in_default.new.self c.args.payload.now c.in_default.not-ReadsFile c.in_ok-take-in_default.ensures.takes;
   stage = c.requires.stage;
   brings = λ active s x kept installs.
       passes_takes c.args.store.now (g.K.Disk.state c.args.disk.now) s x.row x.arrived c.args.payload.now (Ok tt) (λ u is. not_reading active c.args.self.now.row c.in_default.not-ReadsFile u (ap (λ (y : TargetSession). y.row) kept ∙ is)) installs;
