@@ -1,6 +1,7 @@
 -- How a store goes on over several calls.
 use Rattle.std.proofs.Common.{◌≡◌, ◌+◌, Result, Ok, IfOk, inl, inr, refl, ap, ◌∙◌, arith}
 use Rattle.std.proofs.lemmas.Result.{IfOk-weaker}
+use Rattle.disk_model.specs.MomentLaws.{power_kept}
 use Rattle.disk_model.specs.State.{DiskState}
 use Rattle.bank_store.specs.declared.store.Store.{Store}
 use Rattle.bank_store.specs.DiskWrites.{IsRunning, TimeGoesOn}
@@ -98,11 +99,7 @@ time_after a b c one two = record {
   later = omega (arith, one.later, two.later);
   keeps = λ t u image may. two.keeps t u image (one.keeps t u image may);
   earlier = λ t u image early may. one.earlier t u image early (two.earlier t u image (omega (arith, early, one.later)) may);
-  power = record {
-    steady = two.power.steady ∙ one.power.steady;
-    armings = two.power.armings ∙ one.power.armings;
-    armed = two.power.armed ∙ one.power.armed;
-  };
+  power = power_kept a b c one.power two.power;
 }
 
 pub writes_after : {S T : Type 0} (a b c : DiskState) (x : S) (result : Result T Down) → Writes a b (Ok x) → Writes b c result → Writes a c result
