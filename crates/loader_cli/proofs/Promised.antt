@@ -6,7 +6,7 @@ use Rattle.exchange_trace.specs.Lines.{Line}
 use Rattle.media_check.specs.Sets.{SetView}
 use Rattle.loader_cli.specs.Commands.{FormatsDisk, IsNo}
 use Rattle.loader_cli.specs.Replays.{LeavesFirstOrGood}
-use Rattle.loader_cli.specs.Runs.{Run, Says, Ends, EndsAsPromised, LeavesSet, NothingFails, ReplaysSound, Succeeds, TellsRun, TellsUpload, TriesSound, WritesInto}
+use Rattle.loader_cli.specs.Runs.{Run, Says, Ends, EndsAsPromised, HidesNoFailure, LeavesSet, NothingFails, ReplaysSound, Succeeds, TellsRun, TellsUpload, TriesSound, WritesInto}
 use Rattle.loader_cli.specs.Runs.Ends.{told, sink_failed, no_memory}
 use Rattle.loader_cli.specs.declared.top_call.Ended.{Ended}
 use Rattle.loader_cli.specs.declared.replay.Telling.{Telling}
@@ -59,9 +59,10 @@ leaves_set laws run ended folder files into tells zero (sink_failed _ _ _ _ _ _ 
 leaves_set laws run ended folder files into tells zero (no_memory is _) = absurd (apart ended.status 5 zero is)
 
 pub as_promised : (laws : BuildingLaws) → UploadLaws → (run : Run) (ended : Ended) → EndLaws run.work.disk run.work.disk_after → (IsNo FormatsDisk run.work.words → LeavesFirstOrGood run.work.disk run.work.disk_after) → Ends run ended
-    → EndsAsPromised run ended
-as_promised laws uploads run ended end_laws leaves ends = record {
+    → HidesNoFailure run ended → EndsAsPromised run ended
+as_promised laws uploads run ended end_laws leaves ends tells = record {
   ends = ends;
+  hides_nothing = tells;
   finds_nothing = λ folder files premise. succeeds run ended _ premise.answers (λ status text says. clean_said run folder files status text premise says) ends;
   builds_it = λ recipe folder files lines premise. succeeds run ended _ premise.answers (λ status text says. build_said laws run recipe folder files lines status text premise says) ends;
   makes_it = λ number folder premise. succeeds run ended _ premise.answers (λ status text says. make_said run number folder status text premise says) ends;

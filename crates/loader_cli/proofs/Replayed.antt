@@ -1,5 +1,5 @@
 -- What a run of a script comes to.
-use Rattle.std.proofs.Common.{◌≡◌, ℕ, List, [], ◌++◌, Option, Some, None, refl, sym, ap, subst, ◌∙◌, ◌<◌}
+use Rattle.std.proofs.Common.{◌≡◌, inl, inr, ℕ, List, [], ◌++◌, Option, Some, None, refl, sym, ap, subst, ◌∙◌, ◌<◌}
 use Rattle.std.specs.Prelude.{All, IfOk, Result, Ok, Err, map, option_map}
 use Rattle.std.proofs.lemmas.List.{append-nil}
 use Rattle.std.proofs.lemmas.List.{get_or-map, length-map}
@@ -22,10 +22,10 @@ use Rattle.upload_replay.specs.Powers.{ArmsAsGiven, armed_after, armings_after, 
 use Rattle.upload_replay.specs.declared.outcome.Drive.{Drive}
 use Rattle.upload_replay.specs.declared.outcome.DriveFault.TheVariants.{NoConfig}
 use Rattle.load_base.specs.declared.list.NoMemory.{NoMemory}
-use Rattle.loader_cli.specs.Answers.{answered_of}
+use Rattle.loader_cli.specs.Answers.{HidesNoFault, answered_of, answered_status, status_of}
 use Rattle.loader_cli.specs.declared.answer.Answer.{Answer}
 use Rattle.loader_cli.specs.declared.answer.Answered.{Answered}
-use Rattle.loader_cli.specs.Replays.{CountsPower, HoldsScriptRun, IsScriptRun, RunSeen, RunsScript, RunsTo, Tells, link_of, run_seen, setting_of}
+use Rattle.loader_cli.specs.Replays.{CountsPower, HoldsScriptRun, IsAnyRun, IsScriptRun, RunSeen, RunsScript, RunsTo, Tells, link_of, run_seen, setting_of}
 use Rattle.loader_cli.specs.Replays.RunsTo.{ended, unknown, no_config}
 use Rattle.loader_cli.specs.Texts.{no_configuration}
 use Rattle.loader_cli.specs.declared.replay.Telling.{Telling}
@@ -69,18 +69,19 @@ held_run set script start old new run fits is moments = record {
 
 pub ran_to : (told : Telling) (set : SetView) (script : List Line) (old new : DiskState) (run : Drive) (status : ℕ) (text : List ℕ) → HoldsSome old
     → RunsScript set script old new (run_seen run) → HoldsStanding run.standing new → CountsStops (steps_of run.trace.items) run.standing old new
-    → CountsPower (steps_of run.trace.items) old new → Tells told (run_seen run) (option_map standing_view run.standing) status text
+    → IsAnyRun set old new (run_seen run) → Tells told (run_seen run) (option_map standing_view run.standing) status text
     → RunsTo told set script old new (Some (run_seen run)) status text
-ran_to told set script old new run status text held runs holds stops counts tells = by run.standing refl holds stops.unknown tells
+ran_to told set script old new run status text held runs holds stops any tells = by run.standing refl holds stops.unknown tells
   where
     by : (standing : Option Standing) → run.standing ≡ standing → HoldsStanding standing new → FailedIfUnknown standing old.faults (disk_stops (steps_of run.trace.items)) new
         → Tells told (run_seen run) (option_map standing_view standing) status text → RunsTo told set script old new (Some (run_seen run)) status text
-    by None is holds failed tells = unknown (run_seen run) held refl (ap (option_map standing_view) is) runs counts failed.0 failed.1 tells.0 tells.1
-    by (Some standing) is holds failed tells = ended (run_seen run) (standing_view standing) held refl (ap (option_map standing_view) is) runs holds counts tells.0 tells.1
+    by None is holds failed tells = unknown (run_seen run) held refl (ap (option_map standing_view) is) runs any failed.0 failed.1 tells.0 tells.1
+    by (Some standing) is holds failed tells = ended (run_seen run) (standing_view standing) held refl (ap (option_map standing_view) is) runs holds any tells.0 tells.1
 
-pub refused_to : (told : Telling) (set : SetView) (script : List Line) (old new : DiskState) (fault : RecoverFault) → IsNoConfig (NoConfig fault) old new
+pub refused_to : (told : Telling) (set : SetView) (script : List Line) (old new : DiskState) (link link_then : LinkState) (fault : RecoverFault) → IsNoConfig (NoConfig fault) old new link link_then
     → RunsTo told set script old new None 8 (no_configuration fault)
-refused_to told set script old new fault refused = no_config fault refl refused.0 refused.1 refl refl
+refused_to told set script old new link link_then fault refused =
+    no_config fault refl refused.0 (elim refused.1 [ inl never ↦ inl never.held | inr since ↦ inr since ]) refl refl
 
 -- what holds of all that is made of a list's elements
 pub each_of_map : {X Y : Type 0} (P : Y → Type 0) (f : X → Y) (xs : List X) → All P (map f xs) → All (λ x. P (f x)) xs
@@ -97,3 +98,21 @@ alone_so r s P Q is so holds = subst (λ (t : Result Answered NoMemory). IfOk t 
     by : (r : Result Answer NoMemory) → IfOk r P → IfOk (answered_of r) Q
     by (Ok answer) holds = so answer holds
     by (Err fault) holds = tt
+
+-- nor does it hide a failure of the host then
+pub alone_hides : (r : Result Answer NoMemory) (s : Result Answered NoMemory) (before now : ℕ) → s ≡ answered_of r → HidesNoFault status_of before now r
+    → HidesNoFault answered_status before now s
+alone_hides r s before now is hides = subst (λ (t : Result Answered NoMemory). HidesNoFault answered_status before now t) (sym is) (by r hides)
+  where
+    by : (r : Result Answer NoMemory) → HidesNoFault status_of before now r → HidesNoFault answered_status before now (answered_of r)
+    by (Ok answer) hides = record { answered = hides.answered; no_memory = tt }
+    by (Err fault) hides = record { answered = tt; no_memory = hides.no_memory }
+
+-- where the host didn't fail, nothing is hidden
+pub none_failed : {T : Type 0} (told : T → ℕ) (before now : ℕ) (result : Result T NoMemory) → now ≡ before → HidesNoFault told before now result
+none_failed told before now (Ok x) same = record { answered = λ other. same; no_memory = tt }
+none_failed told before now (Err fault) same = record { answered = tt; no_memory = same }
+
+-- nor where it didn't fail before a call that hides nothing
+pub hides_after : {T : Type 0} (told : T → ℕ) (before mid now : ℕ) (result : Result T NoMemory) → mid ≡ before → HidesNoFault told mid now result → HidesNoFault told before now result
+hides_after told before mid now result same hides = subst (λ (n : ℕ). HidesNoFault told n now result) same hides

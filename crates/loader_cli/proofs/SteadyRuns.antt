@@ -26,7 +26,7 @@ use Rattle.upload_replay.specs.Powers.{RoseBy, disk_stops, stops_in, stops_noted
 use Rattle.upload_replay.specs.Texts.{datagrams_line, is_post, sessions_from}
 use Rattle.loader_cli.specs.FixedOutputs.{GivesRun, IsNoLoss, NeverGoesDown, sessions_by, text_by}
 use Rattle.loader_cli.specs.FixedOutputs.GivesRun.{held, unheld}
-use Rattle.loader_cli.specs.Replays.{CountsPower, HoldsScriptRun, IsScriptRun, LeavesFirstOrGood, RunSeen, RunsScript, RunsTo, StatusOfRun, setting_of, told_as}
+use Rattle.loader_cli.specs.Replays.{HoldsScriptRun, IsAnyRun, IsScriptRun, LeavesFirstOrGood, RunSeen, RunsScript, RunsTo, StatusOfRun, setting_of, told_as}
 use Rattle.loader_cli.specs.Replays.RunsTo.{disk_failed, ended, no_config, unknown}
 use Rattle.loader_cli.specs.declared.replay.Telling.{Telling}
 use Rattle.loader_cli.specs.declared.replay.Telling.TheVariants as telling
@@ -109,7 +109,7 @@ some_same : {A : Type 0} {a b : A} → Some a ≡ Some b → a ≡ b
 some_same same = cc
 
 module _ (fixed : WholeRunsAreFixed) (active : ActiveIsFixed) (told : Telling) (set : SetView) (script : List Line) (start : StandingView) (image : Image) (old new : DiskState) (run : RunSeen)
-    (reads : old.reads ≡ Some image) (holds : HoldsConfig image start) (settled : IsSettled old) (runs : RunsScript set script old new run) (counts : CountsPower (steps_of run.trace) old new)
+    (reads : old.reads ≡ Some image) (holds : HoldsConfig image start) (settled : IsSettled old) (runs : RunsScript set script old new run) (counts : IsAnyRun set old new run)
     (answers : ¬ Rose old.faults new.faults) (up : NeverGoesDown (steps_of run.trace)) where
   script_run : IsScriptRun set script start run
   script_run = (runs start image reads holds).0 (inr settled)
@@ -118,7 +118,7 @@ module _ (fixed : WholeRunsAreFixed) (active : ActiveIsFixed) (told : Telling) (
   throughout = (runs start image reads holds).1 settled
 
   never : NeverFails (steps_of run.trace)
-  never = never_fails (setting_of set start) (steps_of run.trace) script_run.is.trace.noted throughout.moments.boots up (never_stops (disk_stops (steps_of run.trace)) old.faults new.faults counts.stops answers)
+  never = never_fails (setting_of set start) (steps_of run.trace) script_run.is.trace.noted throughout.moments.boots up (never_stops (disk_stops (steps_of run.trace)) old.faults new.faults counts.counts.stops answers)
 
   pub steps_are : steps_of run.trace ≡ whole_run (setting_of set start) script
   steps_are = fixed (setting_of set start) script (steps_of run.trace) (record {

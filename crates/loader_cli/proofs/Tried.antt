@@ -17,7 +17,7 @@ use Rattle.upload_replay.specs.Endings.{HeldNone, HoldsNone, HoldsSome}
 use Rattle.replay_rules.specs.BothEnds.{Setting}
 use Rattle.upload_replay.specs.Moments.{AreClocks, HoldsThroughout}
 use Rattle.upload_replay.specs.Powers.{RoseBy, armed_after, armings_after, disk_stops}
-use Rattle.loader_cli.specs.Replays.{CountsPower, RunSeen, RunsScript, RunsTo, setting_of}
+use Rattle.loader_cli.specs.Replays.{CountsPower, IsAnyRun, RunSeen, RunsScript, RunsTo, setting_of}
 use Rattle.loader_cli.specs.Replays.RunsTo.{ended, unknown, disk_failed, no_config}
 use Rattle.loader_cli.specs.declared.replay.Telling.{Telling}
 
@@ -36,6 +36,9 @@ counts_since steps old mid new read counts = record {
   armings = counts.armings ∙ ap (armings_after (happenings_of steps)) read.power.armings;
   armed = counts.armed ∙ ap (armed_after (happenings_of steps)) read.power.armed;
 }
+
+any_since : (set : SetView) (old mid new : DiskState) (run : RunSeen) → OnlyReads old mid → IsAnyRun set mid new run → IsAnyRun set old new run
+any_since set old mid new run read any = record { counts = counts_since (steps_of run.trace) old mid new read any.counts; loader = any.loader; ordered = any.ordered }
 
 -- ---- the run
 
@@ -77,9 +80,9 @@ runs_since set script old mid new run read same runs = λ start image told holds
 pub run_since : (told : Telling) (set : SetView) (script : List Line) (old mid new : DiskState) (handed : Option RunSeen) (status : ℕ) (text : List ℕ)
     → OnlyReads old mid → mid.reads ≡ old.reads → RunsTo told set script mid new handed status text → RunsTo told set script old new handed status text
 run_since told set script old mid new handed status text read same (ended run standing held is stands runs holds counts said tells) =
-    ended run standing (held_since old mid same held) is stands (runs_since set script old mid new run read same runs) holds (counts_since (steps_of run.trace) old mid new read counts) said tells
+    ended run standing (held_since old mid same held) is stands (runs_since set script old mid new run read same runs) holds (any_since set old mid new run read counts) said tells
 run_since told set script old mid new handed status text read same (unknown run held is stands runs counts failed stopped said tells) =
-    unknown run (held_since old mid same held) is stands (runs_since set script old mid new run read same runs) (counts_since (steps_of run.trace) old mid new read counts)
+    unknown run (held_since old mid same held) is stands (runs_since set script old mid new run read same runs) (any_since set old mid new run read counts)
     (rose_since (disk_stops (steps_of run.trace) + 1) old.faults mid.faults new.faults read.faults failed) stopped said tells
 run_since told set script old mid new handed status text read same (disk_failed is failed stopped clock power said tells) =
     disk_failed is (rose_since 1 old.faults mid.faults new.faults read.faults failed) stopped (clock ∙ read.clock) (power_kept old mid new read.power power) said tells

@@ -26,7 +26,7 @@ use Rattle.generated_uploads.specs.GeneratedMedia.{IsGeneratedSet, uploaded_load
 use Rattle.generated_uploads.specs.GeneratedUploads.{GeneratedUploadsComplete, IsGeneratedUpload, IsOfTrial, IsOneUpload, OnlyTrialHappens, trial_script}
 use Rattle.upload_replay.specs.Endings.{HeldNone, HoldsNone, HoldsSome}
 use Rattle.upload_replay.specs.Powers.{RoseBy, disk_stops, stops_in, stops_noted}
-use Rattle.loader_cli.specs.Replays.{CountsPower, HoldsScriptRun, IsCompleted, IsScriptRun, LeavesFirstOrGood, RunSeen, RunsScript, RunsTo, StatusOfRun, setting_of, told_as}
+use Rattle.loader_cli.specs.Replays.{HoldsScriptRun, IsAnyRun, IsCompleted, IsScriptRun, LeavesFirstOrGood, RunSeen, RunsScript, RunsTo, StatusOfRun, setting_of, told_as}
 use Rattle.loader_cli.specs.Replays.RunsTo.{disk_failed, ended, no_config, unknown}
 use Rattle.loader_cli.specs.Replays.StatusOfRun.{all_completed, not_completed}
 use Rattle.loader_cli.specs.Runs.{Run, Says, TriesSound}
@@ -112,13 +112,13 @@ module _ (run : Run) (number : ℕ) (is : TriesSound run number) (uploads : Uplo
     script = trial_script is.start.identity
 
     uploaded : (seen : RunSeen) (last : StandingView) → run.work.handed ≡ Some seen → seen.standing ≡ Some last → RunsScript set script run.work.disk run.work.disk_after seen
-        → CountsPower (steps_of seen.trace) run.work.disk run.work.disk_after → StatusOfRun seen.sessions status → text ≡ told_as Report seen.sessions seen.trace last → WasUploaded run number status text
+        → IsAnyRun set run.work.disk run.work.disk_after seen → StatusOfRun seen.sessions status → text ≡ told_as Report seen.sessions seen.trace last → WasUploaded run number status text
     uploaded seen last handed stands runs counts by_sessions told =
         let both = runs is.start is.image is.reads is.holds in
         let ran : IsScriptRun set script is.start seen = both.0 (inr is.settled) in
         let held : HoldsScriptRun set script is.start run.work.disk run.work.disk_after seen = both.1 is.settled in
         let follows = (ran.is.follows script (record { posted = refl; given = refl; plan = refl; follows = tt })).follows in
-        let still = none_stops (disk_stops (steps_of seen.trace)) run.work.disk.faults run.work.disk_after.faults is.disk_answers counts.stops in
+        let still = none_stops (disk_stops (steps_of seen.trace)) run.work.disk.faults run.work.disk_after.faults is.disk_answers counts.counts.stops in
         let upload : IsGeneratedUpload number set (setting_of set is.start) (steps_of seen.trace) = record {
           is_set = is_set;
           media = refl;

@@ -1,5 +1,5 @@
 -- The status and the text of what a run answers (docs/FORMATS.md, "Printed text").
-use Rattle.std.specs.Prelude.{ℕ, List, codes, None, Result, Ok, Err}
+use Rattle.std.specs.Prelude.{◌≡◌, ◌≢◌, ℕ, List, codes, None, Result, Ok, Err, IfErr, IfOk}
 use Rattle.load_base.specs.declared.list.NoMemory.{NoMemory}
 use Rattle.loader_cli.specs.Texts.{refused_words, refused_input, disk_fault, host_fault, no_configuration}
 use Rattle.loader_cli.specs.declared.answer.Answer.{Answer}
@@ -42,3 +42,12 @@ text_of (NoConfiguration fault) = no_configuration fault
 abbrev pub answered_of : Result Answer NoMemory → Result Answered NoMemory
 answered_of (Ok answer) = Ok (record { answer = answer; drive = None })
 answered_of (Err fault) = Err fault
+
+-- the status of the answer beside a run
+abbrev pub answered_status : Answered → ℕ
+answered_status said = status_of said.answer
+
+-- A failure of the host is told: its count of faults is what it was, unless the answer has status 4.
+pub record HidesNoFault {T : Type 0} (told : T → ℕ) (before now : ℕ) (result : Result T NoMemory) : Type 0 where
+  pub answered : IfOk result (λ said. told said ≢ 4 → now ≡ before)
+  pub no_memory : IfErr result (λ fault. now ≡ before)

@@ -30,6 +30,11 @@ abbrev pub ReadsInputs : (folder name : List ℕ) → Option Files → (before a
 ReadsInputs folder name files before after (Ready set script) = HasInputs folder name files (set_view set) script
 ReadsInputs folder name files before after (Refused answer) = RefusesInputs folder name files before after (status_of answer) (text_of answer)
 
+-- the status of the answer of a run whose inputs are refused
+abbrev pub inputs_status : Inputs → ℕ
+inputs_status (Ready set script) = 0
+inputs_status (Refused answer) = status_of answer
+
 -- the host's name of a list of member 1
 abbrev pub list_name : (folder list : List ℕ) → List ℕ
 list_name folder list = host_name folder 1 (codes "\\") list

@@ -38,7 +38,7 @@ use Rattle.session_completion.specs.FinishedRuns.{IsComplete}
 use Rattle.completion_reports.specs.Reports.{AllReportsAreTrue}
 use Rattle.run_promises.specs.Promises.{CanBeTold, ChangesByGoodLoads, IsLeftToLastFinish, TellsTrue}
 use Rattle.upload_replay.specs.declared.outcome.Drive.{Drive}
-use Rattle.upload_replay.specs.Drives.{IsRun, NeverBoots}
+use Rattle.upload_replay.specs.Drives.{IsLoadersRun, IsRun, NeverBoots}
 use Rattle.upload_replay.specs.Endings.{HeldNone, HoldsNone, HoldsSome}
 use Rattle.upload_replay.specs.Moments.{HoldsThroughout, LeavesGood}
 use Rattle.upload_replay.specs.Orders.{IsInOrder}
@@ -112,6 +112,13 @@ pub record CountsPower (steps : List Step) (old new : DiskState) : Type 0 where
   pub armings : new.armings ≡ armings_after (happenings_of steps) old.armings
   pub armed : new.armed ≡ armed_after (happenings_of steps) old.armed
 
+-- What is promised of each run that comes to its end, whatever its disk tells, and whatever a power loss could have left of it
+-- at first: how often it failed and was armed; what the loader did, and its sessions; and the order of the trace's lines.
+pub record IsAnyRun (set : SetView) (old new : DiskState) (run : RunSeen) : Type 0 where
+  pub counts : CountsPower (steps_of run.trace) old new
+  pub loader : IsLoadersRun (media_of set) (steps_of run.trace) run.sessions
+  pub ordered : IsInOrder run.trace
+
 abbrev pub IsCompleted : EndedSession → Type 0
 IsCompleted session = session.outcome ≡ Completed
 
@@ -144,10 +151,10 @@ Tells told run (Some standing) status text = StatusOfRun run.sessions status × 
 pub data RunsTo (told : Telling) (set : SetView) (script : List Line) (old new : DiskState) (handed : Option RunSeen) (status : ℕ) (text : List ℕ) : Type 0 where
   -- 0 or 1: the run came to its end, on a disk that held a configuration, and holds this one then
   ended : (run : RunSeen) (standing : StandingView) → HoldsSome old → handed ≡ Some run → run.standing ≡ Some standing → RunsScript set script old new run
-      → ForSome new.reads (λ image. HoldsConfig image standing) → CountsPower (steps_of run.trace) old new → StatusOfRun run.sessions status
+      → ForSome new.reads (λ image. HoldsConfig image standing) → IsAnyRun set old new run → StatusOfRun run.sessions status
       → text ≡ told_as told run.sessions run.trace standing → RunsTo told set script old new handed status text
   -- 5: the run came to its end, but the disk failed once more as it was recovered
-  unknown : (run : RunSeen) → HoldsSome old → handed ≡ Some run → run.standing ≡ None → RunsScript set script old new run → CountsPower (steps_of run.trace) old new
+  unknown : (run : RunSeen) → HoldsSome old → handed ≡ Some run → run.standing ≡ None → RunsScript set script old new run → IsAnyRun set old new run
       → RoseBy (disk_stops (steps_of run.trace) + 1) old.faults new.faults → new.stopped ≡ true → status ≡ 5 → text ≡ disk_fault
       → RunsTo told set script old new handed status text
   -- 5: the disk failed before anything happened, and nothing was written

@@ -167,6 +167,12 @@ pub data Ends (run : Run) (ended : Ended) : Type 0 where
   -- 6: out of memory
   no_memory : ended.status ≡ 6 → run.work.handed ≡ None → Ends run ended
 
+-- A failure of the host or of the sink is told, unless memory runs out before it can be: the host's count of faults is what
+-- it was where the status isn't 4, 6 or 7, and that of the sink where it isn't 7.
+pub record HidesNoFailure (run : Run) (ended : Ended) : Type 0 where
+  pub host : ended.status ≢ 4 → ended.status ≢ 6 → ended.status ≢ 7 → run.work.host_faults_after ≡ run.work.host_faults
+  pub sink : ended.status ≢ 7 → run.sink_faults_after ≡ run.sink_faults
+
 -- ---- where a run can't but succeed
 
 -- exactly this text went out, with status 0, or it is out of memory
@@ -278,9 +284,11 @@ pub data IsWritten (words : List (List ℕ)) (told : Files) (name : List ℕ) : 
 
 -- ---- the whole
 
--- How a run ends; where it can't but succeed; and what it leaves where it says that it built or made a set.
+-- How a run ends, and that a failure is told; where it can't but succeed; and what it leaves where it says that it built or
+-- made a set.
 pub record EndsAsPromised (run : Run) (ended : Ended) : Type 0 where
   pub ends : Ends run ended
+  pub hides_nothing : HidesNoFailure run ended
   pub finds_nothing : (folder : List ℕ) (told : Files) → ChecksCleanSet run folder told → Succeeds run ended (findings_text [])
   pub builds_it : (recipe folder : List ℕ) (told : Files) (lines : List RecipeLine) → BuildsRightSet run recipe folder told lines
       → Succeeds run ended (built_line (length (loads_of lines)) (length (recipe_bodies (sources_in told) lines)))

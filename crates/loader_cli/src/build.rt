@@ -6,7 +6,7 @@ ghost use Rattle.media_build.specs.Lines.{is_load as begins_load};
 ghost use Rattle.media_build.specs.NoFindings.{built_view};
 ghost use Rattle.media_build.specs.RecipeSets.{loads_of, recipe_set};
 ghost use Rattle.media_build.specs.WrittenFolders.{IsNameIn, KeepsAllBut};
-ghost use Rattle.loader_cli.specs.Answers.{status_of, text_of};
+ghost use Rattle.loader_cli.specs.Answers.{HidesNoFault, status_of, text_of};
 ghost use Rattle.loader_cli.specs.Builds.{Builds, BuildsBytes, BuildsLines, Makes, WritesSet};
 ghost use Rattle.loader_cli.specs.Builds.{IsNameSaid, IsNameBuilt, IsNameMade};
 
@@ -32,6 +32,7 @@ pub(crate) fn build<'w, H: Host>(
       faults = H.faults host.old;
       faults_after = H.faults host.new;
     }) (status_of answer) (text_of answer)) }
+    ensures faults { HidesNoFault status_of (H.faults host.old) (H.faults host.new) result }
     // In every ending no other name is set.
     ensures others { ForSome (H.files host.old) (λ told.
         KeepsAllBut (IsNameBuilt recipe.now folder.now told) told (H.files host.new)) }
@@ -61,6 +62,7 @@ fn build_text<'w, H: Host>(
       faults = H.faults host.old;
       faults_after = H.faults host.new;
     }) (status_of answer) (text_of answer)) }
+    ensures faults { HidesNoFault status_of (H.faults host.old) (H.faults host.new) result }
     // In every ending no other name is set.
     ensures others { ForSome (H.files host.old) (λ told.
         KeepsAllBut (IsNameSaid folder.now text.now told) told (H.files host.new)) }
@@ -92,6 +94,7 @@ fn build_recipe<'w, H: Host>(
       faults = H.faults host.old;
       faults_after = H.faults host.new;
     }) (status_of answer) (text_of answer)) }
+    ensures faults { HidesNoFault status_of (H.faults host.old) (H.faults host.new) result }
     // In every ending no other name is set.
     ensures others { ForSome (H.files host.old) (λ told.
         KeepsAllBut (IsNameIn folder.now (recipe_set (sources_in told) recipe.now)) told
@@ -148,6 +151,7 @@ pub(crate) fn make<'w, H: Host>(
       faults = H.faults host.old;
       faults_after = H.faults host.new;
     }) (status_of answer) (text_of answer)) }
+    ensures faults { HidesNoFault status_of (H.faults host.old) (H.faults host.new) result }
     // In every ending no other name is set.
     ensures others { ForSome (H.files host.old) (λ told.
         KeepsAllBut (IsNameMade number folder.now) told (H.files host.new)) }
@@ -171,6 +175,7 @@ fn write_set<'w, H: Host>(
       faults = H.faults host.old;
       faults_after = H.faults host.new;
     }) (status_of answer) (text_of answer)) }
+    ensures faults { HidesNoFault status_of (H.faults host.old) (H.faults host.new) result }
     // In every ending no other name is set.
     ensures others { ForSome (H.files host.old) (λ told.
         KeepsAllBut (IsNameIn folder.now (built_view set.now)) told (H.files host.new)) }

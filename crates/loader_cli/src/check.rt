@@ -3,7 +3,7 @@ ghost use Rattle.std.specs.Prelude.{◌≡◌, ◌++◌, ◌∷◌, [], IfOk, On
 ghost use Rattle.std.specs.List.{flat_map};
 ghost use Rattle.media_check.specs.Sets.{set_view};
 ghost use Rattle.printed_text.specs.Lines.{line};
-ghost use Rattle.loader_cli.specs.Answers.{status_of, text_of};
+ghost use Rattle.loader_cli.specs.Answers.{HidesNoFault, status_of, text_of};
 ghost use Rattle.loader_cli.specs.Runs.{Checks, Finds};
 ghost use Rattle.loader_cli.specs.Texts.{detail_words, finding_line};
 ghost use Rattle.loader_cli.specs.Texts.{findings_text as text_of_findings};
@@ -23,6 +23,7 @@ pub(crate) fn check<'w, H: Host>(
     ensures checks { IfOk result (λ answer.
         Checks folder.now (H.files host.old) (H.faults host.old) (H.faults host.new)
         (status_of answer) (text_of answer)) }
+    ensures faults { HidesNoFault status_of (H.faults host.old) (H.faults host.new) result }
     ensures kept { H.files host.new ≡ H.files host.old }
 {
     let name = folder.as_bytes();

@@ -8,7 +8,8 @@ ghost use Rattle.loader_cli.specs.Inputs.{HasListed, HasLoads, ReadsInputs};
 ghost use Rattle.loader_cli.specs.Replays.{HasSet};
 ghost use Rattle.std.specs.Prelude.{codes};
 ghost use Rattle.media_lists.specs.ListFaultText.{list_fault_text};
-ghost use Rattle.loader_cli.specs.Inputs.{IsRefusal, SaysScript, list_name};
+ghost use Rattle.loader_cli.specs.Answers.{HidesNoFault};
+ghost use Rattle.loader_cli.specs.Inputs.{IsRefusal, SaysScript, inputs_status, list_name};
 ghost use Rattle.loader_cli.specs.Texts.{refused_input};
 
 use crate::answer::Answer;
@@ -38,6 +39,7 @@ pub(crate) fn read_inputs<'w, H: Host>(
 ) -> Result<Inputs<'w>, NoMemory>
     ensures reads { (before : ℕ) → before ≤ H.faults host.old → IfOk result (λ inputs.
         ReadsInputs folder.now name.now (H.files host.old) before (H.faults host.new) inputs) }
+    ensures faults { HidesNoFault inputs_status (H.faults host.old) (H.faults host.new) result }
     ensures kept { H.files host.new ≡ H.files host.old }
 {
     match read_loads_list(alloc, host, folder, 1) {
@@ -62,6 +64,7 @@ fn read_files<'w, H: Host>(
     requires { HasLoads folder.now (loads_list_view loads) (H.files host.old) }
     ensures reads { (before : ℕ) → before ≤ H.faults host.old → IfOk result (λ inputs.
         ReadsInputs folder.now name.now (H.files host.old) before (H.faults host.new) inputs) }
+    ensures faults { HidesNoFault inputs_status (H.faults host.old) (H.faults host.new) result }
     ensures kept { H.files host.new ≡ H.files host.old }
 {
     match read_files_list(alloc, host, folder, 1) {
@@ -89,6 +92,7 @@ fn read_rest<'w, H: Host>(
     requires spelled { IsFoundFiles (Read (files_list_view files)) }
     ensures reads { (before : ℕ) → before ≤ H.faults host.old → IfOk result (λ inputs.
         ReadsInputs folder.now name.now (H.files host.old) before (H.faults host.new) inputs) }
+    ensures faults { HidesNoFault inputs_status (H.faults host.old) (H.faults host.new) result }
     ensures kept { H.files host.new ≡ H.files host.old }
 {
     match open_rest(alloc, host, folder, Found::Read(loads), Found::Read(files)) {
@@ -111,6 +115,7 @@ fn read_script<'w, H: Host>(
     requires { HasSet folder.now (H.files host.old) (set_view set) }
     ensures reads { (before : ℕ) → before ≤ H.faults host.old → IfOk result (λ inputs.
         ReadsInputs folder.now name.now (H.files host.old) before (H.faults host.new) inputs) }
+    ensures faults { HidesNoFault inputs_status (H.faults host.old) (H.faults host.new) result }
     ensures kept { H.files host.new ≡ H.files host.old }
 {
     match host.read(alloc, name) {

@@ -4,7 +4,7 @@ ghost use Rattle.std.specs.Option.{ForSome};
 ghost use Rattle.disk_layout.specs.Holds.{standing_view};
 ghost use Rattle.loader_machine.specs.Machine.{session_view};
 ghost use Rattle.media_check.specs.Sets.{set_view};
-ghost use Rattle.loader_cli.specs.Answers.{status_of, text_of};
+ghost use Rattle.loader_cli.specs.Answers.{HidesNoFault, answered_status, status_of, text_of};
 ghost use Rattle.loader_cli.specs.Replays.{IsCompleted, Replays, RunsTo, Tells, run_seen};
 ghost use Rattle.loader_cli.specs.Replays.{LeavesFirstOrGood, told_as};
 
@@ -43,6 +43,8 @@ pub(crate) fn replay<'w, H: Host, K: Power>(
         (H.files host.old) (H.faults host.old) (H.faults host.new) (K.state disk.old)
         (K.state disk.new) (option_map run_seen said.drive) (status_of said.answer)
         (text_of said.answer)) }
+    ensures faults { HidesNoFault answered_status (H.faults host.old) (H.faults host.new)
+        result }
     ensures kept { H.files host.new ≡ H.files host.old }
     ensures leaves { LeavesFirstOrGood (K.state disk.old) (K.state disk.new) }
 {

@@ -1,6 +1,6 @@
 //! The command `show`.
 ghost use Rattle.std.specs.Prelude.{◌≡◌, IfOk};
-ghost use Rattle.loader_cli.specs.Answers.{status_of, text_of};
+ghost use Rattle.loader_cli.specs.Answers.{HidesNoFault, status_of, text_of};
 ghost use Rattle.loader_cli.specs.Runs.{Shows, ShowsBytes};
 
 use crate::answer::Answer;
@@ -18,6 +18,7 @@ pub(crate) fn show<'w, H: Host>(
     ensures shows { IfOk result (λ answer.
         Shows kind (H.files host.old) (H.faults host.old) (H.faults host.new) file.now
         (status_of answer) (text_of answer)) }
+    ensures faults { HidesNoFault status_of (H.faults host.old) (H.faults host.new) result }
     ensures kept { H.files host.new ≡ H.files host.old }
 {
     let name = file.as_bytes();

@@ -6,7 +6,8 @@ ghost use Rattle.disk_layout.specs.Offsets.{IsBankSize};
 ghost use Rattle.disk_layout.specs.declared.identity.Identity.{Identity};
 ghost use Rattle.bank_store.specs.Formatting.{LeavesOldOrFormatted};
 ghost use Rattle.media_build.specs.WrittenFolders.{KeepsAllBut};
-ghost use Rattle.loader_cli.specs.Answers.{answered_of, status_of, text_of};
+ghost use Rattle.loader_cli.specs.Answers.{HidesNoFault, answered_of, answered_status};
+ghost use Rattle.loader_cli.specs.Answers.{status_of, text_of};
 ghost use Rattle.loader_cli.specs.Commands.{texts_of, IsCommand, IsNo, UsesDisk, WritesDisk};
 ghost use Rattle.loader_cli.specs.Commands.{FormatsDisk, UsesScript, UsesHost, WritesHost};
 ghost use Rattle.loader_cli.specs.Commands.CommandView.{format as format_command};
@@ -171,6 +172,8 @@ fn answer<'w, H: Host, K: Power>(
       host_faults_after = H.faults host.new;
       handed = option_map run_seen said.drive;
     }) (status_of said.answer) (text_of said.answer)) }
+    ensures faults { HidesNoFault answered_status (H.faults host.old) (H.faults host.new)
+        result }
     ensures no_run { IsNo UsesScript (texts_of words.now)
         → IfOk result (λ said. said.drive ≡ None) }
     ensures never_armed { IsNo UsesScript (texts_of words.now)

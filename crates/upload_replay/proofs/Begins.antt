@@ -16,7 +16,8 @@ use Rattle.run_promises.specs.Promises.{KeepsPromises, RunsKeepPromises}
 use Rattle.target_machine.specs.Boots.{ComesUp}
 use Rattle.target_machine.specs.Decisions.{TargetState}
 use Rattle.target_machine.specs.Disks.{StartsOn}
-use Rattle.upload_replay.specs.Drives.{RunGoesOn, IsRun}
+use Rattle.session_rules.specs.MediaFiles.{Media}
+use Rattle.upload_replay.specs.Drives.{LoaderGoesOn, RunGoesOn, IsRun}
 use Rattle.upload_replay.specs.Moments.{RunsOnDisk}
 use Rattle.upload_replay.proofs.Held.{OneStanding}
 use Rattle.upload_replay.proofs.Throughout.{first_held}
@@ -31,6 +32,9 @@ begins set began target nothing up = record {
   honest = tt;
   follows = λ script start. start;
 }
+
+pub loader_begins : (media : Media) → LoaderGoesOn media [] new_loader
+loader_begins media = record { kept = refl; due = tt; noted = tt; honest = tt }
 
 -- a target that came up on a disk that holds this configuration
 pub comes_up_with : {R : Type 0} (rule : R) (target : TargetState R) (disk : DiskState) (image : Image) (start : StandingView) → ComesUp rule 1024 target disk → disk.reads ≡ Some image

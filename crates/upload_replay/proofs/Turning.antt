@@ -5,21 +5,23 @@ use Rattle.std.proofs.lemmas.List.{append-nil}
 use Rattle.exchange_trace.specs.declared.trace.Side.TheVariants as sides
 use Rattle.exchange_trace.specs.Happenings.{DatagramView, HappeningView, Booted, Delivered, Ended, Info_started, Injected, Lost, Power_cut, Size_told, Ticked, Upload_started}
 use Rattle.exchange_trace.specs.Lines.{Line}
-use Rattle.exchange_trace.specs.Logs.{Event, event_for}
+use Rattle.exchange_trace.specs.Logs.{Event, event_for, logged, loader_log}
 use Rattle.exchange_trace.specs.Posts.{IsHonest, posted_in, first_port_after}
 use Rattle.exchange_trace.specs.Steps.{Boot_refused, Came_up, Note, Step, Went_down, with_given}
 use Rattle.link_net.specs.Followed.{HasFollowed}
 use Rattle.link_net.specs.FollowedLaws.{followed_next}
 use Rattle.link_net.specs.Links.{Gives, LinkState, scene_of}
 use Rattle.session_rules.specs.Loader.{LoaderView}
-use Rattle.session_rules.specs.LoaderLog.{LoaderReading, SessionLog, loader_view, session_view as loader_session}
+use Rattle.session_rules.specs.Laws.{LoaderFollows}
+use Rattle.session_rules.specs.LoaderLog.{LoaderReading, SessionLog, loader_reading, loader_view, session_view as loader_session}
+use Rattle.session_rules.specs.MediaFiles.{Media}
 use Rattle.session_rules.specs.Target.{TargetView}
 use Rattle.session_rules.specs.TargetLog.{TargetSessionLog, session_view as target_session}
 use Rattle.replay_rules.specs.BothEnds.{Is_down, Is_up, Setting, TargetState, gone_down, loader_at, reached, target_at, waiting, waits_in}
 use Rattle.loader_machine.specs.Machine.{LoaderState, media_of}
 use Rattle.replay_rules.specs.Due.{MayBeNoted, goes_down, is_up}
 use Rattle.replay_rules.specs.Ties.{Reacts, StepKeepsTie, kept_after, kept_by, loader_next, loader_says, target_next, target_says}
-use Rattle.upload_replay.specs.Drives.{NeverBoots, RunGoesOn, HasTurned, KeepsGoing, TargetTurns, Turns, has_session, is_end}
+use Rattle.upload_replay.specs.Drives.{LoaderGoesOn, LoaderTurns, NeverBoots, RunGoesOn, HasTurned, KeepsGoing, TargetTurns, Turns, has_session, is_end, loader_moved, loader_sends}
 use Rattle.target_machine.specs.Decisions as machine
 use Rattle.accept_rules.specs.Interlocks.{Follows}
 use Rattle.load_header.specs.declared.header.LoadHeader.{LoadHeader}
@@ -222,3 +224,26 @@ no_end_of Booted e = tt
 no_end_of (Info_started hw pos) e = tt
 no_end_of (Upload_started hw pos parts) e = tt
 no_end_of Ended e = absurd cc
+
+-- ---- what needs no disk
+
+pub loader_turned : (e : Option Event) (before after : LoaderState) (sent : List DatagramView) → LoaderTakes e before after sent
+    → (after.view ≡ loader_moved (media_of before.set) before.view e) × (sent ≡ loader_sends (media_of before.set) before.view e)
+loader_turned None before after sent takes = (ap (λ (l : LoaderState). l.view) takes.0, takes.1)
+loader_turned (Some e) before after sent takes = (takes.keeps, takes.posts)
+
+moved_on : LoaderFollows → (media : Media) (log : List Event) (e : Option Event) → loader_moved media (loader_view (loader_reading media log)) e ≡ loader_view (loader_reading media (logged e log))
+moved_on follows media log None = refl
+moved_on follows media log (Some e) = follows media log e
+
+-- the loader goes on as its log says
+pub loader_on : LoaderFollows → (media : Media) (steps steps_then : List Step) (loader loader_then : LoaderView) (posted : List DatagramView) → LoaderTurns media steps steps_then loader loader_then posted
+    → posted ≡ posted_in steps → LoaderGoesOn media steps loader → LoaderGoesOn media steps_then loader_then
+loader_on follows media steps steps_then loader loader_then posted t same on =
+    let e = event_for sides.Loader (posted_in steps) t.step.given in
+    subst (λ (list : List Step). LoaderGoesOn media list loader_then) (sym t.recorded) (record {
+      kept = t.moves ∙ (ap (λ (v : LoaderView). loader_moved media v e) on.kept ∙ moved_on follows media (loader_log steps) e);
+      due = ((t.target_posts, t.posts ∙ ap (λ (v : LoaderView). loader_sends media v e ++ t.target_posts) on.kept), on.due);
+      noted = ((t.up, t.noted), on.noted);
+      honest = (subst (λ (list : List DatagramView). IsHonest list t.step.given) same t.honest, on.honest);
+    })

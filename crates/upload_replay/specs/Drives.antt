@@ -9,13 +9,14 @@ use Rattle.media_check.specs.Sets.{SetView}
 use Rattle.exchange_trace.specs.declared.trace.Side.TheVariants as sides
 use Rattle.exchange_trace.specs.Happenings.{DatagramView, HappeningView, Booted, Ended}
 use Rattle.exchange_trace.specs.Lines.{Line}
-use Rattle.exchange_trace.specs.Logs.{Event, event_for}
-use Rattle.exchange_trace.specs.Posts.{AllHonest, first_port_after, happenings_of, posted_in}
+use Rattle.exchange_trace.specs.Logs.{Event, event_for, loader_log}
+use Rattle.exchange_trace.specs.Posts.{AllHonest, IsHonest, first_port_after, happenings_of, posted_in}
 use Rattle.exchange_trace.specs.Steps.{Note, Step, Boot_refused, Came_up, Went_down}
 use Rattle.link_net.specs.Followed.{HasFollowed}
 use Rattle.link_net.specs.Links.{Gives, LinkState, scene_of}
-use Rattle.session_rules.specs.Loader.{EndedSession, LoaderView}
-use Rattle.session_rules.specs.LoaderLog.{loader_view}
+use Rattle.session_rules.specs.Loader.{EndedSession, LoaderView, loader_after, loader_posts}
+use Rattle.session_rules.specs.LoaderLog.{loader_reading, loader_view}
+use Rattle.session_rules.specs.MediaFiles.{Media}
 use Rattle.session_rules.specs.Target.{TargetView}
 use Rattle.loader_machine.specs.Machine.{LoaderState, all_sessions, media_of}
 use Rattle.replay_rules.specs.BothEnds.{Setting, TargetState, come_up, gone_down, loader_at, reached, target_at, waiting}
@@ -85,6 +86,63 @@ pub record HasTurned {R : Type 0} (knows : Type 0) (set : Setting) (ended : Bool
   pub turns : IsNoBoot step.given ⊎ knows → Turns set steps step loader.view loader_then.view (target_kept target) (target_kept target_then) link link_then
   pub end : ended ≡ is_end step.given
   pub media : loader_then.set ≡ loader.set
+
+-- ---- what needs no disk
+
+abbrev pub loader_moved : Media → LoaderView → Option Event → LoaderView
+loader_moved media v None = v
+loader_moved media v (Some e) = loader_after media v e
+
+abbrev pub loader_sends : Media → LoaderView → Option Event → List DatagramView
+loader_sends media v None = []
+loader_sends media v (Some e) = loader_posts media v e
+
+-- The loader does in a turn what its rules say of what it keeps, and its datagrams are posted before the target's; what is
+-- delivered was posted before; and only that is noted of the target which may be of one that is up, or of one that is down.
+pub record LoaderTurns (media : Media) (steps steps_then : List Step) (loader loader_then : LoaderView) (posted : List DatagramView) : Type 0 where
+  pub step : Step
+  pub recorded : steps_then ≡ step ∷ steps
+  pub moves : loader_then ≡ loader_moved media loader (event_for sides.Loader (posted_in steps) step.given)
+  pub target_posts : List DatagramView
+  pub posts : step.posts ≡ loader_sends media loader (event_for sides.Loader (posted_in steps) step.given) ++ target_posts
+  pub honest : IsHonest posted step.given
+  pub up : Bool
+  pub noted : MayBeNoted up (first_port_after steps) step.given step.notes
+
+-- what the loader's log says that it keeps
+abbrev pub loader_by : Media → List Step → LoaderView
+loader_by media steps = loader_view (loader_reading media (loader_log steps))
+
+-- In each step exactly those datagrams were posted first that were due from the loader.
+abbrev pub AllLoaderDue : Media → List Step → Type 0
+AllLoaderDue media [] = ⊤
+AllLoaderDue media (s ∷ earlier) =
+    ((target_posts : List DatagramView) × (s.posts ≡ loader_sends media (loader_by media earlier) (event_for sides.Loader (posted_in earlier) s.given) ++ target_posts))
+    × AllLoaderDue media earlier
+
+-- In each step only that was noted of the target which may be of one that is up, or of one that is down: at a boot a refusal,
+-- or the first port that was due.
+abbrev pub AllNotable : List Step → Type 0
+AllNotable [] = ⊤
+AllNotable (s ∷ earlier) = ((up : Bool) × MayBeNoted up (first_port_after earlier) s.given s.notes) × AllNotable earlier
+
+-- A run goes on, of whose disk nothing is known: the loader keeps what its log says.
+pub record LoaderGoesOn (media : Media) (steps : List Step) (loader : LoaderView) : Type 0 where
+  pub kept : loader ≡ loader_by media steps
+  pub due : AllLoaderDue media steps
+  pub noted : AllNotable steps
+  pub honest : AllHonest steps
+
+-- A run came to its end, of whose disk nothing is known: the loader did what its rules say, and has one session for each
+-- start; what was delivered had been posted, and carries bytes.
+pub record IsLoadersRun (media : Media) (steps : List Step) (sessions : List EndedSession) : Type 0 where
+  pub due : AllLoaderDue media steps
+  pub noted : AllNotable steps
+  pub honest : AllHonest steps
+  pub carries : AllCarryBytes steps
+  pub sessions_are : sessions ≡ all_sessions (loader_by media steps)
+
+-- ---- turns one after the other
 
 -- no boot so far
 abbrev pub NeverBoots : List Step → Type 0

@@ -15,6 +15,7 @@ use Rattle.target_machine.specs.declared.boot.BootFault.TheVariants as boots
 use Rattle.upload_replay.specs.declared.outcome.DriveFault.{DriveFault}
 use Rattle.upload_replay.specs.declared.outcome.DriveFault.TheVariants as faults
 use Rattle.upload_replay.specs.Powers.{RoseBy, disk_stops}
+use Rattle.upload_replay.specs.Turns.{HasDriveCause}
 
 -- why there is no run where the target doesn't come up at first
 abbrev pub first_fault_of : BootFault → DriveFault
@@ -67,14 +68,25 @@ IsLastFault (faults.NoConfig fault) disk = ¬ IsOfDisk fault × HoldsNone fault 
 IsLastFault faults.Memory disk = ⊤
 IsLastFault fault disk = ⊥
 
+-- The link failed only in a run, and there is one only where the disk held a configuration at first.
+pub record FailsInRun {T : Type 0} (before now : ℕ) (first : DiskState) (result : Result T DriveFault) : Type 0 where
+  pub cause : HasDriveCause before now result
+  pub began : IsErrOf result faults.Link → HoldsSome first
+
 -- The disk held no configuration at first, for this fault: nothing was written, and it runs on.
 pub record HeldNone (fault : RecoverFault) (first last : DiskState) : Type 0 where
   pub none : HoldsNone fault first
   pub only_reads : OnlyReads first last
   pub running : RunsOn first last
 
+-- So there was no run: nothing happened either.
+pub record NeverBegan (fault : RecoverFault) (first last : DiskState) (link link_then : LinkState) : Type 0 where
+  pub held : HeldNone fault first last
+  pub untouched : link_then ≡ link
+
 -- A refusal for no configuration is one of what the disk held at first; or it held one then, and this is the fault of what it
 -- holds at the end.
-abbrev pub IsNoConfig : DriveFault → (first last : DiskState) → Type 0
-IsNoConfig (faults.NoConfig fault) first last = ¬ IsOfDisk fault × (HeldNone fault first last ⊎ (HoldsSome first × HoldsNone fault last))
-IsNoConfig fault first last = ⊤
+abbrev pub IsNoConfig : DriveFault → (first last : DiskState) (link link_then : LinkState) → Type 0
+IsNoConfig (faults.NoConfig fault) first last link link_then =
+    ¬ IsOfDisk fault × (NeverBegan fault first last link link_then ⊎ (HoldsSome first × HoldsNone fault last))
+IsNoConfig fault first last link link_then = ⊤

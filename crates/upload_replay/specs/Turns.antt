@@ -1,5 +1,5 @@
 -- What a turn of a run does (docs/EXCHANGE.md, "Runs").
-use Rattle.std.specs.Prelude.{◌≡◌, ℕ, ◌≤◌, List, [], ◌∷◌, ◌++◌, Bool, option_map, Option, Some, None, Result, IsErrOf, ⊤}
+use Rattle.std.specs.Prelude.{◌≡◌, ◌≢◌, ℕ, ◌+◌, ◌≤◌, List, [], ◌∷◌, ◌++◌, Bool, option_map, Option, Some, None, Result, IsErrOf, IfErr, OnOk, ⊤}
 use Rattle.load_base.specs.Counts.{Rose}
 use Rattle.accept_rules.specs.Interlocks.{Follows}
 use Rattle.bank_store.specs.DiskWrites.{IsRunning}
@@ -82,7 +82,11 @@ IsOfRun faults.Link = ⊤
 IsOfRun faults.Memory = ⊤
 IsOfRun fault = ⊥
 
--- the link's count of faults hasn't fallen, and a failure of the link raised it
+-- The link's count of faults hasn't fallen. A failure of the link raised it, by one, and nothing else did: a run ends at the
+-- first call of the link that fails.
 pub record HasDriveCause {T : Type 0} (before now : ℕ) (result : Result T DriveFault) : Type 0 where
   pub later : before ≤ now
   pub failed : IsErrOf result faults.Link → Rose before now
+  pub once : now ≤ before + 1
+  pub ok : OnOk result (now ≡ before)
+  pub others : IfErr result (λ fault. fault ≢ faults.Link → now ≡ before)

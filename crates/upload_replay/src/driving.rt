@@ -7,18 +7,17 @@ ghost use Rattle.disk_layout.specs.Holds.{standing_view};
 ghost use Rattle.disk_model.specs.Image.{Image};
 ghost use Rattle.disk_model.specs.State.{IsSettled, KeepsPower, OnlyReads};
 ghost use Rattle.exchange_trace.specs.Steps.{steps_of};
-ghost use Rattle.loader_machine.specs.Machine.{session_view};
+ghost use Rattle.loader_machine.specs.Machine.{media_of, session_view};
 ghost use Rattle.media_check.specs.Sets.{set_view};
 ghost use Rattle.replay_rules.specs.BothEnds.{Setting};
 ghost use Rattle.run_promises.specs.Promises.{AcceptsPermitted};
-ghost use Rattle.upload_replay.specs.Drives.{IsRun, IsSet, NeverBoots, TellsLink};
-ghost use Rattle.upload_replay.specs.Endings.{CountsStops, FailedIfUnknown, FailsAtFirst};
+ghost use Rattle.upload_replay.specs.Drives.{IsLoadersRun, IsRun, IsSet, NeverBoots, TellsLink};
+ghost use Rattle.upload_replay.specs.Endings.{CountsStops, FailedIfUnknown, FailsAtFirst, FailsInRun};
 ghost use Rattle.upload_replay.specs.Endings.{HoldsSome, HoldsStanding, IsLastFault, IsNoConfig};
 ghost use Rattle.upload_replay.specs.Endings.{first_fault_of, last_refusal_of};
 ghost use Rattle.upload_replay.specs.Moments.{HoldsThroughout, LeavesGood, LeavesNoMore};
 ghost use Rattle.upload_replay.specs.Orders.{IsInOrder};
 ghost use Rattle.upload_replay.specs.Powers.{ArmsAsGiven, RoseBy};
-ghost use Rattle.upload_replay.specs.Turns.{HasDriveCause};
 
 use crate::outcome::{Drive, DriveFault};
 use crate::recording::Recording;
@@ -49,7 +48,10 @@ pub fn drive<L: Link, K: Power, R: Rule>(
 ) -> Result<Drive, DriveFault>
     requires nothing_posted { (L.state link.old).posted ≡ [] }
     requires running { IsRunning (K.state disk.old) }
-    // With Ok, on a disk that tells its content.
+    // With Ok.
+    ensures loader { IfOk result (λ drive. IsLoadersRun (media_of (set_view media.now))
+        (steps_of drive.trace.items) (map session_view drive.sessions.items)) }
+    // The same on a disk that tells its content.
     ensures run { (set : Setting) (image : Image) → IsSet R.may_say set interlock.now
         (set_view media.now) image → (K.state disk.old).reads ≡ Some image → IfOk result
         (λ drive. NeverBoots (steps_of drive.trace.items) ⊎ IsSettled (K.state disk.old)
@@ -68,11 +70,12 @@ pub fn drive<L: Link, K: Power, R: Rule>(
     ensures stops { IfOk result (λ drive. CountsStops (steps_of drive.trace.items)
         drive.standing (K.state disk.old) (K.state disk.new)) }
     // Refusals.
-    ensures link_failed { HasDriveCause (L.faults link.old) (L.faults link.new) result }
+    ensures link_failed { FailsInRun (L.faults link.old) (L.faults link.new) (K.state disk.old)
+        result }
     ensures disk_failed { FailsAtFirst (K.state disk.old) (K.state disk.new) (L.state link.old)
         (L.state link.new) result }
-    ensures no_config { IfErr result
-        (λ fault. IsNoConfig fault (K.state disk.old) (K.state disk.new)) }
+    ensures no_config { IfErr result (λ fault. IsNoConfig fault (K.state disk.old)
+        (K.state disk.new) (L.state link.old) (L.state link.new)) }
     // Whatever it answers.
     ensures arms { ArmsAsGiven (L.state link.old).given (L.state link.new).given
         (K.state disk.old) (K.state disk.new) }

@@ -10,7 +10,8 @@ ghost use Rattle.replay_rules.specs.BothEnds.{Setting, target_at};
 ghost use Rattle.replay_rules.specs.Changes.{AllCarryBytes};
 ghost use Rattle.replay_rules.specs.Promises.{EndsOnce};
 ghost use Rattle.run_promises.specs.Promises.{AcceptsPermitted};
-ghost use Rattle.upload_replay.specs.Drives.{IsNewStep, KeepsGoing};
+ghost use Rattle.session_rules.specs.MediaFiles.{Media};
+ghost use Rattle.upload_replay.specs.Drives.{IsNewStep, KeepsGoing, LoaderGoesOn};
 ghost use Rattle.upload_replay.specs.Moments.{HoldsRun, LeavesGood, RunsOnDisk};
 ghost use Rattle.upload_replay.specs.Powers.{ArmsAsGiven, RoseBy, disk_stops};
 ghost use Rattle.upload_replay.specs.Turns.{HasDriveCause, IsOfRun, RuleFollows, RunsWhileUp};
@@ -21,6 +22,7 @@ use accept_rules::{Interlock, Rule};
 use disk_model::Power;
 use link_net::Link;
 use replay_rules::laws::{a_step_keeps_the_tie, the_configuration_changes_by_good_verdicts};
+use session_rules::laws::both_ends_follow_their_logs;
 use std::alloc::Global;
 
 /// All turns to the end, from a run in which nothing has happened yet. What [`go_on`] says of a turn
@@ -39,6 +41,10 @@ pub(crate) fn run_to_end<'r, L: Link, K: Power, R: Rule>(
         → RuleFollows R.may_say set.accepts run.old.target → OnOk result (KeepsGoing set began
         run.old.recording run.new.recording run.old.loader run.new.loader run.old.target
         run.new.target (L.state link.old) (L.state link.new)) }
+    ensures loader { (media : Media) → media ≡ media_of run.old.loader.set
+        → (L.state link.old).posted ≡ posted_in run.old.recording
+        → LoaderGoesOn media run.old.recording run.old.loader.view
+        → OnOk result (LoaderGoesOn media run.new.recording run.new.loader.view) }
     ensures held { (set : Setting) (began : LinkState) (since : ℕ)
         → set.media ≡ media_of run.old.loader.set → Follows R.may_say interlock.now set.accepts
         → RuleFollows R.may_say set.accepts run.old.target
@@ -91,6 +97,10 @@ fn go_on<'r, L: Link, K: Power, R: Rule>(
         → set.media ≡ media_of run.old.loader.set → RuleFollows R.may_say set.accepts run.old.target
         → OnOk result (KeepsGoing set began run.old.recording run.new.recording run.old.loader
         run.new.loader run.old.target run.new.target (L.state link.old) (L.state link.new)) }
+    ensures loader { (media : Media) → media ≡ media_of run.old.loader.set
+        → (L.state link.old).posted ≡ posted_in run.old.recording
+        → LoaderGoesOn media run.old.recording run.old.loader.view
+        → OnOk result (LoaderGoesOn media run.new.recording run.new.loader.view) }
     ensures held { (set : Setting) (began : LinkState) (since : ℕ)
         → set.media ≡ media_of run.old.loader.set → RuleFollows R.may_say set.accepts run.old.target
         → RunsOnDisk set began since run.old.recording run.old.loader run.old.target
@@ -125,6 +135,7 @@ fn go_on<'r, L: Link, K: Power, R: Rule>(
 {
     // For the proof: these do nothing.
     a_step_keeps_the_tie();
+    both_ends_follow_their_logs();
     the_configuration_changes_by_good_verdicts();
     turn(alloc, interlock, run, link, disk)
 }

@@ -17,7 +17,8 @@ ghost use Rattle.replay_rules.specs.Changes.{AllCarryBytes, CarriesBytes, Inject
 ghost use Rattle.replay_rules.specs.Due.{MayBeNoted};
 ghost use Rattle.target_machine.specs.Decisions.{Takes};
 ghost use Rattle.transfer_end.specs.Calls.{posts_view};
-ghost use Rattle.upload_replay.specs.Drives.{HasTurned, IsNewStep, IsNoBoot, TargetTurns};
+ghost use Rattle.upload_replay.specs.Drives.{HasTurned, IsNewStep, IsNoBoot, LoaderTurns};
+ghost use Rattle.upload_replay.specs.Drives.{TargetTurns};
 ghost use Rattle.upload_replay.specs.Drives.{has_session};
 ghost use Rattle.upload_replay.specs.Drives.{is_end as is_end_of};
 ghost use Rattle.upload_replay.specs.Powers.{ArmsAsGiven, ArmsBy, LeavesPower, RoseBy};
@@ -72,6 +73,8 @@ pub(crate) fn turn<'r, L: Link, K: Power, R: Rule>(
         (HoldsRun set (target_at set run.old.recording) run.old.target (K.state disk.old)) set
         ended run.old.recording run.new.recording run.old.loader run.new.loader run.old.target
         run.new.target (L.state link.old) (L.state link.new)) }
+    ensures loader { OnOk result (LoaderTurns (media_of run.old.loader.set) run.old.recording
+        run.new.recording run.old.loader.view run.new.loader.view (L.state link.old).posted) }
     ensures held { (set : Setting) (since : ℕ) → RuleFollows R.may_say set.accepts run.old.target
         → HeldSoFar set since run.old.recording run.old.target (K.state disk.old)
         → OnOk result (HeldSoFar set since run.new.recording run.new.target (K.state disk.new)) }

@@ -7,6 +7,7 @@ use Rattle.loader_cli.proofs.Built.{bytes_since}
 use Rattle.loader_cli.proofs.OtherFiles.{sets_more}
 use Rattle.loader_cli.proofs.Outputs.{has_bytes}
 use Rattle.loader_cli.proofs.SetRuns.{has_told}
+use Rattle.loader_cli.proofs.Replayed.{hides_after}
 use Rattle.loader_cli.proofs.build.build.Goals as goal
 
 pub returns-in-Ok-clause-says : goal.returns-in-Ok-clause-says
@@ -32,3 +33,6 @@ returns-in-Ok-clause-others g c =
     sets_more (λ told. IsNameSaid c.args.folder.now bytes told) (λ told. IsNameBuilt c.args.recipe.now c.args.folder.now told) (g.H.Host.files c.args.host.now) (g.H.Host.files c.read.new.self)
     (g.H.Host.files c.build_text.new.host) c.read.ensures.kept
     (λ told is name one. record { text = bytes; there = has_told (g.H.Host.files c.args.host.now) told c.args.recipe.now (Some bytes) is has; of_text = one }) keeps
+
+pub returns-in-Ok-clause-faults : goal.returns-in-Ok-clause-faults
+returns-in-Ok-clause-faults g c = hides_after _ _ _ _ c.build_text.result c.in-Ok.ensures.cause.ok c.build_text.ensures.faults

@@ -11,6 +11,7 @@ use Rattle.loader_cli.specs.HostFiles.{HostWork}
 use Rattle.loader_cli.specs.Texts.{refused_input}
 use Rattle.loader_cli.proofs.Built.{answered, set_since}
 use Rattle.loader_cli.proofs.OtherFiles.{sets_more}
+use Rattle.loader_cli.proofs.Replayed.{hides_after}
 use Rattle.loader_cli.proofs.build.build_recipe.Goals as goal
 
 pub returns-in-Ok-clause-says : goal.returns-in-Ok-clause-says
@@ -60,3 +61,6 @@ returns-in_ok-coded-in-Err-ListTooLong-clause-says g c =
     let why = c.in-Err-ListTooLong.ensures in
     set_refused ListTooLong (answered _ _ _ _ c.in-Err-ListTooLong.field-0-is why.sizes why.builds) tt c.build.ensures.kept refl
     (ap (λ (fault : List ℕ). refused_input c.args.name.now fault) c.in_ok-coded-in-Err-ListTooLong.ensures.text)
+
+pub returns-in-Ok-clause-faults : goal.returns-in-Ok-clause-faults
+returns-in-Ok-clause-faults g c = hides_after _ _ _ _ c.write_set.result c.in-Ok.ensures.cause.ok c.write_set.ensures.faults

@@ -8,6 +8,7 @@ use Rattle.media_check.specs.Sets.{set_view}
 use Rattle.loader_cli.specs.Runs.{reading_of}
 use Rattle.loader_cli.specs.Runs.Checks.{opened, long_file}
 use Rattle.loader_cli.specs.Texts.{refused_input}
+use Rattle.loader_cli.proofs.Replayed.{none_failed}
 use Rattle.loader_cli.proofs.check.check.Goals as goal
 
 pub returns-in-Ok-clause-checks : goal.returns-in-Ok-clause-checks
@@ -22,3 +23,6 @@ returns-in-Err-TooLong-clause-checks g c =
     subst (λ (folder : List ℕ). ForSome (g.H.Host.files c.args.host.now) (λ told. IsTooLong told (reading_of folder told) file.items)) c.as_bytes-name.ensures.value
     (rw c.in-Err-TooLong.field-0-is at c.in-Err-TooLong.ensures.opens) in
     long_file file.items refused refl (ap (λ (f : Listed ℕ). refused_input f.items (codes "toolong")) c.in-Err-TooLong.file-is)
+
+pub returns-in-Ok-clause-faults : goal.returns-in-Ok-clause-faults
+returns-in-Ok-clause-faults g c = none_failed _ _ _ c.check_set.result c.in-Ok.ensures.cause.ok

@@ -11,6 +11,7 @@ use Rattle.loader_cli.specs.Inputs.{ReadsInputs}
 use Rattle.loader_cli.specs.Replays.RefusesInputs.{files_too_long}
 use Rattle.loader_cli.specs.Texts.{refused_input}
 use Rattle.loader_cli.proofs.ReadInputs.{has_list, list_is_absent, list_is_faulty, list_read, never_large, refuses_files}
+use Rattle.loader_cli.proofs.Replayed.{hides_after, none_failed}
 use Rattle.loader_cli.proofs.inputs.read_files.Goals as goal
 
 pub read_rest-requires-clause-files : goal.read_rest-requires-clause-files
@@ -50,3 +51,12 @@ pub returns-in-Err-TooLarge-clause-reads : goal.returns-in-Err-TooLarge-clause-r
 returns-in-Err-TooLarge-clause-reads g c =
     λ before least.
     never_large c.args.folder.now c.args.name.now (g.H.Host.files c.args.host.now) before _ (rw c.in-Err-TooLarge.field-0-is at c.in-Err-TooLarge.ensures.reads)
+
+pub returns-in-Ok-Read-clause-faults : goal.returns-in-Ok-Read-clause-faults
+returns-in-Ok-Read-clause-faults g c = hides_after _ _ _ _ c.read_rest.result c.in-Ok-Read.ensures.cause.ok c.read_rest.ensures.faults
+
+pub returns-in-Ok-Missing-clause-faults : goal.returns-in-Ok-Missing-clause-faults
+returns-in-Ok-Missing-clause-faults g c = none_failed _ _ _ c.absent_list.result c.in-Ok-Missing.ensures.cause.ok
+
+pub returns-in-Ok-Refused-clause-faults : goal.returns-in-Ok-Refused-clause-faults
+returns-in-Ok-Refused-clause-faults g c = none_failed _ _ _ c.refused_list.result c.in-Ok-Refused.ensures.cause.ok

@@ -9,6 +9,7 @@ use Rattle.loader_cli.specs.Inputs.{ReadsInputs}
 use Rattle.loader_cli.specs.Replays.RefusesInputs.{long_file}
 use Rattle.loader_cli.specs.Texts.{refused_input}
 use Rattle.loader_cli.proofs.ReadInputs.{has_list, long_in_rest}
+use Rattle.loader_cli.proofs.Replayed.{hides_after}
 use Rattle.loader_cli.proofs.inputs.read_rest.Goals as goal
 
 pub returns-in-Ok-clause-reads : goal.returns-in-Ok-clause-reads
@@ -27,3 +28,6 @@ returns-in-Err-TooLong-clause-reads g c =
     (has_list loads_list files (loads_name folder 1) (loads_list_view c.args.loads) c.requires.loads, has_list files_list files (files_name folder 1) (files_list_view c.args.files) c.requires.files)
     (long_in_rest folder files (loads_list_view c.args.loads) (files_list_view c.args.files) file c.requires.loads c.requires.files (rw c.in-Err-TooLong.field-0-is at c.in-Err-TooLong.ensures.opens))
     refl (ap (λ (f : Listed ℕ). refused_input f.items (codes "toolong")) c.in-Err-TooLong.file-is)
+
+pub returns-in-Ok-clause-faults : goal.returns-in-Ok-clause-faults
+returns-in-Ok-clause-faults g c = hides_after _ _ _ _ c.read_script.result c.in-Ok.ensures.cause.ok c.read_script.ensures.faults

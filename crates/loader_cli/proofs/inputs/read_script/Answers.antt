@@ -4,6 +4,7 @@ use Rattle.media_check.specs.Sets.{set_view}
 use Rattle.loader_cli.specs.Replays.RefusesInputs.{script_absent, script_too_long}
 use Rattle.loader_cli.proofs.ReadInputs.{script_read}
 use Rattle.loader_cli.proofs.Outputs.{has_bytes, has_none, has_too_many}
+use Rattle.loader_cli.proofs.Replayed.{none_failed}
 use Rattle.loader_cli.proofs.inputs.read_script.Goals as goal
 
 pub returns-in-Ok-clause-reads : goal.returns-in-Ok-clause-reads
@@ -20,3 +21,6 @@ returns-in-Err-Absent-clause-reads g c =
 pub returns-in-Err-TooLong-clause-reads : goal.returns-in-Err-TooLong-clause-reads
 returns-in-Err-TooLong-clause-reads g c =
     λ before least. script_too_long (set_view c.args.set) c.requires (has_too_many _ _ (rw c.in-Err-TooLong.field-0-is at c.in-Err-TooLong.ensures.file)) refl refl
+
+pub returns-in-Ok-clause-faults : goal.returns-in-Ok-clause-faults
+returns-in-Ok-clause-faults g c = none_failed _ _ _ c.script_of.result c.in-Ok.ensures.cause.ok

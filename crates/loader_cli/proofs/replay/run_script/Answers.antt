@@ -9,7 +9,7 @@ use Rattle.disk_model.specs.State.{IsSettled}
 use Rattle.disk_layout.specs.Holds.{HoldsConfig, StandingView}
 use Rattle.upload_replay.specs.Drives.{IsRun, NeverBoots}
 use Rattle.upload_replay.specs.declared.outcome.DriveFault.TheVariants.{Disk}
-use Rattle.loader_cli.specs.Replays.{IsScriptRun, RunsScript, RunsTo, run_seen, setting_of}
+use Rattle.loader_cli.specs.Replays.{IsAnyRun, IsScriptRun, RunsScript, RunsTo, run_seen, setting_of}
 use Rattle.loader_cli.specs.Replays.RunsTo.{disk_failed}
 use Rattle.loader_cli.specs.Texts.{no_configuration}
 use Rattle.loader_cli.proofs.Left.{accepts_permitted, run_leaves}
@@ -32,8 +32,12 @@ returns-in-Ok-clause-runs g c =
           (c.in-Ok.ensures.moments (setting_of set start) image (record { media = refl; accepts = λ fields answer said. said.says ∙ ap permits said.same; start = holds }) told settled),
     ) in
     let began : c.new-link.result.given ≡ [] = ap (λ (l : LinkState). l.given) c.new-link.ensures in
-    let counts = counts_power (steps_of run.trace.items) run.standing old new _ _ began c.in-Ok.ensures.stops c.in-Ok.ensures.told.given c.drive.ensures.arms in
-    ran_to c.args.telling set c.args.script old new run _ _ c.in-Ok.ensures.stood runs c.in-Ok.ensures.standing c.in-Ok.ensures.stops counts c.in_ok-answer-in-Ok.ensures
+    let any : IsAnyRun set old new (run_seen run) = record {
+      counts = counts_power (steps_of run.trace.items) run.standing old new _ _ began c.in-Ok.ensures.stops c.in-Ok.ensures.told.given c.drive.ensures.arms;
+      loader = c.in-Ok.ensures.loader;
+      ordered = c.in-Ok.ensures.ordered;
+    } in
+    ran_to c.args.telling set c.args.script old new run _ _ c.in-Ok.ensures.stood runs c.in-Ok.ensures.standing c.in-Ok.ensures.stops any c.in_ok-answer-in-Ok.ensures
 
 pub returns-in-Err-Disk-clause-runs : goal.returns-in-Err-Disk-clause-runs
 returns-in-Err-Disk-clause-runs g c =
@@ -48,7 +52,7 @@ returns-in-Err-NoConfig-clause-runs g c =
     rw (c.of-in-Err-NoConfig.ensures.answer, c.of-in-Err-NoConfig.ensures.drive)
     (subst (λ (f : RecoverFault). RunsTo c.args.telling (set_view c.args.set.now) c.args.script (g.K.Disk.state c.args.disk.now) (g.K.Disk.state c.drive.new.disk) None 8 (no_configuration f))
     (sym c.in-Err-NoConfig.fault-is)
-    (refused_to c.args.telling (set_view c.args.set.now) c.args.script (g.K.Disk.state c.args.disk.now) (g.K.Disk.state c.drive.new.disk) fault
+    (refused_to c.args.telling (set_view c.args.set.now) c.args.script (g.K.Disk.state c.args.disk.now) (g.K.Disk.state c.drive.new.disk) _ _ fault
     (rw c.in-Err-NoConfig.field-0-is at c.in-Err-NoConfig.ensures.no_config)))
 
 pub returns-in-Ok-clause-leaves : goal.returns-in-Ok-clause-leaves

@@ -10,7 +10,7 @@ use Rattle.loader_cli.specs.Runs.Says.{lists, formats, shows, checks, builds, ma
 use Rattle.loader_cli.specs.Commands.CommandView.{format}
 use Rattle.loader_cli.proofs.Left.{reads_leave, untouched_leaves}
 use Rattle.loader_cli.proofs.OtherFiles.{sets_more}
-use Rattle.loader_cli.proofs.Replayed.{alone_so}
+use Rattle.loader_cli.proofs.Replayed.{alone_hides, alone_so, none_failed}
 use Rattle.loader_cli.proofs.Targets.{one_target}
 use Rattle.loader_cli.proofs.top_call.answer.Goals as goal
 
@@ -80,6 +80,29 @@ pub returns-in-Some-Trial-clause-says : goal.returns-in-Some-Trial-clause-says
 returns-in-Some-Trial-clause-says g c =
     let command = rw c.in-Some-Trial.field-0-is at c.in-Some-Trial.ensures.some in
     IfOk-weaker c.trial.result _ _ (λ answer says. tries c.in-Some-Trial.number command says) c.trial.ensures.tries
+
+-- ---- a failure of the host is told
+
+pub returns-in-Some-Show-clause-faults : goal.returns-in-Some-Show-clause-faults
+returns-in-Some-Show-clause-faults g c = alone_hides c.show.result c.alone-in-Some-Show.result _ _ c.alone-in-Some-Show.ensures.same c.show.ensures.faults
+
+pub returns-in-Some-Check-clause-faults : goal.returns-in-Some-Check-clause-faults
+returns-in-Some-Check-clause-faults g c = alone_hides c.check.result c.alone-in-Some-Check.result _ _ c.alone-in-Some-Check.ensures.same c.check.ensures.faults
+
+pub returns-in-Some-Build-clause-faults : goal.returns-in-Some-Build-clause-faults
+returns-in-Some-Build-clause-faults g c = alone_hides c.build.result c.alone-in-Some-Build.result _ _ c.alone-in-Some-Build.ensures.same c.build.ensures.faults
+
+pub returns-in-Some-Make-clause-faults : goal.returns-in-Some-Make-clause-faults
+returns-in-Some-Make-clause-faults g c = alone_hides c.make.result c.alone-in-Some-Make.result _ _ c.alone-in-Some-Make.ensures.same c.make.ensures.faults
+
+pub returns-in-Some-List-clause-faults : goal.returns-in-Some-List-clause-faults
+returns-in-Some-List-clause-faults g c = none_failed _ _ _ c.alone.result refl
+
+pub returns-in-Some-Format-clause-faults : goal.returns-in-Some-Format-clause-faults
+returns-in-Some-Format-clause-faults g c = none_failed _ _ _ c.alone-in-Some-Format.result refl
+
+pub returns-in-Some-Trial-clause-faults : goal.returns-in-Some-Trial-clause-faults
+returns-in-Some-Trial-clause-faults g c = none_failed _ _ _ c.trial.result refl
 
 -- ---- what is left on the disk
 

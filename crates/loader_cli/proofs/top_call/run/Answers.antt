@@ -1,4 +1,4 @@
-use Rattle.std.proofs.Common.{◌≡◌, ℕ, List, take, ◌∙◌, refl, subst}
+use Rattle.std.proofs.Common.{◌≡◌, ◌≢◌, ℕ, List, take, ◌∙◌, refl, subst}
 use Rattle.load_base.specs.Sink.{IsExtended}
 use Rattle.load_base.specs.declared.sink.WriteFault.TheVariants.{Failed}
 use Rattle.loader_cli.specs.Answers.{text_of}
@@ -26,6 +26,10 @@ returns-in-Ok-put-clause-ends g c =
     } in
     as_promised laws uploads _ _ (record { not_both = c.an_image_holds_one_configuration.ensures.not_both; reads_now = g.met.K.Disk.reads_now c.answer.new.disk }) c.answer.ensures.while_running
     (told (text_of c.in-Ok.field-0.answer) (rw (← c.status-status.ensures) at c.in-Ok.ensures.says) (subst (λ (bytes : List ℕ). IsExtended was now bytes) text c.in-Ok-put.ensures.content))
+    (record {
+      host = λ not_four not_six not_seven. c.in-Ok.ensures.faults.answered (subst (λ (status : ℕ). status ≢ 4) c.status-status.ensures not_four);
+      sink = λ not_seven. c.in-Ok-put.ensures.cause.ok;
+    })
 
 pub returns-in-Err-Failed-clause-ends : goal.returns-in-Err-Failed-clause-ends
 returns-in-Err-Failed-clause-ends g c =
@@ -48,3 +52,4 @@ returns-in-Err-Failed-clause-ends g c =
     as_promised laws uploads _ _ (record { not_both = c.an_image_holds_one_configuration.ensures.not_both; reads_now = g.met.K.Disk.reads_now c.answer.new.disk }) c.answer.ensures.while_running
     (sink_failed c.status-status.result (text_of c.in-Ok.field-0.answer) part.0 (rw (← c.status-status.ensures) at c.in-Ok.ensures.says)
     (subst (λ (bytes : List ℕ). IsExtended was now (take part.0 bytes)) text part.1) (c.in-Err-Failed.ensures.cause.failed (cc)) refl)
+    (record { host = λ not_four not_six not_seven. absurd (not_seven refl); sink = λ not_seven. absurd (not_seven refl) })

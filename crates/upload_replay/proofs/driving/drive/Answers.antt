@@ -1,35 +1,78 @@
-use Rattle.std.proofs.Common.{◌≡◌, inl, inr, List, ◌++◌, Some, sym, ap, subst, ◌∙◌}
+use Rattle.std.proofs.Common.{◌≡◌, inl, inr, List, ◌++◌, Some, sym, ap, subst, ◌∙◌, arith}
 use Rattle.std.specs.Prelude.{is_some, map, option_map}
 use Rattle.disk_layout.specs.Holds.{standing_view}
 use Rattle.exchange_trace.specs.Posts.{happenings_of, posted_in}
 use Rattle.exchange_trace.specs.Steps.{Step, steps_of}
-use Rattle.loader_machine.specs.Machine.{LoaderState, media_of, session_view}
+use Rattle.loader_machine.specs.Machine.{LoaderState, all_sessions, media_of, session_view}
+use Rattle.media_check.specs.Sets.{set_view}
 use Rattle.accept_rules.specs.Interlocks.{Follows}
-use Rattle.upload_replay.specs.Drives.{NeverBoots, RunGoesOn, IsRun, TellsLink}
+use Rattle.upload_replay.specs.Drives.{IsLoadersRun, LoaderGoesOn, NeverBoots, RunGoesOn, IsRun, TellsLink}
 use Rattle.upload_replay.specs.Turns.{target_kept}
 use Rattle.upload_replay.specs.Powers.{RoseBy, disk_stops}
 use Rattle.upload_replay.specs.Moments.{HoldsThroughout}
 use Rattle.upload_replay.proofs.Good.{first_left, left_no_more}
 use Rattle.upload_replay.proofs.Held.{reads_no_more}
 use Rattle.upload_replay.proofs.Throughout.{settled_if, throughout}
-use Rattle.upload_replay.proofs.Begins.{begins, comes_up_with, is_run, ready}
+use Rattle.upload_replay.proofs.Begins.{begins, comes_up_with, is_run, loader_begins, ready}
 use Rattle.upload_replay.proofs.Counted.{rose_not, rose_on}
-use Rattle.upload_replay.proofs.Ended.{first_refusal, of_last, of_run, refused_so}
+use Rattle.upload_replay.proofs.Ended.{first_cause, first_refusal, last_cause, of_last, of_run, refused_so, run_cause}
 use Rattle.upload_replay.proofs.driving.drive.Goals as goal
 
 pub returns-in-Err-clause-no_config : goal.returns-in-Err-clause-no_config
-returns-in-Err-clause-no_config g c = rw c.first_fault.ensures (first_refusal c.in-Err.fault (g.K.Disk.state c.args.disk.now) (g.K.Disk.state c.boot.new.disk) c.in-Err.ensures.refused c.in-Err.ensures.reads_disk.only_reads c.in-Err.ensures.reads_disk.err)
+returns-in-Err-clause-no_config g c = rw c.first_fault.ensures (first_refusal c.in-Err.fault (g.K.Disk.state c.args.disk.now) (g.K.Disk.state c.boot.new.disk) _ c.in-Err.ensures.refused c.in-Err.ensures.reads_disk.only_reads c.in-Err.ensures.reads_disk.err)
 
 pub returns-in_err-run_to_end-clause-no_config : goal.returns-in_err-run_to_end-clause-no_config
 returns-in_err-run_to_end-clause-no_config g c =
-    refused_so c.from_residual.result _ (g.K.Disk.state c.args.disk.now) _ c.in_err-run_to_end.field-0.0 c.from_residual.ensures.1 (λ e is. is)
-    (of_run c.in_err-run_to_end.field-0.0 (g.K.Disk.state c.args.disk.now) _ c.in_err-run_to_end.ensures.told)
+    refused_so c.from_residual.result _ (g.K.Disk.state c.args.disk.now) _ _ _ c.in_err-run_to_end.field-0.0 c.from_residual.ensures.1 (λ e is. is)
+    (of_run c.in_err-run_to_end.field-0.0 (g.K.Disk.state c.args.disk.now) _ _ _ c.in_err-run_to_end.ensures.told)
 
 pub returns-in_err-standing-clause-no_config : goal.returns-in_err-standing-clause-no_config
 returns-in_err-standing-clause-no_config g c =
-    refused_so c.from_residual-in_err-standing.result _ (g.K.Disk.state c.args.disk.now) _ c.in_err-standing.field-0.0 c.from_residual-in_err-standing.ensures.1 (λ e is. is)
-    (of_last c.in_err-standing.field-0.0 (g.K.Disk.state c.args.disk.now) _
+    refused_so c.from_residual-in_err-standing.result _ (g.K.Disk.state c.args.disk.now) _ _ _ c.in_err-standing.field-0.0 c.from_residual-in_err-standing.ensures.1 (λ e is. is)
+    (of_last c.in_err-standing.field-0.0 (g.K.Disk.state c.args.disk.now) _ _ _
     (λ image told. let (s, kept, is) = c.in-Ok.ensures.comes_up.active image told in (s, record { slot = _; by = kept.by })) c.in_err-standing.ensures.refused)
+
+pub returns-in-Err-clause-link_failed : goal.returns-in-Err-clause-link_failed
+returns-in-Err-clause-link_failed g c = rw c.first_fault.ensures (first_cause (g.L.Link.faults c.args.link.now) (g.K.Disk.state c.args.disk.now) c.in-Err.fault)
+
+pub returns-in_err-run_to_end-clause-link_failed : goal.returns-in_err-run_to_end-clause-link_failed
+returns-in_err-run_to_end-clause-link_failed g c =
+    run_cause c.from_residual.result _ _ (g.K.Disk.state c.args.disk.now) c.in_err-run_to_end.field-0.0 c.from_residual.ensures.1 c.in_err-run_to_end.ensures.cause
+    (λ image told. let (s, kept, is) = c.in-Ok.ensures.comes_up.active image told in (s, record { slot = _; by = kept.by }))
+
+pub returns-in_err-standing-clause-link_failed : goal.returns-in_err-standing-clause-link_failed
+returns-in_err-standing-clause-link_failed g c =
+    last_cause c.from_residual-in_err-standing.result _ _ (g.K.Disk.state c.args.disk.now) _ c.in_err-standing.field-0.0 c.from_residual-in_err-standing.ensures.1 c.in_ok-run_to_end.ensures.cause.ok
+    (λ image told. let (s, kept, is) = c.in-Ok.ensures.comes_up.active image told in (s, record { slot = _; by = kept.by })) c.in_err-standing.ensures.refused
+
+pub returns-clause-link_failed : goal.returns-clause-link_failed
+returns-clause-link_failed g c =
+    let same = c.in_ok-run_to_end.ensures.cause.ok in
+    record {
+      cause = record {
+        later = omega (arith, same);
+        failed = λ is. absurd cc;
+        once = omega (arith, same);
+        ok = same;
+        others = tt;
+      };
+      began = λ is. absurd cc;
+    }
+
+pub returns-clause-loader : goal.returns-clause-loader
+returns-clause-loader g c =
+    let media = media_of (set_view c.args.media.now) in
+    let sessions = map session_view c.into_sessions.result.items in
+    let is : media ≡ media_of c.new-2.result.set = ap (λ (l : LoaderState). media_of l.set) (sym c.new-2.ensures) in
+    let start : LoaderGoesOn media c.new.result c.new-2.result.view = rw (c.new.ensures, c.new-2.ensures) (loader_begins media) in
+    let on = c.in_ok-run_to_end.ensures.loader media is (c.requires.nothing_posted ∙ ap posted_in (sym c.new.ensures)) start in
+    subst (λ (steps : List Step). IsLoadersRun media steps sessions) (sym c.into_trace.ensures.steps) (record {
+      due = on.due;
+      noted = on.noted;
+      honest = on.honest;
+      carries = c.in_ok-run_to_end.ensures.carries;
+      sessions_are = c.into_sessions.ensures ∙ ap all_sessions on.kept;
+    })
 
 pub returns-clause-run : goal.returns-clause-run
 returns-clause-run g c =

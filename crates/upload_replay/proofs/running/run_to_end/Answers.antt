@@ -1,4 +1,4 @@
-use Rattle.std.proofs.Common.{List, sym, ap, subst, ◌∙◌, arith}
+use Rattle.std.proofs.Common.{List, sym, ap, subst, ◌∙◌}
 use Rattle.std.specs.List.{AllByRecursion}
 use Rattle.exchange_trace.specs.Steps.{Step}
 use Rattle.loader_machine.specs.Machine.{media_of}
@@ -26,6 +26,8 @@ turns-preserved g c = record {
   held = λ set began since media says follows before.
       c.in_ok-go_on.ensures.held set began since (media ∙ ap media_of (sym c.turns.invariant.media)) (c.turns.invariant.rule set.accepts says follows)
       (c.turns.invariant.held set began since media says follows before);
+  loader = λ media is posted on.
+      c.in_ok-go_on.ensures.loader media (is ∙ ap media_of (sym c.turns.invariant.media)) (c.turns.invariant.posted posted) (c.turns.invariant.loader media is posted on);
   carries = c.in_ok-go_on.ensures.carries c.turns.invariant.carries;
   leaves = λ set began since media says follows accepts before was.
       c.go_on.ensures.leaves set (c.turns.invariant.rule set.accepts says follows) accepts c.turns.invariant.carries (c.turns.invariant.held set began since media says follows before).held.holds
@@ -39,7 +41,7 @@ turns-preserved g c = record {
   happened = λ began first. c.in_ok-go_on.ensures.happened began (c.turns.invariant.happened began first);
   posted = λ first. c.in_ok-go_on.ensures.posted (c.turns.invariant.posted first);
   arms = arms_on _ _ _ _ _ _ c.turns.invariant.arms c.go_on.ensures.arms;
-  faults = omega (arith, c.turns.invariant.faults, c.in_ok-go_on.ensures.cause.later);
+  faults = c.in_ok-go_on.ensures.cause.ok ∙ c.turns.invariant.faults;
 }
 
 pub returns-in_err-go_on-clause-arms : goal.returns-in_err-go_on-clause-arms
@@ -74,3 +76,7 @@ returns-then-branch-clause-leaves g c =
 
 pub returns-then-branch-clause-posted : goal.returns-then-branch-clause-posted
 returns-then-branch-clause-posted g c = λ first. c.in_ok-go_on.ensures.posted (c.turns.invariant.posted first)
+
+pub returns-then-branch-clause-loader : goal.returns-then-branch-clause-loader
+returns-then-branch-clause-loader g c =
+    λ media is posted on. c.in_ok-go_on.ensures.loader media (is ∙ ap media_of (sym c.turns.invariant.media)) (c.turns.invariant.posted posted) (c.turns.invariant.loader media is posted on)

@@ -1,4 +1,4 @@
-use Rattle.std.proofs.Common.{◌≡◌, ◌≤◌, ℕ, Bool, List, ◌++◌}
+use Rattle.std.proofs.Common.{◌≡◌, ℕ, Bool, List, ◌++◌}
 use Rattle.std.specs.List.{AllByRecursion}
 use Rattle.exchange_trace.specs.Happenings.{HappeningView}
 use Rattle.exchange_trace.specs.Posts.{happenings_of, posted_in}
@@ -11,7 +11,8 @@ use Rattle.replay_rules.specs.BothEnds.{Setting}
 use Rattle.replay_rules.specs.Changes.{AllCarryBytes}
 use Rattle.replay_rules.specs.Promises.{IsNoEnd}
 use Rattle.run_promises.specs.Promises.{AcceptsPermitted}
-use Rattle.upload_replay.specs.Drives.{KeepsGoing}
+use Rattle.session_rules.specs.MediaFiles.{Media}
+use Rattle.upload_replay.specs.Drives.{KeepsGoing, LoaderGoesOn}
 use Rattle.upload_replay.specs.Moments.{LeavesGood, RunsOnDisk}
 use Rattle.upload_replay.specs.Powers.{ArmsAsGiven, RoseBy, disk_stops}
 use Rattle.upload_replay.specs.Turns.{RuleFollows, RunsWhileUp}
@@ -25,6 +26,8 @@ invariant-turns g l =
       held : (set : Setting) (began : LinkState) (since : ℕ) → set.media ≡ media_of l.fn.run.loader.set → Follows g.R.Rule.may_say l.fn.interlock set.accepts → RuleFollows g.R.Rule.may_say set.accepts l.fn.run.target
           → RunsOnDisk set began since l.fn.run.recording l.fn.run.loader l.fn.run.target (g.L.Link.state l.fn.link) (g.K.Disk.state l.fn.disk)
           → RunsOnDisk set began since l.run.recording l.run.loader l.run.target (g.L.Link.state l.link) (g.K.Disk.state l.disk);
+      loader : (media : Media) → media ≡ media_of l.fn.run.loader.set → (g.L.Link.state l.fn.link).posted ≡ posted_in l.fn.run.recording → LoaderGoesOn media l.fn.run.recording l.fn.run.loader.view
+          → LoaderGoesOn media l.run.recording l.run.loader.view;
       carries : AllCarryBytes l.run.recording;
       leaves : (set : Setting) (began : LinkState) (since : ℕ) → set.media ≡ media_of l.fn.run.loader.set → Follows g.R.Rule.may_say l.fn.interlock set.accepts → RuleFollows g.R.Rule.may_say set.accepts l.fn.run.target → AcceptsPermitted set
           → RunsOnDisk set began since l.fn.run.recording l.fn.run.loader l.fn.run.target (g.L.Link.state l.fn.link) (g.K.Disk.state l.fn.disk)
@@ -38,5 +41,5 @@ invariant-turns g l =
           → (g.L.Link.state l.link).given ≡ happenings_of l.run.recording ++ began;
       posted : (g.L.Link.state l.fn.link).posted ≡ posted_in l.fn.run.recording → (g.L.Link.state l.link).posted ≡ posted_in l.run.recording;
       arms : ArmsAsGiven (g.L.Link.state l.fn.link).given (g.L.Link.state l.link).given (g.K.Disk.state l.fn.disk) (g.K.Disk.state l.disk);
-      faults : g.L.Link.faults l.fn.link ≤ g.L.Link.faults l.link;
+      faults : g.L.Link.faults l.link ≡ g.L.Link.faults l.fn.link;
     }

@@ -1,4 +1,5 @@
 use Rattle.std.proofs.Common.{◌≡◌, inl, inr, Bool, List, ◌∷◌, ◌++◌, sym, ap, subst, ◌∙◌}
+use Rattle.std.specs.Prelude.{is_some}
 use Rattle.exchange_trace.specs.Happenings.{DatagramView, HappeningView, happening_view}
 use Rattle.exchange_trace.specs.Posts.{first_port_after, happenings_of, posted_in}
 use Rattle.link_net.specs.Links.{LinkState}
@@ -9,7 +10,7 @@ use Rattle.replay_rules.specs.Due.{MayBeNoted}
 use Rattle.transfer_end.specs.Calls.{posts_view}
 use Rattle.upload_replay.specs.Turns.{notes_of, target_kept}
 use Rattle.upload_replay.proofs.Counted.{arms_one}
-use Rattle.upload_replay.proofs.Turning.{is_up_kept, same_media, turned}
+use Rattle.upload_replay.proofs.Turning.{is_up_kept, loader_turned, same_media, turned}
 use Rattle.exchange_trace.specs.Happenings.{Ended}
 use Rattle.upload_replay.specs.Moments.{BeginsStep, HeldSoFar}
 use Rattle.upload_replay.proofs.Held.{adds_nothing, held_on}
@@ -35,6 +36,23 @@ returns-clause-turns g c =
           c.in_ok-put_turn.ensures.link;
       end = c.is_end-ended.ensures;
       media = same_media _ run.loader c.loader_takes.new.loader first c.in_ok-first.ensures;
+    }
+
+pub returns-clause-loader : goal.returns-clause-loader
+returns-clause-loader g c =
+    let run = c.args.run.now in
+    let first = posts_view c.in_ok-first.first in
+    let second = posts_view c.in_ok-second.second.posts in
+    let does = loader_turned _ run.loader c.loader_takes.new.loader first c.in_ok-first.ensures in
+    record {
+      step = record { given = happening_view c.in_ok-happening.happening; posts = first ++ second; notes = notes_of c.in_ok-second.second.note };
+      recorded = c.in_ok-put_turn.ensures.step;
+      moves = does.0;
+      target_posts = second;
+      posts = ap (λ (posts : List DatagramView). posts ++ second) does.1;
+      honest = c.in_ok-happening.ensures.ok.honest;
+      up = is_some run.target;
+      noted = c.in_ok-second.ensures.noted;
     }
 
 pub returns-clause-step : goal.returns-clause-step
