@@ -3,8 +3,6 @@
 
 mod interlock;
 mod rule;
-#[cfg(test)]
-mod tests;
 
 pub use interlock::Interlock;
 pub use rule::{Asks, PermitsAll, Rule};

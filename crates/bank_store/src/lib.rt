@@ -12,6 +12,3 @@ pub use fault::StoreFault;
 pub use formatting::format;
 pub use laws::{a_settled_disk_works, a_store_goes_on_fitting, an_unformatted_disk_is_as_it_was};
 pub use store::Store;
-
-#[cfg(test)]
-mod tests;

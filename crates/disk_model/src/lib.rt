@@ -8,8 +8,6 @@ mod fused;
 mod mem;
 mod note;
 mod power;
-#[cfg(test)]
-mod tests;
 
 pub use disk::{Disk, DiskFault, SIZE};
 pub use file::FileDisk;

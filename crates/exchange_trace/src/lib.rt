@@ -6,8 +6,6 @@ mod fault;
 pub mod laws;
 mod number;
 mod printing;
-#[cfg(test)]
-mod tests;
 mod trace;
 
 pub use fault::ScriptFault;

@@ -44,8 +44,6 @@
 
 mod reader;
 mod round_trip;
-#[cfg(test)]
-mod tests;
 mod writer;
 
 pub use field_grammar::FieldFault;

@@ -13,13 +13,3 @@ pub fn fields_are_decided()
     ensures short_parts { (bytes : List ℕ) → IsBytes bytes → IsDecidedAtStart short_parts bytes }
     ensures short { (bytes : List ℕ) → IsBytes bytes → IsDecidedAtStart short bytes }
 {}
-
-#[cfg(test)]
-mod tests {
-    use super::*;
-
-    #[test]
-    fn laws_hold_of_the_fields(_rt: HostRuntime) {
-        fields_are_decided();
-    }
-}

@@ -11,8 +11,6 @@ mod mail;
 mod number;
 mod script;
 mod script_link;
-#[cfg(test)]
-mod tests;
 mod turn;
 mod values;
 mod words;

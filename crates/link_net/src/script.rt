@@ -73,6 +73,13 @@ impl Script {
         lines.push(Line::Finish)?;
         Ok(Script { lines })
     }
+
+    /// How many lines say something.
+    pub fn line_count(&self) -> usize
+        ensures { result ≡ length self.now }
+    {
+        self.lines.len()
+    }
 }
 
 // The lines of a text.

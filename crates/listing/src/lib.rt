@@ -140,6 +140,3 @@ pub fn put_file_line(
     put_hex_16(out, sum)?;
     out.extend(b"\n")
 }
-
-#[cfg(test)]
-mod tests;

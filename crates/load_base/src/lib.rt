@@ -15,8 +15,6 @@ mod padded;
 mod part_text;
 mod sink;
 mod std_host;
-#[cfg(test)]
-mod tests;
 mod text;
 
 pub use config::{Config, Load, StoredFile};

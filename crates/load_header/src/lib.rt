@@ -10,8 +10,6 @@ mod load_crc;
 mod measuring;
 mod printing;
 mod reading;
-#[cfg(test)]
-mod tests;
 mod writing;
 
 pub use fault::HeaderFault;

@@ -24,8 +24,6 @@ mod place;
 mod request;
 mod storing;
 mod sums;
-#[cfg(test)]
-mod tests;
 mod whole;
 
 pub use down::Down;

@@ -15,8 +15,6 @@ mod lus;
 mod pieces;
 mod putting;
 mod reply;
-#[cfg(test)]
-mod tests;
 
 pub use fault::FileFault;
 pub use laws::protocol_file_laws;

@@ -20,8 +20,6 @@ mod loader;
 mod requested;
 mod row;
 mod session;
-#[cfg(test)]
-mod tests;
 mod turn;
 
 pub use loader::Loader;

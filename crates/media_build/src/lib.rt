@@ -9,8 +9,6 @@
 mod bodies;
 mod building;
 mod building_fault;
-#[cfg(test)]
-mod building_tests;
 mod fault;
 mod gathering;
 mod generated;
@@ -19,8 +17,6 @@ pub mod laws;
 mod lists;
 mod loads;
 mod making;
-#[cfg(test)]
-mod making_tests;
 mod partial;
 mod pieces;
 mod positions;
@@ -30,8 +26,6 @@ mod sizes;
 mod source_files;
 mod sources;
 mod statements;
-#[cfg(test)]
-mod tests;
 mod words;
 pub mod worked;
 mod writing;

@@ -17,8 +17,6 @@ mod names;
 mod opening;
 mod set;
 mod sums;
-#[cfg(test)]
-mod tests;
 
 pub use built::{Built, Placed};
 pub use checking::check;

@@ -2,8 +2,6 @@
 //! check sum, and `LOADS.LUM`, which names every load with its header, member and hardware.
 #![tactic(auto)]
 
-#[cfg(test)]
-mod encode_tests;
 mod encoding;
 mod fault;
 mod fitting;
@@ -16,10 +14,6 @@ mod printing;
 mod reading;
 mod reading_files;
 mod reading_loads;
-#[cfg(test)]
-mod tests;
-#[cfg(test)]
-mod vectors;
 mod writing;
 
 pub use fault::{ListFault, PathFault, WordFault};

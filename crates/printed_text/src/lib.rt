@@ -7,8 +7,6 @@
 mod faults;
 mod lines;
 mod numbers;
-#[cfg(test)]
-mod tests;
 
 pub use faults::{Printed, coded, nested};
 pub use lines::{put_field, put_line, put_number_field};

@@ -14,6 +14,3 @@ pub use disk_layout::{Identity, Manifest, ManifestFile, ManifestLoad, RecoverFau
 pub use listed::list;
 pub use recovering::recover;
 pub use surveying::{Surveyed, survey};
-
-#[cfg(test)]
-mod tests;

@@ -9,8 +9,6 @@ mod name;
 mod reason;
 mod reply;
 mod status;
-#[cfg(test)]
-mod tests;
 
 pub use buffer::FileBuffer;
 pub use configuration::lcl_file;

@@ -13,6 +13,3 @@ pub use kind::ShownKind;
 pub use lists::{files_list_text, loads_list_text};
 pub use protocol::{lci_text, lcl_text, lcs_text, lui_text, lur_text, lus_text};
 pub use shown::{Shown, show};
-
-#[cfg(test)]
-mod tests;

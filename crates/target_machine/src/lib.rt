@@ -15,14 +15,10 @@
 
 mod boot;
 mod installed;
-#[cfg(test)]
-mod power_tests;
 mod request;
 mod row;
 mod session;
 mod target;
-#[cfg(test)]
-mod tests;
 
 pub use boot::BootFault;
 pub use load_intake::Down;

@@ -23,8 +23,6 @@ mod phase;
 mod receiving;
 mod sending;
 mod step;
-#[cfg(test)]
-mod tests;
 
 pub use file_bytes::FileBytes;
 pub use laws::{arrival_laws, receiving_laws, repeat_laws, sending_laws};

@@ -7,8 +7,6 @@ mod laws;
 mod options;
 mod packet;
 mod reading;
-#[cfg(test)]
-mod tests;
 mod writing;
 
 pub use fault::PacketFault;

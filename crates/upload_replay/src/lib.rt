@@ -2,8 +2,6 @@
 //! happened in it, line by line (docs/FORMATS.md, "Printed text").
 #![tactic(auto)]
 
-#[cfg(test)]
-mod drive_tests;
 mod driving;
 mod outcome;
 mod posting;
@@ -12,8 +10,6 @@ mod reaching;
 mod recording;
 mod report;
 mod running;
-#[cfg(test)]
-mod tests;
 mod turn;
 mod wire;
 

@@ -1,0 +1,182 @@
+use load_base::{
+    Bytes, Host, Ident, MemHost, MemSink, Name, NoMemory, PartText, ReadFault, Sink, StdHost, Text,
+    TextFault, WriteFault, equality_laws, list_equality_law, text_laws,
+};
+use std::alloc::Global;
+use std::fs;
+use std::hash::{DefaultHasher, Hash, Hasher};
+use std::rt::Files;
+use std::test::Fail;
+
+// The refusal of a text, or nothing where it was read as these bytes.
+fn text_refusal(alloc: Global, bytes: &[u8]) -> Option<TextFault> {
+    match Text::read(alloc, bytes) {
+        Ok(text) if text.as_slice() == bytes => None,
+        Ok(_) => Some(TextFault::Memory),
+        Err(fault) => Some(fault),
+    }
+}
+
+#[test]
+fn texts_are_read(rt: HostRuntime) -> Result<(), Fail> {
+    text_laws();
+    let long = [b'a'; 256];
+    let rows = [
+        (b"".as_slice(), None),
+        (b" to ~", None),
+        (&long[..255], None),
+        (&long, Some(TextFault::TooLong(256))),
+        (b"a\nb", Some(TextFault::BadByte(1))),
+        (b"\x7F", Some(TextFault::BadByte(0))),
+    ];
+    for (bytes, refusal) in rows {
+        assert_eq!(rt; text_refusal(rt.alloc(), bytes), refusal);
+    }
+    Ok(())
+}
+
+fn is_text(text: Result<Text, NoMemory>, bytes: &[u8]) -> bool {
+    match text {
+        Ok(text) => text.as_slice() == bytes,
+        Err(NoMemory) => false,
+    }
+}
+
+// Whether these bytes are a name and its text, and two readings of them are equal and hash alike.
+fn name_is_text(alloc: Global, bytes: &[u8]) -> bool {
+    let (Ok(one), Ok(other)) = (Name::read(bytes), Name::read(bytes)) else {
+        return false;
+    };
+    one == other && hash_of(&one) == hash_of(&other) && is_text(Text::of_name(alloc, &one), bytes)
+}
+
+fn hash_of(name: &Name) -> u64 {
+    let mut hasher = DefaultHasher::new();
+    name.hash(&mut hasher);
+    hasher.finish()
+}
+
+fn ident_is_text(alloc: Global, bytes: &[u8]) -> bool {
+    match Ident::read(bytes) {
+        Ok(ident) => is_text(Text::of_ident(alloc, &ident), bytes),
+        Err(_) => false,
+    }
+}
+
+fn part_is_text(alloc: Global, bytes: &[u8]) -> bool {
+    match PartText::read(bytes) {
+        Ok(part) => is_text(Text::of_part(alloc, &part), bytes),
+        Err(_) => false,
+    }
+}
+
+#[test]
+fn names_are_texts(rt: HostRuntime) -> Result<(), Fail> {
+    equality_laws();
+    list_equality_law::<u8>();
+    assert_eq!(rt; name_is_text(rt.alloc(), b"NAV1.BIN"), true);
+    assert_eq!(rt; ident_is_text(rt.alloc(), b"FMC-1"), true);
+    assert_eq!(rt; part_is_text(rt.alloc(), b"ABC41-0000-0001"), true);
+    Ok(())
+}
+
+#[test]
+fn what_was_put(rt: HostRuntime) -> Result<(), Fail> {
+    let mut sink = MemSink::new(rt.alloc());
+    sink.fail_at(2)?;
+    let rows = [
+        (b"one".as_slice(), Ok(())),
+        (b"lost", Err(WriteFault::Failed)),
+        (b" two", Ok(())),
+    ];
+    for (bytes, answer) in rows {
+        assert_eq!(rt; sink.put(bytes), answer);
+    }
+    assert_eq!(rt; sink.as_slice(), b"one two".as_slice());
+    Ok(())
+}
+
+// The refusal of a read, or nothing where it gave these bytes. Other bytes count as out of memory.
+fn outcome<H: Host>(alloc: Global, host: &mut H, name: &[u8], bytes: &[u8]) -> Option<ReadFault> {
+    match host.read(alloc, name) {
+        Ok(found) if found.as_slice() == bytes => None,
+        Ok(_) => Some(ReadFault::Memory),
+        Err(fault) => Some(fault),
+    }
+}
+
+#[test]
+fn a_host_in_memory(rt: HostRuntime) -> Result<(), Fail> {
+    let mut host = MemHost::new(rt.alloc());
+    host.fail_at(4)?;
+    let written = [
+        (b"a/one".as_slice(), b"first".as_slice()),
+        (b"two", b""),
+        (b"a/one", b"second"),
+    ];
+    for (name, bytes) in written {
+        assert_eq!(rt; host.write(name, bytes), Ok(()));
+    }
+    let rows = [
+        (b"two".as_slice(), Some(ReadFault::Failed)),
+        (b"a/one", None),
+        (b"one", Some(ReadFault::Absent)),
+    ];
+    for (name, refusal) in rows {
+        assert_eq!(rt; outcome(rt.alloc(), &mut host, name, b"second"), refusal);
+    }
+    Ok(())
+}
+
+// `count` zero bytes.
+fn zeros(alloc: Global, count: usize) -> Result<Bytes, NoMemory> {
+    let mut bytes = Bytes::new(alloc);
+    let piece = [0; 65_536];
+    for _ in 0..count / 65_536 {
+        bytes.extend(&piece)?;
+    }
+    bytes.extend(&piece[..count % 65_536])?;
+    Ok(bytes)
+}
+
+// Writes a file of `count` zeros and reads it again: the refusal, or nothing where those bytes came
+// back.
+fn there_and_back<R: Files>(rt: &R, alloc: Global, count: usize) -> Option<ReadFault> {
+    let mut host = StdHost::new(rt);
+    let Ok(bytes) = zeros(alloc, count) else {
+        return Some(ReadFault::Memory);
+    };
+    match host.write(b"made/long", bytes.as_slice()) {
+        Ok(()) => outcome(alloc, &mut host, b"made/long", bytes.as_slice()),
+        Err(_) => Some(ReadFault::Memory),
+    }
+}
+
+// A file in folders that are missing, a folder in place of a file, a file in place of a folder, and
+// the longest file.
+#[test]
+fn the_files_of_the_system(rt: HostRuntime) -> Result<(), Fail> {
+    let mut host = StdHost::new(&rt);
+    assert_eq!(rt; host.write(b"made/inside/file", b"bytes"), Ok(()));
+    assert_eq!(rt;
+        host.write(b"made/inside", b"bytes"),
+        Err(WriteFault::Failed)
+    );
+    let rows = [
+        (b"made/inside/file".as_slice(), None),
+        (b"made/inside", Some(ReadFault::Failed)),
+        (b"made/inside/file/x", Some(ReadFault::Failed)),
+        (b"made/none", Some(ReadFault::Absent)),
+        (b"\xFF", Some(ReadFault::Failed)),
+    ];
+    for (name, refusal) in rows {
+        assert_eq!(rt; outcome(rt.alloc(), &mut host, name, b"bytes"), refusal);
+    }
+    assert_eq!(rt; there_and_back(&rt, rt.alloc(), 16_777_215), None);
+    assert_eq!(rt;
+        there_and_back(&rt, rt.alloc(), 16_777_216),
+        Some(ReadFault::TooLong)
+    );
+    fs::remove_dir_all(&rt, "made")?;
+    Ok(())
+}

@@ -1,0 +1,4 @@
+mod disks;
+mod listings;
+mod recoveries;
+mod stores;

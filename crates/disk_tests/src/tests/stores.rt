@@ -1,0 +1,183 @@
+ghost use Rattle.std.specs.Prelude.{◌≡◌, IfOk};
+
+use bank_store::{Identity, Store, StoreFault, format};
+use disk_layout::{Active, Bank, ManifestRange, Slot};
+use disk_model::{Call, Disk, FileDisk, MemDisk, Note};
+use load_base::{Ident, Name, PartText};
+use printed_text::Printed;
+use std::alloc::Global;
+use std::fs;
+use std::test::Fail;
+
+// The first bytes of the disk that target HW1, position L, serial number SN1 has with banks of 4096
+// bytes.
+const START: [u8; 22] = [
+    0x41, 0x36, 0x31, 0x35, 0, 1, 0, 0, 0x10, 0, 3, 0x48, 0x57, 0x31, 1, 0x4C, 3, 0x53, 0x4E, 0x31,
+    0xB4, 0x3C,
+];
+
+fn target(bank: u32) -> Result<Identity, Fail>
+    ensures { IfOk result (λ identity. identity.bank ≡ bank) }
+{
+    Ok(Identity {
+        hw: Ident::read(b"HW1")?,
+        pos: Ident::read(b"L")?,
+        serial: Ident::read(b"SN1")?,
+        bank,
+    })
+}
+
+// What a call writes and where; a sync writes nothing.
+fn written(note: &Note) -> (u32, &[u8]) {
+    match &note.call {
+        Call::Write { at, bytes } => (*at, bytes.as_slice()),
+        Call::Sync | Call::Restart => (0, &[]),
+    }
+}
+
+// A disk of these bytes after these writes.
+fn after(before: &[u8; 9000], writes: &[(u32, &[u8])]) -> [u8; 9000] {
+    let mut disk = *before;
+    for (at, bytes) in writes {
+        let at = *at as usize;
+        if at <= disk.len() && bytes.len() <= disk.len() - at {
+            disk[at..at + bytes.len()].copy_from_slice(bytes);
+        }
+    }
+    disk
+}
+
+#[test]
+fn a_disk_with_both_gates_open_is_formatted_in_four_steps(rt: HostRuntime) -> Result<(), Fail> {
+    let mut junk = [0x5A; 9000];
+    junk[4096] = 0xA5;
+    junk[4608] = 0xA5;
+    let mut disk = MemDisk::new(rt.alloc(), &junk)?;
+    format(&mut disk, &target(4096)?)?;
+    let steps: [(u32, &[u8]); 10] = [
+        (4608, &[0]),
+        (0, &[]),
+        (4096, &[0]),
+        (0, &[]),
+        (8192, &[0, 0]),
+        (4112, &[0, 0, 0, 1, 0, 0, 0, 0, 0, 0, 0, 0, 2]),
+        (0, &START),
+        (0, &[]),
+        (4096, &[0xA5]),
+        (0, &[]),
+    ];
+    let mut made = disk.notes().len() == steps.len();
+    for (note, step) in disk.notes().iter().zip(steps) {
+        made = made && note.done && written(note) == step;
+    }
+    assert!(rt; made && disk.as_slice() == after(&junk, &steps).as_slice());
+    Ok(())
+}
+
+// What formatting an empty disk answers where this call fails, and how many writes and syncs were
+// noted, that call among them.
+fn format_failing(alloc: Global, call: u32) -> Result<(Result<(), StoreFault>, usize), Fail> {
+    let mut disk = MemDisk::new(alloc, &[])?;
+    disk.fail_at(call)?;
+    let answer = format(&mut disk, &target(67_108_864)?);
+    Ok((answer, disk.notes().len()))
+}
+
+// It reads both slots, and finds no gate open.
+#[test]
+fn each_failing_call_stops_formatting(rt: HostRuntime) -> Result<(), Fail> {
+    for call in 1..=9u32 {
+        let made = call.saturating_sub(2) as usize;
+        let wanted = (Err(StoreFault::DiskFailed), made);
+        assert_eq!(rt; format_failing(rt.alloc(), call)?, wanted, "at call {call}");
+    }
+    assert_eq!(rt; format_failing(rt.alloc(), 10)?, (Ok(()), 7));
+    Ok(())
+}
+
+#[test]
+fn a_file_is_formatted(rt: HostRuntime) -> Result<(), Fail> {
+    let name = "a_file_is_formatted.disk";
+    let mut disk = FileDisk::new(&rt, name);
+    format(&mut disk, &target(4096)?)?;
+    let file = fs::read(&rt, name)?;
+    assert_eq!(rt; file.len(), 8194);
+    assert!(rt; file.as_slice().starts_with(&START));
+    assert_eq!(rt; file.as_slice()[4096], 0xA5);
+    fs::remove_file(&rt, name)?;
+    let mut folder = FileDisk::new(&rt, ".");
+    assert_eq!(rt;
+        format(&mut folder, &target(4096)?),
+        Err(StoreFault::DiskFailed)
+    );
+    Ok(())
+}
+
+// A disk that was formatted for the target, on which one load was installed, and the store's
+// sequence number and bank then.
+fn installed(alloc: Global) -> Result<(MemDisk, u32, u8), Fail> {
+    let (part, name) = (PartText::read(b"MMM12-0001-ABCD")?, Name::read(b"H.LUH")?);
+    let active = Active {
+        slot: Slot::A,
+        bank: Bank::Zero,
+        sequence: 1,
+        manifest: ManifestRange {
+            offset: 0,
+            length: 2,
+        },
+    };
+    let mut disk = MemDisk::new(alloc, &[])?;
+    format(&mut disk, &target(4096)?)?;
+    let mut store = Store::new(alloc, 4096, active, false);
+    store.prepare()?;
+    store.begin(&mut disk)?;
+    store.start_load(part, 1)?;
+    store.append(&mut disk, b"ab")?;
+    store.append(&mut disk, b"c")?;
+    store.end_file(name)?;
+    store.seal(&mut disk)?;
+    store.activate(&mut disk)?;
+    let (sequence, bank) = (store.sequence(), store.bank());
+    Ok((disk, sequence, bank))
+}
+
+#[test]
+fn a_load_is_installed_beside_what_is_active(rt: HostRuntime) -> Result<(), Fail> {
+    let (disk, sequence, bank) = installed(rt.alloc())?;
+    let offsets: [(usize, &[u8]); 5] = [
+        (4096, &[0xA5]),
+        (4608, &[0xA5]),
+        (4624, &[0, 0, 0, 2, 1, 0, 0, 0, 3, 0, 0, 0, 29]),
+        (8192, &[0, 0]),
+        (
+            12288,
+            b"abc\x00\x01MMM12-0001-ABCD\x00\x01\x05H.LUH\x00\x00\x00\x03",
+        ),
+    ];
+    let mut written = (sequence, bank, disk.as_slice().len()) == (2, 1, 12320);
+    for (at, bytes) in offsets {
+        let held = disk.as_slice().get(at..).unwrap_or(&[]);
+        written = written && held.starts_with(bytes);
+    }
+    assert!(rt; written);
+    Ok(())
+}
+
+#[test]
+fn each_fault_has_its_text(rt: HostRuntime) -> Result<(), Fail> {
+    let full = StoreFault::BankFull {
+        need: 4_294_967_296,
+        have: 4096,
+    };
+    let texts: [(StoreFault, &[u8]); 4] = [
+        (full, b"K1 4294967296 4096"),
+        (StoreFault::SequenceSpent, b"K2"),
+        (StoreFault::DiskFailed, b"K3"),
+        (StoreFault::Memory, b""),
+    ];
+    for (fault, text) in texts {
+        let printed = fault.text(rt.alloc())?;
+        assert_eq!(rt; printed.as_slice(), text);
+    }
+    Ok(())
+}

@@ -1,0 +1,7 @@
+mod headers;
+mod interlocks;
+mod list_vectors;
+mod list_writing;
+mod lists;
+mod protocol_files;
+mod shown;

@@ -1,0 +1,57 @@
+ghost use Rattle.std.specs.Prelude.{◌≡◌};
+ghost use Rattle.load_header.specs.Header.{header_view};
+ghost use Rattle.accept_rules.specs.Interlocks.{IsInterlock, Says};
+
+use accept_rules::{Asks, Interlock, PermitsAll, Rule};
+use load_base::{Bytes, List, Text};
+use load_header::LoadHeader;
+use part_number::PartNumber;
+use std::alloc::Global;
+use std::test::Fail;
+
+fn header(alloc: Global, type_id: u16) -> Result<LoadHeader, Fail> {
+    Ok(LoadHeader {
+        flags: 0,
+        part: PartNumber::read(b"ABC41-0000-0001")?,
+        type_name: Text::read(alloc, b"APP")?,
+        type_id,
+        hardware: List::new(alloc),
+        positions: List::new(alloc),
+        data_files: List::new(alloc),
+        support_files: List::new(alloc),
+        user: Bytes::new(alloc),
+        load_crc: 0,
+    })
+}
+
+fn answer_of<R: Rule + Drop>(rule: R, header: &LoadHeader) -> bool
+    requires { IsInterlock R.may_ask R.may_say rule }
+    ensures { Says R.may_say rule (header_view header.now) result }
+{
+    let interlock = Interlock::new(rule);
+    interlock.admits(header)
+}
+
+/// A maker's rule that refuses types of its own.
+fn shared_types_alone(header: &LoadHeader) -> bool {
+    let rule = |header: &LoadHeader| -> bool { header.type_id != 0 && header.type_id < 0x8000 };
+    answer_of(Asks { rule }, header)
+}
+
+#[test]
+fn an_interlock_answers_as_its_rule_does(rt: HostRuntime) -> Result<(), Fail> {
+    for (type_id, answers) in [
+        (0, (false, false)),
+        (1, (true, true)),
+        (0x7FFF, (true, true)),
+        (0x8000, (true, false)),
+        (0xFFFF, (true, false)),
+    ] {
+        let header = header(rt.alloc(), type_id)?;
+        assert_eq!(rt;
+            (answer_of(PermitsAll, &header), shared_types_alone(&header)),
+            answers
+        );
+    }
+    Ok(())
+}

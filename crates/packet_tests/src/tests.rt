@@ -1,0 +1,4 @@
+mod packets;
+mod script_faults;
+mod scripts;
+mod transfers;

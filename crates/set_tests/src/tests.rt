@@ -1,0 +1,4 @@
+mod building;
+mod checking;
+mod making;
+mod recipes;

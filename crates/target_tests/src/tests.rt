@@ -1,0 +1,4 @@
+mod power_losses;
+mod reports;
+mod runs;
+mod sessions;
