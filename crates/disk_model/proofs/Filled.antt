@@ -1,7 +1,7 @@
 -- A buffer that is filled piece by piece from a file.
-use Rattle.std.proofs.Common.{◌≡◌, ℕ, ◌+◌, ◌-◌, ◌≤◌, ◌<◌, List, [], ◌++◌, length, take, Option, None, Some, sym, refl, ap, ap₂, ◌∙◌, arith, length-append}
+use Rattle.std.proofs.Common.{◌≡◌, ℕ, ◌+◌, ◌≤◌, List, ◌++◌, length, take, Option, None, Some, sym, refl, ap, ap₂, ◌∙◌, arith, length-append}
 use Rattle.std.proofs.Math.Seq.{take-append-add, length-take-le}
-use Rattle.std.proofs.lemmas.List.{append-nil, append_assoc, length-take, take-take}
+use Rattle.std.proofs.lemmas.List.{append_assoc, length-take, take-take}
 use Rattle.std.proofs.lemmas.Slice.{take-put_mid}
 use Rattle.std.specs.Io.KnownBytes.{Consumes}
 use borrow.Rule.Slice.PartMut.{put_mid}

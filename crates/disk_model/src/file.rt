@@ -1,34 +1,35 @@
 //! A disk in a file. Nothing is told of what the file holds.
-ghost use Rattle.std.specs.Prelude.{◌≡◌, ◌+◌, ◌<◌, ◌≤◌, true, false, is_err, length, IfOk, IfSome};
+ghost use Rattle.std.specs.Prelude.{◌≡◌, ◌+◌, ◌<◌, ◌≤◌, true, false, is_err};
 ghost use Rattle.std.specs.Prelude.{IsErrOf, OnOk, OnErr};
 ghost use Rattle.std.proofs.Common.{inl};
 ghost use Rattle.load_base.specs.Counts.{Rose};
-ghost use Rattle.disk_model.specs.FilledReads.{IsFilled, ReadsUpTo};
 ghost use Rattle.disk_model.specs.State.{untold_reads};
 
 use crate::disk::refuse;
+use crate::held_file::{HeldFile, LockedFile};
 use crate::{Disk, DiskFault};
-use load_base::{FaultCount, read_some};
-use std::fs::{OpenFile, OpenOptions};
-use std::io::{self, ErrorKind, Read, Seek, SeekFrom, Write};
+use load_base::FaultCount;
+use std::fs::File;
+use std::io::{self, ErrorKind};
 use std::rt::Files;
 
-/// A disk in a file; bytes past its end read as zero. The file is opened for reading until the
-/// first write, which makes it where it is missing; until then a missing file reads as zeros. An
-/// error of the system is a fault of the disk, and closes the file. `restart` writes out what the
-/// file holds and closes it, so the next call opens it anew.
+/// A disk in a file; bytes past its end read as zero. The file is opened, locked and synced at the
+/// first call, and stays so until this object goes: another one of the same file waits for that, in
+/// this process for ever. A missing file reads as zeros until the first write, which makes it. An
+/// error of the system is a fault of the disk. `restart` writes out what the file holds.
 ///
 /// Once the system couldn't write out what it holds, it may have lost it while it still reads it:
-/// from then on each call fails, of this disk and also after a restart.
+/// from then on each call fails, of this disk and also after a restart. So it is where another run
+/// made the file that was missing at first.
 #[derive(Drop)]
-pub struct FileDisk<'r, R: Files> {
+pub struct FileDisk<'r, R: Files<File = File>> {
     file: DiskFile<'r, R>,
     clock: u64,
     faults: FaultCount,
     stopped: bool,
 }
 
-impl<'r, R: Files> FileDisk<'r, R> {
+impl<'r, R: Files<File = File>> FileDisk<'r, R> {
     ghost use Rattle.disk_model.specs.FileDisk.{name_of, state_of};
 
     /// The disk in the file of this name, which is not opened yet.
@@ -42,10 +43,7 @@ impl<'r, R: Files> FileDisk<'r, R> {
             file: DiskFile {
                 rt,
                 name,
-                open: None,
-                offset: None,
-                writable: false,
-                is_new: false,
+                found: Found::NotYet,
                 is_lost: false,
             },
             clock: 0,
@@ -55,7 +53,7 @@ impl<'r, R: Files> FileDisk<'r, R> {
     }
 }
 
-impl<R: Files> Disk for FileDisk<'_, R> {
+impl<R: Files<File = File>> Disk for FileDisk<'_, R> {
     ghost use Rattle.disk_model.specs.FileDisk.{state_of};
 
     ghost state = { state_of };
@@ -96,7 +94,6 @@ impl<R: Files> Disk for FileDisk<'_, R> {
             Ok(()) => self.file.sync(),
             Err(fault) => Err(fault),
         };
-        self.file.open = None;
         answer(outcome, &mut self.faults, &mut self.stopped)
     }
 }
@@ -139,162 +136,90 @@ fn answer(
     }
 }
 
-// The file of a disk. At an error it is closed.
+// The file of a disk.
 #[derive(Drop)]
-struct DiskFile<'r, R: Files> {
+struct DiskFile<'r, R: Files<File = File>> {
     rt: &'r R,
     name: &'r str,
-    open: Option<R::File>,
-    // Where the open file stands, where that is known.
-    offset: Option<u64>,
-    // Whether it is open for writing too.
-    writable: bool,
-    // Whether its folder may not have its name yet after a power loss.
-    is_new: bool,
-    // Whether what was written may be lost.
+    found: Found,
+    // Whether what was written, or read as missing, may not hold any more.
     is_lost: bool,
 }
 
-impl<R: Files> DiskFile<'_, R> {
-    // What lies after the file's end, or in no file, reads as zero.
+// What the first call found under the file's name.
+#[derive(Drop)]
+enum Found {
+    NotYet,
+    Nothing,
+    File(HeldFile),
+}
+
+impl<R: Files<File = File>> DiskFile<'_, R> {
+    // In no file all reads as zero.
     fn read_at(&mut self, at: u32, buf: &mut [u8]) -> io::Result<()> {
-        let Some(mut file) = self.take()? else {
-            buf.fill(0);
-            return Ok(());
-        };
-        self.go_to(&mut file, at)?;
-        let count = fill_from(&mut file, buf)?;
-        self.keep(file, at, count);
+        self.find()?;
+        if let Found::File(file) = &mut self.found {
+            return file.read_at(at, buf);
+        }
+        buf.fill(0);
         Ok(())
     }
 
     fn write_at(&mut self, at: u32, bytes: &[u8]) -> io::Result<()> {
-        let mut file = self.take_writable()?;
-        self.go_to(&mut file, at)?;
-        file.write_all(bytes)?;
-        self.keep(file, at, bytes.len());
-        Ok(())
-    }
-
-    // A file that stands right needs no seek.
-    fn go_to(&self, file: &mut R::File, at: u32) -> io::Result<()> {
-        if self.offset != Some(u64::from(at)) {
-            file.seek(SeekFrom::Start(u64::from(at)))?;
+        self.find()?;
+        self.make()?;
+        match &mut self.found {
+            Found::File(file) => file.write_at(at, bytes),
+            _ => Err(io::Error::from(ErrorKind::Other)),
         }
-        Ok(())
     }
 
-    // Keeps the file open, which stands this many bytes after this offset.
-    fn keep(&mut self, file: R::File, at: u32, count: usize) {
-        self.open = Some(file);
-        self.offset = u64::from(at).checked_add(count as u64);
-    }
-
-    // Writes out what the file holds, and its name in its folder where that is new.
+    // Writes out what the file holds.
     fn sync(&mut self) -> io::Result<()> {
-        let Some(file) = self.take()? else {
+        self.find()?;
+        if let Found::File(file) = &self.found {
+            let written = file.sync();
+            self.is_lost = written.is_err();
+            return written;
+        }
+        Ok(())
+    }
+
+    // Opens the file at the first call.
+    fn find(&mut self) -> io::Result<()> {
+        if self.is_lost {
+            return Err(io::Error::from(ErrorKind::Other));
+        }
+        if !matches!(self.found, Found::NotYet) {
             return Ok(());
-        };
-        let written = self.write_out(&file);
-        self.is_lost = written.is_err();
-        written?;
-        self.is_new = false;
-        self.open = Some(file);
-        Ok(())
-    }
-
-    fn write_out(&self, file: &R::File) -> io::Result<()> {
-        file.sync_all()?;
-        if self.is_new {
-            let mut how = OpenOptions::new();
-            how.read(true);
-            self.rt.open_file(&how, folder_of(self.name))?.sync_all()?;
         }
-        Ok(())
-    }
-
-    // The open file, opened for reading where it isn't open; None where there is none of this name.
-    fn take(&mut self) -> io::Result<Option<R::File>> {
-        if self.is_lost {
-            return Err(io::Error::from(ErrorKind::Other));
-        }
-        if let Some(file) = self.open.take() {
-            return Ok(Some(file));
-        }
-        self.offset = None;
-        self.writable = false;
-        let mut how = OpenOptions::new();
-        how.read(true);
-        match self.opened(&how) {
-            Ok(file) => Ok(Some(file)),
-            Err(fault) if fault.kind() == ErrorKind::NotFound => Ok(None),
-            Err(fault) => Err(fault),
-        }
-    }
-
-    // The file open for writing too, made where there is none of this name.
-    fn take_writable(&mut self) -> io::Result<R::File> {
-        if self.is_lost {
-            return Err(io::Error::from(ErrorKind::Other));
-        }
-        if self.writable {
-            if let Some(file) = self.open.take() {
-                return Ok(file);
+        match LockedFile::open(self.rt, self.name)? {
+            Some(locked) => self.hold(locked),
+            None => {
+                self.found = Found::Nothing;
+                Ok(())
             }
         }
-        self.open = None;
-        self.offset = None;
-        self.writable = true;
-        let mut how = OpenOptions::new();
-        how.read(true).write(true);
-        match self.opened(&how) {
-            Err(fault) if fault.kind() == ErrorKind::NotFound => {
-                self.is_new = true;
-                how.create_new(true);
-                self.opened(&how)
+    }
+
+    // Makes the file where there was none.
+    fn make(&mut self) -> io::Result<()> {
+        if !matches!(self.found, Found::Nothing) {
+            return Ok(());
+        }
+        match LockedFile::create(self.rt, self.name) {
+            Ok(locked) => self.hold(locked),
+            Err(fault) => {
+                self.is_lost = fault.kind() == ErrorKind::AlreadyExists;
+                Err(fault)
             }
-            opened => opened,
         }
     }
 
-    // Where standard output is closed the system gives its descriptor to the next file that is
-    // opened, and output would go into the disk. A clone's descriptor is 3 at least.
-    fn opened(&self, how: &OpenOptions) -> io::Result<R::File> {
-        self.rt.open_file(how, self.name)?.try_clone()
+    fn hold(&mut self, locked: LockedFile) -> io::Result<()> {
+        self.is_lost = true;
+        self.found = Found::File(locked.synced(self.rt, self.name)?);
+        self.is_lost = false;
+        Ok(())
     }
-}
-
-// The folder in which the file of this name lies.
-fn folder_of(name: &str) -> &str {
-    match name.rsplit_once('/') {
-        Some(("", _)) => "/",
-        Some((folder, _)) => folder,
-        None => ".",
-    }
-}
-
-// Fills the buffer with what the file has, and with zeros after its end. How many bytes it had.
-fn fill_from<F: Read>(file: &mut F, buf: &mut [u8]) -> io::Result<usize>
-    ensures { OnOk result (IfSome (F.remaining file.old) (λ told. IsFilled told buf.new)) }
-{
-    let filled = read_up_to(file, buf)?;
-    buf[filled..].fill(0);
-    Ok(filled)
-}
-
-// Reads until the buffer is full or the file ends.
-fn read_up_to<F: Read>(file: &mut F, buf: &mut [u8]) -> io::Result<usize>
-    ensures bound { IfOk result (λ count. count ≤ length buf.new) }
-    ensures bytes { IfOk result (λ count. IfSome (F.remaining file.old)
-        (λ told. ReadsUpTo told count buf.new)) }
-{
-    let mut filled = 0;
-    while filled < buf.len() {
-        let count = read_some(file, &mut buf[filled..])?;
-        if count == 0 {
-            break;
-        }
-        filled += count;
-    }
-    Ok(filled)
 }

@@ -5,6 +5,7 @@
 mod disk;
 mod file;
 mod fused;
+mod held_file;
 mod mem;
 mod note;
 mod power;

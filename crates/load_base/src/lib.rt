@@ -4,6 +4,7 @@
 
 mod config;
 mod failing;
+mod folder;
 mod host;
 mod ident;
 mod interrupted;
@@ -13,12 +14,14 @@ mod mem_host;
 mod name;
 mod padded;
 mod part_text;
+mod replacing;
 mod sink;
 mod std_host;
 mod text;
 
 pub use config::{Config, Load, StoredFile};
 pub use failing::{FailingCalls, FaultCount};
+pub use folder::{folder_of, sync_folder, sync_for_reading};
 pub use host::{Host, LONGEST_FILE, ReadFault};
 pub use ident::{Ident, IdentFault};
 pub use interrupted::read_some;

@@ -4,25 +4,28 @@ ghost use Rattle.load_base.specs.Host.{WritesFile};
 ghost use Rattle.load_base.specs.Sink.{HasWriteCause};
 
 use crate::host::{Host, LONGEST_FILE, ReadFault};
+use crate::replacing::replace_file;
 use crate::{Bytes, FaultCount, NoMemory, WriteFault, read_some};
 use std::alloc::Global;
+use std::fs::{self, File};
 use std::io::{self, ErrorKind, Read};
+use std::os::unix::fs::FileTypeExt;
 use std::rt::Files;
-use std::{fs, str};
+use std::str;
 
 // The host reads files in pieces of this many bytes.
 const PIECE: usize = 8192;
 
 /// The files of the system, relative to the current folder. A file is absent only where the system
-/// says that there is none of that name; any other error is a fault of the host. Nothing is told of
-/// what files hold.
+/// says that there is none of that name; any other error is a fault of the host, and so is a FIFO,
+/// which would be waited for. Nothing is told of what files hold.
 #[derive(Drop)]
-pub struct StdHost<'r, R: Files> {
+pub struct StdHost<'r, R: Files<File = File>> {
     rt: &'r R,
     faults: FaultCount,
 }
 
-impl<'r, R: Files> StdHost<'r, R> {
+impl<'r, R: Files<File = File>> StdHost<'r, R> {
     /// The files of the system, without faults yet.
     pub fn new(rt: &'r R) -> StdHost<'r, R>
         ensures { ⟦<StdHost<'r, R> as Host>⟧.faults result ≡ 0 }
@@ -34,7 +37,7 @@ impl<'r, R: Files> StdHost<'r, R> {
     }
 }
 
-impl<R: Files> Host for StdHost<'_, R> {
+impl<R: Files<File = File>> Host for StdHost<'_, R> {
     ghost files = { λ _. None };
 
     ghost faults = { λ host. host.faults };
@@ -50,7 +53,8 @@ impl<R: Files> Host for StdHost<'_, R> {
         }
     }
 
-    /// It makes missing folders, and is never out of memory.
+    /// It makes missing folders, and is never out of memory. The file is the old one or the new one,
+    /// whole, whenever power is lost, and the new one once it answers Ok.
     fn write(&mut self, name: &[u8], bytes: &[u8]) -> Result<(), WriteFault>
         ensures file { WritesFile None None name.now bytes.now result }
         ensures cause { HasWriteCause self.old.faults self.new.faults result }
@@ -66,17 +70,24 @@ impl<R: Files> Host for StdHost<'_, R> {
     }
 }
 
-fn read_file<R: Files>(rt: &R, alloc: Global, name: &[u8]) -> Result<Bytes, ReadFault>
+fn read_file<R: Files<File = File>>(rt: &R, alloc: Global, name: &[u8]) -> Result<Bytes, ReadFault>
     ensures { IfOk result (λ bytes. length bytes.items ≤ LONGEST_FILE) }
 {
     let Ok(name) = str::from_utf8(name) else {
         return Err(ReadFault::Failed);
     };
-    match fs::open(rt, name) {
+    match open_file(rt, name) {
         Ok(mut file) => read_whole(&mut file, alloc),
         Err(fault) if fault.kind() == ErrorKind::NotFound => Err(ReadFault::Absent),
         Err(_) => Err(ReadFault::Failed),
     }
+}
+
+fn open_file<R: Files<File = File>>(rt: &R, name: &str) -> io::Result<File> {
+    if rt.metadata(name)?.file_type().is_fifo() {
+        return Err(io::Error::from(ErrorKind::Other));
+    }
+    fs::open(rt, name)
 }
 
 // Each read but the last gives a byte at least.
@@ -104,12 +115,9 @@ fn read_whole<F: Read>(file: &mut F, alloc: Global) -> Result<Bytes, ReadFault>
     Err(ReadFault::TooLong)
 }
 
-fn write_file<R: Files>(rt: &R, name: &[u8], bytes: &[u8]) -> io::Result<()> {
+fn write_file<R: Files<File = File>>(rt: &R, name: &[u8], bytes: &[u8]) -> io::Result<()> {
     let Ok(name) = str::from_utf8(name) else {
         return Err(io::Error::from(ErrorKind::InvalidInput));
     };
-    if let Some((folder, _)) = name.rsplit_once('/') {
-        fs::create_dir_all(rt, folder)?;
-    }
-    fs::write(rt, name, bytes)
+    replace_file(rt, name, bytes)
 }

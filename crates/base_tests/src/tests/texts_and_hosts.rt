@@ -3,8 +3,9 @@ use load_base::{
     TextFault, WriteFault, equality_laws, list_equality_law, text_laws,
 };
 use std::alloc::Global;
-use std::fs;
+use std::fs::{self, File};
 use std::hash::{DefaultHasher, Hash, Hasher};
+use std::os::unix::fs::symlink;
 use std::rt::Files;
 use std::test::Fail;
 
@@ -141,7 +142,7 @@ fn zeros(alloc: Global, count: usize) -> Result<Bytes, NoMemory> {
 
 // Writes a file of `count` zeros and reads it again: the refusal, or nothing where those bytes came
 // back.
-fn there_and_back<R: Files>(rt: &R, alloc: Global, count: usize) -> Option<ReadFault> {
+fn there_and_back<R: Files<File = File>>(rt: &R, alloc: Global, count: usize) -> Option<ReadFault> {
     let mut host = StdHost::new(rt);
     let Ok(bytes) = zeros(alloc, count) else {
         return Some(ReadFault::Memory);
@@ -178,5 +179,29 @@ fn the_files_of_the_system(rt: HostRuntime) -> Result<(), Fail> {
         Some(ReadFault::TooLong)
     );
     fs::remove_dir_all(&rt, "made")?;
+    Ok(())
+}
+
+// Writes over a longer file, over a link, and beside what a killed run left.
+fn replaced(rt: &HostRuntime, alloc: Global) -> Result<[Option<ReadFault>; 3], Fail> {
+    let mut host = StdHost::new(rt);
+    host.write(b"replaced/file", b"longer")?;
+    symlink(rt, "file", "replaced/link")?;
+    fs::write(rt, "replaced/.new", b"unfinished")?;
+    host.write(b"replaced/link", b"new")?;
+    let kept = outcome(alloc, &mut host, b"replaced/file", b"longer");
+    host.write(b"replaced/file", b"new")?;
+    Ok([
+        kept,
+        outcome(alloc, &mut host, b"replaced/file", b"new"),
+        outcome(alloc, &mut host, b"replaced/link", b"new"),
+    ])
+}
+
+#[test]
+fn a_file_is_replaced_whole(rt: HostRuntime) -> Result<(), Fail> {
+    assert_eq!(rt; replaced(&rt, rt.alloc())?, [None, None, None]);
+    assert!(rt; !fs::exists(&rt, "replaced/.new")?);
+    fs::remove_dir_all(&rt, "replaced")?;
     Ok(())
 }

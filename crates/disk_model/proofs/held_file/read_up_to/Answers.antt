@@ -1,7 +1,7 @@
-use Rattle.std.proofs.Common.{length, take, ◌-◌, subst, arith, List, ℕ, sym}
+use Rattle.std.proofs.Common.{length, take, ◌-◌, subst, List, ℕ, sym}
 use Rattle.std.specs.Io.KnownBytes.{Consumes}
 use Rattle.disk_model.proofs.Filled.{consumed_more, piece_taken, piece_within}
-use Rattle.disk_model.proofs.file.read_up_to.Goals as goal
+use Rattle.disk_model.proofs.held_file.read_up_to.Goals as goal
 
 pub loop-filled-preserved : goal.loop-filled-preserved
 loop-filled-preserved g c =

@@ -1,0 +1,211 @@
+//! The file of a disk, which one run has to itself, and of which a power loss leaves what is read.
+//! Only `LockedFile::synced` makes a `HeldFile`, and only a `HeldFile` is read and written.
+ghost use Rattle.std.specs.Prelude.{◌≤◌, length, IfOk, IfSome, OnOk};
+ghost use Rattle.disk_model.specs.FilledReads.{IsFilled, ReadsUpTo};
+
+use load_base::{folder_of, read_some, sync_folder, sync_for_reading};
+use std::fs::{File, OpenOptions};
+use std::io::{self, ErrorKind, Read, Seek, SeekFrom, Write};
+use std::os::unix::fs::{FileTypeExt, MetadataExt};
+use std::rt::Files;
+
+/// The locked file of a disk, which isn't synced yet. No other run has the lock until this one
+/// goes, but where neither may write the file.
+#[derive(Drop)]
+pub(crate) struct LockedFile {
+    file: File,
+    access: Access,
+}
+
+/// The locked and synced file of a disk.
+#[derive(Drop)]
+pub(crate) struct HeldFile {
+    file: File,
+    access: Access,
+    // Where the file stands, where that is known.
+    offset: Option<u64>,
+}
+
+// How a file was opened.
+#[derive(Clone, Copy, PartialEq)]
+enum Access {
+    // It may not be written.
+    Reading,
+    ReadingAndWriting,
+    // It was made, so its folder may not have its name yet.
+    New,
+}
+
+impl LockedFile {
+    /// Opens the file of this name and locks it, waiting while another run has the lock; None where
+    /// there is none of this name. What is neither a file nor a block device, as a FIFO, is refused
+    /// before it is opened, and so is a file that lost its name to another meanwhile.
+    pub(crate) fn open<R: Files<File = File>>(
+        rt: &R,
+        name: &str,
+    ) -> io::Result<Option<LockedFile>> {
+        match open_locked(rt, name) {
+            Ok(locked) => Ok(Some(locked)),
+            Err(fault) if fault.kind() == ErrorKind::NotFound => Ok(None),
+            Err(fault) => Err(fault),
+        }
+    }
+
+    /// Makes the file of this name, where there was none, and locks it. `AlreadyExists` where
+    /// another run made it first, or wrote it before it was locked.
+    pub(crate) fn create<R: Files<File = File>>(rt: &R, name: &str) -> io::Result<LockedFile> {
+        let mut how = OpenOptions::new();
+        how.read(true).write(true).create_new(true);
+        let file = opened(rt, &how, name)?;
+        file.lock()?;
+        if !is_empty(&file)? {
+            return Err(io::Error::from(ErrorKind::AlreadyExists));
+        }
+        Ok(LockedFile {
+            file,
+            access: Access::New,
+        })
+    }
+
+    /// Syncs the file and its folder: a run that was killed may have left writes that a power loss
+    /// would take, and what is built on them with them.
+    pub(crate) fn synced<R: Files<File = File>>(self, rt: &R, name: &str) -> io::Result<HeldFile> {
+        let LockedFile { file, access } = self;
+        sync(&file, access)?;
+        sync_folder(rt, folder_of(name), access == Access::New)?;
+        Ok(HeldFile {
+            file,
+            access,
+            offset: None,
+        })
+    }
+}
+
+impl HeldFile {
+    /// What lies after the file's end reads as zero.
+    pub(crate) fn read_at(&mut self, at: u32, buf: &mut [u8]) -> io::Result<()> {
+        self.go_to(at)?;
+        let count = fill_from(&mut self.file, buf)?;
+        self.offset = u64::from(at).checked_add(count as u64);
+        Ok(())
+    }
+
+    pub(crate) fn write_at(&mut self, at: u32, bytes: &[u8]) -> io::Result<()> {
+        self.go_to(at)?;
+        self.file.write_all(bytes)?;
+        self.offset = u64::from(at).checked_add(bytes.len() as u64);
+        Ok(())
+    }
+
+    pub(crate) fn sync(&self) -> io::Result<()> {
+        sync(&self.file, self.access)
+    }
+
+    // A file that stands right needs no seek. After an error it isn't known where it stands.
+    fn go_to(&mut self, at: u32) -> io::Result<()> {
+        if self.offset.take() != Some(u64::from(at)) {
+            self.file.seek(SeekFrom::Start(u64::from(at)))?;
+        }
+        Ok(())
+    }
+}
+
+// A file that may be written is opened for both at once, so that one descriptor has the lock, and
+// is synced, read and written.
+fn open_locked<R: Files<File = File>>(rt: &R, name: &str) -> io::Result<LockedFile> {
+    if !may_be_disk(rt, name)? {
+        return Err(io::Error::from(ErrorKind::Other));
+    }
+    let mut how = OpenOptions::new();
+    how.read(true).write(true);
+    match opened(rt, &how, name) {
+        Ok(file) => locked(rt, name, file, Access::ReadingAndWriting),
+        Err(fault) if may_not_be_written(fault.kind()) => locked_for_reading(rt, name),
+        Err(fault) => Err(fault),
+    }
+}
+
+fn locked_for_reading<R: Files<File = File>>(rt: &R, name: &str) -> io::Result<LockedFile> {
+    let mut how = OpenOptions::new();
+    how.read(true);
+    locked(rt, name, opened(rt, &how, name)?, Access::Reading)
+}
+
+// Of a file that may not be written the lock is shared: some network file systems grant no other
+// for reading alone.
+fn locked<R: Files<File = File>>(
+    rt: &R,
+    name: &str,
+    file: File,
+    access: Access,
+) -> io::Result<LockedFile> {
+    match access {
+        Access::Reading => file.lock_shared()?,
+        _ => file.lock()?,
+    }
+    if !has_name(rt, &file, name)? {
+        return Err(io::Error::from(ErrorKind::Other));
+    }
+    Ok(LockedFile { file, access })
+}
+
+fn may_be_disk<R: Files<File = File>>(rt: &R, name: &str) -> io::Result<bool> {
+    let found = rt.metadata(name)?;
+    Ok(found.is_file() || found.file_type().is_block_device())
+}
+
+// Whether the file still has this name, which others may have given to another one.
+fn has_name<R: Files<File = File>>(rt: &R, file: &File, name: &str) -> io::Result<bool> {
+    let (held, named) = (file.metadata()?, rt.metadata(name)?);
+    Ok(held.dev() == named.dev() && held.ino() == named.ino())
+}
+
+fn is_empty(file: &File) -> io::Result<bool> {
+    Ok(file.metadata()?.len() == 0)
+}
+
+fn may_not_be_written(kind: ErrorKind) -> bool {
+    matches!(
+        kind,
+        ErrorKind::PermissionDenied | ErrorKind::ReadOnlyFilesystem
+    )
+}
+
+// Where standard output is closed the system gives its descriptor to the next file that is opened,
+// and output would go into the disk. A clone's descriptor is 3 at least, and has the same lock.
+fn opened<R: Files<File = File>>(rt: &R, how: &OpenOptions, name: &str) -> io::Result<File> {
+    rt.open_file(how, name)?.try_clone()
+}
+
+fn sync(file: &File, access: Access) -> io::Result<()> {
+    if access == Access::Reading {
+        return sync_for_reading(file);
+    }
+    file.sync_all()
+}
+
+// Fills the buffer with what the file has, and with zeros after its end. How many bytes it had.
+fn fill_from<F: Read>(file: &mut F, buf: &mut [u8]) -> io::Result<usize>
+    ensures { OnOk result (IfSome (F.remaining file.old) (λ told. IsFilled told buf.new)) }
+{
+    let filled = read_up_to(file, buf)?;
+    buf[filled..].fill(0);
+    Ok(filled)
+}
+
+// Reads until the buffer is full or the file ends.
+fn read_up_to<F: Read>(file: &mut F, buf: &mut [u8]) -> io::Result<usize>
+    ensures bound { IfOk result (λ count. count ≤ length buf.new) }
+    ensures bytes { IfOk result (λ count. IfSome (F.remaining file.old)
+        (λ told. ReadsUpTo told count buf.new)) }
+{
+    let mut filled = 0;
+    while filled < buf.len() {
+        let count = read_some(file, &mut buf[filled..])?;
+        if count == 0 {
+            break;
+        }
+        filled += count;
+    }
+    Ok(filled)
+}
