@@ -1,0 +1,15 @@
+# Completion of gablecumin for bash.
+_gablecumin() {
+    local word=${COMP_WORDS[COMP_CWORD]}
+    COMPREPLY=()
+    if [ "$COMP_CWORD" = 1 ]; then
+        mapfile -t COMPREPLY < <(compgen -W 'list format show check build make replay wire trial' -- "$word")
+        return
+    fi
+    case ${COMP_WORDS[1]} in
+        show) mapfile -t COMPREPLY < <(compgen -f -X '!*.@(LUH|LUM|LCI|LCL|LCS|LUI|LUR|LUS)' -- "$word"; compgen -d -- "$word") ;;
+        check) mapfile -t COMPREPLY < <(compgen -d -- "$word") ;;
+        build | replay | wire) mapfile -t COMPREPLY < <(compgen -f -- "$word") ;;
+    esac
+}
+complete -o filenames -F _gablecumin gablecumin
