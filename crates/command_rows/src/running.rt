@@ -1,0 +1,344 @@
+//! How a case is run.
+ghost use Rattle.std.specs.Prelude.{◌≡◌, ◌+◌, ◌≤◌, length, true, false};
+ghost use Rattle.disk_model.specs.declared.disk.TheConstants.{SIZE};
+
+use crate::case::{Case, Command, Failing, Known, Side, Turns};
+use crate::telling::{tell_bytes, tell_file, tell_output};
+use disk_model::{Disk, Fused, MemDisk, Power, SIZE};
+use load_base::{Bytes, Host, MemHost, MemSink, NoMemory, ReadFault};
+use loader_cli::run;
+use std::alloc::Global;
+
+/// What was run so far.
+#[derive(Clone, Copy)]
+pub(crate) struct Tally {
+    pub(crate) cases: u32,
+    pub(crate) runs: u32,
+    /// Runs that ended as out of memory.
+    pub(crate) memory: u32,
+}
+
+/// Runs a case, and adds what is told of it.
+pub(crate) fn run_case(
+    alloc: Global,
+    case: &Case,
+    tally: &mut Tally,
+    told: &mut Bytes,
+) -> Result<(), NoMemory> {
+    tally.cases = tally.cases.saturating_add(1);
+    let line = format!(in alloc; "case {}\n", case.name)?;
+    told.extend(line.as_bytes())?;
+    match case.turns {
+        Some(turns) => run_in_turn(alloc, case, turns, tally, told),
+        None => run_once(alloc, case, case.failing, tally, told),
+    }
+}
+
+// Runs a case once for each call that fails, and tells the same outcomes together.
+fn run_in_turn(
+    alloc: Global,
+    case: &Case,
+    turns: Turns,
+    tally: &mut Tally,
+    told: &mut Bytes,
+) -> Result<(), NoMemory> {
+    let mut first = 1;
+    let mut last = Bytes::new(alloc);
+    for number in 1..=turns.count {
+        let mut outcome = Bytes::new(alloc);
+        let failing = with_turn(case.failing, turns.side, number);
+        run_once(alloc, case, failing, tally, &mut outcome)?;
+        if number > 1 && outcome != last {
+            tell_turns(
+                alloc,
+                turns.side,
+                first,
+                number.saturating_sub(1),
+                &last,
+                told,
+            )?;
+            first = number;
+        }
+        last = outcome;
+    }
+    tell_turns(alloc, turns.side, first, turns.count, &last, told)
+}
+
+// Adds what is told of calls that came to the same.
+fn tell_turns(
+    alloc: Global,
+    side: Side,
+    first: u32,
+    last: u32,
+    outcome: &Bytes,
+    told: &mut Bytes,
+) -> Result<(), NoMemory> {
+    let name = match side {
+        Side::Host => "host",
+        Side::Sink => "sink",
+        Side::Disk => "disk",
+        Side::Power => "power",
+        Side::Script => "script",
+    };
+    let line = format!(in alloc; "{name} {first} to {last}\n")?;
+    told.extend(line.as_bytes())?;
+    told.extend(outcome.as_slice())
+}
+
+// The calls that fail where it is the turn of this one.
+fn with_turn(failing: Failing, side: Side, number: u32) -> Failing {
+    let mut failing = failing;
+    match side {
+        Side::Host => failing.host = number,
+        Side::Sink => failing.sink = number,
+        Side::Disk => failing.disk = number,
+        Side::Power => failing.power = number,
+        Side::Script => failing.script = number,
+    }
+    failing
+}
+
+// Runs a case once over a host, a sink and a disk of its own.
+fn run_once(
+    alloc: Global,
+    case: &Case,
+    failing: Failing,
+    tally: &mut Tally,
+    told: &mut Bytes,
+) -> Result<(), NoMemory> {
+    if case.disk.len() > SIZE as usize {
+        return told.extend(b"the disk is too long\n");
+    }
+    let Ok(mut inner) = MemDisk::new(alloc, &case.disk) else {
+        return Err(NoMemory);
+    };
+    let set = inner.fail_at(counted_after(failing.disk, RESTART));
+    let mut disk = Fused::new(inner);
+    let mut host = MemHost::new(alloc);
+    let mut sink = MemSink::new(alloc);
+    let ended = match set {
+        Ok(()) => run_over(
+            alloc, case, failing, &mut host, &mut sink, &mut disk, tally, told,
+        ),
+        Err(fault) => Err(fault),
+    };
+    drop(disk);
+    drop(sink);
+    drop(host);
+    ended
+}
+
+// The call of the disk that comes before a run.
+const RESTART: usize = 1;
+
+// The number of a call, counted from an object's first on, of which this many come before the runs.
+fn counted_after(call: u32, before: usize) -> u32 {
+    if call == 0 {
+        return 0;
+    }
+    match u32::try_from(before) {
+        Ok(before) => call.saturating_add(before),
+        Err(_) => 0,
+    }
+}
+
+// Writes the case's files, sets the calls that fail, runs, and tells what is there after that.
+fn run_over(
+    alloc: Global,
+    case: &Case,
+    failing: Failing,
+    host: &mut MemHost,
+    sink: &mut MemSink,
+    disk: &mut Fused<MemDisk>,
+    tally: &mut Tally,
+    told: &mut Bytes,
+) -> Result<(), NoMemory> {
+    host.fail_at(counted_after(failing.host, case.files.len()))?;
+    sink.fail_at(failing.sink)?;
+    write_files(alloc, case, failing, host)?;
+    if failing.power != 0 {
+        disk.arm(failing.power, failing.pick);
+    }
+    for command in &case.commands {
+        tally.runs = tally.runs.saturating_add(1);
+        run_command(alloc, case, command, host, sink, disk, tally, told)?;
+    }
+    for name in &case.told {
+        tell_host_file(alloc, name.as_str(), host, told)?;
+    }
+    for range in &case.ranges {
+        tell_range(alloc, range.at, range.count, disk, told)?;
+    }
+    Ok(())
+}
+
+// Gives the host the case's files; the script that loses power gets a first line for that.
+fn write_files(
+    alloc: Global,
+    case: &Case,
+    failing: Failing,
+    host: &mut MemHost,
+) -> Result<(), NoMemory> {
+    for file in &case.files {
+        if failing.script != 0 && file.name.as_str() == case.script.as_str() {
+            let line = format!(in alloc; "power {} {}\n", failing.script, failing.pick)?;
+            let mut bytes = Bytes::new(alloc);
+            bytes.extend(line.as_bytes())?;
+            bytes.extend(file.bytes.as_slice())?;
+            write_file(file.name.as_str(), bytes.as_slice(), host)?;
+        } else {
+            write_file(file.name.as_str(), file.bytes.as_slice(), host)?;
+        }
+    }
+    Ok(())
+}
+
+// No call of the host before the runs is set to fail.
+fn write_file(name: &str, bytes: &[u8], host: &mut MemHost) -> Result<(), NoMemory> {
+    match host.write(name.as_bytes(), bytes) {
+        Ok(()) => Ok(()),
+        Err(_) => Err(NoMemory),
+    }
+}
+
+// Runs one command and tells its words, its status and its output.
+fn run_command(
+    alloc: Global,
+    case: &Case,
+    command: &Command,
+    host: &mut MemHost,
+    sink: &mut MemSink,
+    disk: &mut Fused<MemDisk>,
+    tally: &mut Tally,
+    told: &mut Bytes,
+) -> Result<(), NoMemory> {
+    tell_command(command, told)?;
+    if !is_restarted(disk) {
+        return told.extend(b"the disk doesn't restart\n");
+    }
+    let before = sink.as_slice().len();
+    let ended = run(alloc, &command.words, host, sink, disk);
+    let status = ended.status;
+    drop(ended);
+    if status == OUT_OF_MEMORY {
+        tally.memory = tally.memory.saturating_add(1);
+    }
+    let output = match sink.as_slice().get(before..) {
+        Some(output) => output,
+        None => b"",
+    };
+    match known_of(alloc, &case.known, status, output)? {
+        Some(known) => {
+            let line = format!(in alloc; "known {}\n", known.name)?;
+            told.extend(line.as_bytes())
+        }
+        None => {
+            let line = format!(in alloc; "status {status}\n")?;
+            told.extend(line.as_bytes())?;
+            tell_output(output, told)
+        }
+    }
+}
+
+// Restarts a disk. A call that is set to fail may be the first, but not the second.
+fn is_restarted(disk: &mut Fused<MemDisk>) -> bool
+    ensures { result ≡ true → disk.new.stopped ≡ false }
+{
+    disk.restart().is_ok() || disk.restart().is_ok()
+}
+
+// Tells the line that a command was read from.
+fn tell_command(command: &Command, told: &mut Bytes) -> Result<(), NoMemory> {
+    told.extend(b"run")?;
+    if !command.words.is_empty() {
+        told.extend(b" ")?;
+        told.extend(command.line.as_bytes())?;
+    }
+    told.extend(b"\n")
+}
+
+const OUT_OF_MEMORY: u8 = 6;
+
+// The first known text that an output is, after its status and a space, or that it ends with.
+fn known_of<'c>(
+    alloc: Global,
+    known: &'c [Known],
+    status: u8,
+    output: &[u8],
+) -> Result<Option<&'c Known>, NoMemory> {
+    let line = format!(in alloc; "{status} ")?;
+    let mut whole = Bytes::new(alloc);
+    whole.extend(line.as_bytes())?;
+    whole.extend(output)?;
+    for text in known {
+        let same = if text.whole {
+            text.text == whole
+        } else {
+            whole.as_slice().ends_with(text.text.as_slice())
+        };
+        if same {
+            return Ok(Some(text));
+        }
+    }
+    Ok(None)
+}
+
+// Tells the length and the check sum of a file of the host. A call that is set to fail may be the
+// first, but not the second.
+fn tell_host_file(
+    alloc: Global,
+    name: &str,
+    host: &mut MemHost,
+    told: &mut Bytes,
+) -> Result<(), NoMemory> {
+    let mut read = host.read(alloc, name.as_bytes());
+    if let Err(ReadFault::Failed) = read {
+        read = host.read(alloc, name.as_bytes());
+    }
+    match read {
+        Ok(bytes) => tell_file(alloc, name, bytes.as_slice(), told),
+        Err(ReadFault::Absent) => {
+            let line = format!(in alloc; "file {name} absent\n")?;
+            told.extend(line.as_bytes())
+        }
+        Err(ReadFault::TooLong) => {
+            let line = format!(in alloc; "file {name} too long\n")?;
+            told.extend(line.as_bytes())
+        }
+        Err(ReadFault::Failed) => {
+            let line = format!(in alloc; "file {name} fails twice\n")?;
+            told.extend(line.as_bytes())
+        }
+        Err(ReadFault::Memory) => Err(NoMemory),
+    }
+}
+
+// The most bytes of the disk that are told.
+const MOST: usize = 256;
+
+// Tells bytes of the disk.
+fn tell_range(
+    alloc: Global,
+    at: u32,
+    count: u32,
+    disk: &mut Fused<MemDisk>,
+    told: &mut Bytes,
+) -> Result<(), NoMemory> {
+    let mut bytes = [0; MOST];
+    let count = MOST.min(count as usize);
+    if at >= SIZE - MOST as u32 {
+        return told.extend(b"past the end of the disk\n");
+    }
+    if !is_read(disk, at, &mut bytes[..count]) {
+        return told.extend(b"the disk fails\n");
+    }
+    tell_bytes(alloc, at, &bytes[..count], told)
+}
+
+// Reads from a disk that is restarted first. Only one call of the two is set to fail.
+fn is_read(disk: &mut Fused<MemDisk>, at: u32, buf: &mut [u8]) -> bool
+    requires { at + length buf.old ≤ SIZE }
+{
+    (is_restarted(disk) && disk.read(at, buf).is_ok())
+        || (is_restarted(disk) && disk.read(at, buf).is_ok())
+}
