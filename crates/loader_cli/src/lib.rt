@@ -21,18 +21,3 @@ pub use bank_store;
 pub use listing::listing_text;
 pub use recovery;
 pub use top_call::{Ended, run};
-
-#[cfg(test)]
-mod build_tests;
-#[cfg(test)]
-mod check_tests;
-#[cfg(test)]
-mod replay_tests;
-#[cfg(test)]
-mod set_vectors;
-#[cfg(test)]
-mod tests;
-#[cfg(test)]
-mod trial_tests;
-#[cfg(test)]
-mod upload_tests;
