@@ -86,7 +86,11 @@ pub(crate) fn header_arrived<K: Disk, R: Rule>(
     }
     match LoadHeader::decode(whole.alloc(), bytes) {
         Ok(header) => header_read(whole, header, buffer, interlock, identity, store, disk),
-        Err(HeaderFault::Memory) => Err(Down::Memory),
+        Err(HeaderFault::Memory) => {
+            // For the proof: dropped by a call, not by scope.
+            drop((whole, buffer));
+            Err(Down::Memory)
+        }
         Err(fault) => Ok(Finished::Stopped(refuse_header(whole, store, fault))),
     }
 }
@@ -138,17 +142,24 @@ fn header_read<K: Disk, R: Rule>(
     let size = bytes.len() as u32;
     let need = whole.need_with(&wanted, &header, size);
     let next = whole.next_after(&header, 0);
+    // For the proof: what is left is dropped by a call, here and below, and not by scope.
     if let Some(reason) = header_reason(interlock, identity, &wanted, &header, need) {
-        let arrived = whole.arrived_before(next);
-        return Ok(Finished::Stopped(whole.stop(store, arrived, reason)));
+        drop((header, buffer));
+        return Ok(Finished::Stopped(whole.stop_before(store, next, reason)));
     }
-    storing::write_header(&whole, &wanted, &header, bytes, store, disk)?;
+    match storing::write_header(&whole, &wanted, &header, bytes, store, disk) {
+        Ok(()) => {}
+        Err(down) => {
+            drop((whole, header, buffer));
+            return Err(down);
+        }
+    }
     let sum = header_sum(bytes);
     let crc = sum.value();
     // The header of a load without other files is its last file.
     if let Some(reason) = load_reason(&header, next, crc) {
-        let arrived = whole.arrived_before(next);
-        return Ok(Finished::Stopped(whole.stop(store, arrived, reason)));
+        drop((header, buffer));
+        return Ok(Finished::Stopped(whole.stop_before(store, next, reason)));
     }
     let whole = whole.with_need(need as u32);
     let load = OpenLoad::new(whole.alloc(), wanted, header, size, crc);
@@ -194,8 +205,9 @@ pub(crate) fn file_arrived<K: Disk>(
 {
     let next = load.next_in(&whole);
     if let Some(reason) = load.verdict(next, &sums) {
-        let arrived = whole.arrived_before(next);
-        return Ok(Finished::Stopped(whole.stop(store, arrived, reason)));
+        // For the proof: dropped by a call, not by scope.
+        drop((load, buffer));
+        return Ok(Finished::Stopped(whole.stop_before(store, next, reason)));
     }
     let file = load.next_file(sums.count());
     storing::end_file(store, file.name);
@@ -262,7 +274,10 @@ fn next_load(whole: Whole, load: OpenLoad, buffer: FileBuffer) -> Result<Finishe
     ensures in_step { IfOk result (λ finished. (store : StoreState) → HasAccepted whole load store
         → GoesOnInStep finished store) }
 {
-    let whole = whole.with_load(&load)?;
+    let added = whole.with_load(&load);
+    // For the proof: dropped by a call, not by scope.
+    drop(load);
+    let whole = added?;
     Ok(Finished::NextLoad(Intake::at(whole, Place::Header(buffer))))
 }
 
@@ -288,7 +303,10 @@ fn complete<K: Disk>(
     ensures size { bank_size_of store.new ≡ bank_size_of store.old }
     ensures writes { Writes (K.state disk.old) (K.state disk.new) result }
 {
-    let whole = whole.with_load(&load)?;
+    let added = whole.with_load(&load);
+    // For the proof: dropped by a call, not by scope.
+    drop(load);
+    let whole = added?;
     storing::install(store, disk)?;
     Ok(whole.installed())
 }

@@ -215,9 +215,11 @@ impl Intake {
         ensures prepared { IsPrepared store.new }
         ensures continues { Continues store.old store.new }
     {
-        let arrived = self.whole.arrived();
-        self.whole
-            .stop(store, arrived, Reason::FileNotServed { code })
+        let Intake { whole, place } = self;
+        // For the proof: dropped by a call, not by scope.
+        drop(place);
+        let arrived = whole.arrived();
+        whole.stop(store, arrived, Reason::FileNotServed { code })
     }
 
     /// Of the file that arrives at most 65,536 bytes are kept.

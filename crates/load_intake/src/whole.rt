@@ -135,6 +135,20 @@ impl Whole {
         }
     }
 
+    /// The same at the end of a file after which this would come.
+    pub(crate) fn stop_before(self, store: &mut Store, next: Next, reason: Reason) -> UploadEnd
+        requires left { length self.loads < length self.request }
+        requires request { length self.request ≤ 32 }
+        requires begun { ¬ IsIdle store.old }
+        ensures end { end_view result ≡ stopped_upload self.request
+            (arrived_at (length self.loads) (next_seen next)) (length self.loads + 1) reason }
+        ensures prepared { IsPrepared store.new }
+        ensures continues { Continues store.old store.new }
+    {
+        let arrived = self.arrived_before(next);
+        self.stop(store, arrived, reason)
+    }
+
     /// With this load, which is whole.
     pub(crate) fn with_load(mut self, load: &OpenLoad) -> Result<Whole, NoMemory>
         ensures { IfOk result (λ whole. whole ≡ with_whole self load.now) }

@@ -1,10 +1,10 @@
-use Rattle.std.proofs.Common.{◌≡◌, ◌+◌, ◌-◌, length, ℕ, Some, None, sym, ap, ◌∙◌, arith}
+use Rattle.std.proofs.Common.{◌≡◌, ◌+◌, ◌-◌, length, ℕ, Some, None, refl, sym, ap, ◌∙◌, arith}
 use Rattle.std.proofs.lemmas.Result.{IfOk-weaker}
 use Rattle.disk_layout.specs.declared.manifest.ManifestFile.{ManifestFile}
 use Rattle.session_rules.specs.Uploads.{files_of, next_number}
 use Rattle.session_rules.specs.TargetRows.{UploadEnd, Writes_stop, load_entry_of, placed_view}
 use Rattle.load_intake.specs.Intakes.{row_seen}
-use Rattle.load_intake.specs.Places.{next_seen}
+use Rattle.load_intake.specs.Places.{arrived_at, next_seen}
 use Rattle.load_intake.specs.States.{upload_of, with_one}
 use Rattle.load_intake.proofs.Files.{accepts_one, before_end, count_right, ends_next, entry_after, has_one, file_of, next_after_one, next_is}
 use Rattle.session_rules.specs.TargetRows.{Kept_sums, Reads_file, done_move}
@@ -20,12 +20,12 @@ pub returns-in-Some-clause-row : goal.returns-in-Some-clause-row
 returns-in-Some-clause-row g c accepts id =
     let l = c.args.load in
     let entry = next_is l c.requires.arrived.keeps.next.left in
-    ap (λ (e : UploadEnd). Writes_stop e) c.stop.ensures.end
-    ∙ file_stopped accepts id c.args.whole l c.args.sums (entry_after l) (next_seen c.next_in-next.result) c.in-Some.reason c.arrived_before-arrived.result entry (c.next_in-next.ensures (Some l)) (sym c.in-Some.is ∙ c.verdict.ensures (entry_after l) entry)
-    c.arrived_before-arrived.ensures
+    ap (λ (e : UploadEnd). Writes_stop e) c.stop_before.ensures.end
+    ∙ file_stopped accepts id c.args.whole l c.args.sums (entry_after l) (next_seen c.next_in-next.result) c.in-Some.reason (arrived_at (length c.args.whole.loads) (next_seen c.next_in-next.result)) entry (c.next_in-next.ensures (Some l)) (sym c.in-Some.is ∙ c.verdict.ensures (entry_after l) entry)
+    refl
 
 pub returns-in-Some-clause-ends : goal.returns-in-Some-clause-ends
-returns-in-Some-clause-ends g c = stops_there c.stop.result c.args.store.now c.stop.new.store _ c.stop.ensures.continues c.stop.ensures.prepared c.requires.arrived.running
+returns-in-Some-clause-ends g c = stops_there c.stop_before.result c.args.store.now c.stop_before.new.store _ c.stop_before.ensures.continues c.stop_before.ensures.prepared c.requires.arrived.running
 
 pub end_file-requires : goal.end_file-requires
 end_file-requires g c = record { awaits = ends_next c.args.whole c.args.load c.args.sums c.args.store.now c.requires.arrived.keeps.next c.requires.arrived.in_step }
@@ -77,7 +77,7 @@ returns-clause-ends g c = ends_after c.go_on.result _ _ _ _ _ _ (continued _ _ _
 pub returns-in-Some-clause-brings : goal.returns-in-Some-clause-brings
 returns-in-Some-clause-brings g c = λ accepts id s u arrived is installs.
     let v = upload_of c.args.whole (Some c.args.load) in
-    brings_stop c.args.store.now c.stop.new.store (g.K.Disk.state c.args.disk.now) s u arrived _ _ (stops u v arrived (Kept_sums c.args.sums) (done_move accepts id (Reads_file v) (Kept_sums c.args.sums)) _ (returns-in-Some-clause-row g c accepts id)) c.stop.ensures.continues installs
+    brings_stop c.args.store.now c.stop_before.new.store (g.K.Disk.state c.args.disk.now) s u arrived _ _ (stops u v arrived (Kept_sums c.args.sums) (done_move accepts id (Reads_file v) (Kept_sums c.args.sums)) _ (returns-in-Some-clause-row g c accepts id)) c.stop_before.ensures.continues installs
 
 pub returns-clause-brings : goal.returns-clause-brings
 returns-clause-brings g c = λ accepts id s u arrived is installs.
