@@ -211,7 +211,11 @@ impl Installed {
                 let end = intake.not_served(&mut self.store, code);
                 Some(Row::WritesStop(end))
             }
-            _ => None,
+            rest => {
+                // For the proof: dropped by a call, not by scope.
+                drop(rest);
+                None
+            }
         }
     }
 

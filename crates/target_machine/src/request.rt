@@ -1,12 +1,14 @@
 //! What the target asks for in a row, and the files that it writes and gives.
-ghost use Rattle.std.specs.Prelude.{◌≡◌, ◌≤◌, ◌∷◌, [], ℕ, length, map, true, IfOk};
+ghost use Rattle.std.specs.Prelude.{◌≡◌, ◌≤◌, ◌∷◌, [], ℕ, List, length, map, true, IfOk};
 ghost use Rattle.disk_layout.specs.Manifest.{entry_view};
+ghost use Rattle.exchange_trace.specs.Happenings.{datagram_view};
 ghost use Rattle.exchange_trace.specs.declared.trace.Side.TheVariants as sides;
 ghost use Rattle.load_base.specs.Host.{longest_file};
 ghost use Rattle.transfer_end.specs.Calls.{Makes, posted};
-ghost use Rattle.transfer_end.specs.Moves.{Asks};
+ghost use Rattle.tftp_packet.specs.Options.{AreInRange};
+ghost use Rattle.transfer_end.specs.Moves.{Asks, Serves};
 ghost use Rattle.transfer_end.specs.Packets.{has_port, wanted_options};
-ghost use Rattle.transfer_end.specs.Transfers.{Reads, Writes};
+ghost use Rattle.transfer_end.specs.Transfers.{Reads, ServesRead, Writes};
 ghost use Rattle.session_rules.specs.declared.outcome.SessionKind.{SessionKind as SessionKindState};
 ghost use Rattle.session_rules.specs.FileNames.{file_name as name_of};
 ghost use Rattle.session_rules.specs.Target.{TargetView, last_lus as last_bytes, own_file};
@@ -28,6 +30,7 @@ use session_files::{
 use session_rules::FileKind;
 use std::alloc::Global;
 use tftp_link::FileBytes;
+use tftp_packet::Options;
 use transfer_end::TransferEnd;
 
 /// Asks for what this row asks for, if that is the target's to ask.
@@ -109,8 +112,27 @@ fn ask_to_write(
     Ok(Some(end.ask_to_write(Side::Target, name, options, FileBytes::Owned(file))?))
 }
 
+/// Serves the file of an operation's first row to the port that asks to read it.
+pub(crate) fn serve_first(
+    alloc: Global,
+    end: &mut TransferEnd<'_>,
+    from: u16,
+    options: Options,
+    row: &Row,
+) -> Result<Datagram, NoMemory>
+    requires port { has_port end.old ≡ true }
+    requires options { AreInRange options }
+    ensures { (kind : SessionKindState) (sequence : ℕ) (name : List ℕ) → row_seen [] row.now
+        ≡ first_row (kind_given kind) sequence → IfOk result (λ post. Makes sides.Target
+        (Serves from (ServesRead name options (own_file (kind_given kind) sequence)) ∷ [])
+        end.old end.new (datagram_view post ∷ [])) }
+{
+    let file = given_file(alloc, row)?;
+    end.serve_read(Side::Target, from, options, FileBytes::Owned(file))
+}
+
 /// The file that is given in the first row of an operation.
-pub(crate) fn given_file(alloc: Global, row: &Row) -> Result<Bytes, NoMemory>
+fn given_file(alloc: Global, row: &Row) -> Result<Bytes, NoMemory>
     ensures is { (kind : SessionKindState) (sequence : ℕ) → row_seen [] row.now
         ≡ first_row (kind_given kind) sequence → IfOk result (λ bytes. bytes.items
         ≡ own_file (kind_given kind) sequence) }

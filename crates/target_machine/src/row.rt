@@ -69,7 +69,11 @@ impl Row {
             Row::GivesLui => Some(Row::WritesReady),
             Row::WritesReady => Some(Row::AwaitsLur),
             Row::WritesProgress(intake) => Some(Row::ReadsFile(intake)),
-            _ => None,
+            rest => {
+                // For the proof: dropped by a call, not by scope.
+                drop(rest);
+                None
+            }
         }
     }
 }

@@ -47,7 +47,7 @@ ghost use Rattle.target_machine.specs.Stages.{StaysOn};
 
 use crate::boot::BootFault;
 use crate::installed::Installed;
-use crate::request::{given_file, request};
+use crate::request::{request, serve_first};
 use crate::row::Row;
 use crate::session::LiveSession;
 use accept_rules::{Interlock, Rule};
@@ -63,7 +63,7 @@ use session_rules::laws::contents_follow_their_log;
 use session_rules::{FileKind, Reason, SessionKind};
 use std::alloc::Global;
 use std::marker::Model;
-use tftp_link::{FileBytes, News};
+use tftp_link::News;
 use tftp_packet::{Options, Packet};
 use transfer_end::{Heard, Posts, REQUEST_PORT, TransferEnd, packet_in};
 
@@ -376,11 +376,18 @@ impl<'i, R: Rule> Target<'i, R> {
         self.close();
         let mut buffer = FileBuffer::new(self.alloc);
         let row = self.installed.first_row(kind, &mut buffer)?;
-        let file = FileBytes::Owned(given_file(self.alloc, &row)?);
-        let post = self.end.serve_read(Side::Target, from, options, file)?;
-        self.reason = later(self.reason, row.reason());
-        drop(self.live.replace(LiveSession::in_row(row, buffer)));
-        Ok(Posts::of(Some(post), None))
+        match serve_first(self.alloc, &mut self.end, from, options, &row) {
+            Ok(post) => {
+                self.reason = later(self.reason, row.reason());
+                drop(self.live.replace(LiveSession::in_row(row, buffer)));
+                Ok(Posts::of(Some(post), None))
+            }
+            Err(fault) => {
+                // For the proof: dropped by a call, not by scope.
+                drop(row);
+                Err(fault)
+            }
+        }
     }
 
     /// Whether a request from this port is taken now. Only one from a fresh port is, and where no
@@ -536,6 +543,8 @@ impl<'i, R: Rule> Target<'i, R> {
                 Ok(())
             }
             Err(down) => {
+                // For the proof: dropped by a call, not by scope.
+                drop(session);
                 self.installed.abandon();
                 Err(down)
             }
@@ -590,19 +599,16 @@ impl<'i, R: Rule> Target<'i, R> {
             return Ok(());
         };
         let LiveSession { row, mut arriving } = session;
-        let next = self.installed.turn(
-            self.alloc,
-            self.interlock,
-            disk,
-            row,
-            &mut arriving,
-            error,
-        )?;
-        if let Some(row) = next {
-            self.reason = later(self.reason, row.reason());
-            drop(self.live.replace(LiveSession::in_row(row, arriving)));
+        let next = self.installed.turn(self.alloc, self.interlock, disk, row, &mut arriving, error);
+        match next {
+            Ok(Some(row)) => {
+                self.reason = later(self.reason, row.reason());
+                drop(self.live.replace(LiveSession::in_row(row, arriving)));
+                Ok(())
+            }
+            Ok(None) => Ok(()),
+            Err(down) => Err(down),
         }
-        Ok(())
     }
 
     /// The row of the live session asks for its request, if it has one and a port is left; without

@@ -16,25 +16,21 @@ returns-then-not-may_serve-clause-does g c = λ name.
     (record { moves = Stops ∷ Serves c.args.from (ServesRead name c.args.options (own_file (kind_given c.args.kind) c.args.self.now.view.active.sequence)) ∷ []; change = Begins (kind_given c.args.kind) })
     c.may_serve.result (posts_view c.none.result) c.may_serve.ensures.serves c.if-not-may_serve.true c.none.ensures
 
-pub invariant_of-self-in_err-given_file : goal.invariant_of-self-in_err-given_file
-invariant_of-self-in_err-given_file g c =
+pub invariant_of-self-in-Err-1 : goal.invariant_of-self-in-Err-1
+invariant_of-self-in-Err-1 g c =
     idle_stage c.self.inside.installed.active.loads c.self.inside.live c.first_row.new.self.store (ap (λ (y : TargetState g.row.R.Denot). y.view.live) c.self.view_is ∙ ap (λ (v : TargetView). v.live) c.close.ensures.closes.view_is) c.first_row.ensures.idle
 
-pub invariant_of-self-in_err-post : goal.invariant_of-self-in_err-post
-invariant_of-self-in_err-post g c =
-    idle_stage c.self.inside.installed.active.loads c.self.inside.live c.first_row.new.self.store (ap (λ (y : TargetState g.row.R.Denot). y.view.live) c.self.view_is ∙ ap (λ (v : TargetView). v.live) c.close.ensures.closes.view_is) c.first_row.ensures.idle
-
-pub returns-clause-does : goal.returns-clause-does
-returns-clause-does g c = λ name.
+pub returns-in-Ok-clause-does : goal.returns-in-Ok-clause-does
+returns-in-Ok-clause-does g c = λ name.
     let i = c.self.inside in
     let row = c.in_ok-row.row in
     serves c.args.self.now c.may_serve.new.self _ c.args.from
     (record { moves = Stops ∷ Serves c.args.from (ServesRead name c.args.options (own_file (kind_given c.args.kind) c.args.self.now.view.active.sequence)) ∷ []; change = Begins (kind_given c.args.kind) })
     (posts_view c.of.result) c.may_serve.result c.may_serve.ensures.serves c.if-not-may_serve.false
-    (λ same. begins_session c.args.self.now c.may_serve.new.self _ _ c.args.from c.args.kind name c.args.options c.in_ok-given_file.field-0.items (posts_view c.of.result) same
+    (λ same. begins_session c.args.self.now c.may_serve.new.self _ _ c.args.from c.args.kind name c.args.options (own_file (kind_given c.args.kind) i.installed.active.sequence) (posts_view c.of.result) same
     (subst (λ (y : TargetState g.row.R.Denot). Keeps c.may_serve.new.self y (with_live (end_with c.may_serve.new.self.view (view_after sides.Target c.may_serve.new.self.view.end Stops)) None)) (sym c.self.view_is) c.close.ensures.closes)
-    (c.in_ok-given_file.ensures.is c.args.kind i.installed.active.sequence (c.in_ok-row.ensures.row []))
-    (makes_so _ _ _ _ _ c.of.ensures (c.in_ok-post.ensures name)) refl
+    refl
+    (makes_so _ _ _ _ _ c.of.ensures (c.in-Ok.ensures c.args.kind i.installed.active.sequence name (c.in_ok-row.ensures.row []))) refl
     (begins_in c.first_row.new.self.active.loads c.replace.new.self c.in_row.result row c.replace.ensures.after c.in_row.ensures.row c.in_row.ensures.nothing c.in_ok-row.ensures.fresh
     ∙ ap (λ (r : RowView). Some (in_row r)) (c.in_ok-row.ensures.row c.first_row.new.self.active.loads))
     c.first_row.ensures.active
