@@ -1,7 +1,6 @@
 -- Why there is no run, and what is known at the end of one.
 use Rattle.std.proofs.Common.{◌≡◌, ℕ, inl, inr, refl, sym, ap, subst, ◌∙◌, arith}
 use Rattle.std.specs.Prelude.{IfErr, IfOk, IsErrOf, Result, Ok, Err}
-use Rattle.std.specs.Result.{IsErrAnd}
 use Rattle.std.specs.Option.{ForSome}
 use Rattle.disk_layout.specs.DiskReads.{RunsOn, RunsOnAfter}
 use Rattle.disk_layout.specs.Holds.{Refuses}
@@ -60,12 +59,6 @@ of_last faults.Disk first last link link_then held refused = tt
 of_last (faults.NoConfig fault) first last link link_then held refused = (refused.0, inr (held, refused.1))
 of_last faults.Memory first last link link_then held refused = tt
 
--- what is said of a fault is said of the answer that has it
-pub refused_so : {T : Type 0} (r : Result T DriveFault) (P : DriveFault → Type 0) (first last : DiskState) (link link_then : LinkState) (fault : DriveFault) → IsErrAnd r P
-    → ((e : DriveFault) → P e → e ≡ fault) → IsNoConfig fault first last link link_then → IfErr r (λ e. IsNoConfig e first last link link_then)
-refused_so (Ok x) P first last link link_then fault h same refused = tt
-refused_so (Err e) P first last link link_then fault h same refused = subst (λ (f : DriveFault). IsNoConfig f first last link link_then) (sym (same e h)) refused
-
 -- ---- the link
 
 not_the_link : {T : Type 0} (fault : BootFault) (r : Result T DriveFault) → r ≡ Err (first_fault_of fault) → IsErrOf r faults.Link → ⊥
@@ -91,26 +84,21 @@ first_cause count first fault = record {
 }
 
 -- it failed in a run, or it didn't
-pub run_cause : {S T : Type 0} (r : Result T DriveFault) (before now : ℕ) (first : DiskState) (fault : DriveFault) → IsErrAnd r (λ e. e ≡ fault) → HasDriveCause {T = S} before now (Err fault)
-    → HoldsSome first → FailsInRun before now first r
-run_cause (Ok x) before now first fault is cause held = absurd is
-run_cause {S} {T} (Err e) before now first fault is cause held =
-    subst (λ (f : DriveFault). FailsInRun {T = T} before now first (Err f)) (sym is) (record {
-      cause = record {
-        later = cause.later;
-        failed = λ link. let same : fault ≡ faults.Link = cc in cause.failed (ap (λ (f : DriveFault). Err f) same);
-        once = cause.once;
-        ok = tt;
-        others = cause.others;
-      };
-      began = λ link. held;
-    })
+pub run_cause : {S T : Type 0} (before now : ℕ) (first : DiskState) (fault : DriveFault) → HasDriveCause {T = S} before now (Err fault) → HoldsSome first → FailsInRun {T = T} before now first (Err fault)
+run_cause before now first fault cause held = record {
+  cause = record {
+    later = cause.later;
+    failed = λ link. let same : fault ≡ faults.Link = cc in cause.failed (ap (λ (f : DriveFault). Err f) same);
+    once = cause.once;
+    ok = tt;
+    others = cause.others;
+  };
+  began = λ link. held;
+}
 
 -- nor did it in the last recovery
-pub last_cause : {T : Type 0} (r : Result T DriveFault) (before now : ℕ) (first last : DiskState) (fault : DriveFault) → IsErrAnd r (λ e. e ≡ fault) → now ≡ before → HoldsSome first → IsLastFault fault last
-    → FailsInRun before now first r
-last_cause (Ok x) before now first last fault is same held refused = absurd is
-last_cause {T} (Err e) before now first last fault is same held refused = subst (λ (f : DriveFault). FailsInRun {T = T} before now first (Err f)) (sym is) (record {
+pub last_cause : {T : Type 0} (before now : ℕ) (first last : DiskState) (fault : DriveFault) → now ≡ before → HoldsSome first → IsLastFault fault last → FailsInRun {T = T} before now first (Err fault)
+last_cause before now first last fault same held refused = record {
   cause = record {
     later = omega (arith, same);
     failed = λ link. let is_link : fault ≡ faults.Link = cc in absurd (subst (λ (f : DriveFault). IsLastFault f last) is_link refused);
@@ -119,4 +107,4 @@ last_cause {T} (Err e) before now first last fault is same held refused = subst 
     others = λ other. same;
   };
   began = λ link. held;
-})
+}

@@ -7,7 +7,7 @@ ghost use Rattle.disk_layout.specs.Holds.{standing_view};
 ghost use Rattle.disk_model.specs.Image.{Image};
 ghost use Rattle.disk_model.specs.State.{IsSettled, KeepsPower, OnlyReads};
 ghost use Rattle.exchange_trace.specs.Steps.{steps_of};
-ghost use Rattle.loader_machine.specs.Machine.{media_of, session_view};
+ghost use Rattle.loader_machine.specs.Machine.{all_sessions, media_of, session_view};
 ghost use Rattle.media_check.specs.Sets.{set_view};
 ghost use Rattle.replay_rules.specs.BothEnds.{Setting};
 ghost use Rattle.run_promises.specs.Promises.{AcceptsPermitted};
@@ -96,13 +96,42 @@ pub fn drive<L: Link, K: Power, R: Rule>(
         loader: Loader::new(alloc, media),
         target: Some(target),
     };
-    run_to_end(alloc, interlock, &mut run, link, disk)?;
-    let standing = standing_at_end(alloc, disk, run.target.is_some())?;
-    Ok(Drive {
-        trace: run.recording.into_trace(),
-        sessions: run.loader.into_sessions(),
+    // For the proof: the run is dropped by a call, not by scope.
+    match run_to_end(alloc, interlock, &mut run, link, disk) {
+        Ok(()) => match standing_at_end(alloc, disk, run.target.is_some()) {
+            Ok(standing) => Ok(ended(run, standing)),
+            Err(fault) => {
+                drop(run);
+                Err(fault)
+            }
+        },
+        Err(fault) => {
+            drop(run);
+            Err(fault)
+        }
+    }
+}
+
+/// What a run comes to that is at its end, where the disk holds this.
+fn ended<R: Rule>(run: Replay<'_, R>, standing: Option<Standing>) -> Drive
+    ensures trace { steps_of result.trace.items ≡ run.entry.recording }
+    ensures ordered { IsInOrder result.trace.items }
+    ensures sessions { map session_view result.sessions.items
+        ≡ all_sessions run.entry.loader.view }
+    ensures standing { result.standing ≡ standing }
+{
+    let Replay {
+        recording,
+        loader,
+        target,
+    } = run;
+    // For the proof: dropped by a call, not by scope.
+    drop(target);
+    Drive {
+        trace: recording.into_trace(),
+        sessions: loader.into_sessions(),
         standing,
-    })
+    }
 }
 
 /// Why there is no run where the target doesn't come up at first.

@@ -32,8 +32,15 @@ pub(crate) fn post_all<L: Link>(
     ensures told { IfErr result (λ fault. IsOfRun fault) }
     ensures cause { HasDriveCause (L.faults link.old) (L.faults link.new) result }
 {
-    post(alloc, link, recording, posts.first)?;
-    post(alloc, link, recording, posts.second)
+    let Posts { first, second } = posts;
+    match post(alloc, link, recording, first) {
+        Ok(()) => post(alloc, link, recording, second),
+        Err(fault) => {
+            // For the proof: dropped by a call, not by scope.
+            drop(second);
+            Err(fault)
+        }
+    }
 }
 
 fn post<L: Link>(

@@ -128,7 +128,8 @@ fn come_up<'i, K: Power, R: Rule>(
     match Target::boot(alloc, disk, interlock, first_port) {
         Ok(target) => {
             let sequence = target.sequence();
-            *slot = Some(target);
+            // For the proof: what stood there is dropped by a call.
+            drop(slot.replace(target));
             Ok(PowerNote::Up {
                 first_port,
                 sequence,

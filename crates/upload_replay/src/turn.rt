@@ -110,15 +110,29 @@ pub(crate) fn turn<'r, L: Link, K: Power, R: Rule>(
     carries_bytes(&happening);
     let ended = is_end(&happening);
     // The target first: a loss of power is armed whatever else may fail.
-    let second = target_turn(
+    let replied = target_turn(
         alloc,
         interlock,
         &mut run.target,
         disk,
         &run.recording,
         &happening,
-    )?;
-    let first = loader_takes(&mut run.loader, &run.recording, &happening)?;
+    );
+    let second = match replied {
+        Ok(second) => second,
+        Err(fault) => {
+            // For the proof: dropped by a call, not by scope.
+            drop(happening);
+            return Err(fault);
+        }
+    };
+    let first = match loader_takes(&mut run.loader, &run.recording, &happening) {
+        Ok(first) => first,
+        Err(fault) => {
+            drop((happening, second));
+            return Err(DriveFault::from(fault));
+        }
+    };
     put_turn(alloc, link, &mut run.recording, happening, first, second)?;
     Ok(ended)
 }
@@ -347,8 +361,21 @@ pub(crate) fn put_turn<L: Link>(
     ensures told { IfErr result (λ fault. IsOfRun fault) }
     ensures cause { HasDriveCause (L.faults link.old) (L.faults link.new) result }
 {
-    recording.give(happening)?;
-    post_all(alloc, link, recording, first)?;
+    match recording.give(happening) {
+        Ok(()) => {}
+        Err(fault) => {
+            // For the proof: dropped by a call, not by scope.
+            drop((first, second));
+            return Err(DriveFault::from(fault));
+        }
+    }
+    match post_all(alloc, link, recording, first) {
+        Ok(()) => {}
+        Err(fault) => {
+            drop(second);
+            return Err(fault);
+        }
+    }
     post_all(alloc, link, recording, second.posts)?;
     if let Some(note) = second.note {
         put_note(recording, note)?;
