@@ -101,7 +101,12 @@ fn build_recipe<'w, H: Host>(
         (H.files host.new)) }
 {
     match media_build::build(alloc, recipe, host) {
-        Ok(set) => write_set(alloc, host, folder, load_count(recipe.lines()), &set),
+        Ok(set) => {
+            let said = write_set(alloc, host, folder, load_count(recipe.lines()), &set);
+            // For the proof: dropped by a call, not by scope.
+            drop(set);
+            said
+        }
         Err(BuildFault::Absent(source)) => Ok(Answer::AbsentFile(source)),
         Err(BuildFault::TooLong(source)) => Ok(Answer::TooLongFile(source)),
         Err(BuildFault::TooLarge) => Ok(Answer::TooLarge(name)),
@@ -157,7 +162,10 @@ pub(crate) fn make<'w, H: Host>(
         KeepsAllBut (IsNameMade number folder.now) told (H.files host.new)) }
 {
     let set = media_build::make(alloc, number)?;
-    write_set(alloc, host, folder.as_bytes(), 1, &set)
+    let said = write_set(alloc, host, folder.as_bytes(), 1, &set);
+    // For the proof: dropped by a call, not by scope.
+    drop(set);
+    said
 }
 
 // Writes a set with this many loads into a folder.

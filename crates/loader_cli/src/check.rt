@@ -28,7 +28,12 @@ pub(crate) fn check<'w, H: Host>(
 {
     let name = folder.as_bytes();
     match open_set(alloc, host, name) {
-        Ok(set) => check_set(alloc, &set),
+        Ok(set) => {
+            let said = check_set(alloc, &set);
+            // For the proof: dropped by a call, not by scope.
+            drop(set);
+            said
+        }
         Err(OpenFault::TooLong(file)) => Ok(Answer::TooLongFile(file)),
         Err(OpenFault::TooLarge) => Ok(Answer::TooLarge(name)),
         Err(OpenFault::Failed) => Ok(Answer::HostFault),

@@ -120,10 +120,16 @@ fn read_script<'w, H: Host>(
 {
     match host.read(alloc, name) {
         Ok(bytes) => script_of(alloc, name, set, bytes.as_slice()),
-        Err(ReadFault::Absent) => Ok(Inputs::Refused(Answer::Absent(name))),
-        Err(ReadFault::TooLong) => Ok(Inputs::Refused(Answer::TooLong(name))),
-        Err(ReadFault::Failed) => Ok(Inputs::Refused(Answer::HostFault)),
-        Err(ReadFault::Memory) => Err(NoMemory),
+        Err(fault) => {
+            // For the proof: dropped by a call, not by scope.
+            drop(set);
+            match fault {
+                ReadFault::Absent => Ok(Inputs::Refused(Answer::Absent(name))),
+                ReadFault::TooLong => Ok(Inputs::Refused(Answer::TooLong(name))),
+                ReadFault::Failed => Ok(Inputs::Refused(Answer::HostFault)),
+                ReadFault::Memory => Err(NoMemory),
+            }
+        }
     }
 }
 
@@ -138,11 +144,17 @@ fn script_of<'w>(
 {
     match Script::read(alloc, text) {
         Ok(script) => Ok(Inputs::Ready { set, script }),
-        Err(ScriptFault::Memory) => Err(NoMemory),
-        Err(fault) => Ok(Inputs::Refused(Answer::RefusedInput {
-            name,
-            fault: fault.text(alloc)?,
-        })),
+        Err(fault) => {
+            // For the proof: dropped by a call, not by scope.
+            drop(set);
+            match fault {
+                ScriptFault::Memory => Err(NoMemory),
+                fault => Ok(Inputs::Refused(Answer::RefusedInput {
+                    name,
+                    fault: fault.text(alloc)?,
+                })),
+            }
+        }
     }
 }
 

@@ -49,7 +49,12 @@ pub(crate) fn replay<'w, H: Host, K: Power>(
     ensures leaves { LeavesFirstOrGood (K.state disk.old) (K.state disk.new) }
 {
     match read_inputs(alloc, host, folder.as_bytes(), script.as_bytes())? {
-        Inputs::Ready { set, script } => run_script(alloc, disk, &set, script, telling),
+        Inputs::Ready { set, script } => {
+            let said = run_script(alloc, disk, &set, script, telling);
+            // For the proof: dropped by a call, not by scope.
+            drop(set);
+            said
+        }
         Inputs::Refused(answer) => Ok(Answered::of(answer)),
     }
 }
@@ -72,14 +77,20 @@ pub(crate) fn run_script<'w, K: Power>(
     what_a_disk_holds_can_be_listed();
     let mut link = ScriptLink::new(alloc, script);
     let interlock = Interlock::new(PermitsAll);
-    match drive(alloc, &mut link, disk, set, &interlock) {
-        Ok(run) => {
-            let answer = tell(alloc, telling, &run)?;
-            Ok(Answered {
+    let driven = drive(alloc, &mut link, disk, set, &interlock);
+    // For the proof: dropped by a call, not by scope.
+    drop(link);
+    match driven {
+        Ok(run) => match tell(alloc, telling, &run) {
+            Ok(answer) => Ok(Answered {
                 answer,
                 drive: Some(run),
-            })
-        }
+            }),
+            Err(fault) => {
+                drop(run);
+                Err(fault)
+            }
+        },
         Err(DriveFault::Disk) => Ok(Answered::of(Answer::DiskFault)),
         Err(DriveFault::NoConfig(fault)) => Ok(Answered::of(Answer::NoConfiguration(fault))),
         Err(DriveFault::Memory) => Err(NoMemory),

@@ -132,6 +132,8 @@ pub fn run<H: Host, O: Sink, K: Power>(
     };
     let status = answer.status();
     let Ok(text) = answer.into_text(alloc) else {
+        // For the proof: dropped by a call, not by scope.
+        drop(drive);
         return out_of_memory();
     };
     match out.put(text.as_slice()) {
@@ -140,7 +142,10 @@ pub fn run<H: Host, O: Sink, K: Power>(
             status: OUTPUT_FAILED,
             drive,
         },
-        Err(WriteFault::Memory) => out_of_memory(),
+        Err(WriteFault::Memory) => {
+            drop(drive);
+            out_of_memory()
+        }
     }
 }
 

@@ -31,9 +31,21 @@ pub(crate) fn trial<'w, K: Power>(
 {
     match survey(alloc, disk) {
         Ok(surveyed) => {
+            let target = surveyed.identity;
+            // For the proof: dropped by a call, not by scope.
+            drop(surveyed);
             let set = generated_set(alloc, number)?;
-            let script = script_for(alloc, &surveyed.identity)?;
-            run_script(alloc, disk, &set, script, Telling::Report)
+            match script_for(alloc, &target) {
+                Ok(script) => {
+                    let said = run_script(alloc, disk, &set, script, Telling::Report);
+                    drop(set);
+                    said
+                }
+                Err(fault) => {
+                    drop(set);
+                    Err(fault)
+                }
+            }
         }
         Err(fault) => match fault {
             RecoverFault::Memory => Err(NoMemory),

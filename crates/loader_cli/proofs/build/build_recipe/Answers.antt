@@ -17,14 +17,14 @@ use Rattle.loader_cli.proofs.build.build_recipe.Goals as goal
 pub returns-in-Ok-clause-says : goal.returns-in-Ok-clause-says
 returns-in-Ok-clause-says g c =
     let count = rw c.lines.ensures.lines at c.load_count.ensures in
-    let writes = rw count at c.write_set.ensures.says in
+    let writes = rw count at c.write_set-said.ensures.says in
     let host : HostWork = record {
       files = g.H.Host.files c.build.new.host;
-      files_after = g.H.Host.files c.write_set.new.host;
+      files_after = g.H.Host.files c.write_set-said.new.host;
       faults = g.H.Host.faults c.build.new.host;
-      faults_after = g.H.Host.faults c.write_set.new.host;
+      faults_after = g.H.Host.faults c.write_set-said.new.host;
     } in
-    IfOk-weaker c.write_set.result _ _
+    IfOk-weaker c.write_set-said.result _ _
     (λ answer wrote. set_built c.in-Ok.set (record { sizes = c.in-Ok.ensures.sizes; builds = c.in-Ok.ensures.builds; small = c.in-Ok.ensures.small })
     (set_since (g.H.Host.files c.args.host.now) (g.H.Host.faults c.args.host.now) c.args.folder.now c.in-Ok.set (length (loads_of c.args.recipe.now)) host _ _ c.build.ensures.kept c.build.ensures.cause.later
     wrote)) writes
@@ -32,8 +32,8 @@ returns-in-Ok-clause-says g c =
 pub returns-in-Ok-clause-others : goal.returns-in-Ok-clause-others
 returns-in-Ok-clause-others g c =
     let sources : Files → List ℕ → Type 0 = λ told name. IsNameIn c.args.folder.now (recipe_set (sources_in told) c.args.recipe.now) name in
-    sets_more (λ told name. IsNameIn c.args.folder.now (built_view c.in-Ok.set) name) sources (g.H.Host.files c.args.host.now) (g.H.Host.files c.build.new.host) (g.H.Host.files c.write_set.new.host)
-    c.build.ensures.kept (λ told is name one. subst (λ (set : BuiltView). IsNameIn c.args.folder.now set name) (c.in-Ok.ensures.builds told is).1 one) c.write_set.ensures.others
+    sets_more (λ told name. IsNameIn c.args.folder.now (built_view c.in-Ok.set) name) sources (g.H.Host.files c.args.host.now) (g.H.Host.files c.build.new.host) (g.H.Host.files c.write_set-said.new.host)
+    c.build.ensures.kept (λ told is name one. subst (λ (set : BuiltView). IsNameIn c.args.folder.now set name) (c.in-Ok.ensures.builds told is).1 one) c.write_set-said.ensures.others
 
 pub returns-in-Err-Absent-clause-says : goal.returns-in-Err-Absent-clause-says
 returns-in-Err-Absent-clause-says g c =
@@ -63,4 +63,4 @@ returns-in_ok-coded-in-Err-ListTooLong-clause-says g c =
     (ap (λ (fault : List ℕ). refused_input c.args.name.now fault) c.in_ok-coded-in-Err-ListTooLong.ensures.text)
 
 pub returns-in-Ok-clause-faults : goal.returns-in-Ok-clause-faults
-returns-in-Ok-clause-faults g c = hides_after _ _ _ _ c.write_set.result c.in-Ok.ensures.cause.ok c.write_set.ensures.faults
+returns-in-Ok-clause-faults g c = hides_after _ _ _ _ c.write_set-said.result c.in-Ok.ensures.cause.ok c.write_set-said.ensures.faults

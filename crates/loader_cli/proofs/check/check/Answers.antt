@@ -14,7 +14,7 @@ use Rattle.loader_cli.proofs.check.check.Goals as goal
 pub returns-in-Ok-clause-checks : goal.returns-in-Ok-clause-checks
 returns-in-Ok-clause-checks g c =
     let has = rw c.as_bytes-name.ensures.value at c.in-Ok.ensures.opens in
-    IfOk-weaker c.check_set.result _ _ (λ answer finds. opened (set_view c.in-Ok.set) has finds) c.check_set.ensures
+    IfOk-weaker c.check_set-said.result _ _ (λ answer finds. opened (set_view c.in-Ok.set) has finds) c.check_set-said.ensures
 
 pub returns-in-Err-TooLong-clause-checks : goal.returns-in-Err-TooLong-clause-checks
 returns-in-Err-TooLong-clause-checks g c =
@@ -25,4 +25,4 @@ returns-in-Err-TooLong-clause-checks g c =
     long_file file.items refused refl (ap (λ (f : Listed ℕ). refused_input f.items (codes "toolong")) c.in-Err-TooLong.file-is)
 
 pub returns-in-Ok-clause-faults : goal.returns-in-Ok-clause-faults
-returns-in-Ok-clause-faults g c = none_failed _ _ _ c.check_set.result c.in-Ok.ensures.cause.ok
+returns-in-Ok-clause-faults g c = none_failed _ _ _ c.check_set-said.result c.in-Ok.ensures.cause.ok

@@ -14,13 +14,13 @@ returns-in-Ok-clause-reads g c =
     (λ read says. script_read c.args.folder.now c.args.name.now c.in-Ok.bytes.items (g.H.Host.files c.args.host.now) (set_view c.args.set) before _ read c.requires
     (has_bytes _ _ c.in-Ok.bytes c.in-Ok.ensures.file) c.in-Ok.ensures.short (rw c.as_slice.ensures at says)) c.script_of.ensures
 
-pub returns-in-Err-Absent-clause-reads : goal.returns-in-Err-Absent-clause-reads
-returns-in-Err-Absent-clause-reads g c =
-    λ before least. script_absent (set_view c.args.set) c.requires (has_none _ _ (rw c.in-Err-Absent.field-0-is at c.in-Err-Absent.ensures.file)) refl refl
+pub returns-in-Absent-clause-reads : goal.returns-in-Absent-clause-reads
+returns-in-Absent-clause-reads g c =
+    λ before least. script_absent (set_view c.args.set) c.requires (has_none _ _ (rw c.in-Absent.is at c.in-Err.ensures.file)) refl refl
 
-pub returns-in-Err-TooLong-clause-reads : goal.returns-in-Err-TooLong-clause-reads
-returns-in-Err-TooLong-clause-reads g c =
-    λ before least. script_too_long (set_view c.args.set) c.requires (has_too_many _ _ (rw c.in-Err-TooLong.field-0-is at c.in-Err-TooLong.ensures.file)) refl refl
+pub returns-in-TooLong-clause-reads : goal.returns-in-TooLong-clause-reads
+returns-in-TooLong-clause-reads g c =
+    λ before least. script_too_long (set_view c.args.set) c.requires (has_too_many _ _ (rw c.in-TooLong.is at c.in-Err.ensures.file)) refl refl
 
 pub returns-in-Ok-clause-faults : goal.returns-in-Ok-clause-faults
 returns-in-Ok-clause-faults g c = none_failed _ _ _ c.script_of.result c.in-Ok.ensures.cause.ok

@@ -10,7 +10,7 @@ pub returns-in-Ready-clause-replays : goal.returns-in-Ready-clause-replays
 returns-in-Ready-clause-replays g c =
     let reads = rw c.in-Ready.is at (c.in_ok-set.ensures.reads (g.H.Host.faults c.args.host.now) (omega arith)) in
     let inputs = rw (c.as_bytes.ensures.value, c.as_bytes-2.ensures.value) at reads in
-    IfOk-weaker c.run_script.result _ _ (λ answer runs. ran (set_view c.in-Ready.set) c.in-Ready.script inputs runs) c.run_script.ensures.runs
+    IfOk-weaker c.run_script-said.result _ _ (λ answer runs. ran (set_view c.in-Ready.set) c.in-Ready.script inputs runs) c.run_script-said.ensures.runs
 
 pub returns-in-Refused-clause-replays : goal.returns-in-Refused-clause-replays
 returns-in-Refused-clause-replays g c =

@@ -8,17 +8,17 @@ use Rattle.loader_cli.proofs.Outputs.{names_the_condition, not_of_disk}
 use Rattle.loader_cli.proofs.Tried.{names_target, run_since}
 use Rattle.loader_cli.proofs.trial.trial.Goals as goal
 
-pub returns-in_ok-script-in-Ok-clause-tries : goal.returns-in_ok-script-in-Ok-clause-tries
-returns-in_ok-script-in-Ok-clause-tries g c =
+pub returns-in-Ok-script_for-clause-tries : goal.returns-in-Ok-script_for-clause-tries
+returns-in-Ok-script_for-clause-tries g c =
     let old = g.K.Disk.state c.args.disk.now in
     let mid = g.K.Disk.state c.survey.new.disk in
-    let new = g.K.Disk.state c.run_script.new.disk in
+    let new = g.K.Disk.state c.run_script-said.new.disk in
     let id = c.in-Ok.surveyed.identity in
     let set = set_view c.in_ok-set-in-Ok.set in
     let read = c.in-Ok.ensures.reads_disk in
-    IfOk-weaker c.run_script.result _ _
+    IfOk-weaker c.run_script-said.result _ _
     (λ said runs. tried id set (names_target old.reads c.in-Ok.surveyed c.in-Ok.ensures.found) c.in_ok-set-in-Ok.ensures
-    (run_since Report set _ old mid new _ _ _ read.only_reads read.ok.reads (rw c.in_ok-script-in-Ok.ensures at runs))) c.run_script.ensures.runs
+    (run_since Report set _ old mid new _ _ _ read.only_reads read.ok.reads (rw c.in-Ok-script_for.ensures at runs))) c.run_script-said.ensures.runs
 
 pub returns-in_default-clause-tries : goal.returns-in_default-clause-tries
 returns-in_default-clause-tries g c =
@@ -27,16 +27,16 @@ returns-in_default-clause-tries g c =
     rw (c.of-in_default.ensures.answer, c.of-in_default.ensures.drive)
     (no_target fault c.in-Err.ensures.reads_disk.only_reads other (λ image told. names_the_condition image fault other (c.in-Err.ensures.refused image told)) refl refl refl)
 
-pub returns-in_ok-script-in-Ok-clause-leaves : goal.returns-in_ok-script-in-Ok-clause-leaves
-returns-in_ok-script-in-Ok-clause-leaves g c =
+pub returns-in-Ok-script_for-clause-leaves : goal.returns-in-Ok-script_for-clause-leaves
+returns-in-Ok-script_for-clause-leaves g c =
     let read = c.in-Ok.ensures.reads_disk in
-    leaves_since (g.K.Disk.state c.args.disk.now) (g.K.Disk.state c.survey.new.disk) (g.K.Disk.state c.run_script.new.disk) read.only_reads read.ok.reads c.run_script.ensures.leaves
+    leaves_since (g.K.Disk.state c.args.disk.now) (g.K.Disk.state c.survey.new.disk) (g.K.Disk.state c.run_script-said.new.disk) read.only_reads read.ok.reads c.run_script-said.ensures.leaves
 
 pub returns-in_err-set-in-Ok-clause-leaves : goal.returns-in_err-set-in-Ok-clause-leaves
 returns-in_err-set-in-Ok-clause-leaves g c = reads_leave (g.K.Disk.state c.args.disk.now) (g.met.K.Disk.only_now c.args.disk.now) (g.K.Disk.state c.survey.new.disk) c.survey.ensures.reads_disk.only_reads
 
-pub returns-in_err-script-in-Ok-clause-leaves : goal.returns-in_err-script-in-Ok-clause-leaves
-returns-in_err-script-in-Ok-clause-leaves g c = reads_leave (g.K.Disk.state c.args.disk.now) (g.met.K.Disk.only_now c.args.disk.now) (g.K.Disk.state c.survey.new.disk) c.survey.ensures.reads_disk.only_reads
+pub returns-in-Err-script_for-clause-leaves : goal.returns-in-Err-script_for-clause-leaves
+returns-in-Err-script_for-clause-leaves g c = reads_leave (g.K.Disk.state c.args.disk.now) (g.met.K.Disk.only_now c.args.disk.now) (g.K.Disk.state c.survey.new.disk) c.survey.ensures.reads_disk.only_reads
 
 pub returns-in_default-clause-leaves : goal.returns-in_default-clause-leaves
 returns-in_default-clause-leaves g c = reads_leave (g.K.Disk.state c.args.disk.now) (g.met.K.Disk.only_now c.args.disk.now) (g.K.Disk.state c.survey.new.disk) c.survey.ensures.reads_disk.only_reads
