@@ -1,0 +1,3 @@
+pub mod FlashDisk
+pub mod NetworkLink
+pub mod OwnTypes

@@ -1,0 +1,36 @@
+//! A maker's rule on which loads its unit accepts.
+ghost use Rattle.std.specs.Prelude.{◌≡◌};
+
+use accept_rules::{Interlock, Rule};
+use load_header::LoadHeader;
+
+/// The least type id that is a maker's own. All makers share those from 1 up to it.
+pub const OWN_TYPES: u16 = 0x8000;
+
+/// Accepts each type that all makers share, and of the maker's own the one of this number.
+#[derive(Clone, Copy)]
+pub struct OwnTypes {
+    pub own: u16,
+}
+
+impl Rule for OwnTypes {
+    ghost use Rattle.std.specs.Prelude.{⊤};
+    ghost use Rattle.load_header.specs.Header.{header_view};
+    ghost use Rattle.own_unit.specs.OwnTypes.{accepts};
+
+    ghost may_ask = { λ _ _. ⊤ };
+
+    ghost may_say = { λ rule header answer. answer ≡ accepts rule.own (header_view header) };
+
+    fn ask(&self, header: &LoadHeader) -> bool {
+        let id = header.type_id;
+        id != 0 && (id < OWN_TYPES || id == self.own)
+    }
+}
+
+/// The interlock of a unit that takes this type of its maker's besides the shared ones.
+pub fn interlock(own: u16) -> Interlock<OwnTypes>
+    ensures { result.own ≡ own }
+{
+    Interlock::new(OwnTypes { own })
+}
