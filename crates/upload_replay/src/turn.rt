@@ -41,6 +41,7 @@ use disk_layout::an_image_holds_one_configuration;
 use disk_model::{Disk, Power};
 use exchange_trace::{Datagram, Happening, Side};
 use link_net::Link;
+use load_base::NoMemory;
 use loader_machine::{Loader, Posts};
 use replay_rules::laws::contents_follow_their_trace;
 use std::alloc::Global;
@@ -128,9 +129,9 @@ pub(crate) fn turn<'r, L: Link, K: Power, R: Rule>(
     };
     let first = match loader_takes(&mut run.loader, &run.recording, &happening) {
         Ok(first) => first,
-        Err(fault) => {
+        Err(NoMemory) => {
             drop((happening, second));
-            return Err(DriveFault::from(fault));
+            return Err(DriveFault::Memory);
         }
     };
     put_turn(alloc, link, &mut run.recording, happening, first, second)?;
@@ -363,10 +364,10 @@ pub(crate) fn put_turn<L: Link>(
 {
     match recording.give(happening) {
         Ok(()) => {}
-        Err(fault) => {
+        Err(NoMemory) => {
             // For the proof: dropped by a call, not by scope.
             drop((first, second));
-            return Err(DriveFault::from(fault));
+            return Err(DriveFault::Memory);
         }
     }
     match post_all(alloc, link, recording, first) {

@@ -199,3 +199,6 @@ pub returns-in-Ok-standing_at_end-clause-stood : goal.returns-in-Ok-standing_at_
 returns-in-Ok-standing_at_end-clause-stood g c = λ image told.
     let (s, kept, is) = c.in-Ok.ensures.comes_up.active image told in
     (s, record { slot = _; by = kept.by })
+
+pub returns-in-Ok-standing_at_end-clause-standing : goal.returns-in-Ok-standing_at_end-clause-standing
+returns-in-Ok-standing_at_end-clause-standing g c = rw c.ended.ensures.standing c.in-Ok-standing_at_end.ensures.standing

@@ -7,7 +7,7 @@ use Rattle.upload_replay.proofs.Throughout.{read_now}
 use Rattle.upload_replay.proofs.powering.come_up.Goals as goal
 
 pub returns-in-Ok-clause-rule : goal.returns-in-Ok-clause-rule
-returns-in-Ok-clause-rule g c = λ accepts follows. subst (λ rule. Follows g.R.Rule.may_say rule accepts) (sym c.in-Ok.ensures.comes_up.rule_is) follows
+returns-in-Ok-clause-rule g c = λ accepts follows. rw c.replace.ensures.after (subst (λ rule. Follows g.R.Rule.may_say rule accepts) (sym c.in-Ok.ensures.comes_up.rule_is) follows)
 
 pub returns-in-Ok-clause-holds : goal.returns-in-Ok-clause-holds
 returns-in-Ok-clause-holds g c = λ set active interrupted settled holds.
@@ -17,11 +17,11 @@ returns-in-Ok-clause-holds g c = λ set active interrupted settled holds.
     let (image, told) = read_now old off.tells in
     let now = g.met.K.Disk.reads_now c.args.disk.now image told in
     let starts = c.in-Ok.ensures.starts settled image told in
-    record {
+    rw c.replace.ensures.after (record {
       holds = comes_up one set (Is_down active interrupted) c.args.interlock.now c.in-Ok.target old (g.K.Disk.state c.boot.new.disk) image c.args.first_port _ off settled told
           now starts c.boot.ensures.reads_disk.only_reads c.in-Ok.ensures.comes_up c.sequence-sequence.ensures;
       boots = comes_up_told one set active interrupted c.in-Ok.target old (g.K.Disk.state c.boot.new.disk) image c.args.first_port _ off now starts c.sequence-sequence.ensures;
-    }
+    })
 
 pub returns-in-Err-Recover-clause-holds : goal.returns-in-Err-Recover-clause-holds
 returns-in-Err-Recover-clause-holds g c = λ set active interrupted settled holds.

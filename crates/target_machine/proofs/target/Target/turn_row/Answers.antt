@@ -1,4 +1,5 @@
-use Rattle.std.proofs.Common.{Option, ⊤, option_map, refl, sym, ap, subst, ◌∙◌}
+use Rattle.std.proofs.Common.{Option, option_map, refl, sym, ap, subst, ◌∙◌}
+use Rattle.std.specs.Prelude.{⊤}
 use Rattle.accept_rules.specs.Interlocks.{Follows}
 use Rattle.session_rules.specs.Target.{later_reason}
 use Rattle.target_machine.specs.Decisions.{TargetState, row_then}
