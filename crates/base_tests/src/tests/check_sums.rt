@@ -1,12 +1,14 @@
 use crc_fields::{Crc16, Crc32, bitwise, crc16, crc32};
 
+const KNOWN: [(&[u8], u16, u32); 2] = [
+    (b"123456789", 0x29B1, 0xFC89_1918),
+    (b"", 0xFFFF, 0x0000_0000),
+];
+
 /// The sums are those that catalogues of check sums print.
 #[test]
 fn known_sums_however_cut(rt: HostRuntime) {
-    for (message, sum_16, sum_32) in [
-        (&b"123456789"[..], 0x29B1, 0xFC89_1918),
-        (&b""[..], 0xFFFF, 0x0000_0000),
-    ] {
+    for &(message, sum_16, sum_32) in &KNOWN {
         let mut pieces_16 = Crc16::new();
         let mut pieces_32 = Crc32::new();
         for byte in message {

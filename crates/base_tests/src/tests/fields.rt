@@ -41,22 +41,24 @@ fn reads_texts_that_a_zero_ends(rt: HostRuntime) {
     assert_eq!(rt; (reader.place(), reader.len()), (4, 5));
 }
 
+const SHORT: [&[u8]; 2] = [&[], &[2, b'A']];
+
+const PADDED: [(&[u8], FieldFault); 5] = [
+    (&[], FieldFault::Short(0)),
+    (&[0], FieldFault::Short(0)),
+    (&[0, 2, b'A'], FieldFault::Short(0)),
+    (&[0, 1, b'A'], FieldFault::Short(0)),
+    (&[0, 1, b'A', 9], FieldFault::BadPad(3)),
+];
+
 #[test]
 fn refuses_a_text_where_it_begins(rt: HostRuntime) {
-    let padded: [(&[u8], FieldFault); 5] = [
-        (&[], FieldFault::Short(0)),
-        (&[0], FieldFault::Short(0)),
-        (&[0, 2, b'A'], FieldFault::Short(0)),
-        (&[0, 1, b'A'], FieldFault::Short(0)),
-        (&[0, 1, b'A', 9], FieldFault::BadPad(3)),
-    ];
-    for (bytes, fault) in padded {
+    for &(bytes, fault) in &PADDED {
         let mut reader = Reader::new(bytes);
         assert_eq!(rt; reader.take_padded(), Err(fault));
         assert_eq!(rt; reader.place(), 0);
     }
-    let short: [&[u8]; 2] = [&[], &[2, b'A']];
-    for bytes in short {
+    for bytes in &SHORT {
         let mut reader = Reader::new(bytes);
         assert_eq!(rt; reader.take_short(), Err(FieldFault::Short(0)));
         assert_eq!(rt; reader.place(), 0);

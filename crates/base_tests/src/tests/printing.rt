@@ -12,26 +12,32 @@ fn is_printed<F: Printed>(alloc: Global, fault: &F, text: &[u8]) -> bool {
     }
 }
 
+const NAME_FAULTS: [(NameFault, &[u8]); 3] = [
+    (NameFault::Empty, b"N1"),
+    (NameFault::TooLong, b"N2"),
+    (NameFault::BadByte(63), b"N3 63"),
+];
+
+const TEXT_FAULTS: [(TextFault, &[u8]); 3] = [
+    (TextFault::TooLong(256), b"X1 256"),
+    (TextFault::BadByte(u64::MAX), b"X2 18446744073709551615"),
+    (TextFault::Memory, b""),
+];
+
+const IDENT_FAULTS: [(IdentFault, &[u8]); 2] = [
+    (IdentFault::Length(21), b"I1 21"),
+    (IdentFault::BadByte(0), b"I2 0"),
+];
+
 #[test]
 fn each_fault_has_its_text(rt: HostRuntime) -> Result<(), Fail> {
-    for (fault, text) in [
-        (NameFault::Empty, &b"N1"[..]),
-        (NameFault::TooLong, b"N2"),
-        (NameFault::BadByte(63), b"N3 63"),
-    ] {
+    for &(fault, text) in &NAME_FAULTS {
         assert_eq!(rt; is_printed(rt.alloc(), &fault, text), true);
     }
-    for (fault, text) in [
-        (TextFault::TooLong(256), &b"X1 256"[..]),
-        (TextFault::BadByte(u64::MAX), b"X2 18446744073709551615"),
-        (TextFault::Memory, b""),
-    ] {
+    for &(fault, text) in &TEXT_FAULTS {
         assert_eq!(rt; is_printed(rt.alloc(), &fault, text), true);
     }
-    for (fault, text) in [
-        (IdentFault::Length(21), &b"I1 21"[..]),
-        (IdentFault::BadByte(0), b"I2 0"),
-    ] {
+    for &(fault, text) in &IDENT_FAULTS {
         assert_eq!(rt; is_printed(rt.alloc(), &fault, text), true);
     }
     Ok(())

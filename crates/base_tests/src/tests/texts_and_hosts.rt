@@ -18,19 +18,19 @@ fn text_refusal(alloc: Global, bytes: &[u8]) -> Option<TextFault> {
     }
 }
 
+const TEXTS: [(&[u8], Option<TextFault>); 6] = [
+    (b"", None),
+    (b" to ~", None),
+    (&[b'a'; 255], None),
+    (&[b'a'; 256], Some(TextFault::TooLong(256))),
+    (b"a\nb", Some(TextFault::BadByte(1))),
+    (b"\x7F", Some(TextFault::BadByte(0))),
+];
+
 #[test]
 fn texts_are_read(rt: HostRuntime) -> Result<(), Fail> {
     text_laws();
-    let long = [b'a'; 256];
-    let rows = [
-        (b"".as_slice(), None),
-        (b" to ~", None),
-        (&long[..255], None),
-        (&long, Some(TextFault::TooLong(256))),
-        (b"a\nb", Some(TextFault::BadByte(1))),
-        (b"\x7F", Some(TextFault::BadByte(0))),
-    ];
-    for (bytes, refusal) in rows {
+    for &(bytes, refusal) in &TEXTS {
         assert_eq!(rt; text_refusal(rt.alloc(), bytes), refusal);
     }
     Ok(())
@@ -81,19 +81,22 @@ fn names_are_texts(rt: HostRuntime) -> Result<(), Fail> {
     Ok(())
 }
 
+// What three texts are answered, and whether a sink has them but the second then.
+type Put = ([Result<(), WriteFault>; 3], bool);
+
+fn put_three(sink: &mut MemSink) -> Result<Put, NoMemory> {
+    sink.fail_at(2)?;
+    let answers = [sink.put(b"one"), sink.put(b"lost"), sink.put(b" two")];
+    Ok((answers, sink.as_slice() == b"one two".as_slice()))
+}
+
 #[test]
 fn what_was_put(rt: HostRuntime) -> Result<(), Fail> {
     let mut sink = MemSink::new(rt.alloc());
-    sink.fail_at(2)?;
-    let rows = [
-        (b"one".as_slice(), Ok(())),
-        (b"lost", Err(WriteFault::Failed)),
-        (b" two", Ok(())),
-    ];
-    for (bytes, answer) in rows {
-        assert_eq!(rt; sink.put(bytes), answer);
-    }
-    assert_eq!(rt; sink.as_slice(), b"one two".as_slice());
+    let put = put_three(&mut sink);
+    drop(sink);
+    let answers = [Ok(()), Err(WriteFault::Failed), Ok(())];
+    assert_eq!(rt; put?, (answers, true));
     Ok(())
 }
 
@@ -106,26 +109,28 @@ fn outcome<H: Host>(alloc: Global, host: &mut H, name: &[u8], bytes: &[u8]) -> O
     }
 }
 
+const WRITTEN: [(&[u8], &[u8]); 3] = [(b"a/one", b"first"), (b"two", b""), (b"a/one", b"second")];
+
+// What three reads of a host with these files are refused with.
+fn read_three(alloc: Global, host: &mut MemHost) -> Result<[Option<ReadFault>; 3], Fail> {
+    host.fail_at(4)?;
+    for &(name, bytes) in &WRITTEN {
+        host.write(name, bytes)?;
+    }
+    Ok([
+        outcome(alloc, host, b"two", b"second"),
+        outcome(alloc, host, b"a/one", b"second"),
+        outcome(alloc, host, b"one", b"second"),
+    ])
+}
+
 #[test]
 fn a_host_in_memory(rt: HostRuntime) -> Result<(), Fail> {
     let mut host = MemHost::new(rt.alloc());
-    host.fail_at(4)?;
-    let written = [
-        (b"a/one".as_slice(), b"first".as_slice()),
-        (b"two", b""),
-        (b"a/one", b"second"),
-    ];
-    for (name, bytes) in written {
-        assert_eq!(rt; host.write(name, bytes), Ok(()));
-    }
-    let rows = [
-        (b"two".as_slice(), Some(ReadFault::Failed)),
-        (b"a/one", None),
-        (b"one", Some(ReadFault::Absent)),
-    ];
-    for (name, refusal) in rows {
-        assert_eq!(rt; outcome(rt.alloc(), &mut host, name, b"second"), refusal);
-    }
+    let read = read_three(rt.alloc(), &mut host);
+    drop(host);
+    let wanted = [Some(ReadFault::Failed), None, Some(ReadFault::Absent)];
+    assert_eq!(rt; read?, wanted);
     Ok(())
 }
 
@@ -153,6 +158,14 @@ fn there_and_back<R: Files<File = File>>(rt: &R, alloc: Global, count: usize) ->
     }
 }
 
+const SYSTEM: [(&[u8], Option<ReadFault>); 5] = [
+    (b"made/inside/file", None),
+    (b"made/inside", Some(ReadFault::Failed)),
+    (b"made/inside/file/x", Some(ReadFault::Failed)),
+    (b"made/none", Some(ReadFault::Absent)),
+    (b"\xFF", Some(ReadFault::Failed)),
+];
+
 // A file in folders that are missing, a folder in place of a file, a file in place of a folder, and
 // the longest file.
 #[test]
@@ -163,14 +176,7 @@ fn the_files_of_the_system(rt: HostRuntime) -> Result<(), Fail> {
         host.write(b"made/inside", b"bytes"),
         Err(WriteFault::Failed)
     );
-    let rows = [
-        (b"made/inside/file".as_slice(), None),
-        (b"made/inside", Some(ReadFault::Failed)),
-        (b"made/inside/file/x", Some(ReadFault::Failed)),
-        (b"made/none", Some(ReadFault::Absent)),
-        (b"\xFF", Some(ReadFault::Failed)),
-    ];
-    for (name, refusal) in rows {
+    for &(name, refusal) in &SYSTEM {
         assert_eq!(rt; outcome(rt.alloc(), &mut host, name, b"bytes"), refusal);
     }
     assert_eq!(rt; there_and_back(&rt, rt.alloc(), 16_777_215), None);

@@ -62,25 +62,34 @@ fn five_calls<K: Disk>(disk: &mut K) -> Result<(), DiskFault>
 // The notes after five calls and a restart, of which the call of this number and the next one fail.
 fn notes_of_failing(alloc: Global, call: u32) -> Result<Bytes, Fail> {
     let mut disk = MemDisk::new(alloc, &[1, 2, 3])?;
+    let notes = fail_twice(alloc, &mut disk, call);
+    drop(disk);
+    notes
+}
+
+fn fail_twice(alloc: Global, disk: &mut MemDisk, call: u32) -> Result<Bytes, Fail>
+    requires { (Mem.state_of disk.old).stopped ≡ false }
+{
     disk.fail_at(call)?;
     disk.fail_at(call.saturating_add(1))?;
-    let _ = five_calls(&mut disk);
+    let _ = five_calls(disk);
     let _ = disk.restart();
     disk.restart()?;
-    notes_of(alloc, &disk)
+    notes_of(alloc, disk)
 }
+
+const NOTES: [(u32, &[u8]); 6] = [
+    (1, b"w\0\0\0\x01\x07!r!r"),
+    (2, b"w\0\0\0\x01\x07w\0\0\0\x06!r!r"),
+    (3, b"w\0\0\0\x01\x07w\0\0\0\x06s!r!r"),
+    (4, b"w\0\0\0\x01\x07w\0\0\0\x06sw\0\0\0\x04\x08\x09!r!r"),
+    (5, b"w\0\0\0\x01\x07w\0\0\0\x06sw\0\0\0\x04\x08\x09r!r"),
+    (9, b"w\0\0\0\x01\x07w\0\0\0\x06sw\0\0\0\x04\x08\x09rr"),
+];
 
 #[test]
 fn each_call_of_a_disk_in_memory_fails_in_turn(rt: HostRuntime) -> Result<(), Fail> {
-    let rows: [(u32, &[u8]); 6] = [
-        (1, b"w\0\0\0\x01\x07!r!r"),
-        (2, b"w\0\0\0\x01\x07w\0\0\0\x06!r!r"),
-        (3, b"w\0\0\0\x01\x07w\0\0\0\x06s!r!r"),
-        (4, b"w\0\0\0\x01\x07w\0\0\0\x06sw\0\0\0\x04\x08\x09!r!r"),
-        (5, b"w\0\0\0\x01\x07w\0\0\0\x06sw\0\0\0\x04\x08\x09r!r"),
-        (9, b"w\0\0\0\x01\x07w\0\0\0\x06sw\0\0\0\x04\x08\x09rr"),
-    ];
-    for (call, notes) in rows {
+    for &(call, notes) in &NOTES {
         let found = notes_of_failing(rt.alloc(), call)?;
         assert_eq!(rt; found.as_slice(), notes, "call {call}");
     }
@@ -117,35 +126,44 @@ fn fused(alloc: Global, bytes: &[u8]) -> Result<Fused<MemDisk>, NoMemory>
 fn after_a_loss(alloc: Global, calls: u32, pick: u32) -> Result<[u8; 8], Fail> {
     let mut disk = fused(alloc, &[1, 2, 3, 4, 5, 6, 7, 8])?;
     disk.arm(calls.max(1), pick);
-    let _ = six_calls(&mut disk);
-    disk.restart()?;
-    Ok(prefix(&mut disk)?)
+    let bytes = lose(&mut disk);
+    drop(disk);
+    Ok(bytes?)
 }
+
+fn lose(disk: &mut Fused<MemDisk>) -> Result<[u8; 8], DiskFault>
+    requires { (state_of Mem.state_of disk.old).stopped ≡ false }
+{
+    let _ = six_calls(disk);
+    disk.restart()?;
+    prefix(disk)
+}
+
+const SPOILED: [(u32, u32, [u8; 8]); 19] = [
+    (1, 0, [1, 7, 8, 4, 5, 6, 7, 8]),
+    (1, 1, [1, 0, 0, 4, 5, 6, 7, 8]),
+    (1, 2, [1, 60, 117, 4, 5, 6, 7, 8]),
+    (2, 0, [1, 7, 8, 4, 5, 6, 7, 8]),
+    (2, 1, [1, 0, 0, 4, 5, 6, 7, 8]),
+    (2, 2, [1, 60, 117, 4, 5, 6, 7, 8]),
+    (3, 0, [1, 7, 8, 4, 5, 9, 7, 8]),
+    (3, 1, [1, 7, 8, 4, 5, 0, 7, 8]),
+    (3, 2, [1, 7, 8, 4, 5, 60, 7, 8]),
+    (4, 0, [1, 7, 8, 4, 5, 9, 10, 8]),
+    (4, 1, [1, 7, 8, 4, 5, 0, 0, 8]),
+    (4, 2, [1, 7, 8, 4, 5, 60, 117, 8]),
+    (5, 0, [0, 7, 8, 4, 5, 9, 10, 8]),
+    (5, 1, [60, 7, 8, 4, 5, 0, 0, 8]),
+    (5, 2, [11, 7, 8, 4, 5, 60, 117, 8]),
+    (6, 0, [0, 7, 8, 4, 5, 9, 10, 8]),
+    (6, 1, [60, 7, 8, 4, 5, 0, 0, 8]),
+    (6, 2, [11, 7, 8, 4, 5, 60, 117, 8]),
+    (5, u32::MAX, [11, 7, 8, 4, 5, 9, 10, 8]),
+];
 
 #[test]
 fn a_power_loss_spoils_what_wasnt_synced(rt: HostRuntime) -> Result<(), Fail> {
-    let rows: [(u32, u32, [u8; 8]); 19] = [
-        (1, 0, [1, 7, 8, 4, 5, 6, 7, 8]),
-        (1, 1, [1, 0, 0, 4, 5, 6, 7, 8]),
-        (1, 2, [1, 60, 117, 4, 5, 6, 7, 8]),
-        (2, 0, [1, 7, 8, 4, 5, 6, 7, 8]),
-        (2, 1, [1, 0, 0, 4, 5, 6, 7, 8]),
-        (2, 2, [1, 60, 117, 4, 5, 6, 7, 8]),
-        (3, 0, [1, 7, 8, 4, 5, 9, 7, 8]),
-        (3, 1, [1, 7, 8, 4, 5, 0, 7, 8]),
-        (3, 2, [1, 7, 8, 4, 5, 60, 7, 8]),
-        (4, 0, [1, 7, 8, 4, 5, 9, 10, 8]),
-        (4, 1, [1, 7, 8, 4, 5, 0, 0, 8]),
-        (4, 2, [1, 7, 8, 4, 5, 60, 117, 8]),
-        (5, 0, [0, 7, 8, 4, 5, 9, 10, 8]),
-        (5, 1, [60, 7, 8, 4, 5, 0, 0, 8]),
-        (5, 2, [11, 7, 8, 4, 5, 60, 117, 8]),
-        (6, 0, [0, 7, 8, 4, 5, 9, 10, 8]),
-        (6, 1, [60, 7, 8, 4, 5, 0, 0, 8]),
-        (6, 2, [11, 7, 8, 4, 5, 60, 117, 8]),
-        (5, u32::MAX, [11, 7, 8, 4, 5, 9, 10, 8]),
-    ];
-    for (calls, pick, bytes) in rows {
+    for &(calls, pick, bytes) in &SPOILED {
         let found = after_a_loss(rt.alloc(), calls, pick)?;
         assert_eq!(rt; found, bytes, "calls {calls} pick {pick}");
     }
@@ -167,16 +185,24 @@ fn four_ranges<K: Disk>(disk: &mut K, at: u32) -> Result<(), DiskFault>
 // The first of 16 such bytes after a loss, where perhaps one more is written.
 fn first_of_ranges(alloc: Global, more: bool) -> Result<u8, Fail> {
     let mut disk = fused(alloc, &[])?;
-    four_ranges(&mut disk, 0)?;
-    four_ranges(&mut disk, 8)?;
-    four_ranges(&mut disk, 16)?;
-    four_ranges(&mut disk, 24)?;
+    let first = first_after(&mut disk, more);
+    drop(disk);
+    Ok(first?)
+}
+
+fn first_after(disk: &mut Fused<MemDisk>, more: bool) -> Result<u8, DiskFault>
+    requires { (state_of Mem.state_of disk.old).stopped ≡ false }
+{
+    four_ranges(disk, 0)?;
+    four_ranges(disk, 8)?;
+    four_ranges(disk, 16)?;
+    four_ranges(disk, 24)?;
     if more {
         disk.write(32, &[9])?;
     }
     disk.arm(0, 1);
     disk.restart()?;
-    let bytes = prefix(&mut disk)?;
+    let bytes = prefix(disk)?;
     Ok(bytes[0])
 }
 
@@ -196,6 +222,12 @@ fn second_sync_fails(alloc: Global, again: bool) -> Result<bool, Fail> {
     if again {
         disk.arm(0, 0);
     }
+    let fails = fails_later(&mut disk);
+    drop(disk);
+    Ok(fails?)
+}
+
+fn fails_later<K: Disk>(disk: &mut K) -> Result<bool, DiskFault> {
     disk.restart()?;
     disk.sync()?;
     Ok(disk.sync().is_err())
@@ -211,16 +243,32 @@ fn an_arming_outlasts_a_restart(rt: HostRuntime) -> Result<(), Fail> {
 // Writes over two openings of a file, the first of which makes it.
 fn write_file(rt: &HostRuntime, name: &str) -> Result<[u8; 8], DiskFault> {
     let mut disk = FileDisk::new(rt, name);
+    let bytes = write_twice(&mut disk);
+    drop(disk);
+    bytes
+}
+
+fn write_twice<K: Disk>(disk: &mut K) -> Result<[u8; 8], DiskFault>
+    requires { (K.state disk.old).stopped ≡ false }
+{
     disk.write(3, &[5, 6])?;
     disk.sync()?;
     disk.restart()?;
     disk.write(0, &[1])?;
-    prefix(&mut disk)
+    prefix(disk)
 }
 
 // The last bytes of a disk in a file, and those from its end on.
 fn ends(rt: &HostRuntime, name: &str) -> Result<[u8; 6], DiskFault> {
     let mut disk = FileDisk::new(rt, name);
+    let bytes = six(&mut disk);
+    drop(disk);
+    bytes
+}
+
+fn six<K: Disk>(disk: &mut K) -> Result<[u8; 6], DiskFault>
+    requires { (K.state disk.old).stopped ≡ false }
+{
     let mut bytes = [0xFF; 6];
     disk.read(4, &mut bytes[..3])?;
     disk.read(134_225_917, &mut bytes[3..])?;
@@ -241,19 +289,21 @@ fn two<K: Disk>(disk: &mut K, at: u32) -> Result<[u8; 2], DiskFault>
 // Writes and reads of which most begin where the call before them ended.
 fn back_to_back(rt: &HostRuntime, name: &str) -> Result<[[u8; 2]; 5], DiskFault> {
     let mut disk = FileDisk::new(rt, name);
+    let bytes = write_on(&mut disk);
+    drop(disk);
+    bytes
+}
+
+fn write_on<K: Disk>(disk: &mut K) -> Result<[[u8; 2]; 5], DiskFault>
+    requires { (K.state disk.old).stopped ≡ false }
+{
     disk.write(2, &[1, 2])?;
     disk.write(4, &[3])?;
-    let past_the_end = two(&mut disk, 5)?;
-    let first = two(&mut disk, 2)?;
-    let second = two(&mut disk, 4)?;
+    let past_the_end = two(disk, 5)?;
+    let first = two(disk, 2)?;
+    let second = two(disk, 4)?;
     disk.write(6, &[9])?;
-    Ok([
-        past_the_end,
-        first,
-        second,
-        two(&mut disk, 6)?,
-        two(&mut disk, 4)?,
-    ])
+    Ok([past_the_end, first, second, two(disk, 6)?, two(disk, 4)?])
 }
 
 // What a disk in a file that isn't there reads; whether the file is there after a sync; and what it
@@ -293,10 +343,18 @@ fn fused_file<'r>(rt: &'r HostRuntime, name: &'r str) -> Fused<FileDisk<'r, Host
 fn lost_over_a_file(rt: &HostRuntime, name: &str) -> Result<(bool, [u8; 8]), Fail> {
     let mut disk = fused_file(rt, name);
     disk.arm(1, 1);
+    let found = write_at_a_loss(&mut disk);
+    drop(disk);
+    Ok(found?)
+}
+
+fn write_at_a_loss<K: Disk>(disk: &mut K) -> Result<(bool, [u8; 8]), DiskFault>
+    requires { (K.state disk.old).stopped ≡ false }
+{
     let lost = disk.write(1, &[7, 8]) == Err(DiskFault::Failed);
     disk.restart()?;
     disk.write(4, &[5])?;
-    Ok((lost, prefix(&mut disk)?))
+    Ok((lost, prefix(disk)?))
 }
 
 #[test]

@@ -62,15 +62,32 @@ type Told = (usize, u8, u32, usize, (u32, u32));
 
 fn surveyed(alloc: Global, bytes: &[u8; 12_290]) -> Result<Told, Fail> {
     let mut disk = MemDisk::new(alloc, bytes)?;
-    let surveyed = survey(alloc, &mut disk)?;
+    let told = tell(alloc, &mut disk);
+    drop(disk);
+    told
+}
+
+fn tell(alloc: Global, disk: &mut MemDisk) -> Result<Told, Fail>
+    requires { (state_of disk.old).stopped ≡ false }
+{
+    let mut surveyed = survey(alloc, disk)?;
     let (loads, calls) = (surveyed.manifest.loads.len(), disk.notes().len());
-    let mut store = surveyed.store;
-    let (bank, sequence) = (store.bank(), store.sequence());
-    store.prepare()?;
-    store.begin(&mut disk)?;
-    store.seal(&mut disk)?;
-    store.activate(&mut disk)?;
+    let (bank, sequence) = (surveyed.store.bank(), surveyed.store.sequence());
+    let answer = install_none(&mut surveyed.store, disk);
+    drop(surveyed);
+    answer?;
     Ok((loads, bank, sequence, calls, first_and_last(disk.notes())))
+}
+
+// Installs a configuration without loads.
+fn install_none(store: &mut Store, disk: &mut MemDisk) -> Result<(), StoreFault>
+    requires idle { IsIdle store.old }
+    requires running { (state_of disk.old).stopped ≡ false }
+{
+    store.prepare()?;
+    store.begin(disk)?;
+    store.seal(disk)?;
+    store.activate(disk)
 }
 
 // An installation shuts the other slot first where it is open, and else begins with the other bank;
@@ -92,36 +109,54 @@ fn a_survey_tells_what_is_active(rt: HostRuntime) -> Result<(), Fail> {
     Ok(())
 }
 
+// Whether the load of bank 0 is recovered.
+fn is_recovered(alloc: Global, disk: &mut MemDisk) -> Result<bool, RecoverFault>
+    requires { (state_of disk.old).stopped ≡ false }
+{
+    let standing = recover(alloc, disk)?;
+    let loads = standing.config.loads.as_slice();
+    let found = standing.sequence == 7
+        && loads.len() == 1
+        && is_load(&loads[0], b"ABC41-0000-0001", &[(b"A.B", b"abc")]);
+    drop(standing);
+    Ok(found)
+}
+
 #[test]
 fn the_contents_come_with_a_recovery(rt: HostRuntime) -> Result<(), Fail> {
     let mut bytes = two_slots();
     put(&mut bytes, 4608, &[0]);
     let mut disk = MemDisk::new(rt.alloc(), &bytes)?;
-    let standing = recover(rt.alloc(), &mut disk)?;
-    let loads = standing.config.loads.as_slice();
-    assert!(rt;
-        standing.sequence == 7
-            && loads.len() == 1
-            && is_load(&loads[0], b"ABC41-0000-0001", &[(b"A.B", b"abc")])
-    );
+    let found = is_recovered(rt.alloc(), &mut disk);
+    drop(disk);
+    assert!(rt; found?);
     Ok(())
+}
+
+// Why a survey of a disk in a file is refused, if it is.
+fn survey_refusal(rt: &HostRuntime, alloc: Global, name: &str) -> Option<RecoverFault> {
+    let mut disk = FileDisk::new(rt, name);
+    let refusal = survey(alloc, &mut disk).err();
+    drop(disk);
+    refusal
+}
+
+// Why its recovery is refused, if it is.
+fn recover_refusal(rt: &HostRuntime, alloc: Global, name: &str) -> Option<RecoverFault> {
+    let mut disk = FileDisk::new(rt, name);
+    let refusal = recover(alloc, &mut disk).err();
+    drop(disk);
+    refusal
 }
 
 #[test]
 fn a_missing_file_is_not_formatted(rt: HostRuntime) -> Result<(), Fail> {
-    let alloc = rt.alloc();
     let name = "a_missing_file.disk";
-    let mut disk = FileDisk::new(&rt, name);
-    let Err(fault) = survey(alloc, &mut disk) else {
-        return Err(Fail::new("a missing file was surveyed"));
-    };
-    assert_eq!(rt; fault, RecoverFault::NotFormatted(0));
+    let found = survey_refusal(&rt, rt.alloc(), name);
+    assert_eq!(rt; found, Some(RecoverFault::NotFormatted(0)));
     assert!(rt; fs::read(&rt, name).is_err());
-    let mut folder = FileDisk::new(&rt, ".");
-    let Err(fault) = recover(alloc, &mut folder) else {
-        return Err(Fail::new("a folder was recovered"));
-    };
-    assert_eq!(rt; fault, RecoverFault::DiskFailed);
+    let found = recover_refusal(&rt, rt.alloc(), ".");
+    assert_eq!(rt; found, Some(RecoverFault::DiskFailed));
     Ok(())
 }
 
@@ -265,22 +300,45 @@ fn new_names() -> Result<[Name; 5], Fail> {
     ])
 }
 
-// A disk with the old configuration, where this call of the installation failed, and what that
-// answered; a survey makes four calls before it.
-fn failing(alloc: Global, call: u32) -> Result<(MemDisk, Result<(), StoreFault>), Fail> {
+// What installing the new configuration beside the old answers.
+fn install(alloc: Global, disk: &mut MemDisk) -> Result<Result<(), StoreFault>, Fail>
+    requires { (state_of disk.old).stopped ≡ false }
+{
     let (parts, names) = (new_parts()?, new_names()?);
-    let mut disk = MemDisk::new(alloc, &old_disk())?;
-    disk.fail_at(call.saturating_add(4))?;
-    let mut store = survey(alloc, &mut disk)?.store;
-    let answer = install_new(&mut store, &mut disk, parts, names);
-    Ok((disk, answer))
+    let mut surveyed = survey(alloc, disk)?;
+    let answer = install_new(&mut surveyed.store, disk, parts, names);
+    drop(surveyed);
+    Ok(answer)
 }
 
-// Whether a restart leaves the old configuration, and whether the new.
-fn left_on(alloc: Global, disk: &mut MemDisk) -> Result<(bool, bool), Fail> {
-    disk.restart()?;
+// Whether it is the old configuration, and whether it is the new.
+fn old_or_new(alloc: Global, disk: &mut MemDisk) -> Result<(bool, bool), RecoverFault>
+    requires { (state_of disk.old).stopped ≡ false }
+{
     let standing = recover(alloc, disk)?;
-    Ok((is_old(&standing), is_new(&standing)))
+    let found = (is_old(&standing), is_new(&standing));
+    drop(standing);
+    Ok(found)
+}
+
+// What the installation answers of which this call fails; a survey makes four calls before it. And
+// whether a restart leaves the old configuration then, and whether the new.
+type Left = (Result<(), StoreFault>, (bool, bool));
+
+fn failing(alloc: Global, call: u32) -> Result<Left, Fail> {
+    let mut disk = MemDisk::new(alloc, &old_disk())?;
+    let left = fail_and_restart(alloc, &mut disk, call);
+    drop(disk);
+    left
+}
+
+fn fail_and_restart(alloc: Global, disk: &mut MemDisk, call: u32) -> Result<Left, Fail>
+    requires { (state_of disk.old).stopped ≡ false }
+{
+    disk.fail_at(call.saturating_add(4))?;
+    let answer = install(alloc, disk)?;
+    disk.restart()?;
+    Ok((answer, old_or_new(alloc, disk)?))
 }
 
 // Shutting the other slot makes two calls; the contents, the manifest, the slot and their sync
@@ -288,8 +346,7 @@ fn left_on(alloc: Global, disk: &mut MemDisk) -> Result<(bool, bool), Fail> {
 #[test]
 fn an_installation_that_fails_leaves_the_old_configuration(rt: HostRuntime) -> Result<(), Fail> {
     for call in 1..=12u32 {
-        let (mut disk, answer) = failing(rt.alloc(), call)?;
-        let (is_old, is_new) = left_on(rt.alloc(), &mut disk)?;
+        let (answer, (is_old, is_new)) = failing(rt.alloc(), call)?;
         let failed = answer == Err(StoreFault::DiskFailed);
         assert!(rt; failed && (is_old || call > 10 && is_new), "at call {call}");
     }
@@ -370,24 +427,22 @@ fn images_after(alloc: Global, before: &[u8; WHOLE], notes: &[Note]) -> Result<(
     let mut new = 0u32;
     for pick in 0..images {
         let image = left_by(&settled, writes, pick);
-        let mut disk = MemDisk::new(alloc, &image)?;
-        let standing = recover(alloc, &mut disk)?;
-        if is_new(&standing) {
+        let (is_old, is_new) = held_by(alloc, &image)?;
+        if is_new {
             new = new.saturating_add(1);
-        } else if !is_old(&standing) {
+        } else if !is_old {
             return Err(Fail::new("neither the old nor the new configuration"));
         }
     }
     Ok((images, new))
 }
 
-// A disk on which the new configuration was installed beside the old.
-fn installed(alloc: Global) -> Result<MemDisk, Fail> {
-    let (parts, names) = (new_parts()?, new_names()?);
-    let mut disk = MemDisk::new(alloc, &old_disk())?;
-    let mut store = survey(alloc, &mut disk)?.store;
-    install_new(&mut store, &mut disk, parts, names)?;
-    Ok(disk)
+// Whether a disk of these bytes holds the old configuration, and whether the new.
+fn held_by(alloc: Global, image: &[u8; WHOLE]) -> Result<(bool, bool), Fail> {
+    let mut disk = MemDisk::new(alloc, image)?;
+    let held = old_or_new(alloc, &mut disk);
+    drop(disk);
+    Ok(held?)
 }
 
 // At how many moments of these calls there are as many images, and as many of the new configuration,
@@ -405,12 +460,23 @@ fn agree(alloc: Global, notes: &[Note], wanted: &[(u32, u32)]) -> Result<(usize,
     Ok((moments, images))
 }
 
+// How many calls an installation beside the old configuration makes, and what `agree` says of them.
+fn moments(
+    alloc: Global,
+    disk: &mut MemDisk,
+    wanted: &[(u32, u32)],
+) -> Result<(usize, (usize, u32)), Fail>
+    requires { (state_of disk.old).stopped ≡ false }
+{
+    install(alloc, disk)??;
+    Ok((disk.notes().len(), agree(alloc, disk.notes(), wanted)?))
+}
+
 // At each moment of an installation, told by the calls that have ended or begun. A moment inside a
 // write has the images from before it and those after it, and one inside a sync those from before
 // it.
 #[test]
 fn each_image_of_an_installation_is_old_or_new(rt: HostRuntime) -> Result<(), Fail> {
-    let disk = installed(rt.alloc())?;
     let wanted = [
         (1, 0),
         (3, 0),
@@ -426,10 +492,9 @@ fn each_image_of_an_installation_is_old_or_new(rt: HostRuntime) -> Result<(), Fa
         (3, 1),
         (1, 1),
     ];
-    let found = (
-        disk.notes().len(),
-        agree(rt.alloc(), disk.notes(), &wanted)?,
-    );
-    assert_eq!(rt; found, (12, (13, 3289)));
+    let mut disk = MemDisk::new(rt.alloc(), &old_disk())?;
+    let found = moments(rt.alloc(), &mut disk, &wanted);
+    drop(disk);
+    assert_eq!(rt; found?, (12, (13, 3289)));
     Ok(())
 }

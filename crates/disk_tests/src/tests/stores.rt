@@ -1,4 +1,6 @@
-ghost use Rattle.std.specs.Prelude.{◌≡◌, IfOk};
+ghost use Rattle.std.specs.Prelude.{◌≡◌, false, IfOk};
+ghost use Rattle.disk_model.specs.MemDisk.{state_of};
+ghost use Rattle.bank_store.specs.Store.{IsIdle};
 
 use bank_store::{Identity, Store, StoreFault, format};
 use disk_layout::{Active, Bank, ManifestRange, Slot};
@@ -47,30 +49,41 @@ fn after(before: &[u8; 9000], writes: &[(u32, &[u8])]) -> [u8; 9000] {
     disk
 }
 
+const STEPS: [(u32, &[u8]); 10] = [
+    (4608, &[0]),
+    (0, &[]),
+    (4096, &[0]),
+    (0, &[]),
+    (8192, &[0, 0]),
+    (4112, &[0, 0, 0, 1, 0, 0, 0, 0, 0, 0, 0, 0, 2]),
+    (0, &START),
+    (0, &[]),
+    (4096, &[0xA5]),
+    (0, &[]),
+];
+
+// Whether a disk of these bytes is formatted in four steps.
+fn is_formatted(disk: &mut MemDisk, junk: &[u8; 9000]) -> Result<bool, Fail>
+    requires { (state_of disk.old).stopped ≡ false }
+{
+    let identity = target(4096)?;
+    format(disk, &identity)?;
+    let mut made = disk.notes().len() == STEPS.len();
+    for (note, step) in disk.notes().iter().zip(&STEPS) {
+        made = made && note.done && written(note) == *step;
+    }
+    Ok(made && disk.as_slice() == after(junk, &STEPS).as_slice())
+}
+
 #[test]
 fn a_disk_with_both_gates_open_is_formatted_in_four_steps(rt: HostRuntime) -> Result<(), Fail> {
     let mut junk = [0x5A; 9000];
     junk[4096] = 0xA5;
     junk[4608] = 0xA5;
     let mut disk = MemDisk::new(rt.alloc(), &junk)?;
-    format(&mut disk, &target(4096)?)?;
-    let steps: [(u32, &[u8]); 10] = [
-        (4608, &[0]),
-        (0, &[]),
-        (4096, &[0]),
-        (0, &[]),
-        (8192, &[0, 0]),
-        (4112, &[0, 0, 0, 1, 0, 0, 0, 0, 0, 0, 0, 0, 2]),
-        (0, &START),
-        (0, &[]),
-        (4096, &[0xA5]),
-        (0, &[]),
-    ];
-    let mut made = disk.notes().len() == steps.len();
-    for (note, step) in disk.notes().iter().zip(steps) {
-        made = made && note.done && written(note) == step;
-    }
-    assert!(rt; made && disk.as_slice() == after(&junk, &steps).as_slice());
+    let formatted = is_formatted(&mut disk, &junk);
+    drop(disk);
+    assert!(rt; formatted?);
     Ok(())
 }
 
@@ -78,8 +91,17 @@ fn a_disk_with_both_gates_open_is_formatted_in_four_steps(rt: HostRuntime) -> Re
 // noted, that call among them.
 fn format_failing(alloc: Global, call: u32) -> Result<(Result<(), StoreFault>, usize), Fail> {
     let mut disk = MemDisk::new(alloc, &[])?;
+    let found = fail_in_format(&mut disk, call);
+    drop(disk);
+    found
+}
+
+fn fail_in_format(disk: &mut MemDisk, call: u32) -> Result<(Result<(), StoreFault>, usize), Fail>
+    requires { (state_of disk.old).stopped ≡ false }
+{
+    let identity = target(67_108_864)?;
     disk.fail_at(call)?;
-    let answer = format(&mut disk, &target(67_108_864)?);
+    let answer = format(disk, &identity);
     Ok((answer, disk.notes().len()))
 }
 
@@ -95,28 +117,55 @@ fn each_failing_call_stops_formatting(rt: HostRuntime) -> Result<(), Fail> {
     Ok(())
 }
 
+// What formatting a disk in a file answers.
+fn format_file(rt: &HostRuntime, name: &str) -> Result<Result<(), StoreFault>, Fail> {
+    let identity = target(4096)?;
+    let mut disk = FileDisk::new(rt, name);
+    let answer = format(&mut disk, &identity);
+    drop(disk);
+    Ok(answer)
+}
+
 #[test]
 fn a_file_is_formatted(rt: HostRuntime) -> Result<(), Fail> {
     let name = "a_file_is_formatted.disk";
-    let mut disk = FileDisk::new(&rt, name);
-    format(&mut disk, &target(4096)?)?;
+    assert_eq!(rt; format_file(&rt, name)?, Ok(()));
     let file = fs::read(&rt, name)?;
     assert_eq!(rt; file.len(), 8194);
     assert!(rt; file.as_slice().starts_with(&START));
     assert_eq!(rt; file.as_slice()[4096], 0xA5);
     fs::remove_file(&rt, name)?;
-    let mut folder = FileDisk::new(&rt, ".");
-    assert_eq!(rt;
-        format(&mut folder, &target(4096)?),
-        Err(StoreFault::DiskFailed)
-    );
+    assert_eq!(rt; format_file(&rt, ".")?, Err(StoreFault::DiskFailed));
     Ok(())
 }
 
-// A disk that was formatted for the target, on which one load was installed, and the store's
-// sequence number and bank then.
-fn installed(alloc: Global) -> Result<(MemDisk, u32, u8), Fail> {
+// Installs a load of one file.
+fn install_one(
+    store: &mut Store,
+    disk: &mut MemDisk,
+    part: PartText,
+    name: Name,
+) -> Result<(), StoreFault>
+    requires idle { IsIdle store.old }
+    requires running { (state_of disk.old).stopped ≡ false }
+{
+    store.prepare()?;
+    store.begin(disk)?;
+    store.start_load(part, 1)?;
+    store.append(disk, b"ab")?;
+    store.append(disk, b"c")?;
+    store.end_file(name)?;
+    store.seal(disk)?;
+    store.activate(disk)
+}
+
+// Formats a disk for the target and installs one load on it: the store's sequence number and bank
+// then.
+fn install(alloc: Global, disk: &mut MemDisk) -> Result<(u32, u8), Fail>
+    requires { (state_of disk.old).stopped ≡ false }
+{
     let (part, name) = (PartText::read(b"MMM12-0001-ABCD")?, Name::read(b"H.LUH")?);
+    let identity = target(4096)?;
     let active = Active {
         slot: Slot::A,
         bank: Bank::Zero,
@@ -126,56 +175,65 @@ fn installed(alloc: Global) -> Result<(MemDisk, u32, u8), Fail> {
             length: 2,
         },
     };
-    let mut disk = MemDisk::new(alloc, &[])?;
-    format(&mut disk, &target(4096)?)?;
+    format(disk, &identity)?;
     let mut store = Store::new(alloc, 4096, active, false);
-    store.prepare()?;
-    store.begin(&mut disk)?;
-    store.start_load(part, 1)?;
-    store.append(&mut disk, b"ab")?;
-    store.append(&mut disk, b"c")?;
-    store.end_file(name)?;
-    store.seal(&mut disk)?;
-    store.activate(&mut disk)?;
-    let (sequence, bank) = (store.sequence(), store.bank());
-    Ok((disk, sequence, bank))
+    let answer = install_one(&mut store, disk, part, name);
+    let found = (store.sequence(), store.bank());
+    drop(store);
+    answer?;
+    Ok(found)
+}
+
+const HELD: [(usize, &[u8]); 5] = [
+    (4096, &[0xA5]),
+    (4608, &[0xA5]),
+    (4624, &[0, 0, 0, 2, 1, 0, 0, 0, 3, 0, 0, 0, 29]),
+    (8192, &[0, 0]),
+    (
+        12288,
+        b"abc\x00\x01MMM12-0001-ABCD\x00\x01\x05H.LUH\x00\x00\x00\x03",
+    ),
+];
+
+// Whether the disk has what is installed beside what was active, and the store that sequence number
+// and bank.
+fn is_installed(alloc: Global, disk: &mut MemDisk) -> Result<bool, Fail>
+    requires { (state_of disk.old).stopped ≡ false }
+{
+    let (sequence, bank) = install(alloc, disk)?;
+    let mut written = (sequence, bank, disk.as_slice().len()) == (2, 1, 12320);
+    for &(at, bytes) in &HELD {
+        let held = disk.as_slice().get(at..).unwrap_or(&[]);
+        written = written && held.starts_with(bytes);
+    }
+    Ok(written)
 }
 
 #[test]
 fn a_load_is_installed_beside_what_is_active(rt: HostRuntime) -> Result<(), Fail> {
-    let (disk, sequence, bank) = installed(rt.alloc())?;
-    let offsets: [(usize, &[u8]); 5] = [
-        (4096, &[0xA5]),
-        (4608, &[0xA5]),
-        (4624, &[0, 0, 0, 2, 1, 0, 0, 0, 3, 0, 0, 0, 29]),
-        (8192, &[0, 0]),
-        (
-            12288,
-            b"abc\x00\x01MMM12-0001-ABCD\x00\x01\x05H.LUH\x00\x00\x00\x03",
-        ),
-    ];
-    let mut written = (sequence, bank, disk.as_slice().len()) == (2, 1, 12320);
-    for (at, bytes) in offsets {
-        let held = disk.as_slice().get(at..).unwrap_or(&[]);
-        written = written && held.starts_with(bytes);
-    }
-    assert!(rt; written);
+    let mut disk = MemDisk::new(rt.alloc(), &[])?;
+    let installed = is_installed(rt.alloc(), &mut disk);
+    drop(disk);
+    assert!(rt; installed?);
     Ok(())
 }
 
+const TEXTS: [(StoreFault, &[u8]); 4] = [
+    (
+        StoreFault::BankFull {
+            need: 4_294_967_296,
+            have: 4096,
+        },
+        b"K1 4294967296 4096",
+    ),
+    (StoreFault::SequenceSpent, b"K2"),
+    (StoreFault::DiskFailed, b"K3"),
+    (StoreFault::Memory, b""),
+];
+
 #[test]
 fn each_fault_has_its_text(rt: HostRuntime) -> Result<(), Fail> {
-    let full = StoreFault::BankFull {
-        need: 4_294_967_296,
-        have: 4096,
-    };
-    let texts: [(StoreFault, &[u8]); 4] = [
-        (full, b"K1 4294967296 4096"),
-        (StoreFault::SequenceSpent, b"K2"),
-        (StoreFault::DiskFailed, b"K3"),
-        (StoreFault::Memory, b""),
-    ];
-    for (fault, text) in texts {
+    for &(fault, text) in &TEXTS {
         let printed = fault.text(rt.alloc())?;
         assert_eq!(rt; printed.as_slice(), text);
     }

@@ -3,19 +3,7 @@ use load_base::{Bytes, List, Name, NoMemory, Text};
 use load_header::{FileEntry, HeaderFault, LoadCrc, LoadHeader, header_laws};
 use printed_text::Printed;
 use std::alloc::Global;
-
-/// The header of a load with one file, `APP.BIN`, whose bytes are `123456789`, but its two check
-/// sums.
-static APP_FRONT: [u8; 116] = [
-    0x00, 0x00, 0x00, 0x3D, 0x80, 0x04, 0x00, 0x00, 0x00, 0x00, 0x00, 0x14, 0x00, 0x00, 0x00, 0x1D,
-    0x00, 0x00, 0x00, 0x21, 0x00, 0x00, 0x00, 0x25, 0x00, 0x00, 0x00, 0x26, 0x00, 0x00, 0x00, 0x37,
-    0x00, 0x00, 0x00, 0x38, 0x00, 0x00, 0x00, 0x39, 0x00, 0x0F, 0x41, 0x42, 0x43, 0x34, 0x31, 0x2D,
-    0x30, 0x30, 0x30, 0x30, 0x2D, 0x30, 0x30, 0x30, 0x31, 0x00, 0x00, 0x03, 0x41, 0x50, 0x50, 0x00,
-    0x00, 0x07, 0x00, 0x01, 0x00, 0x03, 0x48, 0x57, 0x31, 0x00, 0x00, 0x00, 0x00, 0x01, 0x00, 0x00,
-    0x00, 0x07, 0x41, 0x50, 0x50, 0x2E, 0x42, 0x49, 0x4E, 0x00, 0x00, 0x04, 0x41, 0x50, 0x50, 0x31,
-    0x00, 0x00, 0x00, 0x05, 0x00, 0x00, 0x00, 0x00, 0x00, 0x00, 0x00, 0x09, 0x29, 0xB1, 0x00, 0x00,
-    0x00, 0x00, 0x00, 0x00,
-];
+use worked_files::APP_HEADER;
 
 /// The header of a load with positions, two data files, a support file and user data.
 static NAV: [u8; 210] = [
@@ -38,8 +26,8 @@ static NAV: [u8; 210] = [
 /// The whole header of `APP.BIN`, with check sums as they are defined.
 fn app_header() -> [u8; 122] {
     let mut bytes = [0; 122];
-    bytes[..116].copy_from_slice(&APP_FRONT);
-    bytes[116..118].copy_from_slice(&crc16(&APP_FRONT).to_be_bytes());
+    bytes[..116].copy_from_slice(&APP_HEADER[..116]);
+    bytes[116..118].copy_from_slice(&crc16(&APP_HEADER[..116]).to_be_bytes());
     let mut load = Crc32::new();
     load.update(&bytes[..118]);
     load.update(b"123456789");
@@ -49,9 +37,9 @@ fn app_header() -> [u8; 122] {
 
 /// What these bytes are refused with, or nothing.
 fn outcome(alloc: Global, bytes: &[u8]) -> Result<Text, NoMemory> {
-    match LoadHeader::decode(alloc, bytes) {
-        Ok(_) => Ok(Text::empty(alloc)),
-        Err(fault) => fault.text(alloc),
+    match LoadHeader::decode(alloc, bytes).err() {
+        Some(fault) => fault.text(alloc),
+        None => Ok(Text::empty(alloc)),
     }
 }
 
@@ -82,33 +70,35 @@ fn mend(bytes: &mut [u8]) {
 
 /// Each offset and byte that is put there, whether the header's check sum is made right again, and
 /// what the header is refused with.
+const CHANGES: [(usize, u8, bool, &[u8]); 23] = [
+    (121, 0xFF, false, b""),
+    (6, 0xFF, true, b""),
+    (7, 0x20, false, b"H10 28738 37420"),
+    (3, 0x3E, true, b"H2 62 122"),
+    (4, 0x01, true, b"H3 260"),
+    (11, 0x20, true, b"H4 1 32 20"),
+    (26, 0x20, false, b"H4 5 8230 38"),
+    (29, 0x01, true, b"H4 6 65591 55"),
+    (41, 0xFF, true, b"H1 42"),
+    (41, 0x20, false, b"H6 P1 32"),
+    (52, 0x2E, false, b"H6 P2 10"),
+    (43, 0x20, true, b"H6 P3 1"),
+    (45, 0x35, false, b"H6 P4 81 65"),
+    (63, 0x01, true, b"H5 63"),
+    (89, 0x01, true, b"H5 89"),
+    (62, 0xAF, true, b"H13 60 X2 2"),
+    (76, 0x20, true, b"H14 8193"),
+    (78, 0x01, true, b"H8 1"),
+    (81, 0x00, false, b"H12 82 N1"),
+    (83, 0xFF, true, b"H12 82 N3 1"),
+    (99, 0x06, true, b"H9 1"),
+    (110, 0x20, true, b"H14 8193"),
+    (115, 0x20, true, b"H7"),
+];
+
 #[test]
 fn each_changed_byte_has_its_refusal(rt: HostRuntime) -> Result<(), NoMemory> {
-    for (offset, byte, mended, text) in [
-        (121, 0xFF, false, &b""[..]),
-        (6, 0xFF, true, b""),
-        (7, 0x20, false, b"H10 28738 37420"),
-        (3, 0x3E, true, b"H2 62 122"),
-        (4, 0x01, true, b"H3 260"),
-        (11, 0x20, true, b"H4 1 32 20"),
-        (26, 0x20, false, b"H4 5 8230 38"),
-        (29, 0x01, true, b"H4 6 65591 55"),
-        (41, 0xFF, true, b"H1 42"),
-        (41, 0x20, false, b"H6 P1 32"),
-        (52, 0x2E, false, b"H6 P2 10"),
-        (43, 0x20, true, b"H6 P3 1"),
-        (45, 0x35, false, b"H6 P4 81 65"),
-        (63, 0x01, true, b"H5 63"),
-        (89, 0x01, true, b"H5 89"),
-        (62, 0xAF, true, b"H13 60 X2 2"),
-        (76, 0x20, true, b"H14 8193"),
-        (78, 0x01, true, b"H8 1"),
-        (81, 0x00, false, b"H12 82 N1"),
-        (83, 0xFF, true, b"H12 82 N3 1"),
-        (99, 0x06, true, b"H9 1"),
-        (110, 0x20, true, b"H14 8193"),
-        (115, 0x20, true, b"H7"),
-    ] {
+    for &(offset, byte, mended, text) in &CHANGES {
         let mut bytes = app_header();
         change(&mut bytes, offset, byte);
         if mended {
@@ -123,17 +113,19 @@ fn each_changed_byte_has_its_refusal(rt: HostRuntime) -> Result<(), NoMemory> {
     Ok(())
 }
 
+const LATER: [(usize, u8, &[u8]); 7] = [
+    (130, 0x01, b"H8 2"),
+    (163, 0xFF, b"H14 257"),
+    (154, 0x01, b"H9 2"),
+    (134, 0xFF, b"H12 134 N3 0"),
+    (143, 0x01, b"H5 145"),
+    (132, 0x01, b"H1 134"),
+    (203, 0xFF, b"H7"),
+];
+
 #[test]
 fn later_files_are_counted_on(rt: HostRuntime) -> Result<(), NoMemory> {
-    for (offset, byte, text) in [
-        (130, 0x01, &b"H8 2"[..]),
-        (163, 0xFF, b"H14 257"),
-        (154, 0x01, b"H9 2"),
-        (134, 0xFF, b"H12 134 N3 0"),
-        (143, 0x01, b"H5 145"),
-        (132, 0x01, b"H1 134"),
-        (203, 0xFF, b"H7"),
-    ] {
+    for &(offset, byte, text) in &LATER {
         let mut bytes = NAV;
         change(&mut bytes, offset, byte);
         mend(&mut bytes);
@@ -166,35 +158,46 @@ fn lengths_are_tested_first_and_the_rest_before_the_check_sum(
     Ok(())
 }
 
+/// What is written of a header that was read of these bytes.
+fn again(alloc: Global, bytes: &[u8]) -> Result<Bytes, HeaderFault> {
+    let header = LoadHeader::decode(alloc, bytes)?;
+    let again = there_and_back(alloc, &header);
+    drop(header);
+    again
+}
+
 #[test]
 fn what_was_read_is_written_again(rt: HostRuntime) -> Result<(), HeaderFault> {
     let app = app_header();
     for bytes in [app.as_slice(), &NAV] {
-        let header = LoadHeader::decode(rt.alloc(), bytes)?;
-        assert_eq!(rt; there_and_back(rt.alloc(), &header)?.as_slice(), bytes);
+        assert_eq!(rt; again(rt.alloc(), bytes)?.as_slice(), bytes);
     }
     header_laws();
     Ok(())
 }
 
-/// N files with the name `F.BIN` and an empty part, each of `length` bytes.
-fn files(alloc: Global, count: usize, length: u32) -> Result<List<FileEntry>, HeaderFault> {
-    let mut files = List::new(alloc);
-    for _ in 0..count {
-        let name = match Name::read(b"F.BIN") {
-            Ok(name) => name,
-            Err(fault) => return Err(HeaderFault::Name { place: 0, fault }),
-        };
-        let part = match Text::read(alloc, b"") {
-            Ok(part) => part,
-            Err(fault) => return Err(HeaderFault::Text { place: 0, fault }),
-        };
-        files.push(FileEntry {
+/// A file with the name `F.BIN` and an empty part.
+fn file(alloc: Global, length: u32) -> Result<FileEntry, HeaderFault> {
+    let name = match Name::read(b"F.BIN") {
+        Ok(name) => name,
+        Err(fault) => return Err(HeaderFault::Name { place: 0, fault }),
+    };
+    match Text::read(alloc, b"") {
+        Ok(part) => Ok(FileEntry {
             name,
             part,
             length,
             crc16: 0x29B1,
-        })?;
+        }),
+        Err(fault) => Err(HeaderFault::Text { place: 0, fault }),
+    }
+}
+
+/// N such files, each of `length` bytes.
+fn files(alloc: Global, count: usize, length: u32) -> Result<List<FileEntry>, HeaderFault> {
+    let mut files = List::new(alloc);
+    for _ in 0..count {
+        files.push(file(alloc, length)?)?;
     }
     Ok(files)
 }
@@ -207,12 +210,42 @@ fn there_and_back(alloc: Global, header: &LoadHeader) -> Result<Bytes, HeaderFau
     }
     let bytes = header.encode(alloc)?;
     let again = LoadHeader::decode(alloc, bytes.as_slice())?;
-    if again.data_files.len() != header.data_files.len()
-        || again.support_files.len() != header.support_files.len()
-    {
-        return Err(HeaderFault::TooMany(again.data_files.len() as u64));
+    let found = (again.data_files.len(), again.support_files.len());
+    drop(again);
+    if found != (header.data_files.len(), header.support_files.len()) {
+        return Err(HeaderFault::TooMany(found.0 as u64));
     }
     Ok(bytes)
+}
+
+/// How many bytes a header takes with so many files of `length` bytes, and so many bytes of user
+/// data.
+fn size(
+    alloc: Global,
+    files: (usize, usize),
+    length: u32,
+    user: usize,
+) -> Result<usize, HeaderFault> {
+    let mut header = LoadHeader::decode(alloc, &NAV)?;
+    let size = size_with(alloc, &mut header, files, length, user);
+    drop(header);
+    size
+}
+
+fn size_with(
+    alloc: Global,
+    header: &mut LoadHeader,
+    (data_files, support_files): (usize, usize),
+    length: u32,
+    user: usize,
+) -> Result<usize, HeaderFault> {
+    header.data_files = files(alloc, data_files, length)?;
+    header.support_files = files(alloc, support_files, length)?;
+    header.user = Bytes::new(alloc);
+    for _ in 0..user {
+        header.user.push(0x55)?;
+    }
+    Ok(there_and_back(alloc, header)?.len())
 }
 
 /// How many data and support files, of how many bytes each, and how many bytes of user data a
@@ -233,16 +266,9 @@ fn a_header_has_at_most_255_files_and_65536_bytes(rt: HostRuntime) -> Result<(),
         (1, 0, 16_777_216, 0, 0),
         (0, 1, 16_777_216, 0, 0),
     ] {
-        let mut header = LoadHeader::decode(rt.alloc(), &NAV)?;
-        header.data_files = files(rt.alloc(), data_files, length)?;
-        header.support_files = files(rt.alloc(), support_files, length)?;
-        header.user = Bytes::new(rt.alloc());
-        for _ in 0..user {
-            header.user.push(0x55)?;
-        }
-        let written = there_and_back(rt.alloc(), &header)?;
+        let files = (data_files, support_files);
         assert_eq!(rt;
-            written.len(),
+            size(rt.alloc(), files, length, user)?,
             bytes,
             "{data_files} and {support_files} files, {user} bytes"
         );

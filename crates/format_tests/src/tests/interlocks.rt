@@ -38,20 +38,24 @@ fn shared_types_alone(header: &LoadHeader) -> bool {
     answer_of(Asks { rule }, header)
 }
 
+/// Whether a load of this type is accepted where every one but 0 is, and by that rule.
+fn answers(alloc: Global, type_id: u16) -> Result<(bool, bool), Fail> {
+    let header = header(alloc, type_id)?;
+    let answers = (answer_of(PermitsAll, &header), shared_types_alone(&header));
+    drop(header);
+    Ok(answers)
+}
+
 #[test]
 fn an_interlock_answers_as_its_rule_does(rt: HostRuntime) -> Result<(), Fail> {
-    for (type_id, answers) in [
+    for (type_id, wanted) in [
         (0, (false, false)),
         (1, (true, true)),
         (0x7FFF, (true, true)),
         (0x8000, (true, false)),
         (0xFFFF, (true, false)),
     ] {
-        let header = header(rt.alloc(), type_id)?;
-        assert_eq!(rt;
-            (answer_of(PermitsAll, &header), shared_types_alone(&header)),
-            answers
-        );
+        assert_eq!(rt; answers(rt.alloc(), type_id)?, wanted);
     }
     Ok(())
 }

@@ -1,10 +1,10 @@
 //! What is written, and the limits of the format, with as much memory as it takes.
-use super::list_vectors::{FILES, LOADS};
 use load_base::{Bytes, List, Name, NoMemory, Text};
 use media_lists::{FilesList, ListFault, ListedFile, LoadEntry, LoadsList, WordFault};
 use part_number::PartNumber;
 use printed_text::Printed;
 use std::alloc::Global;
+use worked_files::{APP_FILES, APP_LOADS};
 
 /// A word of a list, which has no fault.
 fn name(bytes: &[u8]) -> Result<Name, ListFault> {
@@ -71,17 +71,6 @@ fn file(
     })
 }
 
-/// A list of these files and of N bytes of user data, of the one member of its set.
-fn files_list(alloc: Global, files: List<ListedFile>, user: usize) -> Result<FilesList, ListFault> {
-    Ok(FilesList {
-        set: part(b"XYZ5A-0000-0001")?,
-        member: 1,
-        members: 1,
-        files,
-        user: user_data(alloc, user)?,
-    })
-}
-
 /// This many files, each with a name of its own, the last of which comes first in their order.
 fn many_files(alloc: Global, count: usize, path: &[u8]) -> Result<List<ListedFile>, ListFault> {
     let mut files = List::new(alloc);
@@ -92,6 +81,25 @@ fn many_files(alloc: Global, count: usize, path: &[u8]) -> Result<List<ListedFil
     Ok(files)
 }
 
+/// A list of these files and of N bytes of user data, of the one member of its set.
+fn files_list(
+    alloc: Global,
+    count: usize,
+    path: &[u8],
+    user: usize,
+) -> Result<FilesList, ListFault> {
+    let set = part(b"XYZ5A-0000-0001")?;
+    let user = user_data(alloc, user)?;
+    let files = many_files(alloc, count, path)?;
+    Ok(FilesList {
+        set,
+        member: 1,
+        members: 1,
+        files,
+        user,
+    })
+}
+
 /// The bytes of a list that fits, which are read as a list of as many files; none where it doesn't
 /// fit.
 fn files_there_and_back(alloc: Global, list: &FilesList) -> Result<Bytes, ListFault> {
@@ -100,37 +108,47 @@ fn files_there_and_back(alloc: Global, list: &FilesList) -> Result<Bytes, ListFa
     }
     let bytes = list.encode(alloc)?;
     let again = FilesList::decode(alloc, bytes.as_slice())?;
-    if again.files.len() != list.files.len() {
-        return Err(ListFault::Rest(again.files.len() as u64));
+    let count = again.files.len();
+    drop(again);
+    if count != list.files.len() {
+        return Err(ListFault::Rest(count as u64));
     }
     Ok(bytes)
 }
 
-/// How many bytes a list takes of this many files with this path and N bytes of user data, or 0 where
-/// it doesn't fit.
-fn files_length(alloc: Global, count: usize, path: &[u8], user: usize) -> Result<usize, ListFault> {
-    let list = files_list(alloc, many_files(alloc, count, path)?, user)?;
-    Ok(files_there_and_back(alloc, &list)?.len())
+/// How many bytes a list takes of this many files with a path of this length, which may end as a
+/// path of 64 bytes does, and N bytes of user data, or 0 where it doesn't fit.
+fn files_length(
+    alloc: Global,
+    count: usize,
+    (length, ends): (usize, bool),
+    user: usize,
+) -> Result<usize, ListFault> {
+    let mut path = [b'A'; 65];
+    path[0] = b'\\';
+    if ends {
+        path[63] = b'\\';
+    }
+    let list = files_list(alloc, count, &path[..length.min(65)], user)?;
+    let bytes = files_there_and_back(alloc, &list);
+    drop(list);
+    Ok(bytes?.len())
 }
 
 /// It takes 46, those of the user data, and 16 for each file and those of its path, an even number.
 #[test]
 fn a_list_of_files_keeps_its_limits(rt: HostRuntime) -> Result<(), ListFault> {
-    let mut path = [b'A'; 65];
-    path[0] = b'\\';
-    let mut longest = path;
-    longest[63] = b'\\';
     for (count, path, user, bytes) in [
-        (1024, &b"\\"[..], 0, 18_478),
-        (1025, b"\\", 0, 0),
-        (0, b"\\", 0, 46),
-        (2, &longest[..64], 0, 206),
-        (2, &longest, 0, 0),
-        (2, &path[..64], 0, 0),
-        (2, b"", 0, 0),
-        (1, b"\\", 131_070, 131_134),
-        (1, b"\\", 131_072, 0),
-        (1, b"\\", 131_069, 0),
+        (1024, (1, false), 0, 18_478),
+        (1025, (1, false), 0, 0),
+        (0, (1, false), 0, 46),
+        (2, (64, true), 0, 206),
+        (2, (65, true), 0, 0),
+        (2, (64, false), 0, 0),
+        (2, (0, false), 0, 0),
+        (1, (1, false), 131_070, 131_134),
+        (1, (1, false), 131_072, 0),
+        (1, (1, false), 131_069, 0),
     ] {
         let length = files_length(rt.alloc(), count, path, user)?;
         assert_eq!(rt; length, bytes, "{count} files, {user} bytes");
@@ -142,26 +160,16 @@ fn a_list_of_files_keeps_its_limits(rt: HostRuntime) -> Result<(), ListFault> {
 
 /// A load for N kinds of hardware, each of 255 bytes.
 fn load_for(alloc: Global, title: &[u8], kinds: usize) -> Result<LoadEntry, ListFault> {
+    let (part, header_name) = (part(b"ABC41-0000-0001")?, name(title)?);
     let mut hardware = List::new(alloc);
     for _ in 0..kinds {
         hardware.push(text(alloc, &[b'K'; 255])?)?;
     }
     Ok(LoadEntry {
-        part: part(b"ABC41-0000-0001")?,
-        header_name: name(title)?,
+        part,
+        header_name,
         member: 1,
         hardware,
-    })
-}
-
-/// A list of these loads and of N bytes of user data, of the one member of its set.
-fn loads_list(alloc: Global, loads: List<LoadEntry>, user: usize) -> Result<LoadsList, ListFault> {
-    Ok(LoadsList {
-        set: part(b"XYZ5A-0000-0001")?,
-        member: 1,
-        members: 1,
-        loads,
-        user: user_data(alloc, user)?,
     })
 }
 
@@ -174,6 +182,25 @@ fn many_loads(alloc: Global, count: usize, kinds: usize) -> Result<List<LoadEntr
     Ok(loads)
 }
 
+/// A list of these loads and of N bytes of user data, of the one member of its set.
+fn loads_list(
+    alloc: Global,
+    count: usize,
+    kinds: usize,
+    user: usize,
+) -> Result<LoadsList, ListFault> {
+    let set = part(b"XYZ5A-0000-0001")?;
+    let user = user_data(alloc, user)?;
+    let loads = many_loads(alloc, count, kinds)?;
+    Ok(LoadsList {
+        set,
+        member: 1,
+        members: 1,
+        loads,
+        user,
+    })
+}
+
 /// The bytes of a list that fits, which are read as a list of as many loads; none where it doesn't
 /// fit.
 fn loads_there_and_back(alloc: Global, list: &LoadsList) -> Result<Bytes, ListFault> {
@@ -182,8 +209,10 @@ fn loads_there_and_back(alloc: Global, list: &LoadsList) -> Result<Bytes, ListFa
     }
     let bytes = list.encode(alloc)?;
     let again = LoadsList::decode(alloc, bytes.as_slice())?;
-    if again.loads.len() != list.loads.len() {
-        return Err(ListFault::Rest(again.loads.len() as u64));
+    let count = again.loads.len();
+    drop(again);
+    if count != list.loads.len() {
+        return Err(ListFault::Rest(count as u64));
     }
     Ok(bytes)
 }
@@ -196,8 +225,10 @@ fn loads_length(
     kinds: usize,
     user: usize,
 ) -> Result<usize, ListFault> {
-    let list = loads_list(alloc, many_loads(alloc, count, kinds)?, user)?;
-    Ok(loads_there_and_back(alloc, &list)?.len())
+    let list = loads_list(alloc, count, kinds, user)?;
+    let bytes = loads_there_and_back(alloc, &list);
+    drop(list);
+    Ok(bytes?.len())
 }
 
 /// It takes 46, those of the user data, and for each load 32 and 258 for each kind.
@@ -219,19 +250,25 @@ fn a_list_of_loads_keeps_its_limits(rt: HostRuntime) -> Result<(), ListFault> {
 
 /// What is written of a list that was read of these bytes.
 fn files_again(alloc: Global, bytes: &[u8]) -> Result<Bytes, ListFault> {
-    files_there_and_back(alloc, &FilesList::decode(alloc, bytes)?)
+    let list = FilesList::decode(alloc, bytes)?;
+    let again = files_there_and_back(alloc, &list);
+    drop(list);
+    again
 }
 
 fn loads_again(alloc: Global, bytes: &[u8]) -> Result<Bytes, ListFault> {
-    loads_there_and_back(alloc, &LoadsList::decode(alloc, bytes)?)
+    let list = LoadsList::decode(alloc, bytes)?;
+    let again = loads_there_and_back(alloc, &list);
+    drop(list);
+    again
 }
 
 #[test]
 fn lists_are_written_as_they_were_read(rt: HostRuntime) -> Result<(), ListFault> {
-    let files = files_again(rt.alloc(), &FILES)?;
-    assert_eq!(rt; files.as_slice(), FILES.as_slice());
-    let loads = loads_again(rt.alloc(), &LOADS)?;
-    assert_eq!(rt; loads.as_slice(), LOADS.as_slice());
+    let files = files_again(rt.alloc(), &APP_FILES)?;
+    assert_eq!(rt; files.as_slice(), APP_FILES.as_slice());
+    let loads = loads_again(rt.alloc(), &APP_LOADS)?;
+    assert_eq!(rt; loads.as_slice(), APP_LOADS.as_slice());
     Ok(())
 }
 
@@ -241,9 +278,9 @@ fn zeros_refused(alloc: Global, size: usize) -> Result<Text, NoMemory> {
     for _ in 0..size {
         zeros.push(0)?;
     }
-    match FilesList::decode(alloc, zeros.as_slice()) {
-        Ok(_) => Ok(Text::empty(alloc)),
-        Err(fault) => fault.text(alloc),
+    match FilesList::decode(alloc, zeros.as_slice()).err() {
+        Some(fault) => fault.text(alloc),
+        None => Ok(Text::empty(alloc)),
     }
 }
 

@@ -1,24 +1,25 @@
 //! What bytes are refused with, each byte changed and each list from outside of this project.
-use super::list_vectors::{DEEP_FILE, EIGHT_FILES, FILES, LOADS, THREE_LOADS};
+use super::list_vectors::{DEEP_FILE, EIGHT_FILES, THREE_LOADS};
 use crc_fields::crc16;
 use load_base::{Bytes, NoMemory, Text};
 use media_lists::{FilesList, ListFault, LoadsList, files_list_laws, loads_list_laws, path_laws};
 use printed_text::Printed;
 use std::alloc::Global;
+use worked_files::{APP_FILES, APP_LOADS};
 
 /// What these bytes are refused with as a list of files, or nothing.
 fn files_outcome(alloc: Global, bytes: &[u8]) -> Result<Text, NoMemory> {
-    match FilesList::decode(alloc, bytes) {
-        Ok(_) => Ok(Text::empty(alloc)),
-        Err(fault) => fault.text(alloc),
+    match FilesList::decode(alloc, bytes).err() {
+        Some(fault) => fault.text(alloc),
+        None => Ok(Text::empty(alloc)),
     }
 }
 
 /// What these bytes are refused with as a list of loads, or nothing.
 fn loads_outcome(alloc: Global, bytes: &[u8]) -> Result<Text, NoMemory> {
-    match LoadsList::decode(alloc, bytes) {
-        Ok(_) => Ok(Text::empty(alloc)),
-        Err(fault) => fault.text(alloc),
+    match LoadsList::decode(alloc, bytes).err() {
+        Some(fault) => fault.text(alloc),
+        None => Ok(Text::empty(alloc)),
     }
 }
 
@@ -70,61 +71,62 @@ fn files_refusals(alloc: Global, changes: &[(usize, u8, bool)]) -> Result<Bytes,
     Ok(text)
 }
 
+const FILES_CHANGES: [(usize, u8, bool); 50] = [
+    (0, 0x01, false),
+    (3, 0xFF, true),
+    (4, 0x00, false),
+    (5, 0xFF, true),
+    (6, 0x01, false),
+    (7, 0xFF, true),
+    (11, 0x0B, false),
+    (12, 0x01, false),
+    (16, 0x01, true),
+    (20, 0x01, false),
+    (21, 0x00, false),
+    (21, 0x20, true),
+    (22, 0x00, false),
+    (22, 0x59, false),
+    (27, 0x00, false),
+    (32, 0xFF, true),
+    (36, 0x32, true),
+    (36, 0xFF, true),
+    (37, 0x01, false),
+    (38, 0x00, false),
+    (38, 0x02, false),
+    (38, 0x02, true),
+    (40, 0x01, false),
+    (40, 0x20, false),
+    (40, 0xFF, true),
+    (41, 0x00, true),
+    (45, 0x00, false),
+    (45, 0x08, false),
+    (55, 0x00, false),
+    (69, 0x32, false),
+    (82, 0x20, false),
+    (96, 0x20, false),
+    (97, 0xFF, true),
+    (98, 0xFF, false),
+    (111, 0xFF, false),
+    (123, 0xF5, true),
+    (124, 0xFF, false),
+    (131, 0x56, true),
+    (153, 0xFF, false),
+    (155, 0x02, true),
+    (158, 0x20, true),
+    (183, 0xFF, true),
+    (185, 0x00, true),
+    (192, 0xFF, true),
+    (196, 0xFF, true),
+    (197, 0xFF, true),
+    (199, 0xFF, true),
+    (203, 0xFF, true),
+    (205, 0xFF, false),
+    (205, 0xFF, true),
+];
+
 #[test]
 fn each_changed_byte_of_the_files_has_its_refusal(rt: HostRuntime) -> Result<(), NoMemory> {
-    let changes = [
-        (0, 0x01, false),
-        (3, 0xFF, true),
-        (4, 0x00, false),
-        (5, 0xFF, true),
-        (6, 0x01, false),
-        (7, 0xFF, true),
-        (11, 0x0B, false),
-        (12, 0x01, false),
-        (16, 0x01, true),
-        (20, 0x01, false),
-        (21, 0x00, false),
-        (21, 0x20, true),
-        (22, 0x00, false),
-        (22, 0x59, false),
-        (27, 0x00, false),
-        (32, 0xFF, true),
-        (36, 0x32, true),
-        (36, 0xFF, true),
-        (37, 0x01, false),
-        (38, 0x00, false),
-        (38, 0x02, false),
-        (38, 0x02, true),
-        (40, 0x01, false),
-        (40, 0x20, false),
-        (40, 0xFF, true),
-        (41, 0x00, true),
-        (45, 0x00, false),
-        (45, 0x08, false),
-        (55, 0x00, false),
-        (69, 0x32, false),
-        (82, 0x20, false),
-        (96, 0x20, false),
-        (97, 0xFF, true),
-        (98, 0xFF, false),
-        (111, 0xFF, false),
-        (123, 0xF5, true),
-        (124, 0xFF, false),
-        (131, 0x56, true),
-        (153, 0xFF, false),
-        (155, 0x02, true),
-        (158, 0x20, true),
-        (183, 0xFF, true),
-        (185, 0x00, true),
-        (192, 0xFF, true),
-        (196, 0xFF, true),
-        (197, 0xFF, true),
-        (199, 0xFF, true),
-        (203, 0xFF, true),
-        (205, 0xFF, false),
-        (205, 0xFF, true),
-    ];
-    let refusals = files_refusals(rt.alloc(), &changes)?;
+    let refusals = files_refusals(rt.alloc(), &FILES_CHANGES)?;
     let wanted = b"L2 16777319 206
 L2 255 206
 L3 4
@@ -192,61 +194,62 @@ fn loads_refusals(alloc: Global, changes: &[(usize, u8, bool)]) -> Result<Bytes,
     Ok(text)
 }
 
+const LOADS_CHANGES: [(usize, u8, bool); 50] = [
+    (0, 0x01, false),
+    (3, 0xFF, true),
+    (4, 0x00, false),
+    (5, 0xFF, true),
+    (6, 0x01, false),
+    (7, 0xFF, true),
+    (8, 0x01, false),
+    (12, 0x20, false),
+    (16, 0xFF, true),
+    (20, 0x01, false),
+    (21, 0x00, false),
+    (22, 0x00, false),
+    (22, 0x59, false),
+    (27, 0x00, false),
+    (37, 0x01, false),
+    (38, 0x00, false),
+    (38, 0x01, false),
+    (38, 0x01, true),
+    (40, 0x01, false),
+    (40, 0x20, false),
+    (43, 0x16, true),
+    (63, 0x00, false),
+    (63, 0x08, false),
+    (73, 0x00, false),
+    (74, 0x01, false),
+    (74, 0x20, true),
+    (83, 0x20, false),
+    (85, 0x20, false),
+    (88, 0x42, false),
+    (115, 0x20, true),
+    (116, 0xFF, false),
+    (118, 0x20, false),
+    (121, 0x00, false),
+    (121, 0x4E, true),
+    (125, 0x20, true),
+    (127, 0xFF, true),
+    (129, 0x20, true),
+    (140, 0xFF, true),
+    (144, 0x34, true),
+    (144, 0xFF, true),
+    (147, 0x00, true),
+    (154, 0xFF, true),
+    (157, 0xFF, true),
+    (158, 0xFF, true),
+    (161, 0x00, true),
+    (166, 0xFF, true),
+    (167, 0xFF, true),
+    (169, 0xFF, true),
+    (171, 0xFF, false),
+    (171, 0xFF, true),
+];
+
 #[test]
 fn each_changed_byte_of_the_loads_has_its_refusal(rt: HostRuntime) -> Result<(), NoMemory> {
-    let changes = [
-        (0, 0x01, false),
-        (3, 0xFF, true),
-        (4, 0x00, false),
-        (5, 0xFF, true),
-        (6, 0x01, false),
-        (7, 0xFF, true),
-        (8, 0x01, false),
-        (12, 0x20, false),
-        (16, 0xFF, true),
-        (20, 0x01, false),
-        (21, 0x00, false),
-        (22, 0x00, false),
-        (22, 0x59, false),
-        (27, 0x00, false),
-        (37, 0x01, false),
-        (38, 0x00, false),
-        (38, 0x01, false),
-        (38, 0x01, true),
-        (40, 0x01, false),
-        (40, 0x20, false),
-        (43, 0x16, true),
-        (63, 0x00, false),
-        (63, 0x08, false),
-        (73, 0x00, false),
-        (74, 0x01, false),
-        (74, 0x20, true),
-        (83, 0x20, false),
-        (85, 0x20, false),
-        (88, 0x42, false),
-        (115, 0x20, true),
-        (116, 0xFF, false),
-        (118, 0x20, false),
-        (121, 0x00, false),
-        (121, 0x4E, true),
-        (125, 0x20, true),
-        (127, 0xFF, true),
-        (129, 0x20, true),
-        (140, 0xFF, true),
-        (144, 0x34, true),
-        (144, 0xFF, true),
-        (147, 0x00, true),
-        (154, 0xFF, true),
-        (157, 0xFF, true),
-        (158, 0xFF, true),
-        (161, 0x00, true),
-        (166, 0xFF, true),
-        (167, 0xFF, true),
-        (169, 0xFF, true),
-        (171, 0xFF, false),
-        (171, 0xFF, true),
-    ];
-    let refusals = loads_refusals(rt.alloc(), &changes)?;
+    let refusals = loads_refusals(rt.alloc(), &LOADS_CHANGES)?;
     let wanted = b"L2 16777302 172
 L2 255 172
 L3 4
@@ -305,7 +308,7 @@ L13 27391 27136
 /// A name twice, with a wrong distance and with a right one.
 #[test]
 fn a_name_may_not_stand_twice(rt: HostRuntime) -> Result<(), NoMemory> {
-    let mut files = FILES;
+    let mut files = APP_FILES;
     files[63] = 9;
     files[66..73].copy_from_slice(b"APP.LUH");
     let mut loads = THREE_LOADS;
@@ -318,17 +321,19 @@ fn a_name_may_not_stand_twice(rt: HostRuntime) -> Result<(), NoMemory> {
 }
 
 /// Each path of a list with one file, whose check sum is right, and what the list is refused with.
+const PATHS: [(&[u8; 6], &[u8]); 7] = [
+    (b"\\A\\BC\\", b""),
+    (b"\\A\\BCD", b"L7 54 Q1 6"),
+    (b"\\A\\\\C\\", b"L7 54 Q1 3"),
+    (b"\\A\\.C\\", b"L7 54 Q1 3"),
+    (b"\\A/BC\\", b"L7 54 Q1 2"),
+    (b"A\\BCD\\", b"L7 54 Q1 0"),
+    (b"\\A.BC\\", b""),
+];
+
 #[test]
 fn each_path_has_its_refusal(rt: HostRuntime) -> Result<(), NoMemory> {
-    for (path, text) in [
-        (b"\\A\\BC\\", &b""[..]),
-        (b"\\A\\BCD", b"L7 54 Q1 6"),
-        (b"\\A\\\\C\\", b"L7 54 Q1 3"),
-        (b"\\A\\.C\\", b"L7 54 Q1 3"),
-        (b"\\A/BC\\", b"L7 54 Q1 2"),
-        (b"A\\BCD\\", b"L7 54 Q1 0"),
-        (b"\\A.BC\\", b""),
-    ] {
+    for &(path, text) in &PATHS {
         let mut bytes = DEEP_FILE;
         bytes[54..60].copy_from_slice(path);
         mend(&mut bytes);
@@ -342,15 +347,15 @@ fn lengths_are_tested_first_and_the_rest_before_the_check_sum(
     rt: HostRuntime,
 ) -> Result<(), NoMemory> {
     let mut longer = [0; 88];
-    longer[..86].copy_from_slice(&LOADS);
+    longer[..86].copy_from_slice(&APP_LOADS);
     longer[3] = 44;
-    let mut many = LOADS;
+    let mut many = APP_LOADS;
     many[74] = 4;
     many[75] = 1;
     for (bytes, text) in [
-        (FILES.as_slice(), &b"L3 40964"[..]),
-        (prefix(&LOADS, 3), b"L1 0"),
-        (prefix(&LOADS, 85), b"L2 43 85"),
+        (APP_FILES.as_slice(), &b"L3 40964"[..]),
+        (prefix(&APP_LOADS, 3), b"L1 0"),
+        (prefix(&APP_LOADS, 85), b"L2 43 85"),
         (&longer, b"L12 86"),
         (&many, b"L11"),
     ] {

@@ -24,9 +24,9 @@ const LCL: [u8; 47] =
 #[test]
 fn files_are_written_as_they_were_read(rt: HostRuntime) -> Result<(), FileFault> {
     let alloc = rt.alloc();
-    let mut same = Lui::decode(alloc, &LUI)?.encode(alloc)?.as_slice() == LUI.as_slice();
-    same = same && Lci::decode(alloc, &LUI)?.encode(alloc)?.as_slice() == LUI.as_slice();
-    same = same && Lcs::decode(alloc, &LCS)?.encode(alloc)?.as_slice() == LCS.as_slice();
+    let mut same = lui_again(alloc, &LUI)?.as_slice() == LUI.as_slice();
+    same = same && lci_again(alloc, &LUI)?.as_slice() == LUI.as_slice();
+    same = same && lcs_again(alloc, &LCS)?.as_slice() == LCS.as_slice();
     same = same && lur_again(alloc, &LUR)?.as_slice() == LUR.as_slice();
     same = same && lus_again(alloc, &FIRST_LUS)?.as_slice() == FIRST_LUS.as_slice();
     same = same && lus_again(alloc, &LAST_LUS)?.as_slice() == LAST_LUS.as_slice();
@@ -36,33 +36,61 @@ fn files_are_written_as_they_were_read(rt: HostRuntime) -> Result<(), FileFault>
     Ok(())
 }
 
+fn lui_again(alloc: Global, bytes: &[u8]) -> Result<Bytes, FileFault> {
+    let file = Lui::decode(alloc, bytes)?;
+    let again = file.encode(alloc);
+    drop(file);
+    Ok(again?)
+}
+
+fn lci_again(alloc: Global, bytes: &[u8]) -> Result<Bytes, FileFault> {
+    let file = Lci::decode(alloc, bytes)?;
+    let again = file.encode(alloc);
+    drop(file);
+    Ok(again?)
+}
+
+fn lcs_again(alloc: Global, bytes: &[u8]) -> Result<Bytes, FileFault> {
+    let file = Lcs::decode(alloc, bytes)?;
+    let again = file.encode(alloc);
+    drop(file);
+    Ok(again?)
+}
+
 fn lur_again(alloc: Global, bytes: &[u8]) -> Result<Bytes, FileFault> {
     let file = Lur::decode(alloc, bytes)?;
-    let bytes = file.encode(alloc)?;
-    Ok(bytes)
+    let again = file.encode(alloc);
+    drop(file);
+    Ok(again?)
 }
 
 fn lus_again(alloc: Global, bytes: &[u8]) -> Result<Bytes, FileFault> {
     let file = Lus::decode(alloc, bytes)?;
-    let bytes = file.encode(alloc)?;
-    Ok(bytes)
+    let again = file.encode(alloc);
+    drop(file);
+    Ok(again?)
 }
 
 // The list written again, or no bytes where it doesn't fit.
 fn lcl_again(alloc: Global, bytes: &[u8]) -> Result<Bytes, FileFault> {
     let file = Lcl::decode(alloc, bytes)?;
+    let again = lcl_written(alloc, &file);
+    drop(file);
+    Ok(again?)
+}
+
+fn lcl_written(alloc: Global, file: &Lcl) -> Result<Bytes, NoMemory> {
     if !file.fits() {
         return Ok(Bytes::new(alloc));
     }
-    let bytes = file.encode(alloc)?;
-    Ok(bytes)
+    file.encode(alloc)
 }
 
 // The text of a refusal, and else no bytes.
 fn told<T: Drop>(alloc: Global, read: Result<T, FileFault>) -> Result<Text, NoMemory> {
-    match read {
-        Ok(_) => Ok(Text::empty(alloc)),
-        Err(fault) => fault.text(alloc),
+    match read.err() {
+        Some(fault) => fault.text(alloc),
+        None => Ok(Text::empty(alloc)),
     }
 }
 
@@ -79,17 +107,18 @@ fn a_length_of_eight_is_told_with_the_nine_bytes(rt: HostRuntime) -> Result<(), 
     Ok(())
 }
 
+const REQUESTS: [(usize, u8, &[u8]); 6] = [
+    (3, 0x21, b"U2 33 32"),
+    (5, 0x34, b"U3 16692"),
+    (7, 0x00, b"U5 8"),
+    (8, 0xff, b"U1 9"),
+    (13, 0x00, b"U6 9 N3 4"),
+    (25, 0x20, b"U7 17 P3 8"),
+];
+
 #[test]
 fn the_first_fault_of_a_changed_request_is_told(rt: HostRuntime) -> Result<(), NoMemory> {
-    let rows: [(usize, u8, &[u8]); 6] = [
-        (3, 0x21, b"U2 33 32"),
-        (5, 0x34, b"U3 16692"),
-        (7, 0x00, b"U5 8"),
-        (8, 0xff, b"U1 9"),
-        (13, 0x00, b"U6 9 N3 4"),
-        (25, 0x20, b"U7 17 P3 8"),
-    ];
-    for (offset, byte, text) in rows {
+    for &(offset, byte, text) in &REQUESTS {
         let mut bytes = LUR;
         if offset < bytes.len() {
             bytes[offset] = byte;
@@ -100,16 +129,17 @@ fn the_first_fault_of_a_changed_request_is_told(rt: HostRuntime) -> Result<(), N
     Ok(())
 }
 
+const STATUSES: [(usize, u8, &[u8]); 5] = [
+    (8, 0x01, b"U8 9 X2 0"),
+    (16, 0x31, b"U4 15"),
+    (19, 0x00, b"U5 20"),
+    (44, 0xff, b"U4 44"),
+    (49, 0x01, b"U1 50"),
+];
+
 #[test]
 fn the_first_fault_of_a_changed_status_is_told(rt: HostRuntime) -> Result<(), NoMemory> {
-    let rows: [(usize, u8, &[u8]); 5] = [
-        (8, 0x01, b"U8 9 X2 0"),
-        (16, 0x31, b"U4 15"),
-        (19, 0x00, b"U5 20"),
-        (44, 0xff, b"U4 44"),
-        (49, 0x01, b"U1 50"),
-    ];
-    for (offset, byte, text) in rows {
+    for &(offset, byte, text) in &STATUSES {
         let mut bytes = LAST_LUS;
         if offset < bytes.len() {
             bytes[offset] = byte;
@@ -120,14 +150,15 @@ fn the_first_fault_of_a_changed_status_is_told(rt: HostRuntime) -> Result<(), No
     Ok(())
 }
 
+const LISTS: [(usize, u8, &[u8]); 3] = [
+    (18, 0x20, b"U1 19"),
+    (35, 0x01, b"U5 37"),
+    (45, 0xcd, b"U8 36 X2 9"),
+];
+
 #[test]
 fn the_first_fault_of_a_changed_list_is_told(rt: HostRuntime) -> Result<(), NoMemory> {
-    let rows: [(usize, u8, &[u8]); 3] = [
-        (18, 0x20, b"U1 19"),
-        (35, 0x01, b"U5 37"),
-        (45, 0xcd, b"U8 36 X2 9"),
-    ];
-    for (offset, byte, text) in rows {
+    for &(offset, byte, text) in &LISTS {
         let mut bytes = LCL;
         if offset < bytes.len() {
             bytes[offset] = byte;

@@ -79,16 +79,15 @@ fn is_reason(alloc: Global, fault: RequestFault, text: &[u8]) -> bool {
     }
 }
 
+const REFUSALS: [(RequestFault, &[u8]); 3] = [
+    (RequestFault::Spelling(FileFault::Short(5)), b"A11 U1 5"),
+    (RequestFault::Loads(0), b"A11 L 0"),
+    (RequestFault::TooLong, b"A11 T"),
+];
+
 #[test]
 fn refusals_of_a_request_have_their_texts(rt: HostRuntime) -> Result<(), Fail> {
-    for (fault, text) in [
-        (
-            RequestFault::Spelling(FileFault::Short(5)),
-            &b"A11 U1 5"[..],
-        ),
-        (RequestFault::Loads(0), b"A11 L 0"),
-        (RequestFault::TooLong, b"A11 T"),
-    ] {
+    for &(fault, text) in &REFUSALS {
         assert_eq!(rt; is_reason(rt.alloc(), fault, text), true);
     }
     Ok(())

@@ -17,19 +17,7 @@ use session_files::FileBuffer;
 use session_rules::{Reason, RequestFault};
 use std::alloc::Global;
 use std::test::Fail;
-
-/// A header for hardware HW1 in any position, of a load with one file of nine bytes, `APP.BIN`.
-/// Bytes and check sums are from outside of this project.
-static APP: [u8; 122] = [
-    0x00, 0x00, 0x00, 0x3D, 0x80, 0x04, 0x00, 0x00, 0x00, 0x00, 0x00, 0x14, 0x00, 0x00, 0x00, 0x1D,
-    0x00, 0x00, 0x00, 0x21, 0x00, 0x00, 0x00, 0x25, 0x00, 0x00, 0x00, 0x26, 0x00, 0x00, 0x00, 0x37,
-    0x00, 0x00, 0x00, 0x38, 0x00, 0x00, 0x00, 0x39, 0x00, 0x0F, 0x41, 0x42, 0x43, 0x34, 0x31, 0x2D,
-    0x30, 0x30, 0x30, 0x30, 0x2D, 0x30, 0x30, 0x30, 0x31, 0x00, 0x00, 0x03, 0x41, 0x50, 0x50, 0x00,
-    0x00, 0x07, 0x00, 0x01, 0x00, 0x03, 0x48, 0x57, 0x31, 0x00, 0x00, 0x00, 0x00, 0x01, 0x00, 0x00,
-    0x00, 0x07, 0x41, 0x50, 0x50, 0x2E, 0x42, 0x49, 0x4E, 0x00, 0x00, 0x04, 0x41, 0x50, 0x50, 0x31,
-    0x00, 0x00, 0x00, 0x05, 0x00, 0x00, 0x00, 0x00, 0x00, 0x00, 0x00, 0x09, 0x29, 0xB1, 0x00, 0x00,
-    0x00, 0x00, 0x00, 0x00, 0x70, 0x42, 0xAD, 0xC0, 0x8C, 0x7F,
-];
+use worked_files::APP_HEADER;
 
 /// A header for the same hardware, of a load without other files. The last byte of its load CRC
 /// should be 0x7F.
@@ -42,16 +30,16 @@ static ALONE: [u8; 90] = [
     0x00, 0x00, 0x00, 0x00, 0xB1, 0x5B, 0xF2, 0xA8, 0xCE, 0x7E,
 ];
 
-/// The bytes of the header of APP, with these from an offset on, and this check sum of the header.
-fn app(at: usize, bytes: &[u8], sum: [u8; 2]) -> [u8; 122] {
-    let mut header = APP;
-    if let Some(cells) = header.get_mut(at..) {
-        for (cell, byte) in cells.iter_mut().zip(bytes) {
-            *cell = *byte;
-        }
-    }
-    header[116] = sum[0];
-    header[117] = sum[1];
+/// The header of the load with one file, with this number of its type, this length of its file, and these
+/// check sums of the header and of the load.
+fn app(kind: u16, length: u16, sum: u16, load_sum: u32) -> [u8; 122] {
+    let mut header = APP_HEADER;
+    let (words, bytes) = (u32::from(length.div_ceil(2)), u64::from(length));
+    header[64..66].copy_from_slice(&kind.to_be_bytes());
+    header[96..100].copy_from_slice(&words.to_be_bytes());
+    header[100..108].copy_from_slice(&bytes.to_be_bytes());
+    header[116..118].copy_from_slice(&sum.to_be_bytes());
+    header[118..122].copy_from_slice(&load_sum.to_be_bytes());
     header
 }
 
@@ -67,13 +55,15 @@ fn target(hw: &[u8]) -> Result<Identity, Fail>
 }
 
 /// How many loads had arrived, and the reason if the upload was stopped.
-fn end_of(finished: &Finished) -> (u16, Option<Reason>) {
-    match finished {
+fn ended(finished: Finished) -> (u16, Option<Reason>) {
+    let end = match &finished {
         Finished::Stopped(end) => (end.arrived, end.reason),
         Finished::Installed(end, _) => (end.arrived, end.reason),
         Finished::MoreFiles(_) => (0, None),
         Finished::NextLoad(_) => (0, None),
-    }
+    };
+    drop(finished);
+    end
 }
 
 /// The store of a target that was formatted with banks of 4,096 bytes.
@@ -92,7 +82,10 @@ fn first_store(alloc: Global) -> Result<Store, Fail>
         },
     };
     let mut store = Store::new(alloc, 4096, active, false);
-    store.prepare()?;
+    if let Err(fault) = store.prepare() {
+        drop(store);
+        return Err(Fail::from(fault));
+    }
     Ok(store)
 }
 
@@ -111,32 +104,89 @@ fn request(alloc: Global, part: &[u8]) -> Result<List<Wanted>, Fail>
 /// What comes of an upload of one load, of this header and perhaps this file: how many loads had
 /// arrived, the reason if it was stopped, which bank is active, and whether the other bank of
 /// before begins with the header.
+type Told = (u16, Option<Reason>, u8, bool);
+
 fn told(
     alloc: Global,
     identity: &Identity,
     part: &[u8],
     header: &[u8],
     file: &[u8],
-) -> Result<(u16, Option<Reason>, u8, bool), Fail>
+) -> Result<Told, Fail>
     requires { identity.now.bank ≡ 4096 }
 {
-    let request = request(alloc, part)?;
-    let mut store = first_store(alloc)?;
     let mut disk = MemDisk::new(alloc, &[])?;
-    format(&mut disk, identity)?;
+    let told = told_on(alloc, &mut disk, identity, part, header, file);
+    drop(disk);
+    told
+}
+
+fn told_on(
+    alloc: Global,
+    disk: &mut MemDisk,
+    identity: &Identity,
+    part: &[u8],
+    header: &[u8],
+    file: &[u8],
+) -> Result<Told, Fail>
+    requires bank { identity.now.bank ≡ 4096 }
+    requires running { IsRunning (state_of disk.old) }
+{
+    format(disk, identity)?;
+    let mut store = first_store(alloc)?;
+    let told = told_by(alloc, &mut store, disk, identity, part, header, file);
+    drop(store);
+    told
+}
+
+fn told_by(
+    alloc: Global,
+    store: &mut Store,
+    disk: &mut MemDisk,
+    identity: &Identity,
+    part: &[u8],
+    header: &[u8],
+    file: &[u8],
+) -> Result<Told, Fail>
+    requires prepared { IsPrepared store.old }
+    requires sequence { ¬ IsSpent store.old }
+    requires size { bank_size_of store.old ≡ 4096 }
+    requires bank { identity.now.bank ≡ 4096 }
+    requires running { IsRunning (state_of disk.old) }
+{
+    let request = request(alloc, part)?;
     let buffer = FileBuffer::new(alloc);
-    let mut intake = Intake::begin(alloc, request, buffer, &mut store, &mut disk)?;
-    intake.take(&mut store, &mut disk, header)?;
-    let interlock = Interlock::new(PermitsAll);
-    let (arrived, reason) = match intake.finish(&interlock, identity, &mut store, &mut disk)? {
-        Finished::MoreFiles(intake) => file_told(
-            intake, file, &interlock, identity, &mut store, &mut disk,
-        )?,
-        finished => end_of(&finished),
-    };
+    let intake = Intake::begin(alloc, request, buffer, store, disk)?;
+    let (arrived, reason) = header_told(intake, header, file, identity, store, disk)?;
     let mut found = [0; 122];
     disk.read(12_288, &mut found)?;
     Ok((arrived, reason, store.bank(), found.starts_with(header)))
+}
+
+fn header_told(
+    mut intake: Intake,
+    header: &[u8],
+    file: &[u8],
+    identity: &Identity,
+    store: &mut Store,
+    disk: &mut MemDisk,
+) -> Result<(u16, Option<Reason>), Fail>
+    requires in_step { IsInStep intake store.old }
+    requires bank { identity.now.bank ≡ bank_size_of store.old }
+    requires running { IsRunning (state_of disk.old) }
+    ensures { OnOk result (IsRunning (state_of disk.new)) }
+{
+    if let Err(down) = intake.take(store, disk, header) {
+        drop(intake);
+        return Err(Fail::from(down));
+    }
+    let interlock = Interlock::new(PermitsAll);
+    match intake.finish(&interlock, identity, store, disk)? {
+        Finished::MoreFiles(intake) => {
+            file_told(intake, file, &interlock, identity, store, disk)
+        }
+        finished => Ok(ended(finished)),
+    }
 }
 
 fn file_told(
@@ -152,170 +202,124 @@ fn file_told(
     requires running { IsRunning (state_of disk.old) }
     ensures { OnOk result (IsRunning (state_of disk.new)) }
 {
-    intake.take(store, disk, file)?;
-    let finished = intake.finish(interlock, identity, store, disk)?;
-    Ok(end_of(&finished))
+    if let Err(down) = intake.take(store, disk, file) {
+        drop(intake);
+        return Err(Fail::from(down));
+    }
+    Ok(ended(intake.finish(interlock, identity, store, disk)?))
 }
+
+const HEADER_CRC: Reason = Reason::HeaderRefused {
+    fault: HeaderFault::HeaderCrc {
+        said: 0x7043,
+        found: 0x7042,
+    },
+};
+
+const FULL: Reason = Reason::BankFull {
+    need: 4097,
+    have: 4096,
+};
+
+const SHORT: Reason = Reason::FileLength {
+    file: 1,
+    said: 3931,
+    found: 9,
+};
+
+const LONG: Reason = Reason::FileLength {
+    file: 1,
+    said: 9,
+    found: 10,
+};
+
+const FILE_CRC: Reason = Reason::FileCrc {
+    file: 1,
+    said: 0x29B1,
+    found: 0xB898,
+};
+
+const LOAD_CRC: Reason = Reason::LoadCrc {
+    said: 0xADC0_8C7E,
+    found: 0xADC0_8C7F,
+};
+
+const RIGHT: u32 = 0xADC0_8C7F;
+
+/// Of hardware and part the last digit, the type of the load and the length of its file; the check
+/// sums of the header and of the load; the file; and what comes of it.
+const UPLOADS: [((u8, u8, u16, u16), (u16, u32), &[u8], Told); 10] = [
+    (
+        (1, 1, 7, 9),
+        (0x7042, RIGHT),
+        b"123456789",
+        (1, None, 1, true),
+    ),
+    (
+        (1, 1, 7, 9),
+        (0x7043, RIGHT),
+        b"",
+        (0, Some(HEADER_CRC), 0, false),
+    ),
+    (
+        (1, 2, 7, 9),
+        (0x7042, RIGHT),
+        b"",
+        (0, Some(Reason::PartDiffers), 0, false),
+    ),
+    (
+        (2, 1, 7, 9),
+        (0x7042, RIGHT),
+        b"",
+        (0, Some(Reason::NotThisHardware), 0, false),
+    ),
+    (
+        (1, 1, 0, 9),
+        (0xBD3A, RIGHT),
+        b"",
+        (0, Some(Reason::RuleRefused), 0, false),
+    ),
+    (
+        (1, 1, 7, 3932),
+        (0xD7F1, RIGHT),
+        b"",
+        (0, Some(FULL), 0, false),
+    ),
+    (
+        (1, 1, 7, 3931),
+        (0x665A, RIGHT),
+        b"123456789",
+        (1, Some(SHORT), 0, true),
+    ),
+    (
+        (1, 1, 7, 9),
+        (0x7042, RIGHT),
+        b"1234567890",
+        (1, Some(LONG), 0, true),
+    ),
+    (
+        (1, 1, 7, 9),
+        (0x7042, RIGHT),
+        b"123456780",
+        (1, Some(FILE_CRC), 0, true),
+    ),
+    (
+        (1, 1, 7, 9),
+        (0x7042, 0xADC0_8C7E),
+        b"123456789",
+        (1, Some(LOAD_CRC), 0, true),
+    ),
+];
 
 #[test]
 fn each_test_has_its_reason(rt: HostRuntime) -> Result<(), Fail> {
-    let part = b"ABC41-0000-0001".as_slice();
-    let rows: [(
-        &[u8],
-        &[u8],
-        usize,
-        &[u8],
-        [u8; 2],
-        &[u8],
-        (u16, Option<Reason>, u8, bool),
-    ); 10] = [
-        (
-            b"HW1",
-            part,
-            0,
-            &[],
-            [0x70, 0x42],
-            b"123456789",
-            (1, None, 1, true),
-        ),
-        (
-            b"HW1",
-            part,
-            0,
-            &[],
-            [0x70, 0x43],
-            b"",
-            (
-                0,
-                Some(Reason::HeaderRefused {
-                    fault: HeaderFault::HeaderCrc {
-                        said: 0x7043,
-                        found: 0x7042,
-                    },
-                }),
-                0,
-                false,
-            ),
-        ),
-        (
-            b"HW1",
-            b"ABC42-0000-0002",
-            0,
-            &[],
-            [0x70, 0x42],
-            b"",
-            (0, Some(Reason::PartDiffers), 0, false),
-        ),
-        (
-            b"HW2",
-            part,
-            0,
-            &[],
-            [0x70, 0x42],
-            b"",
-            (0, Some(Reason::NotThisHardware), 0, false),
-        ),
-        (
-            b"HW1",
-            part,
-            64,
-            &[0, 0],
-            [0xBD, 0x3A],
-            b"",
-            (0, Some(Reason::RuleRefused), 0, false),
-        ),
-        (
-            b"HW1",
-            part,
-            96,
-            &[0, 0, 0x07, 0xAE, 0, 0, 0, 0, 0, 0, 0x0F, 0x5C],
-            [0xD7, 0xF1],
-            b"",
-            (
-                0,
-                Some(Reason::BankFull {
-                    need: 4097,
-                    have: 4096,
-                }),
-                0,
-                false,
-            ),
-        ),
-        (
-            b"HW1",
-            part,
-            96,
-            &[0, 0, 0x07, 0xAE, 0, 0, 0, 0, 0, 0, 0x0F, 0x5B],
-            [0x66, 0x5A],
-            b"123456789",
-            (
-                1,
-                Some(Reason::FileLength {
-                    file: 1,
-                    said: 3931,
-                    found: 9,
-                }),
-                0,
-                true,
-            ),
-        ),
-        (
-            b"HW1",
-            part,
-            0,
-            &[],
-            [0x70, 0x42],
-            b"1234567890",
-            (
-                1,
-                Some(Reason::FileLength {
-                    file: 1,
-                    said: 9,
-                    found: 10,
-                }),
-                0,
-                true,
-            ),
-        ),
-        (
-            b"HW1",
-            part,
-            0,
-            &[],
-            [0x70, 0x42],
-            b"123456780",
-            (
-                1,
-                Some(Reason::FileCrc {
-                    file: 1,
-                    said: 0x29B1,
-                    found: 0xB898,
-                }),
-                0,
-                true,
-            ),
-        ),
-        (
-            b"HW1",
-            part,
-            118,
-            &[0xAD, 0xC0, 0x8C, 0x7E],
-            [0x70, 0x42],
-            b"123456789",
-            (
-                1,
-                Some(Reason::LoadCrc {
-                    said: 0xADC0_8C7E,
-                    found: 0xADC0_8C7F,
-                }),
-                0,
-                true,
-            ),
-        ),
-    ];
-    for (hw, part, at, bytes, sum, file, wanted) in rows {
-        let header = app(at, bytes, sum);
-        let told = told(rt.alloc(), &target(hw)?, part, &header, file)?;
+    for &((hw, part, kind, length), (sum, load_sum), file, wanted) in &UPLOADS {
+        let identity = target(&[b'H', b'W', b'0' | hw])?;
+        let mut text = *b"ABC40-0000-0000";
+        text[4] = b'0' | part;
+        text[14] = b'0' | part;
+        let header = app(kind, length, sum, load_sum);
+        let told = told(rt.alloc(), &identity, &text, &header, file)?;
         assert_eq!(rt; told, wanted);
     }
     Ok(())
@@ -338,23 +342,28 @@ fn asked(alloc: Global, bytes: &[u8]) -> Result<Result<usize, RequestFault>, Fai
     let mut file = FileBuffer::new(alloc);
     file.take(bytes)?;
     match read_request(alloc, &file)? {
-        Request::Loads(loads) => Ok(Ok(loads.len())),
+        Request::Loads(loads) => {
+            let count = loads.len();
+            drop(loads);
+            Ok(Ok(count))
+        }
         Request::Refused(fault) => Ok(Err(fault)),
     }
 }
 
+const REQUESTS: [(&[u8], Result<usize, RequestFault>); 4] = [
+    (
+        b"\0\0\0\x20\x41\x33\0\x01\x07APP.LUH\x0FABC41-0000-0001",
+        Ok(1),
+    ),
+    (b"\0\0\0\x08\x41\x33\0\0", Err(RequestFault::Loads(0))),
+    (b"", Err(RequestFault::Spelling(FileFault::Short(0)))),
+    (&[0; 65_537], Err(RequestFault::TooLong)),
+];
+
 #[test]
 fn each_request_is_read(rt: HostRuntime) -> Result<(), Fail> {
-    let rows: [(&[u8], Result<usize, RequestFault>); 4] = [
-        (
-            b"\0\0\0\x20\x41\x33\0\x01\x07APP.LUH\x0FABC41-0000-0001",
-            Ok(1),
-        ),
-        (b"\0\0\0\x08\x41\x33\0\0", Err(RequestFault::Loads(0))),
-        (b"", Err(RequestFault::Spelling(FileFault::Short(0)))),
-        (&[0; 65_537], Err(RequestFault::TooLong)),
-    ];
-    for (bytes, wanted) in rows {
+    for &(bytes, wanted) in &REQUESTS {
         assert_eq!(rt; asked(rt.alloc(), bytes)?, wanted);
     }
     Ok(())

@@ -5,13 +5,19 @@ use loader_machine::{Loader, Outcome, Posts, Session};
 use media_check::{MediaSet, open_set};
 use std::alloc::Global;
 use std::test::Fail;
+use worked_files::{ACK_0, ACK_1, ASKS_LCI, ASKS_LCL, ASKS_LCS, LCI, LCL, LCS};
 
 // A set without lists.
 fn no_media(alloc: Global) -> Result<MediaSet, Fail> {
     let mut host = MemHost::new(alloc);
-    match open_set(alloc, &mut host, b"P") {
+    let opened = open_set(alloc, &mut host, b"P");
+    drop(host);
+    match opened {
         Ok(set) => Ok(set),
-        Err(_) => Err(Fail::new("the set wasn't opened")),
+        Err(fault) => {
+            drop(fault);
+            Err(Fail::new("the set wasn't opened"))
+        }
     }
 }
 
@@ -49,8 +55,15 @@ fn answered(loader: &mut Loader<'_>, rows: &[(u16, u16, &[u8], Post<'_>)]) -> us
 
 fn is_answered(posts: Result<Posts, NoMemory>, post: Post<'_>) -> bool {
     match posts {
-        Ok(posts) => is_post(&posts.first, post) && is_post(&posts.second, NONE),
-        Err(_) => false,
+        Ok(posts) => {
+            let is_posted = is_post(&posts.first, post) && is_post(&posts.second, NONE);
+            drop(posts);
+            is_posted
+        }
+        refused => {
+            drop(refused);
+            false
+        }
     }
 }
 
@@ -75,22 +88,6 @@ fn letters(sessions: &[Session]) -> [u8; 4] {
     letters
 }
 
-const LCI: &[u8] = b"\0\x03\0\x01\0\0\0\x09\x41\x33\0\x01\0";
-
-const ASKS_LCI: &[u8] = b"\0\x01HW1_L.LCI\0octet\0";
-
-const ASKS_LCS: &[u8] = b"\0\x02HW1_L.LCS\0octet\0";
-
-const LCS: &[u8] = b"\0\x03\0\x01\0\0\0\x0F\x41\x33\0\x01\0\x02\0\0\0\0\0";
-
-const ASKS_LCL: &[u8] = b"\0\x02HW1_L.LCL\0octet\0";
-
-const LCL: &[u8] = b"\0\x03\0\x01\0\0\0\x12\x41\x33\0\x01\x03HW1\x03SN1\0\0";
-
-const ACK_0: &[u8] = b"\0\x04\0\0";
-
-const ACK_1: &[u8] = b"\0\x04\0\x01";
-
 const ROWS: [(u16, u16, &[u8], Post<'static>); 7] = [
     (1024, 1024, LCI, (1024, 1024, ACK_1)),
     (1025, 59, ASKS_LCS, (1025, 1025, ACK_0)),
@@ -108,14 +105,18 @@ fn spoken(alloc: Global, media: &MediaSet, hw: Ident, pos: Ident) -> (bool, usiz
     let mut loader = Loader::new(alloc, media);
     let asks = is_answered(loader.start_info(hw, pos), (1024, 59, ASKS_LCI));
     let rows = answered(&mut loader, &ROWS);
-    (asks, rows, letters(loader.sessions().as_slice()))
+    let letters = letters(loader.sessions().as_slice());
+    drop(loader);
+    (asks, rows, letters)
 }
 
 #[test]
 fn an_information_session_goes_by_its_rows(rt: HostRuntime) -> Result<(), Fail> {
     let (hw, pos) = (ident(b"HW1")?, ident(b"L")?);
     let media = no_media(rt.alloc())?;
-    assert_eq!(rt; spoken(rt.alloc(), &media, hw, pos), (true, 7, *b"c..."));
+    let found = spoken(rt.alloc(), &media, hw, pos);
+    drop(media);
+    assert_eq!(rt; found, (true, 7, *b"c..."));
     Ok(())
 }
 
@@ -145,7 +146,10 @@ fn given_up(
     let second = is_answered(loader.start_info(hw, pos), (1025, 59, ASKS_LCI));
     let repeats = repeated(&mut loader);
     let began = one && many && first && second && !loader.waits();
-    (began, repeats, letters(loader.into_sessions().as_slice()))
+    let sessions = loader.into_sessions();
+    let letters = letters(sessions.as_slice());
+    drop(sessions);
+    (began, repeats, letters)
 }
 
 #[test]
@@ -155,9 +159,8 @@ fn sessions_are_refused_replaced_and_given_up(rt: HostRuntime) -> Result<(), Fai
         return Err(Fail::new("no part number"));
     };
     let media = no_media(rt.alloc())?;
-    assert_eq!(rt;
-        given_up(rt.alloc(), &media, hw, pos, part),
-        (true, 5, *b"nmrg")
-    );
+    let found = given_up(rt.alloc(), &media, hw, pos, part);
+    drop(media);
+    assert_eq!(rt; found, (true, 5, *b"nmrg"));
     Ok(())
 }

@@ -1,7 +1,7 @@
 //! Requests as in the examples of RFC 2348 and RFC 2349, packets that an exchange of this project
 //! sends, and bytes with one thing wrong.
 
-use load_base::{Name, NameFault};
+use load_base::{Bytes, Name, NameFault};
 use std::alloc::Global;
 use std::test::Fail;
 use tftp_packet::{Options, Packet, PacketFault, packet_laws};
@@ -12,7 +12,12 @@ const NONE: Options = Options {
     tsize: None,
 };
 
-fn options(blksize: Option<u16>, timeout: Option<u8>, tsize: Option<u32>) -> Options {
+// What is asked for: a block size, a timeout and a length.
+type Asked = (Option<u16>, Option<u8>, Option<u32>);
+
+const NOTHING: Asked = (None, None, None);
+
+fn options((blksize, timeout, tsize): Asked) -> Options {
     Options {
         blksize,
         timeout,
@@ -46,61 +51,76 @@ fn there_and_back(alloc: Global, bytes: &[u8], wanted: Parts<'_>) -> Result<(boo
 }
 
 // Packets in their one spelling that is sent.
+const SENT: [(&[u8], (u8, &[u8], u16), Asked); 11] = [
+    (
+        b"\0\x01HW1_L.LCI\0octet\0",
+        (b'r', b"HW1_L.LCI", 0),
+        NOTHING,
+    ),
+    (
+        b"\0\x01foobar\0octet\0blksize\x001428\0",
+        (b'r', b"foobar", 0),
+        (Some(1428), None, None),
+    ),
+    (
+        b"\0\x01foobar\0octet\0timeout\x001\0",
+        (b'r', b"foobar", 0),
+        (None, Some(1), None),
+    ),
+    (
+        b"\0\x01HW1_L.LUI\0octet\0blksize\x001024\0tsize\x000\0",
+        (b'r', b"HW1_L.LUI", 0),
+        (Some(1024), None, Some(0)),
+    ),
+    (
+        b"\0\x01A\0octet\0blksize\x0065464\0timeout\x00255\0tsize\x004294967295\0",
+        (b'r', b"A", 0),
+        (Some(65_464), Some(255), Some(4_294_967_295)),
+    ),
+    (
+        b"\0\x06blksize\x001024\0tsize\x009\0",
+        (b'o', b"", 0),
+        (Some(1024), None, Some(9)),
+    ),
+    (
+        b"\0\x03\0\x01\0\0\0\x09\x41\x33\0\x01\0",
+        (b'd', b"\0\0\0\x09\x41\x33\0\x01\0", 1),
+        NOTHING,
+    ),
+    // The empty block with the greatest number, which ends a file.
+    (b"\0\x03\xFF\xFF", (b'd', b"", 65_535), NOTHING),
+    (b"\0\x04\x12\x34", (b'a', b"", 0x1234), NOTHING),
+    (b"\0\x05\0\x01\0", (b'e', b"", 1), NOTHING),
+    (
+        b"\0\x05\x01\x08no \xFF file\0",
+        (b'e', b"no \xFF file", 0x0108),
+        NOTHING,
+    ),
+];
+
+fn is_sent(alloc: Global, row: &(&[u8], (u8, &[u8], u16), Asked)) -> Result<bool, Fail> {
+    let (bytes, (letter, text, number), asked) = *row;
+    let found = there_and_back(alloc, bytes, (letter, text, number, options(asked)))?;
+    Ok(found == (true, bytes.len()))
+}
+
 #[test]
 fn packets_are_read_and_written(rt: HostRuntime) -> Result<(), Fail> {
-    let lui = options(Some(1024), None, Some(0));
-    let all = options(Some(65_464), Some(255), Some(4_294_967_295));
-    let rows: [(&[u8], Parts<'_>); 11] = [
-        (b"\0\x01HW1_L.LCI\0octet\0", (b'r', b"HW1_L.LCI", 0, NONE)),
-        (
-            b"\0\x01foobar\0octet\0blksize\x001428\0",
-            (b'r', b"foobar", 0, options(Some(1428), None, None)),
-        ),
-        (
-            b"\0\x01foobar\0octet\0timeout\x001\0",
-            (b'r', b"foobar", 0, options(None, Some(1), None)),
-        ),
-        (
-            b"\0\x01HW1_L.LUI\0octet\0blksize\x001024\0tsize\x000\0",
-            (b'r', b"HW1_L.LUI", 0, lui),
-        ),
-        (
-            b"\0\x01A\0octet\0blksize\x0065464\0timeout\x00255\0tsize\x004294967295\0",
-            (b'r', b"A", 0, all),
-        ),
-        (
-            b"\0\x06blksize\x001024\0tsize\x009\0",
-            (b'o', b"", 0, options(Some(1024), None, Some(9))),
-        ),
-        (
-            b"\0\x03\0\x01\0\0\0\x09\x41\x33\0\x01\0",
-            (b'd', b"\0\0\0\x09\x41\x33\0\x01\0", 1, NONE),
-        ),
-        // The empty block with the greatest number, which ends a file.
-        (b"\0\x03\xFF\xFF", (b'd', b"", 65_535, NONE)),
-        (b"\0\x04\x12\x34", (b'a', b"", 0x1234, NONE)),
-        (b"\0\x05\0\x01\0", (b'e', b"", 1, NONE)),
-        (
-            b"\0\x05\x01\x08no \xFF file\0",
-            (b'e', b"no \xFF file", 0x0108, NONE),
-        ),
-    ];
-    for (bytes, wanted) in rows {
-        let found = there_and_back(rt.alloc(), bytes, wanted)?;
-        assert_eq!(rt; found, (true, bytes.len()), "of {bytes:?}");
+    for row in &SENT {
+        assert!(rt; is_sent(rt.alloc(), row)?, "of {:?}", row.0);
     }
     Ok(())
 }
 
+fn request(alloc: Global) -> Result<Bytes, Fail> {
+    let name = Name::read(b"HW1_L.LUI")?;
+    let options = options((Some(1024), None, Some(0)));
+    Ok(Packet::Rrq { name, options }.encode(alloc)?)
+}
+
 #[test]
 fn a_request_is_written_as_it_is_sent(rt: HostRuntime) -> Result<(), Fail> {
-    let name = Name::read(b"HW1_L.LUI")?;
-    let options = Options {
-        blksize: Some(1024),
-        timeout: None,
-        tsize: Some(0),
-    };
-    let bytes = Packet::Rrq { name, options }.encode(rt.alloc())?;
+    let bytes = request(rt.alloc())?;
     let sent = b"\0\x01HW1_L.LUI\0octet\0blksize\x001024\0tsize\x000\0";
     assert_eq!(rt; bytes.as_slice(), sent.as_slice());
     Ok(())
@@ -116,55 +136,55 @@ fn is_read(bytes: &[u8], wanted: Parts<'_>) -> bool {
 
 // Other spellings of requests for a file A and of answers, and what they ask for: letter case,
 // leading zeros, and options that are passed over.
+const OTHERS: [(&[u8], u8, Asked); 10] = [
+    (b"\0\x02A\0oCTeT\0", b'w', NOTHING),
+    (
+        b"\0\x02A\0OCTET\0BLKSIZE\x0000000000000000512\0",
+        b'w',
+        (Some(512), None, None),
+    ),
+    (
+        b"\0\x02A\0octet\0tSize\x00007\0multicast\0\0TimeOut\x0010\0BlkSize\x008\0",
+        b'w',
+        (Some(8), Some(10), Some(7)),
+    ),
+    (
+        b"\0\x02A\0octet\0windowsize\x004\0windowsize\x005\0tsize\x000\0",
+        b'w',
+        (None, None, Some(0)),
+    ),
+    (
+        b"\0\x02A\0octet\0blksize\x007\0timeout\x000\0tsize\x00\0",
+        b'w',
+        NOTHING,
+    ),
+    (
+        b"\0\x02A\0octet\0blksize\x0065465\0timeout\x00256\0tsize\x004294967296\0",
+        b'w',
+        NOTHING,
+    ),
+    (
+        b"\0\x02A\0octet\0blksize\x00+512\0timeout\x00-1\0tsize\x00 1\0",
+        b'w',
+        NOTHING,
+    ),
+    (
+        b"\0\x02A\0octet\0blksize \x00512\0tsize\x001 \0blk\x009\0",
+        b'w',
+        NOTHING,
+    ),
+    (b"\0\x06TIMEOUT\x00001\0", b'o', (None, Some(1), None)),
+    (b"\0\x06", b'o', NOTHING),
+];
+
 #[test]
 fn packets_have_other_spellings(rt: HostRuntime) {
-    let rows: [(&[u8], u8, Options); 10] = [
-        (b"\0\x02A\0oCTeT\0", b'w', NONE),
-        (
-            b"\0\x02A\0OCTET\0BLKSIZE\x0000000000000000512\0",
-            b'w',
-            options(Some(512), None, None),
-        ),
-        (
-            b"\0\x02A\0octet\0tSize\x00007\0multicast\0\0TimeOut\x0010\0BlkSize\x008\0",
-            b'w',
-            options(Some(8), Some(10), Some(7)),
-        ),
-        (
-            b"\0\x02A\0octet\0windowsize\x004\0windowsize\x005\0tsize\x000\0",
-            b'w',
-            options(None, None, Some(0)),
-        ),
-        (
-            b"\0\x02A\0octet\0blksize\x007\0timeout\x000\0tsize\x00\0",
-            b'w',
-            NONE,
-        ),
-        (
-            b"\0\x02A\0octet\0blksize\x0065465\0timeout\x00256\0tsize\x004294967296\0",
-            b'w',
-            NONE,
-        ),
-        (
-            b"\0\x02A\0octet\0blksize\x00+512\0timeout\x00-1\0tsize\x00 1\0",
-            b'w',
-            NONE,
-        ),
-        (
-            b"\0\x02A\0octet\0blksize \x00512\0tsize\x001 \0blk\x009\0",
-            b'w',
-            NONE,
-        ),
-        (
-            b"\0\x06TIMEOUT\x00001\0",
-            b'o',
-            options(None, Some(1), None),
-        ),
-        (b"\0\x06", b'o', NONE),
-    ];
-    for (bytes, letter, asked) in rows {
+    for &(bytes, letter, asked) in &OTHERS {
         let file = if letter == b'w' { b"A".as_slice() } else { &[] };
-        assert!(rt; is_read(bytes, (letter, file, 0, asked)), "of {bytes:?}");
+        assert!(rt;
+            is_read(bytes, (letter, file, 0, options(asked))),
+            "of {bytes:?}"
+        );
     }
     packet_laws();
 }
@@ -176,8 +196,8 @@ fn a_payload_has_at_most_65_464_bytes(rt: HostRuntime) -> Result<(), Fail> {
     bytes[1] = 3;
     let longest = &bytes[..65_468];
     let found = there_and_back(rt.alloc(), longest, (b'd', &longest[4..], 0x0707, NONE))?;
-    assert_eq!(rt; found, (true, 65_468));
-    assert_eq!(rt; fault_of(&bytes), Some(PacketFault::Rest(65_468)));
+    assert!(rt; found == (true, 65_468));
+    assert!(rt; fault_of(&bytes) == Some(PacketFault::Rest(65_468)));
     Ok(())
 }
 
@@ -252,7 +272,7 @@ fn fault_of(bytes: &[u8]) -> Option<PacketFault> {
 
 #[test]
 fn the_first_fault_is_told(rt: HostRuntime) {
-    for (bytes, fault) in FAULTS {
+    for &(bytes, fault) in &FAULTS {
         assert_eq!(rt; fault_of(bytes), Some(fault), "at {bytes:?}");
     }
 }

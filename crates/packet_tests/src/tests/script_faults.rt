@@ -9,15 +9,17 @@ fn is_printed(alloc: Global, fault: ScriptFault, text: &[u8]) -> bool {
     }
 }
 
+const TEXTS: [(ScriptFault, &[u8]); 5] = [
+    (ScriptFault::Word(1), b"S1 1"),
+    (ScriptFault::Number(4), b"S2 4"),
+    (ScriptFault::Hex(1000000), b"S3 1000000"),
+    (ScriptFault::Name(2), b"S4 2"),
+    (ScriptFault::TooLong, b"S5"),
+];
+
 #[test]
 fn each_fault_has_its_text(rt: HostRuntime) {
-    for (fault, text) in [
-        (ScriptFault::Word(1), &b"S1 1"[..]),
-        (ScriptFault::Number(4), b"S2 4"),
-        (ScriptFault::Hex(1000000), b"S3 1000000"),
-        (ScriptFault::Name(2), b"S4 2"),
-        (ScriptFault::TooLong, b"S5"),
-    ] {
+    for &(fault, text) in &TEXTS {
         assert_eq!(rt; is_printed(rt.alloc(), fault, text), true);
     }
 }

@@ -94,39 +94,37 @@ fn to_sending(receiving: &Receiving, sending: &mut Sending<'_>, outcome: &mut Ou
 // A transfer between two ends. `late` are two more ends of the same transfer, one round behind:
 // what they send is what the others sent before.
 fn runs(
-    ends: (Sending<'_>, Receiving),
-    late: (Sending<'_>, Receiving),
+    (sending, receiving): (&mut Sending<'_>, &mut Receiving),
+    (late_sending, late_receiving): (&mut Sending<'_>, &mut Receiving),
     file: &[u8],
     fate: Fate,
 ) -> Outcome {
-    let (mut sending, mut receiving) = ends;
-    let (mut late_sending, mut late_receiving) = late;
     let mut outcome = Outcome::default();
     let mut unseen = Outcome::default();
     for _ in 0..70_000 {
         if outcome.done {
             return outcome;
         }
-        to_receiving(&sending, &mut receiving, file, &mut outcome);
+        to_receiving(sending, receiving, file, &mut outcome);
         match fate {
-            Fate::Arrives => to_sending(&receiving, &mut sending, &mut outcome),
+            Fate::Arrives => to_sending(receiving, sending, &mut outcome),
             Fate::LostOnce => {
                 // The ACK was lost: the DATA comes again.
-                to_receiving(&sending, &mut receiving, file, &mut outcome);
-                to_sending(&receiving, &mut sending, &mut outcome);
+                to_receiving(sending, receiving, file, &mut outcome);
+                to_sending(receiving, sending, &mut outcome);
             }
             Fate::Doubled => {
-                to_receiving(&sending, &mut receiving, file, &mut outcome);
-                to_sending(&receiving, &mut sending, &mut outcome);
-                to_sending(&receiving, &mut sending, &mut outcome);
-                to_sending(&receiving, &mut sending, &mut outcome);
+                to_receiving(sending, receiving, file, &mut outcome);
+                to_sending(receiving, sending, &mut outcome);
+                to_sending(receiving, sending, &mut outcome);
+                to_sending(receiving, sending, &mut outcome);
             }
             Fate::Swapped => {
-                to_receiving(&late_sending, &mut receiving, file, &mut outcome);
-                to_sending(&receiving, &mut sending, &mut outcome);
-                to_sending(&late_receiving, &mut sending, &mut outcome);
-                to_receiving(&late_sending, &mut late_receiving, file, &mut unseen);
-                to_sending(&late_receiving, &mut late_sending, &mut unseen);
+                to_receiving(late_sending, receiving, file, &mut outcome);
+                to_sending(receiving, sending, &mut outcome);
+                to_sending(late_receiving, sending, &mut outcome);
+                to_receiving(late_sending, late_receiving, file, &mut unseen);
+                to_sending(late_receiving, late_sending, &mut unseen);
             }
         }
     }
@@ -158,21 +156,36 @@ fn reads(name: Name, file: &[u8], options: Options, fate: Fate) -> Outcome
     requires file { length file.now ≤ 16777215 }
     requires options { AreInRange options }
 {
-    let receiving = Receiving::ask(name, options);
-    let late = Receiving::ask(name, options);
-    let ends = (given(&receiving.first(), file), receiving);
-    runs(ends, (given(&late.first(), file), late), file, fate)
+    let mut receiving = Receiving::ask(name, options);
+    let mut late = Receiving::ask(name, options);
+    let mut sending = given(&receiving.first(), file);
+    let mut late_sending = given(&late.first(), file);
+    let outcome = runs(
+        (&mut sending, &mut receiving),
+        (&mut late_sending, &mut late),
+        file,
+        fate,
+    );
+    drop((sending, late_sending));
+    outcome
 }
 
 fn writes(name: Name, file: &[u8], options: Options, fate: Fate) -> Outcome
     requires file { length file.now ≤ 16777215 }
     requires options { AreInRange options }
 {
-    let sending = Sending::ask(name, FileBytes::Lent(file), options);
-    let late = Sending::ask(name, FileBytes::Lent(file), options);
-    let receiving = taken(&sending.first());
-    let late_receiving = taken(&late.first());
-    runs((sending, receiving), (late, late_receiving), file, fate)
+    let mut sending = Sending::ask(name, FileBytes::Lent(file), options);
+    let mut late = Sending::ask(name, FileBytes::Lent(file), options);
+    let mut receiving = taken(&sending.first());
+    let mut late_receiving = taken(&late.first());
+    let outcome = runs(
+        (&mut sending, &mut receiving),
+        (&mut late, &mut late_receiving),
+        file,
+        fate,
+    );
+    drop((sending, late));
+    outcome
 }
 
 const SIZES: [u16; 4] = [8, 512, 1_428, 65_464];
@@ -329,8 +342,7 @@ fn received(begin: Receiving, datagrams: &[u8], letters: &[u8]) -> usize {
     datagrams.len()
 }
 
-fn sent(begin: Sending<'_>, datagrams: &[u8], letters: &[u8]) -> usize {
-    let mut sending = begin;
+fn sent(sending: &mut Sending<'_>, datagrams: &[u8], letters: &[u8]) -> usize {
     for (i, which) in datagrams.iter().enumerate() {
         let Ok(packet) = Packet::decode(datagram(*which)) else {
             return i;
@@ -368,18 +380,14 @@ fn a_receiving_end_answers_what_it_awaits(rt: HostRuntime) -> Result<(), NameFau
 // asked for, and where it asks.
 fn both_sent(name: Name, datagrams: &[u8], served: &[u8], asked: &[u8]) -> (usize, usize) {
     let file = b"123456789".as_slice();
-    (
-        sent(
-            Sending::serve(FileBytes::Lent(file), with_size(8)),
-            datagrams,
-            served,
-        ),
-        sent(
-            Sending::ask(name, FileBytes::Lent(file), with_size(8)),
-            datagrams,
-            asked,
-        ),
-    )
+    let mut serving = Sending::serve(FileBytes::Lent(file), with_size(8));
+    let mut asking = Sending::ask(name, FileBytes::Lent(file), with_size(8));
+    let agree = (
+        sent(&mut serving, datagrams, served),
+        sent(&mut asking, datagrams, asked),
+    );
+    drop((serving, asking));
+    agree
 }
 
 #[test]

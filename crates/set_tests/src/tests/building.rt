@@ -1,7 +1,7 @@
 //! Sets that are built, against sums that another program took of their files, and what is refused.
 use super::recipes::REALISTIC;
 use crc_fields::crc32;
-use load_base::{Bytes, Host, MemHost};
+use load_base::{Bytes, Host, MemHost, NoMemory};
 use media_build::{BuildFault, Recipe, build};
 use media_check::Built;
 use printed_text::put_number;
@@ -35,53 +35,40 @@ fn write(host: &mut MemHost, name: &[u8], bytes: &[u8]) -> Result<(), Fail> {
     }
 }
 
-// A host with sources of small files.
-fn small_host(alloc: Global) -> Result<MemHost, Fail> {
-    let mut host = MemHost::new(alloc);
-    for (name, bytes) in [
-        (&b"nav1.bin"[..], &b"aaaa"[..]),
-        (b"nav2.bin", b"bb"),
-        (b"nav.txt", b"c"),
-        (b"ops.bin", b"dd"),
-        (b"cfg.bin", b"eee"),
-        (b"one", b"123456789"),
-        (b"two", b""),
-    ] {
-        write(&mut host, name, bytes)?;
+const SMALL: [(&[u8], &[u8]); 7] = [
+    (b"nav1.bin", b"aaaa"),
+    (b"nav2.bin", b"bb"),
+    (b"nav.txt", b"c"),
+    (b"ops.bin", b"dd"),
+    (b"cfg.bin", b"eee"),
+    (b"one", b"123456789"),
+    (b"two", b""),
+];
+
+// Writes sources of small files.
+fn write_small(host: &mut MemHost) -> Result<(), Fail> {
+    for &(name, bytes) in &SMALL {
+        write(host, name, bytes)?;
     }
-    Ok(host)
+    Ok(())
 }
 
-// A host whose call of this number after those that made it fails, if it isn't 0.
-fn failing_host(alloc: Global, call: u32) -> Result<MemHost, Fail> {
-    let mut host = small_host(alloc)?;
-    if call > 0 {
-        host.fail_at(call.saturating_add(7))?;
-    }
-    Ok(host)
-}
-
-// A host with a source of the most bytes, or of a byte more.
-fn large_host(alloc: Global, name: &[u8], last: &[u8]) -> Result<MemHost, Fail> {
-    let mut host = MemHost::new(alloc);
+// The most bytes of a source, or one more.
+fn large(alloc: Global, last: &[u8]) -> Result<Bytes, Fail> {
     let mut bytes = Bytes::new(alloc);
     bytes.reserve(16_777_216)?;
     for _index in 0..4_095 {
         bytes.extend(&PIECE)?;
     }
     bytes.extend(last)?;
-    write(&mut host, name, bytes.as_slice())?;
-    Ok(host)
+    Ok(bytes)
 }
 
 fn recipe_after(alloc: Global, start: &[u8], text: &[u8]) -> Result<Recipe, Fail> {
     let mut whole = Bytes::new(alloc);
     whole.extend(start)?;
     whole.extend(text)?;
-    match Recipe::read(alloc, whole.as_slice()) {
-        Ok(recipe) => Ok(recipe),
-        Err(_) => Err(Fail::new("the recipe is refused")),
-    }
+    Ok(Recipe::read(alloc, whole.as_slice())?)
 }
 
 fn put_sums(sums: &mut Vec<u32>, lists: &[Bytes]) -> Result<(), Fail> {
@@ -92,7 +79,7 @@ fn put_sums(sums: &mut Vec<u32>, lists: &[Bytes]) -> Result<(), Fail> {
 }
 
 // The CRC-32 of each list and of each file, in their order.
-fn sums_of(alloc: Global, built: &Built) -> Result<Vec<u32>, Fail> {
+pub(crate) fn sums_of(alloc: Global, built: &Built) -> Result<Vec<u32>, Fail> {
     let mut sums = Vec::new(alloc);
     put_sums(&mut sums, built.loads.as_slice())?;
     put_sums(&mut sums, built.files.as_slice())?;
@@ -104,12 +91,40 @@ fn sums_of(alloc: Global, built: &Built) -> Result<Vec<u32>, Fail> {
 
 // The same of the set of a recipe.
 fn built_sums(alloc: Global, start: &[u8], text: &[u8]) -> Result<Vec<u32>, Fail> {
-    let recipe = recipe_after(alloc, start, text)?;
-    let mut host = small_host(alloc)?;
-    match build(alloc, &recipe, &mut host) {
-        Ok(built) => sums_of(alloc, &built),
-        Err(_) => Err(Fail::new("the set is refused")),
+    let mut host = MemHost::new(alloc);
+    let answer = answer_of_small(alloc, start, text, &mut host);
+    drop(host);
+    match answer? {
+        Ok(built) => {
+            let sums = sums_of(alloc, &built);
+            drop(built);
+            sums
+        }
+        Err(fault) => {
+            drop(fault);
+            Err(Fail::new("the set is refused"))
+        }
     }
+}
+
+type Answer = Result<Built, BuildFault>;
+
+// What a host with sources of small files answers to a recipe.
+fn answer_of_small(
+    alloc: Global,
+    start: &[u8],
+    text: &[u8],
+    host: &mut MemHost,
+) -> Result<Answer, Fail> {
+    write_small(host)?;
+    answer_of(alloc, start, text, host)
+}
+
+fn answer_of(alloc: Global, start: &[u8], text: &[u8], host: &mut MemHost) -> Result<Answer, Fail> {
+    let recipe = recipe_after(alloc, start, text)?;
+    let answer = build(alloc, &recipe, host);
+    drop(recipe);
+    Ok(answer)
 }
 
 #[test]
@@ -155,60 +170,73 @@ fn positions_are_gathered(rt: HostRuntime) -> Result<(), Fail> {
 }
 
 // What is answered, as a word with what it tells.
-fn word_of(alloc: Global, answer: Result<Built, BuildFault>) -> Result<Bytes, Fail> {
+fn word_of(alloc: Global, answer: Answer) -> Result<Bytes, Fail> {
     let mut word = Bytes::new(alloc);
-    match answer {
-        Ok(built) => {
-            word.extend(b"built ")?;
-            put_number(alloc, &mut word, built.bodies.len() as u64)?;
-        }
-        Err(BuildFault::Absent(name)) => {
-            word.extend(b"absent ")?;
-            word.extend(name.as_slice())?;
-        }
-        Err(BuildFault::TooLong(name)) => {
-            word.extend(b"long ")?;
-            word.extend(name.as_slice())?;
-        }
-        Err(BuildFault::TooLarge) => word.extend(b"large")?,
-        Err(BuildFault::HeaderTooLong(line)) => {
-            word.extend(b"header ")?;
-            put_number(alloc, &mut word, line)?;
-        }
-        Err(BuildFault::ListTooLong) => word.extend(b"list")?,
-        Err(BuildFault::Failed) => word.extend(b"failed")?,
-        Err(BuildFault::Memory) => word.extend(b"memory")?,
-    }
+    let put = put_word(alloc, &mut word, &answer);
+    drop(answer);
+    put?;
     Ok(word)
 }
 
-// What is answered to a recipe after its start, by this host.
-fn answer(alloc: Global, text: &[u8], host: &mut MemHost) -> Result<Bytes, Fail> {
-    let recipe = recipe_after(alloc, START.as_bytes(), text)?;
-    word_of(alloc, build(alloc, &recipe, host))
+fn put_word(alloc: Global, word: &mut Bytes, answer: &Answer) -> Result<(), NoMemory> {
+    match answer {
+        Ok(built) => {
+            word.extend(b"built ")?;
+            put_number(alloc, word, built.bodies.len() as u64)
+        }
+        Err(BuildFault::Absent(name)) => {
+            word.extend(b"absent ")?;
+            word.extend(name.as_slice())
+        }
+        Err(BuildFault::TooLong(name)) => {
+            word.extend(b"long ")?;
+            word.extend(name.as_slice())
+        }
+        Err(BuildFault::TooLarge) => word.extend(b"large"),
+        Err(BuildFault::HeaderTooLong(line)) => {
+            word.extend(b"header ")?;
+            put_number(alloc, word, *line)
+        }
+        Err(BuildFault::ListTooLong) => word.extend(b"list"),
+        Err(BuildFault::Failed) => word.extend(b"failed"),
+        Err(BuildFault::Memory) => word.extend(b"memory"),
+    }
+}
+
+// What is answered to a recipe after its start, by a host with sources of small files whose call of
+// this number after those that made it fails, if it isn't 0.
+fn failing(alloc: Global, text: &[u8], call: u32, host: &mut MemHost) -> Result<Answer, Fail> {
+    if call > 0 {
+        host.fail_at(call.saturating_add(7))?;
+    }
+    answer_of_small(alloc, START.as_bytes(), text, host)
 }
 
 fn answers(alloc: Global, text: &[u8], call: u32, word: &[u8]) -> Result<bool, Fail> {
-    let mut host = failing_host(alloc, call)?;
-    Ok(answer(alloc, text, &mut host)?.as_slice() == word)
+    let mut host = MemHost::new(alloc);
+    let answer = failing(alloc, text, call, &mut host);
+    drop(host);
+    Ok(word_of(alloc, answer?)?.as_slice() == word)
 }
+
+const SOURCES: [(&[u8], u32, &[u8]); 8] = [
+    (b"", 0, b"built 1"),
+    (b"data A 1 one P\nsupport B 2 two P\n", 0, b"built 3"),
+    (b"data A 1 three P\n", 0, b"absent three"),
+    (
+        b"support A 1 three P\ndata B 1 four P\n",
+        0,
+        b"absent three",
+    ),
+    (b"data A 1 one P\n", 1, b"failed"),
+    (b"data A 1 one P\n", 2, b"built 2"),
+    (b"data A 1 one P\ndata B 1 one P\n", 2, b"failed"),
+    (b"data A 1 three P\ndata B 1 one P\n", 2, b"absent three"),
+];
 
 #[test]
 fn the_first_source_is_refused(rt: HostRuntime) -> Result<(), Fail> {
-    for (text, call, word) in [
-        (&b""[..], 0, &b"built 1"[..]),
-        (b"data A 1 one P\nsupport B 2 two P\n", 0, b"built 3"),
-        (b"data A 1 three P\n", 0, b"absent three"),
-        (
-            b"support A 1 three P\ndata B 1 four P\n",
-            0,
-            b"absent three",
-        ),
-        (b"data A 1 one P\n", 1, b"failed"),
-        (b"data A 1 one P\n", 2, b"built 2"),
-        (b"data A 1 one P\ndata B 1 one P\n", 2, b"failed"),
-        (b"data A 1 three P\ndata B 1 one P\n", 2, b"absent three"),
-    ] {
+    for &(text, call, word) in &SOURCES {
         assert_eq!(rt; answers(rt.alloc(), text, call, word)?, true);
     }
     Ok(())
@@ -236,25 +264,47 @@ fn answers_sized(alloc: Global, hardware: u16, user: u32, word: &[u8]) -> Result
     answers(alloc, text.as_slice(), 1, word)
 }
 
+const SIZED: [(u16, u32, &[u8]); 6] = [
+    (0, 65_428, b"failed"),
+    (0, 65_430, b"header 3"),
+    (1_024, 61_332, b"failed"),
+    (1_024, 61_334, b"header 3"),
+    (1_025, 61_328, b"list"),
+    (1_025, 61_330, b"header 3"),
+];
+
 #[test]
 fn sizes_come_before_sources(rt: HostRuntime) -> Result<(), Fail> {
-    for (hardware, user, word) in [
-        (0, 65_428, &b"failed"[..]),
-        (0, 65_430, b"header 3"),
-        (1_024, 61_332, b"failed"),
-        (1_024, 61_334, b"header 3"),
-        (1_025, 61_328, b"list"),
-        (1_025, 61_330, b"header 3"),
-    ] {
+    for &(hardware, user, word) in &SIZED {
         assert_eq!(rt; answers_sized(rt.alloc(), hardware, user, word)?, true);
     }
     Ok(())
 }
 
+// What is answered to a recipe after its start, by a host with one source that ends so.
+fn answer_to_large(alloc: Global, text: &[u8], name: &[u8], last: &[u8]) -> Result<Bytes, Fail> {
+    let mut host = MemHost::new(alloc);
+    let answer = write_large(alloc, text, name, last, &mut host);
+    drop(host);
+    word_of(alloc, answer?)
+}
+
+fn write_large(
+    alloc: Global,
+    text: &[u8],
+    name: &[u8],
+    last: &[u8],
+    host: &mut MemHost,
+) -> Result<Answer, Fail> {
+    let bytes = large(alloc, last)?;
+    write(host, name, bytes.as_slice())?;
+    drop(bytes);
+    answer_of(alloc, START.as_bytes(), text, host)
+}
+
 #[test]
 fn a_long_source_is_refused(rt: HostRuntime) -> Result<(), Fail> {
-    let mut host = large_host(rt.alloc(), b"long", &PIECE)?;
-    let found = answer(rt.alloc(), b"data A 1 long P\n", &mut host)?;
+    let found = answer_to_large(rt.alloc(), b"data A 1 long P\n", b"long", &PIECE)?;
     assert_eq!(rt; found.as_slice(), b"long long".as_slice());
     Ok(())
 }
@@ -267,8 +317,7 @@ fn answer_to_many(alloc: Global, files: u8) -> Result<Bytes, Fail> {
         put_number(alloc, &mut text, u64::from(file))?;
         text.extend(b" 1 most P\n")?;
     }
-    let mut host = large_host(alloc, b"most", &PIECE[1..])?;
-    answer(alloc, text.as_slice(), &mut host)
+    answer_to_large(alloc, text.as_slice(), b"most", &PIECE[1..])
 }
 
 #[test]

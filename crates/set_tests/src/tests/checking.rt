@@ -1,5 +1,5 @@
 //! The set of one load, whose bytes come from outside of this project.
-ghost use Rattle.std.specs.Prelude.{◌≡◌, ◌≤◌, length, IfOk};
+ghost use Rattle.std.specs.Prelude.{◌≡◌, ◌≤◌, length, All, IfOk};
 ghost use Rattle.load_base.specs.Host.{longest_file};
 ghost use Rattle.media_check.specs.BuiltSets.{IsShortBody};
 
@@ -8,35 +8,7 @@ use media_check::{Built, Finding, MediaSet, OpenFault, Placed, check, open_set, 
 use printed_text::{put_line, put_number};
 use std::alloc::Global;
 use std::test::Fail;
-
-static LOADS: [u8; 86] = [
-    0x00, 0x00, 0x00, 0x2B, 0x90, 0x04, 0x00, 0x00, 0x00, 0x00, 0x00, 0x0A, 0x00, 0x00, 0x00, 0x14,
-    0x00, 0x00, 0x00, 0x29, 0x00, 0x0F, 0x58, 0x59, 0x5A, 0x35, 0x41, 0x2D, 0x30, 0x30, 0x30, 0x30,
-    0x2D, 0x30, 0x30, 0x30, 0x31, 0x00, 0x01, 0x01, 0x00, 0x01, 0x00, 0x00, 0x00, 0x0F, 0x41, 0x42,
-    0x43, 0x34, 0x31, 0x2D, 0x30, 0x30, 0x30, 0x30, 0x2D, 0x30, 0x30, 0x30, 0x31, 0x00, 0x00, 0x07,
-    0x41, 0x50, 0x50, 0x2E, 0x4C, 0x55, 0x48, 0x00, 0x00, 0x01, 0x00, 0x01, 0x00, 0x03, 0x48, 0x57,
-    0x31, 0x00, 0x00, 0x00, 0x81, 0x43,
-];
-
-static FILES: [u8; 86] = [
-    0x00, 0x00, 0x00, 0x2B, 0xA0, 0x04, 0x00, 0x00, 0x00, 0x00, 0x00, 0x0A, 0x00, 0x00, 0x00, 0x14,
-    0x00, 0x00, 0x00, 0x29, 0x00, 0x0F, 0x58, 0x59, 0x5A, 0x35, 0x41, 0x2D, 0x30, 0x30, 0x30, 0x30,
-    0x2D, 0x30, 0x30, 0x30, 0x31, 0x00, 0x01, 0x01, 0x00, 0x02, 0x00, 0x0A, 0x00, 0x07, 0x41, 0x50,
-    0x50, 0x2E, 0x4C, 0x55, 0x48, 0x00, 0x00, 0x01, 0x5C, 0x00, 0x00, 0x01, 0x24, 0x8A, 0x00, 0x00,
-    0x00, 0x07, 0x41, 0x50, 0x50, 0x2E, 0x42, 0x49, 0x4E, 0x00, 0x00, 0x01, 0x5C, 0x00, 0x00, 0x01,
-    0x29, 0xB1, 0x00, 0x00, 0x15, 0x69,
-];
-
-static HEADER: [u8; 122] = [
-    0x00, 0x00, 0x00, 0x3D, 0x80, 0x04, 0x00, 0x00, 0x00, 0x00, 0x00, 0x14, 0x00, 0x00, 0x00, 0x1D,
-    0x00, 0x00, 0x00, 0x21, 0x00, 0x00, 0x00, 0x25, 0x00, 0x00, 0x00, 0x26, 0x00, 0x00, 0x00, 0x37,
-    0x00, 0x00, 0x00, 0x38, 0x00, 0x00, 0x00, 0x39, 0x00, 0x0F, 0x41, 0x42, 0x43, 0x34, 0x31, 0x2D,
-    0x30, 0x30, 0x30, 0x30, 0x2D, 0x30, 0x30, 0x30, 0x31, 0x00, 0x00, 0x03, 0x41, 0x50, 0x50, 0x00,
-    0x00, 0x07, 0x00, 0x01, 0x00, 0x03, 0x48, 0x57, 0x31, 0x00, 0x00, 0x00, 0x00, 0x01, 0x00, 0x00,
-    0x00, 0x07, 0x41, 0x50, 0x50, 0x2E, 0x42, 0x49, 0x4E, 0x00, 0x00, 0x04, 0x41, 0x50, 0x50, 0x31,
-    0x00, 0x00, 0x00, 0x05, 0x00, 0x00, 0x00, 0x00, 0x00, 0x00, 0x00, 0x09, 0x29, 0xB1, 0x00, 0x00,
-    0x00, 0x00, 0x00, 0x00, 0x70, 0x42, 0xAD, 0xC0, 0x8C, 0x7F,
-];
+use worked_files::{APP_FILES, APP_HEADER, APP_LOADS};
 
 // Writes the file of this name.
 fn write(host: &mut MemHost, name: &[u8], bytes: &[u8]) -> Result<(), Fail> {
@@ -50,16 +22,32 @@ fn write(host: &mut MemHost, name: &[u8], bytes: &[u8]) -> Result<(), Fail> {
 // The set as it is opened from a host.
 fn opened_set(alloc: Global) -> Result<MediaSet, Fail> {
     let mut host = MemHost::new(alloc);
-    write(&mut host, b"P/1/LOADS.LUM", &LOADS)?;
-    write(&mut host, b"P/1/FILES.LUM", &FILES)?;
-    write(&mut host, b"P/1/APP.LUH", &HEADER)?;
-    write(&mut host, b"P/1/APP.BIN", b"123456789")?;
-    match open_set(alloc, &mut host, b"P") {
+    let set = write_and_open(alloc, &mut host);
+    drop(host);
+    set
+}
+
+fn write_and_open(alloc: Global, host: &mut MemHost) -> Result<MediaSet, Fail> {
+    write(host, b"P/1/LOADS.LUM", &APP_LOADS)?;
+    write(host, b"P/1/FILES.LUM", &APP_FILES)?;
+    write(host, b"P/1/APP.LUH", &APP_HEADER)?;
+    write(host, b"P/1/APP.BIN", b"123456789")?;
+    match open_set(alloc, host, b"P") {
         Ok(set) => Ok(set),
-        Err(OpenFault::TooLong(_)) => Err(Fail::new("a file is too long")),
-        Err(OpenFault::TooLarge) => Err(Fail::new("the set is too large")),
-        Err(OpenFault::Failed) => Err(Fail::new("the host failed")),
-        Err(OpenFault::Memory) => Err(Fail::new("out of memory")),
+        Err(fault) => {
+            let word = word_of(&fault);
+            drop(fault);
+            Err(Fail::new(word))
+        }
+    }
+}
+
+fn word_of(fault: &OpenFault) -> &'static str {
+    match fault {
+        OpenFault::TooLong(_) => "a file is too long",
+        OpenFault::TooLarge => "the set is too large",
+        OpenFault::Failed => "the host failed",
+        OpenFault::Memory => "out of memory",
     }
 }
 
@@ -100,36 +88,71 @@ fn lines_of(alloc: Global, findings: &[Finding]) -> Result<Bytes, NoMemory> {
 }
 
 fn found_in(alloc: Global, set: &MediaSet) -> Result<Bytes, NoMemory> {
-    lines_of(alloc, check(alloc, set)?.as_slice())
+    let findings = check(alloc, set)?;
+    let lines = lines_of(alloc, findings.as_slice());
+    drop(findings);
+    lines
+}
+
+// Whether the set has both lists and its file, and no file of another name.
+fn has_all(set: &MediaSet) -> Result<bool, Fail> {
+    let (name, other) = (name_of(b"APP.BIN")?, name_of(b"app.bin")?);
+    let Some(file) = set.file(&name) else {
+        return Ok(false);
+    };
+    let has_lists = set.loads().is_some() && set.files().is_some();
+    Ok(file.as_slice() == b"123456789".as_slice() && set.file(&other).is_none() && has_lists)
 }
 
 #[test]
 fn a_set_is_opened_and_checked(rt: HostRuntime) -> Result<(), Fail> {
     opening_laws();
     let set = opened_set(rt.alloc())?;
-    let file = set.file(&name_of(b"APP.BIN")?).ok_or("it is there")?;
-    assert_eq!(rt; file.as_slice(), b"123456789".as_slice());
-    assert_eq!(rt; set.file(&name_of(b"app.bin")?).is_none(), true);
-    assert_eq!(rt; set.loads().is_some() && set.files().is_some(), true);
-    assert_eq!(rt; found_in(rt.alloc(), &set)?.as_slice(), b"".as_slice());
+    let has_all = has_all(&set);
+    let found = found_in(rt.alloc(), &set);
+    drop(set);
+    assert!(rt; has_all?);
+    assert_eq!(rt; found?.as_slice(), b"".as_slice());
     Ok(())
+}
+
+fn list_of(alloc: Global, bytes: &[u8]) -> Result<List<Bytes>, NoMemory> {
+    let copy = copy_of(alloc, bytes)?;
+    let mut list = List::new(alloc);
+    list.push(copy)?;
+    Ok(list)
+}
+
+// The header, and the file with these bytes.
+fn bodies(alloc: Global, bytes: &[u8; 9]) -> Result<List<Placed>, Fail>
+    ensures { IfOk result (λ bodies. All IsShortBody bodies.items) }
+{
+    let (header, file) = (name_of(b"APP.LUH")?, name_of(b"APP.BIN")?);
+    let mut bodies = List::new(alloc);
+    bodies.push(placed(alloc, header, &APP_HEADER)?)?;
+    bodies.push(placed(alloc, file, bytes)?)?;
+    Ok(bodies)
 }
 
 // The set that was built of these lists, with these bytes of its file.
 fn built_set(alloc: Global, bytes: &[u8; 9]) -> Result<MediaSet, Fail> {
-    let mut loads = List::new(alloc);
-    loads.push(copy_of(alloc, &LOADS)?)?;
-    let mut files = List::new(alloc);
-    files.push(copy_of(alloc, &FILES)?)?;
-    let mut bodies = List::new(alloc);
-    bodies.push(placed(alloc, name_of(b"APP.LUH")?, &HEADER)?)?;
-    bodies.push(placed(alloc, name_of(b"APP.BIN")?, bytes)?)?;
+    let bodies = bodies(alloc, bytes)?;
+    let loads = list_of(alloc, &APP_LOADS)?;
+    let files = list_of(alloc, &APP_FILES)?;
     let built = Built {
         loads,
         files,
         bodies,
     };
     Ok(MediaSet::from_parts(alloc, built)?)
+}
+
+// What is found in it.
+fn found_in_built(alloc: Global, bytes: &[u8; 9]) -> Result<Bytes, Fail> {
+    let set = built_set(alloc, bytes)?;
+    let found = found_in(alloc, &set);
+    drop(set);
+    Ok(found?)
 }
 
 #[test]
@@ -139,8 +162,8 @@ fn a_built_set_is_checked(rt: HostRuntime) -> Result<(), Fail> {
         (b"123456788", b"6 APP.BIN\n11 APP.BIN\n12 APP.LUH\n"),
     ];
     for (bytes, wanted) in rows {
-        let set = built_set(rt.alloc(), bytes)?;
-        assert_eq!(rt; found_in(rt.alloc(), &set)?.as_slice(), wanted);
+        let found = found_in_built(rt.alloc(), bytes)?;
+        assert_eq!(rt; found.as_slice(), wanted);
     }
     Ok(())
 }

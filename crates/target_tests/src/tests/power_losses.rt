@@ -3,7 +3,7 @@ ghost use Rattle.std.specs.Prelude.{◌≡◌, true};
 ghost use Rattle.bank_store.specs.DiskWrites.{IsRunning};
 ghost use Rattle.disk_model.specs.MemDisk.{state_of};
 
-use super::sessions::{ACK_0, ACK_1, formatted, ident};
+use super::sessions::{formatted, ident};
 use accept_rules::{Interlock, PermitsAll};
 use disk_model::{Call, MemDisk, Note};
 use load_base::{Load, StoredFile};
@@ -11,21 +11,18 @@ use recovery::{Standing, recover};
 use std::alloc::Global;
 use std::test::Fail;
 use target_machine::Target;
+use worked_files::{ACK_0, ACK_1, APP_HEADER};
 
 // The bytes of a disk with banks of 4096 bytes.
 const WHOLE: usize = 16_384;
 
 // The load's header, as a datagram brings it.
-const HEADER: &[u8] = &[
-    0x00, 0x03, 0x00, 0x01, 0x00, 0x00, 0x00, 0x3D, 0x80, 0x04, 0x00, 0x00, 0x00, 0x00, 0x00, 0x14,
-    0x00, 0x00, 0x00, 0x1D, 0x00, 0x00, 0x00, 0x21, 0x00, 0x00, 0x00, 0x25, 0x00, 0x00, 0x00, 0x26,
-    0x00, 0x00, 0x00, 0x37, 0x00, 0x00, 0x00, 0x38, 0x00, 0x00, 0x00, 0x39, 0x00, 0x0F, 0x41, 0x42,
-    0x43, 0x34, 0x31, 0x2D, 0x30, 0x30, 0x30, 0x30, 0x2D, 0x30, 0x30, 0x30, 0x31, 0x00, 0x00, 0x03,
-    0x41, 0x50, 0x50, 0x00, 0x00, 0x07, 0x00, 0x01, 0x00, 0x03, 0x48, 0x57, 0x31, 0x00, 0x00, 0x00,
-    0x00, 0x01, 0x00, 0x00, 0x00, 0x07, 0x41, 0x50, 0x50, 0x2E, 0x42, 0x49, 0x4E, 0x00, 0x00, 0x04,
-    0x41, 0x50, 0x50, 0x31, 0x00, 0x00, 0x00, 0x05, 0x00, 0x00, 0x00, 0x00, 0x00, 0x00, 0x00, 0x09,
-    0x29, 0xB1, 0x00, 0x00, 0x00, 0x00, 0x00, 0x00, 0x70, 0x42, 0xAD, 0xC0, 0x8C, 0x7F,
-];
+fn header() -> [u8; 126] {
+    let mut bytes = [0; 126];
+    bytes[..4].copy_from_slice(b"\0\x03\0\x01");
+    bytes[4..].copy_from_slice(&APP_HEADER);
+    bytes
+}
 
 // Its file, as a datagram brings it.
 const FILE: &[u8] = b"\0\x03\0\x01123456789";
@@ -78,7 +75,7 @@ fn is_load(load: &Load) -> bool {
     let files = load.files.as_slice();
     load.part.as_slice() == b"ABC41-0000-0001".as_slice()
         && files.len() == 2
-        && is_file(&files[0], b"APP.LUH", &HEADER[4..])
+        && is_file(&files[0], b"APP.LUH", &APP_HEADER)
         && is_file(&files[1], b"APP.BIN", &FILE[4..])
 }
 
@@ -122,13 +119,22 @@ fn images_after(alloc: Global, before: &[u8; WHOLE], notes: &[Note]) -> Result<(
     }
     let mut new = 0u32;
     for ways in 0..images {
-        let image = left(&settled, writes, ways);
-        let mut disk = MemDisk::new(alloc, &image)?;
-        if is_new(&recover(alloc, &mut disk)?)? {
+        if is_new_on(alloc, &left(&settled, writes, ways))? {
             new = new.saturating_add(1);
         }
     }
     Ok((images, new))
+}
+
+// Whether a disk of these bytes holds the new configuration, or, if not, the old.
+fn is_new_on(alloc: Global, image: &[u8; WHOLE]) -> Result<bool, Fail> {
+    let mut disk = MemDisk::new(alloc, image)?;
+    let standing = recover(alloc, &mut disk);
+    drop(disk);
+    let standing = standing?;
+    let found = is_new(&standing);
+    drop(standing);
+    found
 }
 
 // The target hears this datagram, from one port to another.
@@ -140,9 +146,10 @@ fn hears(
     requires { IsRunning (state_of disk.old) }
     ensures { result ≡ true → IsRunning (state_of disk.new) }
 {
-    target
-        .on_datagram(disk, datagram.0, datagram.1, datagram.2)
-        .is_ok()
+    let posts = target.on_datagram(disk, datagram.0, datagram.1, datagram.2);
+    let is_heard = posts.is_ok();
+    drop(posts);
+    is_heard
 }
 
 // It hears what the loader posts in an upload of that load, after which its session is over.
@@ -155,7 +162,7 @@ fn uploads(target: &mut Target<'_, PermitsAll>, disk: &mut MemDisk) -> bool
         && hears(target, disk, (1025, 1025, ACK_1))
         && hears(target, disk, (1026, 59, ASKS_LUR))
         && hears(target, disk, (1026, 1026, LUR))
-        && hears(target, disk, (1027, 1027, HEADER))
+        && hears(target, disk, (1027, 1027, &header()))
         && hears(target, disk, (1028, 1028, FILE))
         && hears(target, disk, (1029, 1029, ACK_0))
         && hears(target, disk, (1029, 1029, ACK_1))
@@ -167,9 +174,48 @@ fn upload(alloc: Global, disk: &mut MemDisk) -> bool
 {
     let interlock = Interlock::new(PermitsAll);
     match Target::boot(alloc, disk, &interlock, 1024) {
-        Ok(mut target) => uploads(&mut target, disk),
-        Err(_) => false,
+        Ok(mut target) => {
+            let is_done = uploads(&mut target, disk);
+            drop(target);
+            is_done
+        }
+        refused => {
+            drop(refused);
+            false
+        }
     }
+}
+
+// The bytes of a formatted disk without loads.
+fn first_bytes(alloc: Global) -> Result<[u8; WHOLE], Fail> {
+    let disk = formatted(alloc, ident(b"HW1")?, ident(b"L")?, ident(b"SN1")?)?;
+    let mut bytes = [0; WHOLE];
+    put(&mut bytes, 0, disk.as_slice());
+    drop(disk);
+    Ok(bytes)
+}
+
+// How many calls an upload makes, at how many moments of it there are as many images, and as many of
+// the new configuration, as are wanted.
+fn moments(
+    alloc: Global,
+    disk: &mut MemDisk,
+    before: &[u8; WHOLE],
+    wanted: &[(u32, u32)],
+) -> Result<(usize, usize), Fail>
+    requires { IsRunning (state_of disk.old) }
+{
+    if !upload(alloc, disk) {
+        return Err(Fail::new("the upload isn't done"));
+    }
+    let mut moments = 0usize;
+    for (calls, wanted) in wanted.iter().enumerate() {
+        let made = disk.notes().get(..calls).unwrap_or(&[]);
+        if images_after(alloc, before, made)? == *wanted {
+            moments = moments.saturating_add(1);
+        }
+    }
+    Ok((disk.notes().len(), moments))
 }
 
 // At each moment of an upload, told by the calls of the disk that have ended or begun. A moment
@@ -177,12 +223,6 @@ fn upload(alloc: Global, disk: &mut MemDisk) -> bool
 // before it. The writes are the header, the file, the manifest, the slot's body and its gate.
 #[test]
 fn each_image_of_an_upload_is_old_or_new(rt: HostRuntime) -> Result<(), Fail> {
-    let alloc = rt.alloc();
-    let formatted = formatted(alloc, ident(b"HW1")?, ident(b"L")?, ident(b"SN1")?)?;
-    let mut before = [0; WHOLE];
-    put(&mut before, 0, formatted.as_slice());
-    let mut disk = MemDisk::new(alloc, &before)?;
-    assert!(rt; upload(alloc, &mut disk));
     let wanted = [
         (1, 0),
         (1, 0),
@@ -195,11 +235,10 @@ fn each_image_of_an_upload_is_old_or_new(rt: HostRuntime) -> Result<(), Fail> {
         (3, 1),
         (1, 1),
     ];
-    assert_eq!(rt; disk.notes().len(), wanted.len() - 1);
-    for (calls, wanted) in wanted.into_iter().enumerate() {
-        let made = disk.notes().get(..calls).unwrap_or(&[]);
-        let found = images_after(alloc, &before, made)?;
-        assert_eq!(rt; found, wanted, "after {calls} calls");
-    }
+    let before = first_bytes(rt.alloc())?;
+    let mut disk = MemDisk::new(rt.alloc(), &before)?;
+    let found = moments(rt.alloc(), &mut disk, &before, &wanted);
+    drop(disk);
+    assert_eq!(rt; found?, (9, 10));
     Ok(())
 }

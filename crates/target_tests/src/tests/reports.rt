@@ -3,7 +3,7 @@ ghost use Rattle.std.specs.Prelude.{IfOk, IsSome};
 
 use disk_layout::{Identity, Standing};
 use exchange_trace::{Datagram, Happening, Side, TraceStep};
-use load_base::{Bytes, Config, Ident, List, Text};
+use load_base::{Bytes, Config, Ident, List, NoMemory, Text};
 use load_protocol_files::{Hardware, Lcl};
 use loader_machine::Session;
 use session_rules::{Outcome, SessionKind};
@@ -48,52 +48,67 @@ const POSTS: [(Side, u16, u16, &[u8]); 11] = [
     (Side::Loader, 1026, 1026, b"\0\x04\0\x01"),
 ];
 
-fn trace(alloc: Global) -> Result<List<TraceStep>, Fail> {
-    let mut trace = List::new(alloc);
+fn posted(
+    alloc: Global,
+    from_side: Side,
+    from: u16,
+    to: u16,
+    payload: &[u8],
+) -> Result<TraceStep, NoMemory> {
+    let mut bytes = Bytes::new(alloc);
+    bytes.extend(payload)?;
+    Ok(TraceStep::Posted(Datagram {
+        from_side,
+        from,
+        to,
+        bytes,
+    }))
+}
+
+fn put_trace(alloc: Global, trace: &mut List<TraceStep>) -> Result<(), Fail> {
     let (hw, pos) = (ident(b"HW1")?, ident(b"L")?);
     trace.push(TraceStep::Given(Happening::StartInfo { hw, pos }))?;
     let mut number = 0u64;
     for (side, from, to, payload) in &POSTS {
         number = number.saturating_add(1);
-        let mut bytes = Bytes::new(alloc);
-        bytes.extend(payload)?;
-        trace.push(TraceStep::Posted(Datagram {
-            from_side: *side,
-            from: *from,
-            to: *to,
-            bytes,
-        }))?;
+        trace.push(posted(alloc, *side, *from, *to, payload)?)?;
         trace.push(TraceStep::Given(match side {
             Side::Loader => Happening::ToTarget(number),
             Side::Target => Happening::ToLoader(number),
         }))?;
     }
     trace.push(TraceStep::Given(Happening::End))?;
-    Ok(trace)
+    Ok(())
 }
 
-// The same with the session, and the target as it is at the end.
-fn information(alloc: Global) -> Result<Drive, Fail>
+// A run with the target as it is at the end, of which nothing is told yet.
+fn empty_run(alloc: Global) -> Result<Drive, Fail>
     ensures { IfOk result (λ drive. IsSome drive.standing) }
 {
-    let mut sessions = List::new(alloc);
-    sessions.push(Session {
+    let standing = standing(alloc)?;
+    Ok(Drive {
+        trace: List::new(alloc),
+        sessions: List::new(alloc),
+        standing: Some(standing),
+    })
+}
+
+// Its session.
+fn session(alloc: Global) -> Result<Session, Fail> {
+    let listed = listed(alloc)?;
+    Ok(Session {
         kind: SessionKind::Info,
         outcome: Outcome::Completed,
-        listed: Some(listed(alloc)?),
-    })?;
-    Ok(Drive {
-        trace: trace(alloc)?,
-        sessions,
-        standing: Some(standing(alloc)?),
+        listed: Some(listed),
     })
 }
 
 fn listed(alloc: Global) -> Result<Lcl, Fail> {
+    let (name, serial) = (ident(b"HW1")?, ident(b"SN1")?);
     let mut hardware = List::new(alloc);
     hardware.push(Hardware {
-        name: Text::of_ident(alloc, &ident(b"HW1")?)?,
-        serial: Text::of_ident(alloc, &ident(b"SN1")?)?,
+        name: Text::of_ident(alloc, &name)?,
+        serial: Text::of_ident(alloc, &serial)?,
         parts: List::new(alloc),
     })?;
     Ok(Lcl { hardware })
@@ -149,12 +164,23 @@ bank 0 sequence 1
 loads 0
 ";
 
+// Tells the run, and gives its report and its trace.
+fn texts(alloc: Global, run: &mut Drive) -> Result<(Bytes, Bytes), Fail>
+    requires { IsSome run.old.standing }
+{
+    put_trace(alloc, &mut run.trace)?;
+    run.sessions.push(session(alloc)?)?;
+    let report = report_text(alloc, run)?;
+    Ok((report, wire_text(alloc, run)?))
+}
+
 #[test]
 fn a_run_has_its_report_and_its_trace(rt: HostRuntime) -> Result<(), Fail> {
-    let drive = information(rt.alloc())?;
-    let report = report_text(rt.alloc(), &drive)?;
+    let mut run = empty_run(rt.alloc())?;
+    let texts = texts(rt.alloc(), &mut run);
+    drop(run);
+    let (report, wire) = texts?;
     assert_eq!(rt; report.as_slice(), REPORT);
-    let wire = wire_text(rt.alloc(), &drive)?;
     assert_eq!(rt; wire.as_slice(), WIRE);
     Ok(())
 }

@@ -12,6 +12,7 @@ use std::alloc::Global;
 use std::test::Fail;
 use target_machine::{Reason, RequestFault, Target};
 use transfer_end::Posts;
+use worked_files::{ACK_0, ACK_1, ASKS_LCI, ASKS_LCL, ASKS_LCS, LCI, LCL, LCS};
 
 pub(crate) fn ident(bytes: &[u8]) -> Result<Ident, Fail> {
     match Ident::read(bytes) {
@@ -29,9 +30,7 @@ pub(crate) fn formatted(
 ) -> Result<MemDisk, Fail>
     ensures { IfOk result (λ disk. IsRunning (state_of disk)) }
 {
-    let Ok(mut disk) = MemDisk::new(alloc, &[]) else {
-        return Err(Fail::new("no disk"));
-    };
+    let mut disk = MemDisk::new(alloc, &[])?;
     let identity = Identity {
         hw,
         pos,
@@ -40,7 +39,10 @@ pub(crate) fn formatted(
     };
     match format(&mut disk, &identity) {
         Ok(()) => Ok(disk),
-        Err(_) => Err(Fail::new("not formatted")),
+        Err(fault) => {
+            drop(disk);
+            Err(Fail::from(fault))
+        }
     }
 }
 
@@ -71,26 +73,17 @@ fn answers(target: &mut Target<'_, PermitsAll>, disk: &mut MemDisk, row: Row<'_>
     ensures { result ≡ true → IsRunning (state_of disk.new) }
 {
     match target.on_datagram(disk, row.0, row.1, row.2) {
-        Ok(posts) => is_posted(&posts, row.3),
-        Err(_) => false,
+        Ok(posts) => {
+            let is_posted = is_posted(&posts, row.3);
+            drop(posts);
+            is_posted
+        }
+        refused => {
+            drop(refused);
+            false
+        }
     }
 }
-
-const ASKS_LCI: &[u8] = b"\0\x01HW1_L.LCI\0octet\0";
-
-const LCI: &[u8] = b"\0\x03\0\x01\0\0\0\x09\x41\x33\0\x01\0";
-
-const ASKS_LCS: &[u8] = b"\0\x02HW1_L.LCS\0octet\0";
-
-const LCS: &[u8] = b"\0\x03\0\x01\0\0\0\x0F\x41\x33\0\x01\0\x02\0\0\0\0\0";
-
-const ASKS_LCL: &[u8] = b"\0\x02HW1_L.LCL\0octet\0";
-
-const LCL: &[u8] = b"\0\x03\0\x01\0\0\0\x12\x41\x33\0\x01\x03HW1\x03SN1\0\0";
-
-pub(crate) const ACK_0: &[u8] = b"\0\x04\0\0";
-
-pub(crate) const ACK_1: &[u8] = b"\0\x04\0\x01";
 
 // An information session, and requests that begin none: for a file that isn't there, and from a
 // port that isn't fresh.
@@ -133,14 +126,27 @@ fn spoken(alloc: Global, disk: &mut MemDisk) -> (bool, bool, bool, bool)
     requires { IsRunning (state_of disk.old) }
 {
     let interlock = Interlock::new(PermitsAll);
-    let Ok(mut target) = Target::boot(alloc, disk, &interlock, 1024) else {
-        return (false, false, false, false);
-    };
-    let informs = informs(&mut target, disk) && !target.waits();
+    match Target::boot(alloc, disk, &interlock, 1024) {
+        Ok(mut target) => {
+            let found = speaks(&mut target, disk);
+            drop(target);
+            found
+        }
+        refused => {
+            drop(refused);
+            (false, false, false, false)
+        }
+    }
+}
+
+fn speaks(target: &mut Target<'_, PermitsAll>, disk: &mut MemDisk) -> (bool, bool, bool, bool)
+    requires { IsRunning (state_of disk.old) }
+{
+    let informs = informs(target, disk) && !target.waits();
     if !informs {
         return (false, false, false, false);
     }
-    let uploads = uploads(&mut target, disk);
+    let uploads = uploads(target, disk);
     let refusal = RequestFault::Loads(0);
     let reason = target.last_reason() == Some(&Reason::RequestRefused { fault: refusal });
     (informs, uploads, reason, target.waits())
@@ -150,7 +156,9 @@ fn spoken(alloc: Global, disk: &mut MemDisk) -> (bool, bool, bool, bool)
 fn sessions_go_by_their_rows(rt: HostRuntime) -> Result<(), Fail> {
     let (hw, pos, serial) = (ident(b"HW1")?, ident(b"L")?, ident(b"SN1")?);
     let mut disk = formatted(rt.alloc(), hw, pos, serial)?;
-    assert_eq!(rt; spoken(rt.alloc(), &mut disk), (true, true, true, true));
+    let found = spoken(rt.alloc(), &mut disk);
+    drop(disk);
+    assert_eq!(rt; found, (true, true, true, true));
     Ok(())
 }
 
@@ -166,10 +174,28 @@ fn boots_at(
     requires { IsRunning (state_of disk.old) }
 {
     let interlock = Interlock::new(PermitsAll);
-    let Ok(mut target) = Target::boot(alloc, disk, &interlock, first_port) else {
-        return (false, false, false);
-    };
-    let answered = answers(&mut target, disk, first) && answers(&mut target, disk, second);
+    match Target::boot(alloc, disk, &interlock, first_port) {
+        Ok(mut target) => {
+            let found = answers_both(&mut target, disk, first, second);
+            drop(target);
+            found
+        }
+        refused => {
+            drop(refused);
+            (false, false, false)
+        }
+    }
+}
+
+fn answers_both(
+    target: &mut Target<'_, PermitsAll>,
+    disk: &mut MemDisk,
+    first: Row<'_>,
+    second: Row<'_>,
+) -> (bool, bool, bool)
+    requires { IsRunning (state_of disk.old) }
+{
+    let answered = answers(target, disk, first) && answers(target, disk, second);
     let spent = target.last_reason() == Some(&Reason::PortsSpent);
     (answered, spent, target.last_reason().is_none())
 }
@@ -182,6 +208,7 @@ fn a_session_ends_where_no_port_is_left(rt: HostRuntime) -> Result<(), Fail> {
     let asks = (1024, 59, ASKS_LCI, (65_535, 1024, LCI));
     let acknowledges = (1024, 65_535, ACK_1, NONE);
     let found = boots_at(rt.alloc(), &mut disk, 65_535, asks, acknowledges);
+    drop(disk);
     assert_eq!(rt; found, (true, true, false));
     Ok(())
 }
@@ -193,6 +220,7 @@ fn requests_are_dropped_where_no_port_is_left(rt: HostRuntime) -> Result<(), Fai
     let mut disk = formatted(rt.alloc(), hw, pos, serial)?;
     let asks = (1024, 59, ASKS_LCI, NONE);
     let found = boots_at(rt.alloc(), &mut disk, 65_536, asks, asks);
+    drop(disk);
     assert_eq!(rt; found, (true, false, true));
     Ok(())
 }

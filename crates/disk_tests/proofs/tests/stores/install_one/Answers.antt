@@ -1,5 +1,5 @@
 use Rattle.std.proofs.Common.{refl}
-use Rattle.disk_tests.proofs.tests.stores.installed.Goals as goal
+use Rattle.disk_tests.proofs.tests.stores.install_one.Goals as goal
 
 pub seal-requires-clause-filling : goal.seal-requires-clause-filling
 seal-requires-clause-filling c =
