@@ -204,13 +204,11 @@ fn paste(disk: &mut Vec<u8>, at: usize, end: usize, bytes: &[u8]) -> Result<(), 
     if disk.len() < end {
         disk.resize(end, 0)?;
     }
-    match disk.as_mut_slice().get_mut(at..end) {
-        Some(part) if part.len() == bytes.len() => {
-            part.copy_from_slice(bytes);
-            Ok(())
-        }
-        _ => Err(Refusal::PastEnd),
+    if at > end || end > disk.len() || end - at != bytes.len() {
+        return Err(Refusal::PastEnd);
     }
+    disk[at..end].copy_from_slice(bytes);
+    Ok(())
 }
 
 fn add_hex(

@@ -18,6 +18,14 @@ pub(crate) struct Tally {
     pub(crate) memory: u32,
 }
 
+// What a case runs over.
+#[derive(Drop)]
+struct Fixture {
+    host: MemHost,
+    sink: MemSink,
+    disk: Fused<MemDisk>,
+}
+
 /// Runs a case, and adds what is told of it.
 pub(crate) fn run_case(
     alloc: Global,
@@ -113,18 +121,16 @@ fn run_once(
         return Err(NoMemory);
     };
     let set = inner.fail_at(counted_after(failing.disk, RESTART));
-    let mut disk = Fused::new(inner);
-    let mut host = MemHost::new(alloc);
-    let mut sink = MemSink::new(alloc);
+    let mut fixture = Fixture {
+        host: MemHost::new(alloc),
+        sink: MemSink::new(alloc),
+        disk: Fused::new(inner),
+    };
     let ended = match set {
-        Ok(()) => run_over(
-            alloc, case, failing, &mut host, &mut sink, &mut disk, tally, told,
-        ),
+        Ok(()) => run_over(alloc, case, failing, &mut fixture, tally, told),
         Err(fault) => Err(fault),
     };
-    drop(disk);
-    drop(sink);
-    drop(host);
+    drop(fixture);
     ended
 }
 
@@ -147,27 +153,26 @@ fn run_over(
     alloc: Global,
     case: &Case,
     failing: Failing,
-    host: &mut MemHost,
-    sink: &mut MemSink,
-    disk: &mut Fused<MemDisk>,
+    fixture: &mut Fixture,
     tally: &mut Tally,
     told: &mut Bytes,
 ) -> Result<(), NoMemory> {
-    host.fail_at(counted_after(failing.host, case.files.len()))?;
-    sink.fail_at(failing.sink)?;
-    write_files(alloc, case, failing, host)?;
+    let before = case.files.len();
+    fixture.host.fail_at(counted_after(failing.host, before))?;
+    fixture.sink.fail_at(failing.sink)?;
+    write_files(alloc, case, failing, &mut fixture.host)?;
     if failing.power != 0 {
-        disk.arm(failing.power, failing.pick);
+        fixture.disk.arm(failing.power, failing.pick);
     }
     for command in &case.commands {
         tally.runs = tally.runs.saturating_add(1);
-        run_command(alloc, case, command, host, sink, disk, tally, told)?;
+        run_command(alloc, case, command, fixture, tally, told)?;
     }
     for name in &case.told {
-        tell_host_file(alloc, name.as_str(), host, told)?;
+        tell_host_file(alloc, name.as_str(), &mut fixture.host, told)?;
     }
     for range in &case.ranges {
-        tell_range(alloc, range.at, range.count, disk, told)?;
+        tell_range(alloc, range.at, range.count, &mut fixture.disk, told)?;
     }
     Ok(())
 }
@@ -206,27 +211,29 @@ fn run_command(
     alloc: Global,
     case: &Case,
     command: &Command,
-    host: &mut MemHost,
-    sink: &mut MemSink,
-    disk: &mut Fused<MemDisk>,
+    fixture: &mut Fixture,
     tally: &mut Tally,
     told: &mut Bytes,
 ) -> Result<(), NoMemory> {
     tell_command(command, told)?;
-    if !is_restarted(disk) {
+    if !is_restarted(&mut fixture.disk) {
         return told.extend(b"the disk doesn't restart\n");
     }
-    let before = sink.as_slice().len();
-    let ended = run(alloc, &command.words, host, sink, disk);
+    let before = fixture.sink.as_slice().len();
+    let ended = run(
+        alloc,
+        &command.words,
+        &mut fixture.host,
+        &mut fixture.sink,
+        &mut fixture.disk,
+    );
     let status = ended.status;
     drop(ended);
     if status == OUT_OF_MEMORY {
         tally.memory = tally.memory.saturating_add(1);
     }
-    let output = match sink.as_slice().get(before..) {
-        Some(output) => output,
-        None => b"",
-    };
+    let all = fixture.sink.as_slice();
+    let output = &all[before.min(all.len())..];
     match known_of(alloc, &case.known, status, output)? {
         Some(known) => {
             let line = format!(in alloc; "known {}\n", known.name)?;
