@@ -242,10 +242,7 @@ fn an_arming_outlasts_a_restart(rt: HostRuntime) -> Result<(), Fail> {
 
 // Writes over two openings of a file, the first of which makes it.
 fn write_file(rt: &HostRuntime, name: &str) -> Result<[u8; 8], DiskFault> {
-    let mut disk = FileDisk::new(rt, name);
-    let bytes = write_twice(&mut disk);
-    drop(disk);
-    bytes
+    write_twice(&mut FileDisk::new(rt, name))
 }
 
 fn write_twice<K: Disk>(disk: &mut K) -> Result<[u8; 8], DiskFault>
@@ -260,10 +257,7 @@ fn write_twice<K: Disk>(disk: &mut K) -> Result<[u8; 8], DiskFault>
 
 // The last bytes of a disk in a file, and those from its end on.
 fn ends(rt: &HostRuntime, name: &str) -> Result<[u8; 6], DiskFault> {
-    let mut disk = FileDisk::new(rt, name);
-    let bytes = six(&mut disk);
-    drop(disk);
-    bytes
+    six(&mut FileDisk::new(rt, name))
 }
 
 fn six<K: Disk>(disk: &mut K) -> Result<[u8; 6], DiskFault>
@@ -288,10 +282,7 @@ fn two<K: Disk>(disk: &mut K, at: u32) -> Result<[u8; 2], DiskFault>
 
 // Writes and reads of which most begin where the call before them ended.
 fn back_to_back(rt: &HostRuntime, name: &str) -> Result<[[u8; 2]; 5], DiskFault> {
-    let mut disk = FileDisk::new(rt, name);
-    let bytes = write_on(&mut disk);
-    drop(disk);
-    bytes
+    write_on(&mut FileDisk::new(rt, name))
 }
 
 fn write_on<K: Disk>(disk: &mut K) -> Result<[[u8; 2]; 5], DiskFault>
@@ -306,11 +297,19 @@ fn write_on<K: Disk>(disk: &mut K) -> Result<[[u8; 2]; 5], DiskFault>
     Ok([past_the_end, first, second, two(disk, 6)?, two(disk, 4)?])
 }
 
+fn read_first(rt: &HostRuntime, name: &str) -> Result<[u8; 8], DiskFault> {
+    prefix(&mut FileDisk::new(rt, name))
+}
+
+fn sync_file(rt: &HostRuntime, name: &str) -> Result<(), DiskFault> {
+    FileDisk::new(rt, name).sync()
+}
+
 // What a disk in a file that isn't there reads; whether the file is there after a sync; and what it
 // has after writes over two openings.
 fn made_by_a_write(rt: &HostRuntime, name: &str) -> Result<([u8; 8], bool, [u8; 8]), Fail> {
-    let read = prefix(&mut FileDisk::new(rt, name))?;
-    FileDisk::new(rt, name).sync()?;
+    let read = read_first(rt, name)?;
+    sync_file(rt, name)?;
     let is_there = fs::read(rt, name).is_ok();
     Ok((read, is_there, write_file(rt, name)?))
 }
@@ -319,12 +318,18 @@ fn made_by_a_write(rt: &HostRuntime, name: &str) -> Result<([u8; 8], bool, [u8; 
 fn a_disk_in_a_file_reads_what_was_written(rt: HostRuntime) -> Result<(), Fail> {
     let name = "a_disk_in_a_file.disk";
     let wanted = ([0; 8], false, [1, 0, 0, 5, 6, 0, 0, 0]);
-    assert_eq!(rt; made_by_a_write(&rt, name)?, wanted);
-    assert_eq!(rt; ends(&rt, name)?, [6, 0, 0, 0, 0, 0]);
-    assert_eq!(rt; fs::read(&rt, name)?.as_slice(), [1, 0, 0, 5, 6].as_slice());
+    assert!(rt; made_by_a_write(&rt, name)? == wanted);
+    assert!(rt; ends(&rt, name)? == [6, 0, 0, 0, 0, 0]);
+    assert!(rt; fs::read(&rt, name)?.as_slice() == [1, 0, 0, 5, 6].as_slice());
     fs::remove_file(&rt, name)?;
+    Ok(())
+}
+
+#[test]
+fn a_disk_in_a_file_goes_on_where_it_ended(rt: HostRuntime) -> Result<(), Fail> {
+    let name = "back_to_back.disk";
     let wanted = [[0, 0], [1, 2], [3, 0], [9, 0], [3, 0]];
-    assert_eq!(rt; back_to_back(&rt, name)?, wanted);
+    assert!(rt; back_to_back(&rt, name)? == wanted);
     fs::remove_file(&rt, name)?;
     Ok(())
 }
@@ -360,24 +365,15 @@ fn write_at_a_loss<K: Disk>(disk: &mut K) -> Result<(bool, [u8; 8]), DiskFault>
 #[test]
 fn power_is_lost_over_a_file(rt: HostRuntime) -> Result<(), Fail> {
     let name = "power_is_lost.disk";
-    assert_eq!(rt;
-        lost_over_a_file(&rt, name)?,
-        (true, [0, 0, 0, 0, 5, 0, 0, 0])
-    );
+    assert!(rt; lost_over_a_file(&rt, name)? == (true, [0, 0, 0, 0, 5, 0, 0, 0]));
     fs::remove_file(&rt, name)?;
     Ok(())
 }
 
 #[test]
 fn a_folder_is_no_disk(rt: HostRuntime) -> Result<(), Fail> {
-    assert_eq!(rt;
-        prefix(&mut FileDisk::new(&rt, ".")),
-        Err(DiskFault::Failed)
-    );
-    assert_eq!(rt;
-        write_file(&rt, "no_such_folder/a.disk"),
-        Err(DiskFault::Failed)
-    );
-    assert_eq!(rt; write_file(&rt, "."), Err(DiskFault::Failed));
+    assert!(rt; read_first(&rt, ".") == Err(DiskFault::Failed));
+    assert!(rt; write_file(&rt, "no_such_folder/a.disk") == Err(DiskFault::Failed));
+    assert!(rt; write_file(&rt, ".") == Err(DiskFault::Failed));
     Ok(())
 }

@@ -12,12 +12,13 @@ fn file(alloc: Global, name: &[u8], contents: &[u8]) -> Result<StoredFile, Fail>
 }
 
 fn load(alloc: Global) -> Result<Load, Fail> {
+    let (part, header_name) = (PartText::read(b"ABC41-0000-0001")?, Name::read(b"APP.LUH")?);
     let mut files = List::new(alloc);
     files.push(file(alloc, b"APP.LUH", b"")?)?;
     files.push(file(alloc, b"APP.BIN", b"123456789")?)?;
     Ok(Load {
-        part: PartText::read(b"ABC41-0000-0001")?,
-        header_name: Name::read(b"APP.LUH")?,
+        part,
+        header_name,
         files,
     })
 }
@@ -31,17 +32,25 @@ fn identity() -> Result<Identity, Fail> {
     })
 }
 
-#[test]
-fn lists_loads_with_their_files(rt: HostRuntime) -> Result<(), Fail> {
-    let mut loads = List::new(rt.alloc());
-    loads.push(load(rt.alloc())?)?;
+// The listing of a configuration with that load.
+fn listed(alloc: Global) -> Result<Bytes, Fail> {
+    let identity = identity()?;
+    let mut loads = List::new(alloc);
+    loads.push(load(alloc)?)?;
     let standing = Standing {
-        identity: identity()?,
+        identity,
         bank: 1,
         sequence: 4_294_967_295,
         config: Config { loads },
     };
-    let text = listing_text(rt.alloc(), &standing)?;
+    let text = listing_text(alloc, &standing);
+    drop(standing);
+    Ok(text?)
+}
+
+#[test]
+fn lists_loads_with_their_files(rt: HostRuntime) -> Result<(), Fail> {
+    let text = listed(rt.alloc())?;
     let expected = b"target HW1 L SN1
 bank 1 sequence 4294967295
 loads 1

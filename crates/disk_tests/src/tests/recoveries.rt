@@ -104,7 +104,10 @@ fn a_survey_tells_what_is_active(rt: HostRuntime) -> Result<(), Fail> {
         put(&mut bytes, 4096, &[gate_a]);
         put(&mut bytes, 4608, &[gate_b]);
         put(&mut bytes, 4627, &[sequence_b]);
-        assert_eq!(rt; surveyed(rt.alloc(), &bytes)?, wanted);
+        assert!(rt;
+            surveyed(rt.alloc(), &bytes)? == wanted,
+            "{gate_a} {gate_b}"
+        );
     }
     Ok(())
 }
@@ -135,28 +138,22 @@ fn the_contents_come_with_a_recovery(rt: HostRuntime) -> Result<(), Fail> {
 
 // Why a survey of a disk in a file is refused, if it is.
 fn survey_refusal(rt: &HostRuntime, alloc: Global, name: &str) -> Option<RecoverFault> {
-    let mut disk = FileDisk::new(rt, name);
-    let refusal = survey(alloc, &mut disk).err();
-    drop(disk);
-    refusal
+    survey(alloc, &mut FileDisk::new(rt, name)).err()
 }
 
 // Why its recovery is refused, if it is.
 fn recover_refusal(rt: &HostRuntime, alloc: Global, name: &str) -> Option<RecoverFault> {
-    let mut disk = FileDisk::new(rt, name);
-    let refusal = recover(alloc, &mut disk).err();
-    drop(disk);
-    refusal
+    recover(alloc, &mut FileDisk::new(rt, name)).err()
 }
 
 #[test]
 fn a_missing_file_is_not_formatted(rt: HostRuntime) -> Result<(), Fail> {
     let name = "a_missing_file.disk";
     let found = survey_refusal(&rt, rt.alloc(), name);
-    assert_eq!(rt; found, Some(RecoverFault::NotFormatted(0)));
+    assert!(rt; found == Some(RecoverFault::NotFormatted(0)));
     assert!(rt; fs::read(&rt, name).is_err());
     let found = recover_refusal(&rt, rt.alloc(), ".");
-    assert_eq!(rt; found, Some(RecoverFault::DiskFailed));
+    assert!(rt; found == Some(RecoverFault::DiskFailed));
     Ok(())
 }
 

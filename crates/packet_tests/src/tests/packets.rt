@@ -114,7 +114,11 @@ fn packets_are_read_and_written(rt: HostRuntime) -> Result<(), Fail> {
 
 fn request(alloc: Global) -> Result<Bytes, Fail> {
     let name = Name::read(b"HW1_L.LUI")?;
-    let options = options((Some(1024), None, Some(0)));
+    let options = Options {
+        blksize: Some(1024),
+        timeout: None,
+        tsize: Some(0),
+    };
     Ok(Packet::Rrq { name, options }.encode(alloc)?)
 }
 

@@ -4,8 +4,8 @@ ghost use Rattle.std.specs.Prelude.{◌≡◌, ◌≤◌, length, IfOk};
 ghost use Rattle.tftp_packet.specs.Options.{AreInRange};
 ghost use Rattle.tftp_packet.specs.Packets.{packet_view, IsInRange};
 
-use load_base::{Name, NameFault, NoMemory};
-use std::alloc::AllocError;
+use load_base::{Bytes, Name, NameFault, NoMemory};
+use std::alloc::{AllocError, Global};
 use std::test::Fail;
 use tftp_link::{
     FileBytes, News, Receiving, Sending, Step, arrival_laws, receiving_laws, repeat_laws,
@@ -272,15 +272,10 @@ fn a_file_of_65_535_blocks_arrives_and_one_of_more_is_sent_in_larger_ones(
     let file = file_of(&rt, 524_280)?;
     let larger = whole(524_280, 512);
     for fate in FATES {
-        assert_eq!(rt;
-            in_small_blocks(name, &file, fate),
-            (larger, larger, whole(524_279, 8))
-        );
+        assert!(rt; in_small_blocks(name, &file, fate) == (larger, larger, whole(524_279, 8)));
     }
-    let bytes = Sending::serve(FileBytes::Lent(&file), with_size(8))
-        .first()
-        .encode(rt.alloc())?;
-    assert_eq!(rt; bytes.as_slice(), b"\0\x06tsize\x00524280\0".as_slice());
+    let bytes = served(rt.alloc(), &file, with_size(8))?;
+    assert!(rt; bytes.as_slice() == b"\0\x06tsize\x00524280\0".as_slice());
     Ok(())
 }
 
@@ -415,6 +410,24 @@ fn a_full_block_65_535_is_not_taken(rt: HostRuntime) {
     assert_eq!(rt; received(receiving, b"yxmzz", b".s.ls"), 5);
 }
 
+// The first packet of an end that takes a request to read this file.
+fn served(alloc: Global, file: &[u8], options: Options) -> Result<Bytes, NoMemory>
+    requires file { length file.now ≤ 16777215 }
+    requires options { AreInRange options }
+{
+    let sending = Sending::serve(FileBytes::Lent(file), options);
+    let bytes = sending.first().encode(alloc);
+    drop(sending);
+    bytes
+}
+
+// The first packet of an end that takes a request to write.
+fn received_first(alloc: Global, options: Options) -> Result<Bytes, NoMemory>
+    requires { AreInRange options }
+{
+    Receiving::serve(options).first().encode(alloc)
+}
+
 #[test]
 fn a_request_is_answered_with_the_options_taken_up(rt: HostRuntime) -> Result<(), NoMemory> {
     let asked = Options {
@@ -422,20 +435,12 @@ fn a_request_is_answered_with_the_options_taken_up(rt: HostRuntime) -> Result<()
         timeout: None,
         tsize: Some(0),
     };
-    let bytes = Sending::serve(FileBytes::Lent(b"123456789"), asked)
-        .first()
-        .encode(rt.alloc())?;
-    assert_eq!(rt;
-        bytes.as_slice(),
-        b"\0\x06blksize\x001024\0tsize\x009\0".as_slice()
-    );
-    let bytes = Receiving::serve(asked).first().encode(rt.alloc())?;
-    assert_eq!(rt;
-        bytes.as_slice(),
-        b"\0\x06blksize\x001024\0tsize\x000\0".as_slice()
-    );
-    let bytes = Receiving::serve(NONE).first().encode(rt.alloc())?;
-    assert_eq!(rt; bytes.as_slice(), datagram(b'0'));
+    let bytes = served(rt.alloc(), b"123456789", asked)?;
+    assert!(rt; bytes.as_slice() == b"\0\x06blksize\x001024\0tsize\x009\0".as_slice());
+    let bytes = received_first(rt.alloc(), asked)?;
+    assert!(rt; bytes.as_slice() == b"\0\x06blksize\x001024\0tsize\x000\0".as_slice());
+    let bytes = received_first(rt.alloc(), NONE)?;
+    assert!(rt; bytes.as_slice() == datagram(b'0'));
     receiving_laws();
     arrival_laws();
     sending_laws();
