@@ -77,20 +77,14 @@ pub(crate) fn run_script<'w, K: Power>(
     what_a_disk_holds_can_be_listed();
     let mut link = ScriptLink::new(alloc, script);
     let interlock = Interlock::new(PermitsAll);
-    let driven = drive(alloc, &mut link, disk, set, &interlock);
-    // For the proof: dropped by a call, not by scope.
-    drop(link);
-    match driven {
-        Ok(run) => match tell(alloc, telling, &run) {
-            Ok(answer) => Ok(Answered {
+    match drive(alloc, &mut link, disk, set, &interlock) {
+        Ok(run) => {
+            let answer = tell(alloc, telling, &run)?;
+            Ok(Answered {
                 answer,
                 drive: Some(run),
-            }),
-            Err(fault) => {
-                drop(run);
-                Err(fault)
-            }
-        },
+            })
+        }
         Err(DriveFault::Disk) => Ok(Answered::of(Answer::DiskFault)),
         Err(DriveFault::NoConfig(fault)) => Ok(Answered::of(Answer::NoConfiguration(fault))),
         Err(DriveFault::Memory) => Err(NoMemory),

@@ -16,15 +16,15 @@ use Rattle.loader_cli.proofs.Left.{accepts_permitted, run_leaves}
 use Rattle.loader_cli.proofs.Replayed.{counts_power, held_run, ran_to, refused_to, script_run}
 use Rattle.loader_cli.proofs.replay.run_script.Goals as goal
 
-pub returns-in-Ok-tell-clause-runs : goal.returns-in-Ok-tell-clause-runs
-returns-in-Ok-tell-clause-runs g c =
+pub returns-in-Ok-clause-runs : goal.returns-in-Ok-clause-runs
+returns-in-Ok-clause-runs g c =
     let set = set_view c.args.set.now in
     let run = c.in-Ok.run' in
     let old = g.K.Disk.state c.args.disk.now in
-    let new = g.K.Disk.state c.drive-driven.new.disk in
+    let new = g.K.Disk.state c.drive.new.disk in
     let is : (start : StandingView) (image : Image) → old.reads ≡ Some image → HoldsConfig image start → NeverBoots (steps_of run.trace.items) ⊎ IsSettled old → IsScriptRun set c.args.script start (run_seen run)
-    = λ start image told holds all. script_run set c.args.script start (run_seen run) c.drive-driven.new.link (c.what_a_disk_holds_can_be_listed.ensures.fits image start holds) c.in-Ok.ensures.ordered
-    (subst (λ (began : LinkState). IsRun (setting_of set start) began c.drive-driven.new.link (steps_of run.trace.items) (run_seen run).sessions (run_seen run).standing) c.new-link.ensures
+    = λ start image told holds all. script_run set c.args.script start (run_seen run) c.drive.new.link (c.what_a_disk_holds_can_be_listed.ensures.fits image start holds) c.in-Ok.ensures.ordered
+    (subst (λ (began : LinkState). IsRun (setting_of set start) began c.drive.new.link (steps_of run.trace.items) (run_seen run).sessions (run_seen run).standing) c.new-link.ensures
     (c.in-Ok.ensures.run (setting_of set start) image (record { media = refl; accepts = λ fields answer said. said.says ∙ ap permits said.same; start = holds }) told all)) in
     let runs : RunsScript set c.args.script old new (run_seen run) = λ start image told holds. (
       is start image told holds,
@@ -33,11 +33,11 @@ returns-in-Ok-tell-clause-runs g c =
     ) in
     let began : c.new-link.result.given ≡ [] = ap (λ (l : LinkState). l.given) c.new-link.ensures in
     let any : IsAnyRun set old new (run_seen run) = record {
-      counts = counts_power (steps_of run.trace.items) run.standing old new _ _ began c.in-Ok.ensures.stops c.in-Ok.ensures.told.given c.drive-driven.ensures.arms;
+      counts = counts_power (steps_of run.trace.items) run.standing old new _ _ began c.in-Ok.ensures.stops c.in-Ok.ensures.told.given c.drive.ensures.arms;
       loader = c.in-Ok.ensures.loader;
       ordered = c.in-Ok.ensures.ordered;
     } in
-    ran_to c.args.telling set c.args.script old new run _ _ c.in-Ok.ensures.stood runs c.in-Ok.ensures.standing c.in-Ok.ensures.stops any c.in-Ok-tell.ensures
+    ran_to c.args.telling set c.args.script old new run _ _ c.in-Ok.ensures.stood runs c.in-Ok.ensures.standing c.in-Ok.ensures.stops any c.in_ok-answer-in-Ok.ensures
 
 pub returns-in-Err-Disk-clause-runs : goal.returns-in-Err-Disk-clause-runs
 returns-in-Err-Disk-clause-runs g c =
@@ -50,32 +50,32 @@ pub returns-in-Err-NoConfig-clause-runs : goal.returns-in-Err-NoConfig-clause-ru
 returns-in-Err-NoConfig-clause-runs g c =
     let fault = c.in-Err-NoConfig.fault in
     rw (c.of-in-Err-NoConfig.ensures.answer, c.of-in-Err-NoConfig.ensures.drive)
-    (subst (λ (f : RecoverFault). RunsTo c.args.telling (set_view c.args.set.now) c.args.script (g.K.Disk.state c.args.disk.now) (g.K.Disk.state c.drive-driven.new.disk) None 8 (no_configuration f))
+    (subst (λ (f : RecoverFault). RunsTo c.args.telling (set_view c.args.set.now) c.args.script (g.K.Disk.state c.args.disk.now) (g.K.Disk.state c.drive.new.disk) None 8 (no_configuration f))
     (sym c.in-Err-NoConfig.fault-is)
-    (refused_to c.args.telling (set_view c.args.set.now) c.args.script (g.K.Disk.state c.args.disk.now) (g.K.Disk.state c.drive-driven.new.disk) _ _ fault
+    (refused_to c.args.telling (set_view c.args.set.now) c.args.script (g.K.Disk.state c.args.disk.now) (g.K.Disk.state c.drive.new.disk) _ _ fault
     (rw c.in-Err-NoConfig.field-0-is at c.in-Err-NoConfig.ensures.no_config)))
 
-pub returns-in-Ok-tell-clause-leaves : goal.returns-in-Ok-tell-clause-leaves
-returns-in-Ok-tell-clause-leaves g c =
-    run_leaves (set_view c.args.set.now) (g.K.Disk.state c.args.disk.now) (g.K.Disk.state c.drive-driven.new.disk) (λ start image told holds settled.
-    c.drive-driven.ensures.leaves (setting_of (set_view c.args.set.now) start) image (record { media = refl; accepts = λ fields answer said. said.says ∙ ap permits said.same; start = holds }) told settled accepts_permitted)
+pub returns-in-Ok-clause-leaves : goal.returns-in-Ok-clause-leaves
+returns-in-Ok-clause-leaves g c =
+    run_leaves (set_view c.args.set.now) (g.K.Disk.state c.args.disk.now) (g.K.Disk.state c.drive.new.disk) (λ start image told holds settled.
+    c.drive.ensures.leaves (setting_of (set_view c.args.set.now) start) image (record { media = refl; accepts = λ fields answer said. said.says ∙ ap permits said.same; start = holds }) told settled accepts_permitted)
 
-pub returns-in-Err-tell-clause-leaves : goal.returns-in-Err-tell-clause-leaves
-returns-in-Err-tell-clause-leaves g c =
-    run_leaves (set_view c.args.set.now) (g.K.Disk.state c.args.disk.now) (g.K.Disk.state c.drive-driven.new.disk) (λ start image told holds settled.
-    c.drive-driven.ensures.leaves (setting_of (set_view c.args.set.now) start) image (record { media = refl; accepts = λ fields answer said. said.says ∙ ap permits said.same; start = holds }) told settled accepts_permitted)
+pub returns-in_err-answer-in-Ok-clause-leaves : goal.returns-in_err-answer-in-Ok-clause-leaves
+returns-in_err-answer-in-Ok-clause-leaves g c =
+    run_leaves (set_view c.args.set.now) (g.K.Disk.state c.args.disk.now) (g.K.Disk.state c.drive.new.disk) (λ start image told holds settled.
+    c.drive.ensures.leaves (setting_of (set_view c.args.set.now) start) image (record { media = refl; accepts = λ fields answer said. said.says ∙ ap permits said.same; start = holds }) told settled accepts_permitted)
 
 pub returns-in-Err-Disk-clause-leaves : goal.returns-in-Err-Disk-clause-leaves
 returns-in-Err-Disk-clause-leaves g c =
-    run_leaves (set_view c.args.set.now) (g.K.Disk.state c.args.disk.now) (g.K.Disk.state c.drive-driven.new.disk) (λ start image told holds settled.
-    c.drive-driven.ensures.leaves (setting_of (set_view c.args.set.now) start) image (record { media = refl; accepts = λ fields answer said. said.says ∙ ap permits said.same; start = holds }) told settled accepts_permitted)
+    run_leaves (set_view c.args.set.now) (g.K.Disk.state c.args.disk.now) (g.K.Disk.state c.drive.new.disk) (λ start image told holds settled.
+    c.drive.ensures.leaves (setting_of (set_view c.args.set.now) start) image (record { media = refl; accepts = λ fields answer said. said.says ∙ ap permits said.same; start = holds }) told settled accepts_permitted)
 
 pub returns-in-Err-NoConfig-clause-leaves : goal.returns-in-Err-NoConfig-clause-leaves
 returns-in-Err-NoConfig-clause-leaves g c =
-    run_leaves (set_view c.args.set.now) (g.K.Disk.state c.args.disk.now) (g.K.Disk.state c.drive-driven.new.disk) (λ start image told holds settled.
-    c.drive-driven.ensures.leaves (setting_of (set_view c.args.set.now) start) image (record { media = refl; accepts = λ fields answer said. said.says ∙ ap permits said.same; start = holds }) told settled accepts_permitted)
+    run_leaves (set_view c.args.set.now) (g.K.Disk.state c.args.disk.now) (g.K.Disk.state c.drive.new.disk) (λ start image told holds settled.
+    c.drive.ensures.leaves (setting_of (set_view c.args.set.now) start) image (record { media = refl; accepts = λ fields answer said. said.says ∙ ap permits said.same; start = holds }) told settled accepts_permitted)
 
 pub returns-in-Err-Memory-clause-leaves : goal.returns-in-Err-Memory-clause-leaves
 returns-in-Err-Memory-clause-leaves g c =
-    run_leaves (set_view c.args.set.now) (g.K.Disk.state c.args.disk.now) (g.K.Disk.state c.drive-driven.new.disk) (λ start image told holds settled.
-    c.drive-driven.ensures.leaves (setting_of (set_view c.args.set.now) start) image (record { media = refl; accepts = λ fields answer said. said.says ∙ ap permits said.same; start = holds }) told settled accepts_permitted)
+    run_leaves (set_view c.args.set.now) (g.K.Disk.state c.args.disk.now) (g.K.Disk.state c.drive.new.disk) (λ start image told holds settled.
+    c.drive.ensures.leaves (setting_of (set_view c.args.set.now) start) image (record { media = refl; accepts = λ fields answer said. said.says ∙ ap permits said.same; start = holds }) told settled accepts_permitted)
