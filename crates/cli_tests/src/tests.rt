@@ -6,6 +6,7 @@ ghost use Rattle.std.specs.Prelude.{◌≡◌, false};
 use disk_model::{FileDisk, Fused, MemDisk};
 use load_base::{Bytes, MemSink, StdHost, StdSink};
 use loader_cli::run;
+use own_unit::{Flash, FlashDisk};
 use std::alloc::Global;
 use std::fs;
 use std::test::Fail;
@@ -213,5 +214,54 @@ fn sets_over_the_real_host(rt: HostRuntime) -> Result<(), Fail> {
         said_over_the_system(&rt, words, &mut said)?;
         assert_eq!(rt; said.as_slice(), wanted);
     }
+    Ok(())
+}
+
+// A flash in memory, on which a disk that was formatted stands.
+#[derive(Drop)]
+struct Ram {
+    bytes: [u8; DISK],
+}
+
+impl Flash for Ram {
+    fn read(&mut self, at: u32, buf: &mut [u8]) -> bool {
+        buf.fill(0);
+        let at = at as usize;
+        if at < DISK && buf.len() <= DISK - at {
+            buf.copy_from_slice(&self.bytes[at..at + buf.len()]);
+        }
+        true
+    }
+
+    fn program(&mut self, _at: u32, _bytes: &[u8]) -> bool {
+        false
+    }
+
+    fn flush(&mut self) -> bool {
+        true
+    }
+}
+
+// What `list` says over a flash of one's own.
+fn said_over_a_flash(rt: &HostRuntime, said: &mut Bytes) -> Result<(), Fail> {
+    let alloc = rt.alloc();
+    let words = words_of(alloc, &["list"])?;
+    let (mut host, mut out) = (StdHost::new(rt), MemSink::new(alloc));
+    let mut disk = Fused::new(FlashDisk::new(Ram { bytes: formatted() }));
+    let ended = run(alloc, &words, &mut host, &mut out, &mut disk);
+    let status = ended.status;
+    drop(ended);
+    drop(disk);
+    said.extend(&[b'0' + status % 10, b' '])?;
+    said.extend(out.as_slice())?;
+    Ok(())
+}
+
+#[test]
+fn a_flash_of_ones_own_is_listed(rt: HostRuntime) -> Result<(), Fail> {
+    let mut said = Bytes::new(rt.alloc());
+    said_over_a_flash(&rt, &mut said)?;
+    let wanted = b"0 target HW1 L SN1\nbank 0 sequence 1\nloads 0\n";
+    assert_eq!(rt; said.as_slice(), wanted.as_slice());
     Ok(())
 }

@@ -42,6 +42,7 @@ impl<F: Flash> FlashDisk<F> {
     /// The disk over this driver.
     pub fn new(flash: F) -> FlashDisk<F>
         ensures running { (state_of result).stopped ≡ false }
+        ensures steady { (state_of result).steady ≡ true }
         ensures no_faults { ((state_of result).faults ≡ 0) × ((state_of result).refusals ≡ 0) }
     {
         FlashDisk {
