@@ -159,7 +159,8 @@ impl List<u8> {
     /// Adds all the bytes at the end, or none.
     pub fn extend(&mut self, bytes: &[u8]) -> Result<(), NoMemory>
         ensures ok { OnOk result (self.new.items ≡ self.old.items ++ bytes.now) }
-        ensures err { OnErr result (self.new.items ≡ self.old.items) }
+        ensures err { OnErr result ((self.new.items ≡ self.old.items)
+            × (self.old.spare ≤ self.new.spare)) }
         ensures spare { self.old.spare ≤ self.new.spare + length bytes.now }
         ensures has_spare { length bytes.now ≤ self.old.spare → IsOk result }
     {

@@ -11,20 +11,32 @@ const UNFINISHED: &str = "/.new";
 // Linux has no longer paths.
 const LONGEST_PATH: usize = 4096;
 
+// The folder that the last file was written into. It is there, and its name is on the medium.
+pub(crate) type LastFolder = ArrayString<LONGEST_PATH>;
+
 // Gives the file of this name these bytes. They are on the medium, and the name too, once it answers
 // Ok; before that the name has its old file, whole, or none, or the new one. Folders that are missing
 // are made. A link of that name is replaced and never followed; what is neither a file nor a link, as
 // a FIFO, is refused.
 pub(crate) fn replace_file<R: Files<File = File>>(
     rt: &R,
+    last: &mut LastFolder,
     name: &str,
     bytes: &[u8],
 ) -> io::Result<()> {
     match name.rsplit_once('/') {
         Some(("", _)) => replace_locked(rt, "/", name, bytes),
         Some((folder, _)) => {
-            make_folders(rt, folder)?;
-            replace_locked(rt, folder, name, bytes)
+            if last.as_str() != folder {
+                make_folders(rt, folder)?;
+            }
+            let replaced = replace_locked(rt, folder, name, bytes);
+            last.clear();
+            if replaced.is_ok() {
+                // A path too long to be kept here is looked for again.
+                let _ = last.try_push_str(folder);
+            }
+            replaced
         }
         // The current folder isn't locked: whoever started this run may have its lock.
         None => replace(rt, ".", name, bytes),

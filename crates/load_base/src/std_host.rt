@@ -4,7 +4,7 @@ ghost use Rattle.load_base.specs.Host.{WritesFile};
 ghost use Rattle.load_base.specs.Sink.{HasWriteCause};
 
 use crate::host::{Host, LONGEST_FILE, ReadFault};
-use crate::replacing::replace_file;
+use crate::replacing::{LastFolder, replace_file};
 use crate::{Bytes, FaultCount, NoMemory, WriteFault, read_some};
 use std::alloc::Global;
 use std::fs::{self, File};
@@ -23,6 +23,7 @@ const PIECE: usize = 8192;
 pub struct StdHost<'r, R: Files<File = File>> {
     rt: &'r R,
     faults: FaultCount,
+    last: LastFolder,
 }
 
 impl<'r, R: Files<File = File>> StdHost<'r, R> {
@@ -33,6 +34,7 @@ impl<'r, R: Files<File = File>> StdHost<'r, R> {
         StdHost {
             rt,
             faults: FaultCount::new(),
+            last: LastFolder::new(),
         }
     }
 }
@@ -60,7 +62,7 @@ impl<R: Files<File = File>> Host for StdHost<'_, R> {
         ensures cause { HasWriteCause self.old.faults self.new.faults result }
         ensures never_memory { ¬ IsErrOf result WriteFault.Memory }
     {
-        match write_file(self.rt, name, bytes) {
+        match write_file(self.rt, &mut self.last, name, bytes) {
             Ok(()) => Ok(()),
             Err(_) => {
                 self.faults.rise();
@@ -115,9 +117,14 @@ fn read_whole<F: Read>(file: &mut F, alloc: Global) -> Result<Bytes, ReadFault>
     Err(ReadFault::TooLong)
 }
 
-fn write_file<R: Files<File = File>>(rt: &R, name: &[u8], bytes: &[u8]) -> io::Result<()> {
+fn write_file<R: Files<File = File>>(
+    rt: &R,
+    last: &mut LastFolder,
+    name: &[u8],
+    bytes: &[u8],
+) -> io::Result<()> {
     let Ok(name) = str::from_utf8(name) else {
         return Err(io::Error::from(ErrorKind::InvalidInput));
     };
-    replace_file(rt, name, bytes)
+    replace_file(rt, last, name, bytes)
 }
