@@ -1,19 +1,16 @@
 -- What became of the datagrams that a link was posted.
-use Rattle.std.proofs.Common.{◌≡◌, ◌≢◌, ℕ, zero, suc, ◌+◌, ◌-◌, ◌<◌, ◌≤◌, ◌==◌, Bool, true, false, not, cond, nat_lt, ◌&&◌, ◌||◌, List, [], ◌∷◌, ◌++◌, filter, length, get_or, slice_get, Option, Some, None, refl, sym, ap, subst, ◌∙◌, arith, if◌then◌else◌}
+use Rattle.std.proofs.Common.{◌≡◌, ◌≢◌, ℕ, zero, suc, ◌+◌, ◌-◌, ◌<◌, ◌≤◌, ◌==◌, Bool, true, false, not, cond, nat_lt, ◌&&◌, ◌||◌, List, [], ◌∷◌, ◌++◌, filter, length, map, reverse, get_or, None, refl, sym, ap, subst, ◌∙◌, arith, if◌then◌else◌}
 use Rattle.std.specs.List.{range_with_len, slice_set}
 use Rattle.std.proofs.lemmas.Bool.{eqb-true, eqb-false, ltb-true, ltb-false}
-use Rattle.std.proofs.lemmas.List.{get_or-set_same, get_or-set_other, get_or_past, length-append, length-set}
-use Rattle.exchange_trace.specs.Happenings.{HappeningView}
-use Rattle.exchange_trace.specs.Posts.{delivers, is_undelivered, loses, undelivered, was_delivered, was_lost}
+use Rattle.std.proofs.lemmas.List.{get_or-set_same, get_or-set_other, get_or_past, length-append, length-set, map-append, reverse-append}
+use Rattle.exchange_trace.specs.Happenings as happenings
+use Rattle.exchange_trace.specs.Happenings.{HappeningView, happening_view}
+use Rattle.exchange_trace.specs.declared.trace.Happening.{Happening}
+use Rattle.exchange_trace.specs.Posts.{is_undelivered, undelivered, was_delivered, was_lost}
 use Rattle.exchange_trace.specs.Following.{Scene, delivery, delivery_of_first, least_delivery}
-use Rattle.link_net.specs.declared.given.Given.{Given}
-use Rattle.link_net.specs.declared.given.Given.TheVariants as givens
-use Rattle.link_net.specs.declared.line.Line.{Line}
-use Rattle.link_net.specs.declared.line.Line.TheVariants as lines
 use Rattle.link_net.specs.declared.mail.Fate.{Fate}
 use Rattle.link_net.specs.declared.mail.Fate.TheVariants.{Undelivered, Lost, Delivered}
-use Rattle.link_net.specs.Givens.{given_view, said_at}
-use Rattle.link_net.specs.Mail.{IsKept, NamesPosted, after_loss, fate_of, fates_after}
+use Rattle.link_net.specs.Mail.{IsKept, NamesPosted, after_loss, fate_of, fates_after, given_in}
 
 -- ---- a datagram is posted
 
@@ -76,20 +73,9 @@ lost_one fates given n k kept low true e =
     rw at (ap after_loss kept)
 lost_one fates given n k kept low false e = kept
 
--- what a line says by itself delivers and loses nothing
-said_names : (o : Option Line) (n : ℕ) → (delivers n (said_at o) ≡ false) × (loses n (said_at o) ≡ false)
-said_names None n = (refl, refl)
-said_names (Some (lines.Info hw pos)) n = (refl, refl)
-said_names (Some (lines.Upload hw pos parts)) n = (refl, refl)
-said_names (Some (lines.Give number)) n = (refl, refl)
-said_names (Some (lines.Lose number)) n = (refl, refl)
-said_names (Some (lines.Next count)) n = (refl, refl)
-said_names (Some (lines.Tick side)) n = (refl, refl)
-said_names (Some (lines.Inject datagram)) n = (refl, refl)
-said_names (Some (lines.Power calls pick)) n = (refl, refl)
-said_names (Some lines.Boot) n = (refl, refl)
-said_names (Some (lines.Blksize size)) n = (refl, refl)
-said_names (Some lines.Finish) n = (refl, refl)
+-- one happening more
+pub one_given : (log : List (Happening × Unit {0})) (given : Happening) → given_in (log ++ (given, tt) ∷ []) ≡ happening_view given ∷ given_in log
+one_given log given = ap reverse (map-append (λ entry. happening_view entry.0) log ((given, tt) ∷ [])) ∙ reverse-append (map (λ entry. happening_view entry.0) log) (happening_view given ∷ [])
 
 -- what is kept once a happening was marked, and before the first undelivered datagram is looked for again
 record IsMarked (count : ℕ) (fates : List Fate) (least : ℕ) (given : List HappeningView) : Type 0 where
@@ -97,9 +83,9 @@ record IsMarked (count : ℕ) (fates : List Fate) (least : ℕ) (given : List Ha
   kept : (k : ℕ) → get_or fates k Undelivered ≡ fate_of given (k + 1)
   before : (k : ℕ) → k < least → is_undelivered given (k + 1) ≡ false
 
-marked : (script : List Line) (count : ℕ) (fates : List Fate) (least : ℕ) (given : List HappeningView) (g : Given) → IsKept count fates least given → NamesPosted count g
-    → IsMarked count (fates_after fates g) least (given_view script g ∷ given)
-marked script count fates least given (givens.Delivered side n) is named =
+marked : (count : ℕ) (fates : List Fate) (least : ℕ) (given : List HappeningView) (g : HappeningView) → IsKept count fates least given → NamesPosted count g
+    → IsMarked count (fates_after fates g) least (g ∷ given)
+marked count fates least given (happenings.Delivered side n) is named =
     let counted = is.counted in
     let low = named.0 in
     let high = named.1 in
@@ -108,7 +94,7 @@ marked script count fates least given (givens.Delivered side n) is named =
       kept = λ k. set_one fates n k Delivered low (omega arith) ∙ (ap (λ fate. if n == (k + 1) then Delivered else fate) (is.kept k) ∙ sym (delivered_now (n == (k + 1)) given (k + 1)));
       before = λ k lt. is_passed (n == (k + 1)) false (was_delivered (k + 1) given) (was_lost (k + 1) given) (is.before k lt);
     }
-marked script count fates least given (givens.Lost n) is named =
+marked count fates least given (happenings.Lost n) is named =
     let counted = is.counted in
     let low = named.0 in
     let high = named.1 in
@@ -118,14 +104,14 @@ marked script count fates least given (givens.Lost n) is named =
           ∙ (lost_one fates given n k (is.kept k) low (n == (k + 1)) refl ∙ sym (lost_now (n == (k + 1)) (was_delivered (k + 1) given) (was_lost (k + 1) given)));
       before = λ k lt. is_passed false (n == (k + 1)) (was_delivered (k + 1) given) (was_lost (k + 1) given) (is.before k lt);
     }
-marked script count fates least given (givens.Ticked side) is named = record { counted = is.counted; kept = is.kept; before = is.before }
-marked script count fates least given (givens.Said at) is named =
-    record {
-      counted = is.counted;
-      kept = λ k. let none = said_names (slice_get script at) (k + 1) in rw (none.0, none.1) (is.kept k);
-      before = λ k lt. let none = said_names (slice_get script at) (k + 1) in rw (none.0, none.1) (is.before k lt);
-    }
-marked script count fates least given givens.Ended is named = record { counted = is.counted; kept = is.kept; before = is.before }
+marked count fates least given (happenings.Injected d) is named = record { counted = is.counted; kept = is.kept; before = is.before }
+marked count fates least given (happenings.Ticked side) is named = record { counted = is.counted; kept = is.kept; before = is.before }
+marked count fates least given (happenings.Size_told size) is named = record { counted = is.counted; kept = is.kept; before = is.before }
+marked count fates least given (happenings.Power_cut calls pick) is named = record { counted = is.counted; kept = is.kept; before = is.before }
+marked count fates least given happenings.Booted is named = record { counted = is.counted; kept = is.kept; before = is.before }
+marked count fates least given (happenings.Info_started hw pos) is named = record { counted = is.counted; kept = is.kept; before = is.before }
+marked count fates least given (happenings.Upload_started hw pos parts) is named = record { counted = is.counted; kept = is.kept; before = is.before }
+marked count fates least given happenings.Ended is named = record { counted = is.counted; kept = is.kept; before = is.before }
 
 -- ---- the least undelivered datagram
 
@@ -151,33 +137,33 @@ other_fate true y e = refl
 
 -- where the first undelivered datagram is looked for from the one that was it before, those that are passed over aren't
 -- undelivered
-pub keeps_given : (script : List Line) (count : ℕ) (fates : List Fate) (least at : ℕ) (given : List HappeningView) (g : Given) → IsKept count fates least given → NamesPosted count g
+pub keeps_given : (count : ℕ) (fates : List Fate) (least at : ℕ) (given : List HappeningView) (g : HappeningView) → IsKept count fates least given → NamesPosted count g
     → at ≤ count → ((k : ℕ) → least ≤ k → k < at → get_or (fates_after fates g) k Undelivered ≢ Undelivered) → get_or (fates_after fates g) at Undelivered ≡ Undelivered
-    → IsKept count (fates_after fates g) at (given_view script g ∷ given)
-keeps_given script count fates least at given g is named le passed found =
+    → IsKept count (fates_after fates g) at (g ∷ given)
+keeps_given count fates least at given g is named le passed found =
     record { counted = now.counted; kept = now.kept; within = le; before = λ k lt. by k lt (nat_lt k least) refl; found = found }
   where
-    now : IsMarked count (fates_after fates g) least (given_view script g ∷ given)
-    now = marked script count fates least given g is named
+    now : IsMarked count (fates_after fates g) least (g ∷ given)
+    now = marked count fates least given g is named
 
-    by : (k : ℕ) → k < at → (b : Bool) → nat_lt k least ≡ b → is_undelivered (given_view script g ∷ given) (k + 1) ≡ false
+    by : (k : ℕ) → k < at → (b : Bool) → nat_lt k least ≡ b → is_undelivered (g ∷ given) (k + 1) ≡ false
     by k lt true e = now.before k (ltb-true _ _ e)
     by k lt false e =
-        other_fate (was_delivered (k + 1) (given_view script g ∷ given)) (was_lost (k + 1) (given_view script g ∷ given)) (λ undelivered. passed k (ltb-false _ _ e) lt (now.kept k ∙ undelivered))
+        other_fate (was_delivered (k + 1) (g ∷ given)) (was_lost (k + 1) (g ∷ given)) (λ undelivered. passed k (ltb-false _ _ e) lt (now.kept k ∙ undelivered))
 
 -- the same of a slice of the fates, as the code looks at it
-pub next_of : (script : List Line) (count : ℕ) (fates slice : List Fate) (least at : ℕ) (given : List HappeningView) (g : Given) → IsKept count fates least given → NamesPosted count g
+pub next_of : (count : ℕ) (fates slice : List Fate) (least at : ℕ) (given : List HappeningView) (g : HappeningView) → IsKept count fates least given → NamesPosted count g
     → slice ≡ fates_after fates g → at ≤ length slice → ((k : ℕ) → least ≤ k → k < at → get_or slice k Undelivered ≢ Undelivered)
-    → (at < length slice → get_or slice at Undelivered ≡ Undelivered) → IsKept count (fates_after fates g) at (given_view script g ∷ given)
-next_of script count fates slice least at given g is named same le passed found =
-    keeps_given script count fates least at given g is named (omega (arith, le, ap length same, counted)) (λ k low high. subst (λ fs. get_or fs k Undelivered ≢ Undelivered) same (passed k low high))
+    → (at < length slice → get_or slice at Undelivered ≡ Undelivered) → IsKept count (fates_after fates g) at (g ∷ given)
+next_of count fates slice least at given g is named same le passed found =
+    keeps_given count fates least at given g is named (omega (arith, le, ap length same, counted)) (λ k low high. subst (λ fs. get_or fs k Undelivered ≢ Undelivered) same (passed k low high))
     (subst (λ fs. get_or fs at Undelivered ≡ Undelivered) same (by (nat_lt at (length slice)) refl))
   where
     counted : length (fates_after fates g) ≡ count
     counted = now.counted
       where
-        now : IsMarked count (fates_after fates g) least (given_view script g ∷ given)
-        now = marked script count fates least given g is named
+        now : IsMarked count (fates_after fates g) least (g ∷ given)
+        now = marked count fates least given g is named
 
     by : (b : Bool) → nat_lt at (length slice) ≡ b → get_or slice at Undelivered ≡ Undelivered
     by true e = found (ltb-true _ _ e)

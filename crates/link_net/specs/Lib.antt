@@ -1,7 +1,6 @@
 pub mod Lines
 pub mod Reading
 pub mod Links
-pub mod Givens
 pub mod Mail
 pub mod Plans
 pub mod FailLink

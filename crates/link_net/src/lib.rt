@@ -3,7 +3,6 @@
 #![tactic(auto)]
 
 mod fail_link;
-mod given;
 pub mod laws;
 mod line;
 mod link;
@@ -17,6 +16,6 @@ mod words;
 
 pub use exchange_trace::{Datagram, Happening, ScriptFault, Side};
 pub use fail_link::FailLink;
-pub use link::{Link, LinkFault};
+pub use link::{Link, LinkFault, Waits};
 pub use script::Script;
 pub use script_link::ScriptLink;

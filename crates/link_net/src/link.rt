@@ -14,6 +14,13 @@ pub enum LinkFault {
     Memory,
 }
 
+/// Which sides have a live session.
+#[derive(Clone, Copy, Debug, PartialEq, Eq)]
+pub struct Waits {
+    pub loader: bool,
+    pub target: bool,
+}
+
 /// A link between loader and target, which may deliver datagrams in any order, again and again, or
 /// lose them. It delivers to a side only what was posted to it (docs/EXCHANGE.md, "Links").
 pub trait Link {

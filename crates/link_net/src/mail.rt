@@ -2,18 +2,16 @@
 ghost use Rattle.std.specs.Prelude.{◌≡◌, ◌≢◌, ◌↔◌, ◌+◌, ◌<◌, ◌≤◌, ◌∷◌, ◌++◌, [], ℕ, length, Bool};
 ghost use Rattle.std.specs.Prelude.{IsTrue, option_map, slice_get, IfSome, OnSome, OnOk, OnErr};
 ghost use Rattle.std.specs.List.{slice_index_or};
-ghost use Rattle.exchange_trace.specs.Happenings.{datagram_view, other as other_side};
+ghost use Rattle.exchange_trace.specs.Happenings.{Delivered, datagram_view, happening_view};
+ghost use Rattle.exchange_trace.specs.Happenings.{other as other_side};
 ghost use Rattle.exchange_trace.specs.Following.{delivery as delivery_of, least_delivery};
 ghost use Rattle.exchange_trace.specs.Following.{loss as loss_of};
 ghost use Rattle.exchange_trace.specs.Posts.{numbered};
 ghost use Rattle.link_net.specs.declared.mail.Fate.TheVariants.{Undelivered};
-ghost use Rattle.link_net.specs.Givens.{given_view};
-ghost use Rattle.link_net.specs.Mail.{NamesKnown, NamesPosted, after_loss, fates_after, scene_in};
+ghost use Rattle.link_net.specs.Mail.{NamesPosted, after_loss, fates_after, scene_in};
 ghost use Rattle.link_net.specs.Mail.{fate_of, with_given};
 
-use crate::given::Given;
-use crate::line::Line;
-use exchange_trace::{Datagram, Side};
+use exchange_trace::{Datagram, Happening, Side};
 use http_server::Log;
 use load_base::{List, NoMemory};
 use std::alloc::Global;
@@ -29,65 +27,51 @@ pub enum Fate {
     Delivered,
 }
 
-/// The datagrams that were posted, with what became of each, and all that was given by a script
-/// with these lines. The least undelivered one is found without a search. Of a datagram its side
-/// alone is kept: what it carries is kept by who posted it.
+/// The datagrams that were posted, with what became of each. The least undelivered one is found
+/// without a search. Of a datagram its side alone is kept: what it carries is kept by who posted it.
 #[derive(Drop)]
 pub struct Mail {
-    lines: List<Line>,
     /// The side that posted each datagram.
     sides: List<Side>,
     fates: Vec<Fate>,
     /// The index of the first undelivered datagram, or how many there are.
     least: usize,
-    given: List<Given>,
-    /// The datagrams, for proofs alone: it takes no memory.
+    /// For proofs alone: what was posted and given, which takes no memory.
     posted: Log<Datagram, ()>,
+    given: Log<Happening, ()>,
 }
 
 impl Model for Mail {
-    ghost use Rattle.std.specs.Prelude.{map, reverse};
-    ghost use Rattle.link_net.specs.Givens.{given_view};
-    ghost use Rattle.link_net.specs.Mail.{KeepsMail, MailView, logged};
+    ghost use Rattle.link_net.specs.Mail.{KeepsMail, MailView, given_in, logged};
 
     ghost Value = { MailView };
 
     ghost view = { λ mail. record {
-      lines = mail.lines.items;
       posted = logged mail.posted.items;
-      given = reverse (map (given_view mail.lines.items) mail.given.items);
+      given = given_in mail.given.items;
     } };
 
     ghost invariant = { λ mail. KeepsMail mail.posted.items mail.sides.items mail.fates.items
-        mail.least (reverse (map (given_view mail.lines.items) mail.given.items)) };
+        mail.least (given_in mail.given.items) };
 }
 
 impl Mail {
     /// Nothing was posted, and nothing given.
-    pub fn new(alloc: Global, lines: List<Line>) -> Mail
-        ensures { result ≡ record { lines = lines.items; posted = []; given = [] } }
+    pub fn new(alloc: Global) -> Mail
+        ensures { result ≡ record { posted = []; given = [] } }
     {
         Mail {
-            lines,
             sides: List::new(alloc),
             fates: Vec::new(alloc),
             least: 0,
-            given: List::new(alloc),
             posted: Log::new(),
+            given: Log::new(),
         }
-    }
-
-    /// The lines of the script.
-    pub fn lines(&self) -> &[Line]
-        ensures { result.now ≡ self.now.lines }
-    {
-        self.lines.as_slice()
     }
 
     /// Takes a datagram, or nothing.
     pub fn post(&mut self, datagram: Datagram) -> Result<(), NoMemory>
         ensures ok { OnOk result (self.new ≡ record {
-          lines = self.old.lines;
           posted = self.old.posted ++ datagram_view datagram ∷ [];
           given = self.old.given;
         }) }
@@ -101,33 +85,36 @@ impl Mail {
     }
 
     /// The delivery of the datagram of this number, if it was posted.
-    pub fn delivery(&self, number: u64) -> Option<Given>
-        ensures value { (loader target : Bool) → option_map (given_view self.now.lines) result
+    pub fn delivery(&self, number: u64) -> Option<Happening>
+        ensures value { (loader target : Bool) → option_map happening_view result
             ≡ delivery_of (scene_in self.now loader target) number }
-        ensures named { IfSome result (λ given. NamesKnown self.now given) }
+        ensures named { IfSome result (λ given.
+            NamesPosted (length self.now.posted) (happening_view given)) }
     {
         let side = self.side_of(number)?;
-        Some(Given::Delivered(other(side), number))
+        Some(delivered(other(side), number))
     }
 
     /// The loss of the datagram of this number, if it was posted and not delivered.
-    pub fn loss(&self, number: u64) -> Option<Given>
-        ensures value { (loader target : Bool) → option_map (given_view self.now.lines) result
+    pub fn loss(&self, number: u64) -> Option<Happening>
+        ensures value { (loader target : Bool) → option_map happening_view result
             ≡ loss_of (scene_in self.now loader target) number }
-        ensures named { IfSome result (λ given. NamesKnown self.now given) }
+        ensures named { IfSome result (λ given.
+            NamesPosted (length self.now.posted) (happening_view given)) }
     {
         self.side_of(number)?;
         match self.fate(number) {
             Fate::Delivered => None,
-            Fate::Undelivered | Fate::Lost => Some(Given::Lost(number)),
+            Fate::Undelivered | Fate::Lost => Some(Happening::Lost(number)),
         }
     }
 
     /// The delivery of the undelivered datagram with the least number, if there is one.
-    pub fn least_delivery(&self) -> Option<Given>
-        ensures value { (loader target : Bool) → option_map (given_view self.now.lines) result
+    pub fn least_delivery(&self) -> Option<Happening>
+        ensures value { (loader target : Bool) → option_map happening_view result
             ≡ least_delivery (scene_in self.now loader target) }
-        ensures named { IfSome result (λ given. NamesKnown self.now given) }
+        ensures named { IfSome result (λ given.
+            NamesPosted (length self.now.posted) (happening_view given)) }
     {
         if self.least == self.fates.len() {
             return None;
@@ -135,17 +122,14 @@ impl Mail {
         self.delivery(self.least as u64 + 1)
     }
 
-    /// Keeps what is given, or nothing.
-    pub fn give(&mut self, given: Given) -> Result<(), NoMemory>
-        requires { NamesKnown self.old given }
-        ensures ok { OnOk result
-            (self.new ≡ with_given self.old (given_view self.old.lines given)) }
-        ensures err { OnErr result (self.new ≡ self.old) }
+    /// Keeps what is given.
+    pub fn give(&mut self, given: &Happening)
+        requires { NamesPosted (length self.old.posted) (happening_view given.now) }
+        ensures { self.new ≡ with_given self.old (happening_view given.now) }
     {
-        self.given.reserve(1)?;
         mark(&mut self.fates, given);
         self.least = next_undelivered(self.fates.as_slice(), self.least);
-        self.given.push(given)
+        self.given = self.given.and(given, &());
     }
 
     // What became of the datagram of this number.
@@ -174,17 +158,21 @@ fn side_at(sides: &[Side], index: usize) -> Option<Side>
 }
 
 // The fates after what is given.
-fn mark(fates: &mut Vec<Fate>, given: Given)
-    requires { NamesPosted (length fates.old.items) given }
-    ensures { fates.new.items ≡ fates_after fates.old.items given }
+fn mark(fates: &mut Vec<Fate>, given: &Happening)
+    requires { NamesPosted (length fates.old.items) (happening_view given.now) }
+    ensures { fates.new.items ≡ fates_after fates.old.items (happening_view given.now) }
 {
     match given {
-        Given::Delivered(_, number) => fates[number as usize - 1] = Fate::Delivered,
-        Given::Lost(number) => {
-            let index = number as usize - 1;
+        Happening::ToLoader(number) | Happening::ToTarget(number) => {
+            fates[*number as usize - 1] = Fate::Delivered;
+        }
+        Happening::Lost(number) => {
+            let index = *number as usize - 1;
             fates[index] = lost(fates[index]);
         }
-        Given::Ticked(_) | Given::Said(_) | Given::Ended => {}
+        Happening::TickLoader | Happening::TickTarget | Happening::Injected(_) => {}
+        Happening::BlockSize(_) | Happening::Power { .. } | Happening::Boot => {}
+        Happening::StartInfo { .. } | Happening::StartUpload { .. } | Happening::End => {}
     }
 }
 
@@ -219,6 +207,15 @@ fn is_undelivered(fate: Fate) -> bool
     ensures { IsTrue result ↔ (fate ≡ Undelivered) }
 {
     matches!(fate, Fate::Undelivered)
+}
+
+fn delivered(side: Side, number: u64) -> Happening
+    ensures { happening_view result ≡ Delivered side number }
+{
+    match side {
+        Side::Loader => Happening::ToLoader(number),
+        Side::Target => Happening::ToTarget(number),
+    }
 }
 
 /// The other side.

@@ -1,14 +1,18 @@
 //! A link that follows a script.
 ghost use Rattle.std.specs.Prelude.{◌≡◌, [], Some, IfOk, OnOk, OnErr};
-ghost use Rattle.exchange_trace.specs.Following.{plan_of};
+ghost use Rattle.std.specs.Option.{ForSome};
+ghost use Rattle.exchange_trace.specs.Following.{next_turn as said_turn, plan_of};
 ghost use Rattle.exchange_trace.specs.Happenings.{datagram_view, happening_view};
 ghost use Rattle.link_net.specs.Links.{Gives, HasLinkCause, LinkState, scene_of, with_posted};
+ghost use Rattle.link_net.specs.Plans.{TakesMemory};
 
+use crate::line::Line;
 use crate::link::{Link, LinkFault};
 use crate::mail::Mail;
 use crate::script::Script;
-use crate::turn::{Rest, Waiting, next_turn};
+use crate::turn::{Rest, Turn, Waiting, next_turn};
 use exchange_trace::{Datagram, Happening};
+use load_base::List;
 use std::alloc::Global;
 use std::marker::Model;
 
@@ -18,6 +22,7 @@ use std::marker::Model;
 #[derive(Drop)]
 pub struct ScriptLink {
     alloc: Global,
+    lines: List<Line>,
     mail: Mail,
     /// The offset of the line that comes next.
     next: usize,
@@ -34,10 +39,10 @@ impl Model for ScriptLink {
     ghost view = { λ link. record {
       posted = link.mail.posted;
       given = link.mail.given;
-      plan = Some (plan_at link.rest link.mail.lines link.next);
+      plan = Some (plan_at link.rest link.lines.items link.next);
     } };
 
-    ghost invariant = { λ link. link.next ≤ length link.mail.lines };
+    ghost invariant = { λ link. link.next ≤ length link.lines.items };
 }
 
 impl ScriptLink {
@@ -48,7 +53,8 @@ impl ScriptLink {
         let Script { lines } = script;
         ScriptLink {
             alloc,
-            mail: Mail::new(alloc, lines),
+            lines,
+            mail: Mail::new(alloc),
             next: 0,
             rest: Rest::Nothing,
         }
@@ -67,22 +73,29 @@ impl Link for ScriptLink {
         }
     }
 
-    fn next(&mut self, loader_waits: bool, target_waits: bool) -> Result<Happening, LinkFault> {
+    fn next(&mut self, loader_waits: bool, target_waits: bool) -> Result<Happening, LinkFault>
+        ensures ok { IfOk result (λ happening. Gives self.old self.new
+            (scene_of self.old loader_waits target_waits) (happening_view happening)) }
+        ensures err { OnErr result (self.new ≡ self.old) }
+        ensures cause { HasLinkCause 0 0 result }
+        // It is out of memory only where it copies what a line says.
+        ensures memory { OnErr result (ForSome self.old.plan (λ plan. TakesMemory
+            (said_turn (scene_of self.old loader_waits target_waits) plan).given)) }
+    {
         let waiting = Waiting {
             loader: loader_waits,
             target: target_waits,
         };
-        let (turn, next) = next_turn(&self.mail, self.next, self.rest, waiting);
-        let Ok(happening) = turn.given.happening(self.alloc, self.mail.lines()) else {
+        let lines = self.lines.as_slice();
+        let Ok((turn, next)) = next_turn(
+            self.alloc, lines, &self.mail, self.next, self.rest, waiting,
+        ) else {
             return Err(LinkFault::Memory);
         };
-        match self.mail.give(turn.given) {
-            Ok(()) => {
-                self.next = next;
-                self.rest = turn.rest;
-                Ok(happening)
-            }
-            Err(_) => Err(LinkFault::Memory),
-        }
+        let Turn { given, rest } = turn;
+        self.mail.give(&given);
+        self.next = next;
+        self.rest = rest;
+        Ok(given)
     }
 }

@@ -8,10 +8,10 @@ use Rattle.link_net.proofs.turn.from_lines.Given as goal
 abbrev pub invariant-loop-at : goal.invariant-loop-at
 invariant-loop-at l =
     record {
-      within : l.at ≤ length l.mail.lines;
-      left : following.from_lines (scene_in l.mail l.waiting.loader l.waiting.target) (line_views (drop l.initial.at l.mail.lines))
-          ≡ following.from_lines (scene_in l.mail l.waiting.loader l.waiting.target) (line_views (drop l.at l.mail.lines));
+      within : l.at ≤ length l.lines;
+      left : following.from_lines (scene_in l.mail l.waiting.loader l.waiting.target) (line_views (drop l.initial.at l.lines))
+          ≡ following.from_lines (scene_in l.mail l.waiting.loader l.waiting.target) (line_views (drop l.at l.lines));
     }
 
 abbrev pub decreases-loop-at : goal.decreases-loop-at
-decreases-loop-at l = length l.mail.lines - l.at
+decreases-loop-at l = length l.lines - l.at

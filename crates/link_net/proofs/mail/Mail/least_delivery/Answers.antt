@@ -1,7 +1,7 @@
-use Rattle.std.proofs.Common.{◌≡◌, ◌<◌, ◌+◌, None, length, map, reverse, option_map, sym, subst, ◌∙◌, arith}
+use Rattle.std.proofs.Common.{◌≡◌, ◌<◌, ◌+◌, None, length, option_map, sym, subst, ◌∙◌, arith}
 use Rattle.exchange_trace.specs.Following.{delivery, least_delivery}
-use Rattle.link_net.specs.Givens.{given_view}
-use Rattle.link_net.specs.Mail.{IsKept, MailView, logged, scene_in}
+use Rattle.exchange_trace.specs.Happenings.{happening_view}
+use Rattle.link_net.specs.Mail.{IsKept, MailView, given_in, logged, scene_in}
 use Rattle.link_net.proofs.Fates.{least_none, least_some}
 use Rattle.link_net.proofs.Sides.{counts}
 use Rattle.link_net.proofs.mail.Mail.least_delivery.Goals as goal
@@ -9,9 +9,8 @@ use Rattle.link_net.proofs.mail.Mail.least_delivery.Goals as goal
 pub returns-then-self-len-clause-value : goal.returns-then-self-len-clause-value
 returns-then-self-len-clause-value c = λ loader target.
     let m : MailView = record {
-      lines = c.self.inside.lines.items;
       posted = logged c.self.inside.posted.items;
-      given = reverse (map (given_view c.self.inside.lines.items) c.self.inside.given.items);
+      given = given_in c.self.inside.given.items;
     } in
     let counted = c.self.invariant.each_fate.counted in
     let mapped = counts c.self.inside.posted.items c.self.inside.sides.items c.self.invariant.each_side in
@@ -23,9 +22,8 @@ returns-then-self-len-clause-value c = λ loader target.
 pub returns-clause-value : goal.returns-clause-value
 returns-clause-value c = λ loader target.
     let m : MailView = record {
-      lines = c.self.inside.lines.items;
       posted = logged c.self.inside.posted.items;
-      given = reverse (map (given_view c.self.inside.lines.items) c.self.inside.given.items);
+      given = given_in c.self.inside.given.items;
     } in
     let counted = c.self.invariant.each_fate.counted in
     let within = c.self.invariant.each_fate.within in
@@ -33,5 +31,5 @@ returns-clause-value c = λ loader target.
     let kept : IsKept (length m.posted) c.self.inside.fates.items c.self.inside.least m.given = rw (← mapped) c.self.invariant.each_fate in
     let left : c.self.inside.least < length m.posted = omega (arith, c.if-self-len.false, c.len.ensures, counted, within, mapped) in
     let some : least_delivery (scene_in m loader target) ≡ delivery (scene_in m loader target) (c.self.inside.least + 1) = least_some (scene_in m loader target) c.self.inside.fates.items c.self.inside.least kept left in
-    subst (λ (m : MailView). option_map (given_view m.lines) c.delivery.result ≡ least_delivery (scene_in m loader target)) c.self.view_is
-    (subst (λ (n : MailView). option_map (given_view n.lines) c.delivery.result ≡ delivery (scene_in n loader target) (c.self.inside.least + 1)) (sym c.self.view_is) (c.delivery.ensures.value loader target) ∙ sym some)
+    subst (λ (m : MailView). option_map happening_view c.delivery.result ≡ least_delivery (scene_in m loader target)) c.self.view_is
+    (subst (λ (n : MailView). option_map happening_view c.delivery.result ≡ delivery (scene_in n loader target) (c.self.inside.least + 1)) (sym c.self.view_is) (c.delivery.ensures.value loader target) ∙ sym some)

@@ -1,7 +1,7 @@
-use Rattle.std.proofs.Common.{◌≡◌, ◌+◌, ◌∷◌, [], ◌++◌, length, map, reverse, sym, ap, ◌∙◌}
+use Rattle.std.proofs.Common.{◌≡◌, ◌+◌, ◌∷◌, [], ◌++◌, length, map, sym, ap, ◌∙◌}
 use Rattle.std.proofs.lemmas.List.{length-append}
 use Rattle.link_net.specs.declared.mail.Fate.TheVariants.{Undelivered}
-use Rattle.link_net.specs.Givens.{given_view}
+use Rattle.link_net.specs.Mail.{given_in}
 use Rattle.link_net.proofs.Fates.{keeps_posted}
 use Rattle.link_net.proofs.Sides.{one_more}
 use Rattle.link_net.proofs.mail.Mail.post.Goals as goal
@@ -14,5 +14,5 @@ invariant_of-self-2 c =
     let fates : c.push_reserved.new.self.items ≡ before.fates.items ++ Undelivered ∷ [] = cc in
     record {
       each_side = pushed ∙ (one_more before.posted.items before.sides.items c.args.datagram c.self.invariant.each_side ∙ ap (map (λ entry. entry.0.from_side)) (sym c.and-self-inside.ensures));
-      each_fate = rw (count, fates) (keeps_posted (length before.sides.items) before.fates.items before.least (reverse (map (given_view before.lines.items) before.given.items)) c.self.invariant.each_fate);
+      each_fate = rw (count, fates) (keeps_posted (length before.sides.items) before.fates.items before.least (given_in before.given.items) c.self.invariant.each_fate);
     }

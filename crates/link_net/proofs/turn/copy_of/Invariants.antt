@@ -1,5 +1,5 @@
 use Rattle.std.proofs.Common.{◌≡◌, take}
-use Rattle.link_net.proofs.given.copy_of.Given as goal
+use Rattle.link_net.proofs.turn.copy_of.Given as goal
 
 abbrev pub invariant-loop-part : goal.invariant-loop-part
 invariant-loop-part l = l.copy.items ≡ take l.part-index l.parts
