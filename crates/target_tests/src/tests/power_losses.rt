@@ -67,7 +67,7 @@ fn left(before: &[u8; WHOLE], notes: &[Note], ways: u32) -> [u8; WHOLE] {
     image
 }
 
-fn is_file(file: &StoredFile, name: &[u8], bytes: &[u8]) -> bool {
+pub(crate) fn is_file(file: &StoredFile, name: &[u8], bytes: &[u8]) -> bool {
     file.name.as_slice() == name && file.bytes.as_slice() == bytes
 }
 

@@ -60,7 +60,7 @@ fn formatted(alloc: Global) -> Result<MemDisk, Fail>
 }
 
 // A link to which nothing was posted, of which this call fails.
-fn link_of(alloc: Global, script: &[u8], call: u32) -> Result<FailLink, Fail>
+pub(crate) fn link_of(alloc: Global, script: &[u8], call: u32) -> Result<FailLink, Fail>
     ensures { IfOk result (λ link. (link_in link).posted ≡ []) }
 {
     let script = Script::read(alloc, script)?;
@@ -76,7 +76,7 @@ fn link_of(alloc: Global, script: &[u8], call: u32) -> Result<FailLink, Fail>
 
 // A letter for what a run came to: the outcome of its first session, or why there is no run; and
 // one for whether the configuration at the end is known.
-fn letters(run: &Result<Drive, DriveFault>) -> [u8; 2] {
+pub(crate) fn letters(run: &Result<Drive, DriveFault>) -> [u8; 2] {
     match run {
         Ok(run) => [
             outcome(run),
@@ -120,7 +120,7 @@ fn run_over(alloc: Global, link: &mut FailLink, call: u32) -> Result<[u8; 2], Fa
 }
 
 // The disk of a target, of which this call fails.
-fn failing(alloc: Global, call: u32) -> Result<Fused<MemDisk>, Fail>
+pub(crate) fn failing(alloc: Global, call: u32) -> Result<Fused<MemDisk>, Fail>
     ensures { IfOk result (λ disk. IsRunning (fused_in state_of disk)) }
 {
     let mut disk = formatted(alloc)?;
