@@ -71,25 +71,36 @@ offset_same store one other s was same = number_same one other (active_slot stor
 pub length_same : (store : Store) (one other : Image) (s : StandingView) → HoldsFor store one s → SameButForGate store one other → manifest_length_of other (active_slot store) ≡ store.active.manifest.length
 length_same store one other s was same = number_same one other (active_slot store) (slot_same store one other same) 25 (omega arith) ∙ was.length
 
+-- Images that are the same outside the other bank and the other slot hold the same, where that slot is the same or shut.
+pub stands_apart : (slot : ℕ) (s : StandingView) (one other : Image) → HoldsBy one slot s
+    → ((offset : ℕ) → (offset < bank_at s.identity.bank (1 - s.bank)) ⊎ (bank_at s.identity.bank (1 - s.bank) + s.identity.bank ≤ offset)
+    → (offset < other_slot slot) ⊎ (other_slot slot + 29 ≤ offset) → other offset ≡ one offset)
+    → ¬ IsOpen other (other_slot slot) ⊎ ((k : ℕ) → k < 29 → other (other_slot slot + k) ≡ one (other_slot slot + k)) → HoldsBy other slot s
+stands_apart slot s one other was same others =
+    let is_slot = was.outline.has_active.is_active.is_slot in
+    let high = (other_low slot is_slot).1 in
+    let low = (other_low slot is_slot).0 in
+    let ends = (slot_low slot is_slot).1 in
+    standing_kept slot s one other was (record {
+      prefix = λ offset below. same offset (inl (omega (arith, below))) (inl (omega (arith, below, low)));
+      slot_same = λ k below. same (slot + k) (inl (omega (arith, below, ends))) (slots_apart slot k is_slot below);
+      bank_same = λ k below.
+          same (bank_at s.identity.bank s.bank + k) (banks_apart s.identity.bank s.bank k (omega (arith, was.outline.bank, was.outline.can_be.is_bank)) below) (inr (omega (arith, high)));
+      others = others;
+    })
+
 -- so they hold the same, where the other slot is the same or shut
 stands_by : (store : Store) (one other : Image) (s : StandingView) → HoldsFor store one s → SameButForGate store one other
     → ¬ IsOpen other (other_slot (active_slot store)) ⊎ ((k : ℕ) → k < 29 → other (other_slot (active_slot store) + k) ≡ one (other_slot (active_slot store) + k)) → HoldsBy other (active_slot store) s
 stands_by store one other s was same others =
-    let is_slot = offset_is_slot store.active.slot in
-    let high = (other_low (active_slot store) is_slot).1 in
-    let low = (other_low (active_slot store) is_slot).0 in
-    standing_kept (active_slot store) s one other was.by (record {
-      prefix = λ offset below. same offset (stays store offset (inl (omega (arith, below))) (inl (omega (arith, below, low)))) (inl (omega (arith, below, low)));
-      slot_same = slot_same store one other same;
-      bank_same = λ k below.
-          let there : bank_at s.identity.bank s.bank + k ≡ bank_at store.size (active_bank store) + k =
-          ap (λ (n : ℕ). bank_at n s.bank + k) was.size ∙ ap (λ (n : ℕ). bank_at store.size n + k) was.bank in
-          let within : k < store.size = omega (arith, below, was.size) in
-          ap other there ∙ same (bank_at store.size (active_bank store) + k)
-          (stays store (bank_at store.size (active_bank store) + k) (banks_apart store.size (active_bank store) k (number_below store.active.bank) within) (inr (omega (arith, high)))) (inr (omega (arith, high)))
-          ∙ ap one (sym there);
-      others = others;
-    })
+    let there : bank_at s.identity.bank (1 - s.bank) ≡ work_at store =
+    ap (λ (n : ℕ). bank_at n (1 - s.bank)) was.size ∙ ap (λ (n : ℕ). bank_at store.size (1 - n)) was.bank in
+    stands_apart (active_slot store) s one other was.by
+    (λ offset bank slot. same offset
+    (stays store offset (elim bank [ inl low ↦ inl (omega (arith, low, there)) | inr high ↦ inr (omega (arith, high, there, was.size)) ])
+    (elim slot [ inl low ↦ inl (omega (arith, low)) | inr high ↦ inr high ]))
+    (elim slot [ inl low ↦ inl low | inr high ↦ inr (omega (arith, high)) ]))
+    others
 
 -- images that differ only where an installation writes hold the same
 pub near_stands : (store : Store) (one other : Image) (s : StandingView) → HoldsFor store one s → SameButForWork store one other → HoldsFor store other s

@@ -4,7 +4,8 @@ use Rattle.std.specs.Option.{ForSome}
 use Rattle.load_base.specs.Config.{LoadView}
 use Rattle.disk_model.specs.Image.{Image}
 use Rattle.disk_model.specs.State.{DiskState, IsSettled}
-use Rattle.disk_layout.specs.Slots.{IsOpen, other_slot, manifest_offset_of, manifest_length_of}
+use Rattle.disk_layout.specs.Offsets.{bank_at}
+use Rattle.disk_layout.specs.Slots.{IsOpen, other_bank, other_slot, manifest_offset_of, manifest_length_of}
 use Rattle.disk_layout.specs.Holds.{StandingView, HoldsBy}
 use Rattle.disk_layout.specs.declared.active.ManifestRange.{ManifestRange}
 use Rattle.bank_store.specs.DiskWrites.{IsRunning}
@@ -67,6 +68,24 @@ MayChange store offset =
 -- two images differ only where an installation writes
 abbrev pub SameButForWork : Store → Image → Image → Type 0
 SameButForWork store one other = (offset : ℕ) → ¬ MayChange store offset → other offset ≡ one offset
+
+-- an offset that an installation beside this configuration writes: in the other bank, or, where the gate of the other slot
+-- is shut, in its body
+abbrev pub IsWorkBeside : Image → (slot : ℕ) → StandingView → ℕ → Type 0
+IsWorkBeside image slot s offset =
+    ((bank_at s.identity.bank (other_bank s.bank) ≤ offset) × (offset < bank_at s.identity.bank (other_bank s.bank) + s.identity.bank))
+    ⊎ (¬ IsOpen image (other_slot slot) × (other_slot slot < offset) × (offset < other_slot slot + 29))
+
+-- A power loss may take nothing but work of an installation, as it is between runs: the disk tells its content and holds a
+-- configuration, and each image that a power loss may leave differs from what is read only where an installation beside this
+-- configuration writes.
+pub record LosesOnlyWork (disk : DiskState) : Type 0 where
+  pub image : Image
+  pub told : disk.reads ≡ Some image
+  pub slot : ℕ
+  pub active : StandingView
+  pub holds : HoldsBy image slot active
+  pub near : (left : Image) → disk.now left → (offset : ℕ) → ¬ IsWorkBeside image slot active offset → left offset ≡ image offset
 
 -- The premise of each promise on power losses, which each call keeps: the store fits the disk; what a power loss may
 -- leave differs from what is read only where an installation writes; and while the store is sealed, nothing else may be

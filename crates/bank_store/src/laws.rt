@@ -1,5 +1,6 @@
 //! Laws of the premises of a store's calls.
 ghost use Rattle.std.specs.Option.{ForSome};
+ghost use Rattle.std.specs.Prelude.{◌≡◌, Some};
 ghost use Rattle.disk_model.specs.Image.{Image};
 ghost use Rattle.disk_model.specs.Moments.{LeavesOnly};
 ghost use Rattle.disk_model.specs.State.{IsSettled};
@@ -9,22 +10,23 @@ ghost use Rattle.disk_layout.specs.declared.identity.Identity.{Identity};
 ghost use Rattle.bank_store.specs.DiskWrites.{AddsOnly, IsRunning};
 ghost use Rattle.bank_store.specs.Formatting.{LeavesOldOrFormatted};
 ghost use Rattle.bank_store.specs.Store.{IsIdle};
-ghost use Rattle.bank_store.specs.Fits.{HoldsFor, Fits, Works, InstallsBeside};
+ghost use Rattle.bank_store.specs.Fits.{HoldsFor, Fits, InstallsBeside, LosesOnlyWork, Works};
 ghost use Rattle.bank_store.specs.Keeps.{Continues, IsOldOrNew};
 ghost use Rattle.bank_store.specs.declared.store.Store.{Store};
 
+use disk_layout::an_image_holds_one_configuration;
 use disk_model::Disk;
 
 /// A store in which no installation has begun fits a disk that runs and holds a configuration as
-/// the store keeps it, and works on it where a power loss can leave nothing but what is read. Where
-/// a store works beside a configuration, each image that a power loss may leave now holds it; and
-/// calls that add only what holds it, or what holds it or another, leave only that since their
-/// start.
-pub fn a_settled_disk_works<K: Disk>()
+/// the store keeps it, and works on it where a power loss may take nothing but work of an
+/// installation. Where a store works beside a configuration, each image that a power loss may leave
+/// now holds it; and calls that add only what holds it, or what holds it or another, leave only that
+/// since their start.
+pub fn an_idle_store_works<K: Disk>()
     ensures fits { (store : Store) (disk : K) → IsIdle store → IsRunning (K.state disk)
         → ForSome (K.state disk).reads (λ image. (s : StandingView) × HoldsFor store image s)
         → Fits store (K.state disk) }
-    ensures works { (store : Store) (disk : K) → IsIdle store → IsSettled (K.state disk)
+    ensures works { (store : Store) (disk : K) → IsIdle store → LosesOnlyWork (K.state disk)
         → Fits store (K.state disk) → Works store (K.state disk) }
     ensures now { (store : Store) (disk : K) (s : StandingView) (left : Image)
         → InstallsBeside store (K.state disk) s
@@ -37,7 +39,31 @@ pub fn a_settled_disk_works<K: Disk>()
         → InstallsBeside store (K.state old) s
         → AddsOnly (K.state old) (K.state new) (IsOldOrNew s next)
         → LeavesOnly (K.state old).clock (IsOldOrNew s next) (K.state new) }
-{}
+{
+    // For the proof: does nothing.
+    an_image_holds_one_configuration();
+}
+
+/// A power loss may take nothing but work of an installation: of a disk that holds a configuration
+/// and is settled, as after a sync or a restart; of one on which a store works, at whatever stage its
+/// installation is; and still where the disk reads the same and a power loss can leave nothing new.
+/// Then all that it may leave holds the configuration that is read.
+pub fn a_power_loss_takes_only_work<K: Disk>()
+    ensures settled { (disk : K) (image : Image) (s : StandingView)
+        → (K.state disk).reads ≡ Some image → HoldsConfig image s → IsSettled (K.state disk)
+        → LosesOnlyWork (K.state disk) }
+    ensures works { (store : Store) (disk : K) (image : Image) → (K.state disk).reads ≡ Some image
+        → Works store (K.state disk) → LosesOnlyWork (K.state disk) }
+    ensures still { (old new : K) → (K.state new).reads ≡ (K.state old).reads
+        → ((image : Image) → (K.state new).now image → (K.state old).now image)
+        → LosesOnlyWork (K.state old) → LosesOnlyWork (K.state new) }
+    ensures holds { (disk : K) (image : Image) (s : StandingView) → LosesOnlyWork (K.state disk)
+        → (K.state disk).reads ≡ Some image → HoldsConfig image s
+        → (left : Image) → (K.state disk).now left → HoldsConfig left s }
+{
+    // For the proof: does nothing.
+    an_image_holds_one_configuration();
+}
 
 /// A store goes on to fit a disk, and to work on it, over a call of the disk after which it reads
 /// the same and runs, as a read does, where a power loss can leave nothing new; and over the

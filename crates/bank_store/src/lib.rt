@@ -10,5 +10,8 @@ mod store;
 pub use disk_layout::{Identity, Manifest, ManifestFile, ManifestLoad};
 pub use fault::StoreFault;
 pub use formatting::format;
-pub use laws::{a_settled_disk_works, a_store_goes_on_fitting, an_unformatted_disk_is_as_it_was};
+pub use laws::{
+    a_power_loss_takes_only_work, a_store_goes_on_fitting, an_idle_store_works,
+    an_unformatted_disk_is_as_it_was,
+};
 pub use store::Store;

@@ -2,8 +2,9 @@
 use Rattle.std.proofs.Common.{◌≡◌, inl, ℕ, ◌≤◌, true, false, Some, refl, sym, ap, subst, ◌∙◌}
 use Rattle.std.specs.Prelude.{is_some, not, ◌==◌}
 use Rattle.disk_model.specs.Image.{Image}
-use Rattle.disk_model.specs.MomentLaws.{leaves_more, read_goes_on, settled_stays, started}
-use Rattle.disk_model.specs.State.{DiskState, IsSettled, OnlyReads}
+use Rattle.disk_model.specs.MomentLaws.{leaves_more, read_goes_on, started}
+use Rattle.disk_model.specs.State.{DiskState, OnlyReads}
+use Rattle.bank_store.specs.Fits.{LosesOnlyWork}
 use Rattle.disk_layout.specs.Holds.{HoldsConfig, StandingView}
 use Rattle.accept_rules.specs.Permissions.{Permits, permits}
 use Rattle.load_header.specs.Header.{HeaderView}
@@ -16,35 +17,36 @@ use Rattle.loader_cli.specs.Replays.{LeavesFirstOrGood, setting_of}
 pub accepts_permitted : (h : HeaderView) → permits h ≡ true → Permits h
 accepts_permitted h is zero = absurd (let wrong : false ≡ true = ap (λ (n : ℕ). not (n == 0)) (sym zero) ∙ is in cc)
 
-module _ (disk : DiskState) (only : (t u : ℕ) (left : Image) → disk.clock ≤ t → disk.between t u left → disk.now left) where
+module _ (disk : DiskState) (only : (t u : ℕ) (left : Image) → disk.clock ≤ t → disk.between t u left → disk.now left)
+    (alone : (image : Image) (s : StandingView) → LosesOnlyWork disk → disk.reads ≡ Some image → HoldsConfig image s → (left : Image) → disk.now left → HoldsConfig left s) where
   -- a disk that isn't touched
   pub untouched_leaves : LeavesFirstOrGood disk disk
-  untouched_leaves = λ set start image told holds settled. record {
+  untouched_leaves = λ set start image told holds loses. record {
     tells = ap is_some told;
     only = started disk (HoldsFirstOrGood (setting_of set start)) only (λ left may. record {
       active = start;
-      holds = let e : Some image ≡ Some left = sym told ∙ settled.only left may in let same : image ≡ left = cc in subst (λ (i : Image). HoldsConfig i start) same holds;
+      holds = alone image start loses told holds left may;
       good = inl refl;
     });
   }
 
   -- and one that is only read
   pub reads_leave : (new : DiskState) → OnlyReads disk new → LeavesFirstOrGood disk new
-  reads_leave new reads = λ set start image told holds settled.
-      let before = untouched_leaves set start image told holds settled in
+  reads_leave new reads = λ set start image told holds loses.
+      let before = untouched_leaves set start image told holds loses in
       record { tells = reads.tells ∙ before.tells; only = read_goes_on disk.clock (HoldsFirstOrGood (setting_of set start)) disk new before.only reads }
 
 -- a run on one media set: which one doesn't matter
 pub run_leaves : (shown : SetView) (old new : DiskState)
-    → ((start : StandingView) (image : Image) → old.reads ≡ Some image → HoldsConfig image start → IsSettled old → LeavesGood (setting_of shown start) old.clock new) → LeavesFirstOrGood old new
-run_leaves shown old new each = λ set start image told holds settled.
-    let left = each start image told holds settled in
+    → ((start : StandingView) (image : Image) → old.reads ≡ Some image → HoldsConfig image start → LosesOnlyWork old → LeavesGood (setting_of shown start) old.clock new) → LeavesFirstOrGood old new
+run_leaves shown old new each = λ set start image told holds loses.
+    let left = each start image told holds loses in
     record {
       tells = left.tells;
       only = leaves_more old.clock (HoldsFirstOrGood (setting_of shown start)) (HoldsFirstOrGood (setting_of set start)) new (λ i h. record { active = h.active; holds = h.holds; good = h.good }) left.only;
     }
 
 -- a run after reads
-pub leaves_since : (old mid new : DiskState) → OnlyReads old mid → mid.reads ≡ old.reads → LeavesFirstOrGood mid new → LeavesFirstOrGood old new
-leaves_since old mid new read same leaves = λ set start image told holds settled.
-    subst (λ (since : ℕ). LeavesGood (setting_of set start) since new) read.clock (leaves set start image (same ∙ told) holds (settled_stays old mid settled read same))
+pub leaves_since : (old mid new : DiskState) → OnlyReads old mid → mid.reads ≡ old.reads → (LosesOnlyWork old → LosesOnlyWork mid) → LeavesFirstOrGood mid new → LeavesFirstOrGood old new
+leaves_since old mid new read same still leaves = λ set start image told holds loses.
+    subst (λ (since : ℕ). LeavesGood (setting_of set start) since new) read.clock (leaves set start image (same ∙ told) holds (still loses))

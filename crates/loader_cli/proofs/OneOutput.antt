@@ -110,7 +110,7 @@ module _ (fixed : WholeRunsAreFixed) (active : ActiveIsFixed) (run : Run) (ended
   given status text (ran set script has ran_to) =
       runs set script has
       (outcome_gives fixed active telling set script image run.work.disk run.work.disk_after run.work.handed laws (is.promised.leaves (formats_none telling run.work.words folder name is.asked))
-      is.steady.reads is.steady.settled is.steady.disk_answers is.steady.stays_up status text ran_to)
+      is.steady.reads is.steady.rests is.steady.disk_answers is.steady.stays_up status text ran_to)
   given status text (unread refused kept handed) = refuses run.work.host_faults run.work.host_faults_after is.steady.answers.host_answers refused
 
   pub said_of_replay : (status : ℕ) (text : List ℕ) → Says run.work status text → Gives telling folder name files image status text
@@ -192,7 +192,7 @@ module _ (fixed : WholeRunsAreFixed) (active : ActiveIsFixed) (run : Run) (ended
   trial_given status text (tried id set names generated ran_to) =
       tries id set (names image is.steady.reads) generated
       (outcome_gives fixed active Report set (trial_script id) image run.work.disk run.work.disk_after run.work.handed laws (is.promised.leaves (trial_formats_none run.work.words number is.asked))
-      is.steady.reads is.steady.settled is.steady.disk_answers is.steady.stays_up status text ran_to)
+      is.steady.reads is.steady.rests is.steady.disk_answers is.steady.stays_up status text ran_to)
   trial_given status text (target_unread read rose stopped handed _ _) = absurd (is.steady.disk_answers rose)
   trial_given status text (no_target fault read other none handed eight tells) = untried fault (none image is.steady.reads) eight tells
 

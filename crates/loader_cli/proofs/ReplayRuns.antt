@@ -20,7 +20,7 @@ use Rattle.media_check.specs.Openings.{IsFirstLong, IsShort}
 use Rattle.media_check.specs.Sets.{SetView, found_in}
 use Rattle.media_check.specs.declared.found.Found.{Found}
 use Rattle.upload_replay.specs.Endings.{HeldNone, HoldsNone, HoldsSome}
-use Rattle.upload_replay.specs.Powers.{RoseBy}
+use Rattle.replay_turns.specs.Powers.{RoseBy}
 use Rattle.loader_cli.specs.Replays.{HasInputs, HasList, IsRead, LeavesFirstOrGood, RefusesInputs, RefusesList, Replays, RunSeen, RunsScript, RunsTo, StatusOfRun, rest_of, stops_of, told_as}
 use Rattle.loader_cli.specs.Replays.RefusesInputs.{files_refused, files_too_long, host_failed, large_set, loads_refused, loads_too_long, long_file, no_script, script_absent, script_too_long}
 use Rattle.loader_cli.specs.Replays.RefusesList.{list_absent, list_faulty}
@@ -112,7 +112,7 @@ module _ (run : Run) (telling : Telling) (folder name : List ℕ) (told : Files)
   none_left : (fault : RecoverFault) → HeldNone fault run.work.disk run.work.disk_after ⊎ (HoldsSome run.work.disk × HoldsNone fault run.work.disk_after) → ⊥
   none_left fault (inl held) = laws.not_both is.image is.start fault is.holds (held.none is.image is.reads)
   none_left fault (inr (some, none)) =
-      let left = leaves set is.start is.image is.reads is.holds is.settled in
+      let left = leaves set is.start is.image is.reads is.holds is.rests in
       let (image, read) = read_of run.work.disk_after left.tells in
       let held = left.only.here image (laws.reads_now image read) in
       laws.not_both image held.active fault held.holds (none image read)
@@ -121,7 +121,7 @@ module _ (run : Run) (telling : Telling) (folder name : List ℕ) (told : Files)
   came_to_end status text (ended seen standing held handed stands runs holds counts by_sessions tells) = record { seen = seen; last = standing; is = handed; stands = stands; runs = runs; by_sessions = by_sessions; told = tells }
   came_to_end status text (unknown seen held handed stands runs counts failed stopped _ _) =
       absurd (is.stops (subst (λ (h : Option RunSeen). RoseBy (stops_of h + 1) run.work.disk.faults run.work.disk_after.faults) (sym handed) failed))
-  came_to_end status text (disk_failed handed failed stopped clock power _ _) =
+  came_to_end status text (disk_failed handed failed stopped reads _ _) =
       absurd (is.stops (subst (λ (h : Option RunSeen). RoseBy (stops_of h + 1) run.work.disk.faults run.work.disk_after.faults) (sym handed) failed))
   came_to_end status text (no_config fault handed other none _ _) = absurd (none_left fault none)
 

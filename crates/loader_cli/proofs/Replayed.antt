@@ -1,6 +1,6 @@
 -- What a run of a script comes to.
 use Rattle.std.proofs.Common.{◌≡◌, inl, inr, ℕ, List, [], ◌++◌, Option, Some, None, refl, sym, ap, subst, ◌∙◌, ◌<◌}
-use Rattle.std.specs.Prelude.{All, IfOk, Result, Ok, Err, map, option_map}
+use Rattle.std.specs.Prelude.{All, IfOk, Result, Ok, Err, is_some, map, option_map, true}
 use Rattle.std.proofs.lemmas.List.{append-nil}
 use Rattle.std.proofs.lemmas.List.{get_or-map, length-map}
 use Rattle.disk_model.specs.State.{DiskState}
@@ -15,10 +15,12 @@ use Rattle.media_check.specs.Sets.{SetView}
 use Rattle.link_net.specs.Links.{LinkState}
 use Rattle.run_promises.specs.Listing.{StandingFits}
 use Rattle.upload_replay.specs.Drives.{IsRun}
-use Rattle.upload_replay.specs.Moments.{HoldsThroughout}
-use Rattle.upload_replay.specs.Orders.{IsInOrder}
+use Rattle.upload_replay.specs.Moments.{HoldsAllAlong}
+use Rattle.bank_store.specs.Fits.{LosesOnlyWork}
+use Rattle.replay_turns.specs.Orders.{IsInOrder}
 use Rattle.upload_replay.specs.Endings.{CountsStops, FailedIfUnknown, HoldsSome, HoldsStanding, IsNoConfig}
-use Rattle.upload_replay.specs.Powers.{ArmsAsGiven, armed_after, armings_after, disk_stops}
+use Rattle.replay_turns.specs.Powers.{disk_stops}
+use Rattle.upload_replay.specs.Armings.{ArmsAsGiven, armed_after, armings_after}
 use Rattle.upload_replay.specs.declared.outcome.Drive.{Drive}
 use Rattle.upload_replay.specs.declared.outcome.DriveFault.TheVariants.{NoConfig}
 use Rattle.load_base.specs.declared.list.NoMemory.{NoMemory}
@@ -58,11 +60,17 @@ script_run set script start run link fits ordered is = record {
   ordered = ordered;
 }
 
+-- where it is known what stands
+pub some_standing : (standing : Option Standing) (P : Type 0) → (is_some standing ≡ true → P) → is_some (option_map standing_view standing) ≡ true → P
+some_standing None P known is = absurd cc
+some_standing (Some s) P known is = known refl
+
 -- on a disk that holds it throughout
-pub held_run : (set : SetView) (script : List Line) (start : StandingView) (old new : DiskState) (run : RunSeen) → StandingFits start → IsScriptRun set script start run → HoldsThroughout (setting_of set start) (steps_of run.trace) run.standing old new
+pub held_run : (set : SetView) (script : List Line) (start : StandingView) (old new : DiskState) (run : RunSeen) → StandingFits start → IsScriptRun set script start run → HoldsAllAlong (setting_of set start) (steps_of run.trace) run.standing old new → (is_some run.standing ≡ true → LosesOnlyWork new)
     → HoldsScriptRun set script start old new run
-held_run set script start old new run fits is moments = record {
-  moments = moments;
+held_run set script start old new run fits is (clocks, moments) rests = record {
+  moments = (clocks, moments);
+  rests = rests;
   completes = λ can left last stands.
       is.is.keeps.completes accepts_permitted can fits script (is.is.follows script (record { posted = refl; given = refl; plan = refl; follows = tt })).follows left last stands (sym (moments.active last stands));
 }

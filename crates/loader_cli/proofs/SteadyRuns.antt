@@ -5,7 +5,8 @@ use Rattle.std.specs.List.{AllByRecursion, count_by}
 use Rattle.std.specs.Option.{ForSome}
 use Rattle.load_base.specs.Counts.{Rose}
 use Rattle.disk_model.specs.Image.{Image}
-use Rattle.disk_model.specs.State.{DiskState, IsSettled}
+use Rattle.disk_model.specs.State.{DiskState}
+use Rattle.bank_store.specs.Fits.{LosesOnlyWork}
 use Rattle.disk_layout.specs.Holds.{HasDiskFault, HoldsConfig, StandingView}
 use Rattle.disk_layout.specs.declared.fault.RecoverFault.{RecoverFault}
 use Rattle.listing.specs.Listing.{listing}
@@ -20,9 +21,10 @@ use Rattle.replay_rules.specs.Due.{AllNoted, IsBooted, MayBeNoted, MayGoDown, is
 use Rattle.replay_rules.specs.Histories.{active_at}
 use Rattle.fixed_runs.specs.FixedRuns.{ActiveIsFixed, BootsTellActive, IsNoFailure, NeverFails, TellsActive, WholeRunsAreFixed, whole_run}
 use Rattle.upload_replay.specs.Endings.{HoldsNone, HoldsSome}
-use Rattle.upload_replay.specs.Moments.{AllBootsAreTold, BootIsTold}
+use Rattle.replay_turns.specs.StepsOnDisks.{BootIsTold}
+use Rattle.upload_replay.specs.Moments.{AllBootsAreTold}
 use Rattle.upload_replay.specs.OrderLaws.{posts_by_steps, wire_by_steps}
-use Rattle.upload_replay.specs.Powers.{RoseBy, disk_stops, stops_in, stops_noted}
+use Rattle.replay_turns.specs.Powers.{RoseBy, disk_stops, stops_in, stops_noted}
 use Rattle.upload_replay.specs.Texts.{datagrams_line, is_post, sessions_from}
 use Rattle.loader_cli.specs.FixedOutputs.{GivesRun, IsNoLoss, NeverGoesDown, sessions_by, text_by}
 use Rattle.loader_cli.specs.FixedOutputs.GivesRun.{held, unheld}
@@ -109,7 +111,7 @@ some_same : {A : Type 0} {a b : A} → Some a ≡ Some b → a ≡ b
 some_same same = cc
 
 module _ (fixed : WholeRunsAreFixed) (active : ActiveIsFixed) (told : Telling) (set : SetView) (script : List Line) (start : StandingView) (image : Image) (old new : DiskState) (run : RunSeen)
-    (reads : old.reads ≡ Some image) (holds : HoldsConfig image start) (settled : IsSettled old) (runs : RunsScript set script old new run) (counts : IsAnyRun set old new run)
+    (reads : old.reads ≡ Some image) (holds : HoldsConfig image start) (settled : LosesOnlyWork old) (runs : RunsScript set script old new run) (counts : IsAnyRun set old new run)
     (answers : ¬ Rose old.faults new.faults) (up : NeverGoesDown (steps_of run.trace)) where
   script_run : IsScriptRun set script start run
   script_run = (runs start image reads holds).0 (inr settled)
@@ -118,7 +120,7 @@ module _ (fixed : WholeRunsAreFixed) (active : ActiveIsFixed) (told : Telling) (
   throughout = (runs start image reads holds).1 settled
 
   never : NeverFails (steps_of run.trace)
-  never = never_fails (setting_of set start) (steps_of run.trace) script_run.is.trace.noted throughout.moments.boots up (never_stops (disk_stops (steps_of run.trace)) old.faults new.faults counts.counts.stops answers)
+  never = never_fails (setting_of set start) (steps_of run.trace) script_run.is.trace.noted throughout.moments.1.boots up (never_stops (disk_stops (steps_of run.trace)) old.faults new.faults counts.counts.stops answers)
 
   pub steps_are : steps_of run.trace ≡ whole_run (setting_of set start) script
   steps_are = fixed (setting_of set start) script (steps_of run.trace) (record {
@@ -127,7 +129,7 @@ module _ (fixed : WholeRunsAreFixed) (active : ActiveIsFixed) (told : Telling) (
       due = script_run.is.trace.due;
       noted = script_run.is.trace.noted;
       up = never;
-      boots = boots_tell (setting_of set start) (steps_of run.trace) throughout.moments.boots;
+      boots = boots_tell (setting_of set start) (steps_of run.trace) throughout.moments.1.boots;
     };
     ends = script_run.is.trace.ends;
     carries = script_run.is.carries;
@@ -141,7 +143,7 @@ module _ (fixed : WholeRunsAreFixed) (active : ActiveIsFixed) (told : Telling) (
       let S = setting_of set start in
       let steps = steps_of run.trace in
       let posts : count_by is_post run.trace ≡ length (posted_in steps) = posts_by_steps run.trace script_run.ordered in
-      let same : last ≡ active_at S steps = active S steps last never (throughout.moments.active last stands) in
+      let same : last ≡ active_at S steps = active S steps last never (throughout.moments.1.active last stands) in
       ap (λ (sessions : List EndedSession). sessions_from 1 sessions ++ datagrams_line (count_by is_post run.trace) ++ listing last) script_run.is.sessions_are
       ∙ (ap (λ (n : ℕ). sessions_from 1 (sessions_by S steps) ++ datagrams_line n ++ listing last) posts
       ∙ ap (λ (s : StandingView). sessions_from 1 (sessions_by S steps) ++ datagrams_line (length (posted_in steps)) ++ listing s) same)
@@ -168,7 +170,7 @@ pub record DiskLaws (new : DiskState) : Type 0 where
   pub reads_now : (image : Image) → new.reads ≡ Some image → new.now image
 
 module _ (fixed : WholeRunsAreFixed) (active : ActiveIsFixed) (told : Telling) (set : SetView) (script : List Line) (image : Image) (old new : DiskState) (handed : Option RunSeen)
-    (laws : DiskLaws new) (leaves : LeavesFirstOrGood old new) (reads : old.reads ≡ Some image) (settled : IsSettled old) (answers : ¬ Rose old.faults new.faults)
+    (laws : DiskLaws new) (leaves : LeavesFirstOrGood old new) (reads : old.reads ≡ Some image) (settled : LosesOnlyWork old) (answers : ¬ Rose old.faults new.faults)
     (up : ForSome handed (λ (seen : RunSeen). NeverGoesDown (steps_of seen.trace))) where
   none_at_end : (fault : RecoverFault) → HoldsSome old → HoldsNone fault new → ⊥
   none_at_end fault some none =
@@ -183,6 +185,6 @@ module _ (fixed : WholeRunsAreFixed) (active : ActiveIsFixed) (told : Telling) (
       let (start, holds_first) = some image reads in
       run_gives fixed active told set script start image old new run reads holds_first settled runs counts answers (up run is) last status text stands by_sessions tells
   outcome_gives status text (unknown run some is stands runs counts failed stopped _ _) = absurd (answers (rose_once (disk_stops (steps_of run.trace)) old.faults new.faults failed))
-  outcome_gives status text (disk_failed is failed stopped clock power _ _) = absurd (answers failed)
+  outcome_gives status text (disk_failed is failed stopped reads _ _) = absurd (answers failed)
   outcome_gives status text (no_config fault is other (inl was) eight tells) = unheld fault (was.none image reads) eight tells
   outcome_gives status text (no_config fault is other (inr (some, none)) _ _) = absurd (none_at_end fault some none)

@@ -2,7 +2,7 @@
 use Rattle.std.proofs.Common.{◌≡◌, ℕ, ◌+◌, ◌≤◌, ◌⊎◌, inl, inr, List, Option, ap, subst, ◌∙◌, arith}
 use Rattle.std.specs.Option.{ForSome}
 use Rattle.disk_model.specs.Image.{Image}
-use Rattle.disk_model.specs.MomentLaws.{power_kept, reads_joined, settled_stays}
+use Rattle.disk_model.specs.MomentLaws.{reads_joined}
 use Rattle.disk_model.specs.State.{DiskState, OnlyReads}
 use Rattle.disk_layout.specs.Holds.{StandingView}
 use Rattle.disk_layout.specs.Identity.{HasIdentity}
@@ -15,8 +15,10 @@ use Rattle.recovery.specs.Surveys.{IsSurveyed}
 use Rattle.recovery.specs.declared.surveying.Surveyed.{Surveyed}
 use Rattle.upload_replay.specs.Endings.{HeldNone, HoldsNone, HoldsSome}
 use Rattle.replay_rules.specs.BothEnds.{Setting}
-use Rattle.upload_replay.specs.Moments.{AreClocks, HoldsThroughout}
-use Rattle.upload_replay.specs.Powers.{RoseBy, armed_after, armings_after, disk_stops}
+use Rattle.upload_replay.specs.Moments.{AreClocks, HoldsAllAlong}
+use Rattle.bank_store.specs.Fits.{LosesOnlyWork}
+use Rattle.replay_turns.specs.Powers.{RoseBy, disk_stops}
+use Rattle.upload_replay.specs.Armings.{armed_after, armings_after}
 use Rattle.loader_cli.specs.Replays.{CountsPower, IsAnyRun, RunSeen, RunsScript, RunsTo, setting_of}
 use Rattle.loader_cli.specs.Replays.RunsTo.{ended, unknown, disk_failed, no_config}
 use Rattle.loader_cli.specs.declared.replay.Telling.{Telling}
@@ -55,36 +57,38 @@ none_since fault old mid new read same (inl held) = inl (record {
 none_since fault old mid new read same (inr (held, holds)) = inr (held_since old mid same held, holds)
 
 -- each moment since a survey is one since its start
-throughout_since : (set : Setting) (steps : List Step) (standing : Option StandingView) (old mid new : DiskState) → OnlyReads old mid → HoldsThroughout set steps standing mid new → HoldsThroughout set steps standing old new
-throughout_since set steps standing old mid new read holds = record {
-  clocks = holds.clocks;
-  end = holds.end;
-  timed = subst (λ (since : ℕ). AreClocks since holds.end holds.clocks steps) read.clock holds.timed;
-  boots = holds.boots;
-  moments = holds.moments;
-  after = holds.after;
-  left = holds.left;
-  active = holds.active;
-}
+throughout_since : (set : Setting) (steps : List Step) (standing : Option StandingView) (old mid new : DiskState) → OnlyReads old mid → HoldsAllAlong set steps standing mid new → HoldsAllAlong set steps standing old new
+throughout_since set steps standing old mid new read (clocks, holds) = (
+  clocks,
+  record {
+    end = holds.end;
+    timed = subst (λ (since : ℕ). AreClocks since holds.end clocks steps) read.clock holds.timed;
+    boots = holds.boots;
+    moments = holds.moments;
+    after = holds.after;
+    left = holds.left;
+    active = holds.active;
+  },
+)
 
-runs_since : (set : SetView) (script : List Line) (old mid new : DiskState) (run : RunSeen) → OnlyReads old mid → mid.reads ≡ old.reads → RunsScript set script mid new run → RunsScript set script old new run
-runs_since set script old mid new run read same runs = λ start image told holds.
+runs_since : (set : SetView) (script : List Line) (old mid new : DiskState) (run : RunSeen) → OnlyReads old mid → mid.reads ≡ old.reads → (LosesOnlyWork old → LosesOnlyWork mid) → RunsScript set script mid new run → RunsScript set script old new run
+runs_since set script old mid new run read same still runs = λ start image told holds.
     let both = runs start image (same ∙ told) holds in (
-      λ all. both.0 (elim all [ inl none ↦ inl none | inr settled ↦ inr (settled_stays old mid settled read same) ]),
-      λ settled.
-          let held = both.1 (settled_stays old mid settled read same) in
-          record { moments = throughout_since (setting_of set start) (steps_of run.trace) run.standing old mid new read held.moments; completes = held.completes },
+      λ all. both.0 (elim all [ inl none ↦ inl none | inr loses ↦ inr (still loses) ]),
+      λ loses.
+          let held = both.1 (still loses) in
+          record { moments = throughout_since (setting_of set start) (steps_of run.trace) run.standing old mid new read held.moments; rests = held.rests; completes = held.completes },
     )
 
 -- a run on a disk that was only read comes to the same of the disk as it was before
 pub run_since : (told : Telling) (set : SetView) (script : List Line) (old mid new : DiskState) (handed : Option RunSeen) (status : ℕ) (text : List ℕ)
-    → OnlyReads old mid → mid.reads ≡ old.reads → RunsTo told set script mid new handed status text → RunsTo told set script old new handed status text
-run_since told set script old mid new handed status text read same (ended run standing held is stands runs holds counts said tells) =
-    ended run standing (held_since old mid same held) is stands (runs_since set script old mid new run read same runs) holds (any_since set old mid new run read counts) said tells
-run_since told set script old mid new handed status text read same (unknown run held is stands runs counts failed stopped said tells) =
-    unknown run (held_since old mid same held) is stands (runs_since set script old mid new run read same runs) (any_since set old mid new run read counts)
+    → OnlyReads old mid → mid.reads ≡ old.reads → (LosesOnlyWork old → LosesOnlyWork mid) → RunsTo told set script mid new handed status text → RunsTo told set script old new handed status text
+run_since told set script old mid new handed status text read same still (ended run standing held is stands runs holds counts said tells) =
+    ended run standing (held_since old mid same held) is stands (runs_since set script old mid new run read same still runs) holds (any_since set old mid new run read counts) said tells
+run_since told set script old mid new handed status text read same still (unknown run held is stands runs counts failed stopped said tells) =
+    unknown run (held_since old mid same held) is stands (runs_since set script old mid new run read same still runs) (any_since set old mid new run read counts)
     (rose_since (disk_stops (steps_of run.trace) + 1) old.faults mid.faults new.faults read.faults failed) stopped said tells
-run_since told set script old mid new handed status text read same (disk_failed is failed stopped clock power said tells) =
-    disk_failed is (rose_since 1 old.faults mid.faults new.faults read.faults failed) stopped (clock ∙ read.clock) (power_kept old mid new read.power power) said tells
-run_since told set script old mid new handed status text read same (no_config fault is other holds said tells) =
+run_since told set script old mid new handed status text read same still (disk_failed is failed stopped reads said tells) =
+    disk_failed is (rose_since 1 old.faults mid.faults new.faults read.faults failed) stopped (reads_joined old mid new read reads) said tells
+run_since told set script old mid new handed status text read same still (no_config fault is other holds said tells) =
     no_config fault is other (none_since fault old mid new read same holds) said tells

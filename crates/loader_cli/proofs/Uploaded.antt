@@ -25,7 +25,7 @@ use Rattle.run_promises.specs.Listing.{WhatIsHeldFits}
 use Rattle.generated_uploads.specs.GeneratedMedia.{IsGeneratedSet, uploaded_load}
 use Rattle.generated_uploads.specs.GeneratedUploads.{GeneratedUploadsComplete, IsGeneratedUpload, IsOfTrial, IsOneUpload, OnlyTrialHappens, trial_script}
 use Rattle.upload_replay.specs.Endings.{HeldNone, HoldsNone, HoldsSome}
-use Rattle.upload_replay.specs.Powers.{RoseBy, disk_stops, stops_in, stops_noted}
+use Rattle.replay_turns.specs.Powers.{RoseBy, disk_stops, stops_in, stops_noted}
 use Rattle.loader_cli.specs.Replays.{HoldsScriptRun, IsAnyRun, IsCompleted, IsScriptRun, LeavesFirstOrGood, RunSeen, RunsScript, RunsTo, StatusOfRun, setting_of, told_as}
 use Rattle.loader_cli.specs.Replays.RunsTo.{disk_failed, ended, no_config, unknown}
 use Rattle.loader_cli.specs.Replays.StatusOfRun.{all_completed, not_completed}
@@ -102,7 +102,7 @@ module _ (run : Run) (number : ℕ) (is : TriesSound run number) (uploads : Uplo
   none_left : (set : SetView) (fault : RecoverFault) → HeldNone fault run.work.disk run.work.disk_after ⊎ (HoldsSome run.work.disk × HoldsNone fault run.work.disk_after) → ⊥
   none_left set fault (inl held) = laws.not_both is.image is.start fault is.holds (held.none is.image is.reads)
   none_left set fault (inr (some, none)) =
-      let left = leaves set is.start is.image is.reads is.holds is.settled in
+      let left = leaves set is.start is.image is.reads is.holds is.rests in
       let (image, read) = read_of run.work.disk_after left.tells in
       let held = left.only.here image (laws.reads_now image read) in
       laws.not_both image held.active fault held.holds (none image read)
@@ -115,8 +115,8 @@ module _ (run : Run) (number : ℕ) (is : TriesSound run number) (uploads : Uplo
         → IsAnyRun set run.work.disk run.work.disk_after seen → StatusOfRun seen.sessions status → text ≡ told_as Report seen.sessions seen.trace last → WasUploaded run number status text
     uploaded seen last handed stands runs counts by_sessions told =
         let both = runs is.start is.image is.reads is.holds in
-        let ran : IsScriptRun set script is.start seen = both.0 (inr is.settled) in
-        let held : HoldsScriptRun set script is.start run.work.disk run.work.disk_after seen = both.1 is.settled in
+        let ran : IsScriptRun set script is.start seen = both.0 (inr is.rests) in
+        let held : HoldsScriptRun set script is.start run.work.disk run.work.disk_after seen = both.1 is.rests in
         let follows = (ran.is.follows script (record { posted = refl; given = refl; plan = refl; follows = tt })).follows in
         let still = none_stops (disk_stops (steps_of seen.trace)) run.work.disk.faults run.work.disk_after.faults is.disk_answers counts.counts.stops in
         let upload : IsGeneratedUpload number set (setting_of set is.start) (steps_of seen.trace) = record {
@@ -138,7 +138,7 @@ module _ (run : Run) (number : ℕ) (is : TriesSound run number) (uploads : Uplo
           is = handed;
           stands = stands;
           one = one;
-          loads = upload_done.loads last (sym (held.moments.active last stands));
+          loads = upload_done.loads last (sym (held.moments.1.active last stands));
           done = zero_status seen.sessions status one by_sessions;
           told = told;
         }
@@ -147,7 +147,7 @@ module _ (run : Run) (number : ℕ) (is : TriesSound run number) (uploads : Uplo
     came_to_end (ended seen standing held handed stands runs holds counts by_sessions tells) = uploaded seen standing handed stands runs counts by_sessions tells
     came_to_end (unknown seen held handed stands runs counts failed stopped _ _) =
         absurd (is.disk_answers (rose_once (disk_stops (steps_of seen.trace)) run.work.disk.faults run.work.disk_after.faults failed))
-    came_to_end (disk_failed handed failed stopped clock power _ _) = absurd (is.disk_answers failed)
+    came_to_end (disk_failed handed failed stopped reads _ _) = absurd (is.disk_answers failed)
     came_to_end (no_config fault handed other none _ _) = absurd (none_left set fault none)
 
   by_trial : (status : ℕ) (text : List ℕ) → Trials number run.work.disk run.work.disk_after run.work.handed status text → WasUploaded run number status text

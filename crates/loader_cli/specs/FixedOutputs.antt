@@ -6,7 +6,8 @@ use Rattle.load_base.specs.Counts.{Rose}
 use Rattle.load_base.specs.Host.{Files}
 use Rattle.load_base.specs.Sink.{IsExtended}
 use Rattle.disk_model.specs.Image.{Image}
-use Rattle.disk_model.specs.State.{DiskState, IsSettled}
+use Rattle.disk_model.specs.State.{DiskState}
+use Rattle.bank_store.specs.Fits.{LosesOnlyWork}
 use Rattle.disk_layout.specs.Holds.{HasDiskFault, HoldsConfig, StandingView}
 use Rattle.disk_layout.specs.Identity.{HasIdentity}
 use Rattle.disk_layout.specs.declared.identity.Identity.{Identity}
@@ -82,7 +83,7 @@ NeverGoesDown steps = AllByRecursion (λ (s : Step). AllByRecursion IsNoLoss s.n
 -- and the target doesn't go down in it.
 pub record RunsSteadily (run : Run) (image : Image) : Type 0 where
   pub reads : run.work.disk.reads ≡ Some image
-  pub settled : IsSettled run.work.disk
+  pub rests : LosesOnlyWork run.work.disk
   pub answers : NothingFails run
   pub disk_answers : ¬ Rose run.work.disk.faults run.work.disk_after.faults
   pub stays_up : ForSome run.work.handed (λ seen. NeverGoesDown (steps_of seen.trace))

@@ -1,10 +1,11 @@
 -- What `replay` and `wire` print, their status, and the cause of each (docs/PROMISES.md).
-use Rattle.std.specs.Prelude.{◌≡◌, ℕ, ◌+◌, ◌≤◌, ◌⊎◌, List, [], ◌∷◌, All, length, map, codes, Option, Some, None, option_map, Ok, Err, true, ⊤}
+use Rattle.std.specs.Prelude.{◌≡◌, ℕ, ◌+◌, ◌≤◌, ◌⊎◌, List, [], ◌∷◌, All, length, map, codes, Option, Some, None, option_map, is_some, Ok, Err, true, ⊤}
 use Rattle.std.specs.Option.{ForSome}
 use Rattle.load_base.specs.Counts.{Rose}
 use Rattle.load_base.specs.Host.{Files, longest_file}
 use Rattle.disk_model.specs.Image.{Image}
-use Rattle.disk_model.specs.State.{DiskState, IsSettled, KeepsPower}
+use Rattle.disk_model.specs.State.{DiskState, KeepsPower, OnlyReads}
+use Rattle.bank_store.specs.Fits.{LosesOnlyWork}
 use Rattle.disk_layout.specs.DiskReads.{IsOfDisk}
 use Rattle.disk_layout.specs.Holds.{HoldsConfig, StandingView, standing_view}
 use Rattle.disk_layout.specs.declared.fault.RecoverFault.{RecoverFault}
@@ -40,9 +41,10 @@ use Rattle.run_promises.specs.Promises.{CanBeTold, ChangesByGoodLoads, IsLeftToL
 use Rattle.upload_replay.specs.declared.outcome.Drive.{Drive}
 use Rattle.upload_replay.specs.Drives.{IsLoadersRun, IsRun, NeverBoots}
 use Rattle.upload_replay.specs.Endings.{HeldNone, HoldsNone, HoldsSome}
-use Rattle.upload_replay.specs.Moments.{HoldsThroughout, LeavesGood}
-use Rattle.upload_replay.specs.Orders.{IsInOrder}
-use Rattle.upload_replay.specs.Powers.{RoseBy, armed_after, armings_after, disk_stops}
+use Rattle.replay_turns.specs.Orders.{IsInOrder}
+use Rattle.replay_turns.specs.Powers.{RoseBy, disk_stops}
+use Rattle.upload_replay.specs.Armings.{armed_after, armings_after}
+use Rattle.upload_replay.specs.Moments.{HoldsAllAlong, LeavesGood}
 use Rattle.upload_replay.specs.Texts.{report, wire}
 use Rattle.loader_cli.specs.Commands.{CommandView}
 use Rattle.loader_cli.specs.Commands.CommandView.{replay as replay_command, wire as wire_command}
@@ -82,27 +84,29 @@ pub record IsScriptRun (set : SetView) (script : List Line) (start : StandingVie
   pub bounded : length (steps_of run.trace) ≤ most_of_lines 0 script + 1
   pub ordered : IsInOrder run.trace
 
--- Each image that a power loss might have left since holds what was active at its moment; and a fault-free run that was left to
--- the script's last `finish` is complete.
+-- Each image that a power loss might have left since holds what was active at its moment; where it is known what stands then, a
+-- power loss may take nothing but work of an installation, as at first; and a fault-free run that was left to the script's last
+-- `finish` is complete.
 pub record HoldsScriptRun (set : SetView) (script : List Line) (start : StandingView) (old new : DiskState) (run : RunSeen) : Type 0 where
-  pub moments : HoldsThroughout (setting_of set start) (steps_of run.trace) run.standing old new
+  pub moments : HoldsAllAlong (setting_of set start) (steps_of run.trace) run.standing old new
+  pub rests : is_some run.standing ≡ true → LosesOnlyWork new
   pub completes : CanBeTold (media_of set) → (left : IsLeftToLastFinish (setting_of set start) script (steps_of run.trace)) (last : StandingView) → run.standing ≡ Some last
       → IsComplete (setting_of set start) left.before left.free (steps_of run.trace) last
 
--- On a disk that tells its content, and of which a power loss could leave nothing else at first, it is a run of this script on
--- this media set, which its disk holds moment by moment. Where no boot came, it is such a run also where a power loss could
--- have left more.
+-- On a disk that tells its content, and of which a power loss could take only work of an installation at first, it is a run of
+-- this script on this media set, which its disk holds moment by moment. Where no boot came, it is such a run also where a power
+-- loss could have taken more.
 abbrev pub RunsScript : SetView → List Line → (old new : DiskState) → RunSeen → Type 0
 RunsScript set script old new run =
     (start : StandingView) (image : Image) → old.reads ≡ Some image → HoldsConfig image start
-    → (NeverBoots (steps_of run.trace) ⊎ IsSettled old → IsScriptRun set script start run)
-    × (IsSettled old → HoldsScriptRun set script start old new run)
+    → (NeverBoots (steps_of run.trace) ⊎ LosesOnlyWork old → IsScriptRun set script start run)
+    × (LosesOnlyWork old → HoldsScriptRun set script start old new run)
 
 -- Such a disk goes on telling its content, and each image that a power loss may leave now, or might have left since, holds what
 -- was active at first, or a configuration that has a load, and good loads alone.
 abbrev pub LeavesFirstOrGood : (old new : DiskState) → Type 0
 LeavesFirstOrGood old new =
-    (set : SetView) (start : StandingView) (image : Image) → old.reads ≡ Some image → HoldsConfig image start → IsSettled old
+    (set : SetView) (start : StandingView) (image : Image) → old.reads ≡ Some image → HoldsConfig image start → LosesOnlyWork old
     → LeavesGood (setting_of set start) old.clock new
 
 -- The disk failed at least as often as the trace says that it stopped, and was armed once for each loss of power in it, with
@@ -158,7 +162,7 @@ pub data RunsTo (told : Telling) (set : SetView) (script : List Line) (old new :
       → RoseBy (disk_stops (steps_of run.trace) + 1) old.faults new.faults → new.stopped ≡ true → status ≡ 5 → text ≡ disk_fault
       → RunsTo told set script old new handed status text
   -- 5: the disk failed before anything happened, and nothing was written
-  disk_failed : handed ≡ None → Rose old.faults new.faults → new.stopped ≡ true → new.clock ≡ old.clock → KeepsPower old new → status ≡ 5 → text ≡ disk_fault
+  disk_failed : handed ≡ None → Rose old.faults new.faults → new.stopped ≡ true → OnlyReads old new → status ≡ 5 → text ≡ disk_fault
       → RunsTo told set script old new handed status text
   -- 8: the disk held no configuration at first, for this fault, is as it was, and runs on; or it held one, and holds none at the
   -- end, for this fault

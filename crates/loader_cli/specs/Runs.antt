@@ -18,6 +18,7 @@ use Rattle.shown_files.specs.Shown.{HasFields, HasFault}
 use Rattle.shown_files.specs.declared.kind.ShownKind.{ShownKind}
 use Rattle.disk_model.specs.Image.{Image}
 use Rattle.disk_model.specs.State.{DiskState, IsSettled}
+use Rattle.bank_store.specs.Fits.{LosesOnlyWork}
 use Rattle.bank_store.specs.Formatting.{formatted, KeepsRest}
 use Rattle.disk_layout.specs.declared.identity.Identity.{Identity}
 use Rattle.disk_layout.specs.Offsets.{IsBankSize}
@@ -28,7 +29,7 @@ use Rattle.listing.specs.Listing.{listing}
 use Rattle.exchange_trace.specs.Lines.{Line}
 use Rattle.generated_uploads.specs.GeneratedMedia.{uploaded_load}
 use Rattle.generated_uploads.specs.GeneratedUploads.{CanTakeGeneratedSet, IsOneUpload}
-use Rattle.upload_replay.specs.Powers.{RoseBy}
+use Rattle.replay_turns.specs.Powers.{RoseBy}
 use Rattle.loader_cli.specs.Commands.{IsCommand, IsNo, IsAny}
 use Rattle.loader_cli.specs.Commands.CommandView.{list, format, show, check, build, make, replay, wire, trial}
 use Rattle.loader_cli.specs.Builds.{Builds, Makes, IsNameBuilt, IsNameMade}
@@ -219,7 +220,7 @@ pub record ReplaysSound (run : Run) (telling : Telling) (folder name : List ℕ)
   pub image : Image
   pub reads : run.work.disk.reads ≡ Some image
   pub holds : HoldsConfig image start
-  pub settled : IsSettled run.work.disk
+  pub rests : LosesOnlyWork run.work.disk
   pub answers : NothingFails run
   pub stops : ¬ RoseBy (stops_of run.work.handed + 1) run.work.disk.faults run.work.disk_after.faults
 
@@ -242,7 +243,7 @@ pub record TriesSound (run : Run) (number : ℕ) : Type 0 where
   pub reads : run.work.disk.reads ≡ Some image
   pub holds : HoldsConfig image start
   pub can_take : CanTakeGeneratedSet start
-  pub settled : IsSettled run.work.disk
+  pub rests : LosesOnlyWork run.work.disk
   pub disk_answers : ¬ Rose run.work.disk.faults run.work.disk_after.faults
   pub sink_answers : ¬ Rose run.sink_faults run.sink_faults_after
 

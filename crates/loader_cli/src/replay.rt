@@ -11,6 +11,7 @@ ghost use Rattle.loader_cli.specs.Replays.{LeavesFirstOrGood, told_as};
 use crate::answer::{Answer, Answered};
 use crate::inputs::{Inputs, read_inputs};
 use accept_rules::{Interlock, PermitsAll};
+use bank_store::a_power_loss_takes_only_work;
 use disk_model::Power;
 use link_net::{Script, ScriptLink};
 use load_base::{Bytes, Host, NoMemory};
@@ -48,6 +49,8 @@ pub(crate) fn replay<'w, H: Host, K: Power>(
     ensures kept { H.files host.new ≡ H.files host.old }
     ensures leaves { LeavesFirstOrGood (K.state disk.old) (K.state disk.new) }
 {
+    // For the proof: does nothing.
+    a_power_loss_takes_only_work::<K>();
     match read_inputs(alloc, host, folder.as_bytes(), script.as_bytes())? {
         Inputs::Ready { set, script } => {
             let said = run_script(alloc, disk, &set, script, telling);

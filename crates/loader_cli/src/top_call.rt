@@ -22,7 +22,9 @@ use crate::replay::{Telling, replay};
 use crate::show::show;
 use crate::text::formatted_text;
 use crate::trial::trial;
-use bank_store::{StoreFault, an_unformatted_disk_is_as_it_was, format};
+use bank_store::{
+    StoreFault, a_power_loss_takes_only_work, an_unformatted_disk_is_as_it_was, format,
+};
 use disk_layout::{Identity, an_image_holds_one_configuration};
 use disk_model::{Disk, Power};
 use generated_uploads::laws::{a_generated_upload_completes, only_a_trial_happens};
@@ -196,6 +198,8 @@ fn answer<'w, H: Host, K: Power>(
     ensures while_running { IsNo FormatsDisk (texts_of words.now)
         → LeavesFirstOrGood (K.state disk.old) (K.state disk.new) }
 {
+    // For the proof: does nothing.
+    a_power_loss_takes_only_work::<K>();
     match Command::read(words) {
         None => Ok(Answered::of(Answer::RefusedWords)),
         Some(Command::List) => alone(list(alloc, disk)),

@@ -9,6 +9,7 @@ ghost use Rattle.loader_cli.specs.Trials.{Trials};
 
 use crate::answer::{Answer, Answered};
 use crate::replay::{Telling, run_script};
+use bank_store::a_power_loss_takes_only_work;
 use disk_layout::Identity;
 use disk_model::Power;
 use link_net::Script;
@@ -29,6 +30,8 @@ pub(crate) fn trial<'w, K: Power>(
         (option_map run_seen said.drive) (status_of said.answer) (text_of said.answer)) }
     ensures leaves { LeavesFirstOrGood (K.state disk.old) (K.state disk.new) }
 {
+    // For the proof: does nothing.
+    a_power_loss_takes_only_work::<K>();
     match survey(alloc, disk) {
         Ok(surveyed) => {
             let target = surveyed.identity;

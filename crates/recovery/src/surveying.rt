@@ -1,17 +1,16 @@
 //! What is active on a disk: the identity, the slot, and the manifest that it names.
 ghost use Rattle.std.specs.Prelude.{◌≡◌, IfOk, IfErr};
 ghost use Rattle.std.specs.Option.{ForSome};
-ghost use Rattle.disk_model.specs.State.{IsSettled};
 ghost use Rattle.disk_layout.specs.Holds.{StandingView, outline_of, Refuses};
 ghost use Rattle.disk_layout.specs.DiskReads.{ReadsDisk};
 ghost use Rattle.bank_store.specs.Store.{IsIdle};
 ghost use Rattle.bank_store.specs.DiskWrites.{IsRunning};
-ghost use Rattle.bank_store.specs.Fits.{HoldsFor, Fits, Works};
+ghost use Rattle.bank_store.specs.Fits.{HoldsFor, Fits, LosesOnlyWork, Works};
 ghost use Rattle.recovery.specs.Surveys.{IsSurveyed, IsSurveyInRange, FindsActive, IsFoundInRange};
 ghost use Rattle.recovery.specs.Surveys.{outline_of_survey};
 
 use crate::manifests::outline_on;
-use bank_store::{Store, a_settled_disk_works, a_store_goes_on_fitting};
+use bank_store::{Store, a_store_goes_on_fitting, an_idle_store_works};
 use disk_layout::{Active, Identity, Manifest, ManifestFault, RecoverFault, an_outline_is_filled};
 use disk_model::Disk;
 use std::alloc::Global;
@@ -31,8 +30,8 @@ pub struct Surveyed {
 /// a restart.
 ///
 /// The store that it gives installs on this disk, beside what is active there. What its calls
-/// promise of a power loss they promise where the disk was settled, as it is after a sync or a
-/// restart.
+/// promise of a power loss they promise where one could take nothing but work of an installation, as
+/// after a sync or a restart, and after a run.
 pub fn survey<K: Disk>(alloc: Global, disk: &mut K) -> Result<Surveyed, RecoverFault>
     requires { IsRunning (K.state disk.old) }
     ensures found { IfOk result (λ surveyed. ForSome (K.state disk.old).reads
@@ -45,7 +44,7 @@ pub fn survey<K: Disk>(alloc: Global, disk: &mut K) -> Result<Surveyed, RecoverF
         (λ image. (s : StandingView) × HoldsFor surveyed.store image s
         × (outline_of s ≡ outline_of_survey surveyed))) }
     ensures fits { IfOk result (λ surveyed. Fits surveyed.store (K.state disk.new)) }
-    ensures works { IfOk result (λ surveyed. IsSettled (K.state disk.old)
+    ensures works { IfOk result (λ surveyed. LosesOnlyWork (K.state disk.old)
         → Works surveyed.store (K.state disk.new)) }
     ensures reads_disk { ReadsDisk (K.state disk.old) (K.state disk.new) result }
 {
@@ -58,7 +57,7 @@ pub fn survey<K: Disk>(alloc: Global, disk: &mut K) -> Result<Surveyed, RecoverF
     );
     // For the proof: these do nothing.
     an_outline_is_filled();
-    a_settled_disk_works::<K>();
+    an_idle_store_works::<K>();
     a_store_goes_on_fitting::<K>();
     Ok(Surveyed {
         identity: found.identity,

@@ -4,12 +4,11 @@ ghost use Rattle.std.specs.Prelude.{◌≡◌, ◌≤◌, ◌∷◌, [], Bool, L
 ghost use Rattle.std.specs.Prelude.{IsErrOf, OnOk, bytes_eq, is_some, option_map};
 ghost use Rattle.accept_rules.specs.Interlocks.{Follows};
 ghost use Rattle.bank_store.specs.DiskWrites.{IsRunning};
-ghost use Rattle.bank_store.specs.Fits.{Fits, Works};
+ghost use Rattle.bank_store.specs.Fits.{Fits, LosesOnlyWork, Works};
 ghost use Rattle.bank_store.specs.Keeps.{Continues};
 ghost use Rattle.bank_store.specs.Store.{IsIdle};
 ghost use Rattle.disk_layout.specs.DiskReads.{HasDiskCause};
 ghost use Rattle.disk_layout.specs.Holds.{StandingView};
-ghost use Rattle.disk_model.specs.State.{IsSettled};
 ghost use Rattle.exchange_trace.specs.Logs.{Gets, Learns, Ticks};
 ghost use Rattle.load_header.specs.Header.{HeaderView};
 ghost use Rattle.tftp_packet.specs.Options.{AreInRange};
@@ -51,7 +50,7 @@ use crate::request::{request, serve_first};
 use crate::row::Row;
 use crate::session::LiveSession;
 use accept_rules::{Interlock, Rule};
-use bank_store::{a_settled_disk_works, a_store_goes_on_fitting};
+use bank_store::{a_store_goes_on_fitting, an_idle_store_works};
 use disk_layout::Identity;
 use disk_model::Disk;
 use exchange_trace::{Datagram, Side};
@@ -114,9 +113,9 @@ impl<'i, R: Rule> Target<'i, R> {
         ensures comes_up { IfOk result (λ target. ComesUp interlock.now first_port target
             (K.state disk.old)) }
         ensures fits { IfOk result (λ target. Fits target.store (K.state disk.new)) }
-        ensures works { IfOk result (λ target. IsSettled (K.state disk.old)
+        ensures works { IfOk result (λ target. LosesOnlyWork (K.state disk.old)
             → Works target.store (K.state disk.new)) }
-        ensures starts { IfOk result (λ target. IsSettled (K.state disk.old)
+        ensures starts { IfOk result (λ target. LosesOnlyWork (K.state disk.old)
             → ForSome (K.state disk.old).reads (λ image. StartsOn target.view target.store image
             (K.state disk.new))) }
         ensures refused { IfErr result (λ fault. ForSome (K.state disk.old).reads
@@ -159,7 +158,7 @@ impl<'i, R: Rule> Target<'i, R> {
         ensures writes { Writes (K.state disk.old) (K.state disk.new) result }
     {
         a_store_goes_on_fitting::<K>();
-        a_settled_disk_works::<K>();
+        an_idle_store_works::<K>();
         let packet = packet_in(bytes);
         match &packet {
             Some(packet) if to == REQUEST_PORT => Ok(self.on_request(from, packet)?),
@@ -192,7 +191,7 @@ impl<'i, R: Rule> Target<'i, R> {
             result }
         ensures store { OnOk result (Continues self.old.store self.new.store) }
     {
-        a_settled_disk_works::<K>();
+        an_idle_store_works::<K>();
         Ok(self.tick()?)
     }
 

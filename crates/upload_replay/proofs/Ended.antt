@@ -2,7 +2,7 @@
 use Rattle.std.proofs.Common.{◌≡◌, ℕ, inl, inr, refl, sym, ap, subst, ◌∙◌, arith}
 use Rattle.std.specs.Prelude.{IfErr, IfOk, IsErrOf, Result, Ok, Err}
 use Rattle.std.specs.Option.{ForSome}
-use Rattle.disk_layout.specs.DiskReads.{RunsOn, RunsOnAfter}
+use Rattle.disk_layout.specs.DiskReads.{HasDiskCause, RunsOnAfter}
 use Rattle.disk_layout.specs.Holds.{Refuses}
 use Rattle.disk_layout.specs.declared.fault.RecoverFault.{RecoverFault}
 use Rattle.disk_layout.specs.declared.fault.RecoverFault.TheVariants.{BadManifest, BadSlot, DiskFailed, Memory, NoOpenSlot, NotFormatted}
@@ -14,20 +14,17 @@ use Rattle.target_machine.specs.declared.boot.BootFault.TheVariants as boots
 use Rattle.upload_replay.specs.declared.outcome.DriveFault.{DriveFault}
 use Rattle.upload_replay.specs.declared.outcome.DriveFault.TheVariants as faults
 use Rattle.upload_replay.specs.Turns.{HasDriveCause, IsOfRun}
-use Rattle.upload_replay.specs.Endings.{FailsInRun, HoldsNone, HoldsSome, HoldsStanding, IsLastFault, IsNoConfig, NeverBegan, first_fault_of, last_refusal_of}
+use Rattle.upload_replay.specs.Endings.{FailsToBegin, HoldsSome, HoldsStanding, IsLastFault, IsNoConfig, IsRefused, first_fault_of, last_refusal_of}
 
-held_none : (fault : RecoverFault) (first last : DiskState) (link : LinkState) → HoldsNone fault first → OnlyReads first last → RunsOn first last → NeverBegan fault first last link link
-held_none fault first last link none reads on = record { held = record { none = none; only_reads = reads; running = on }; untouched = refl }
-
-pub first_refusal : (fault : BootFault) (first last : DiskState) (link : LinkState) → ForSome first.reads (λ image. BootFails image fault) → OnlyReads first last → RunsOnAfterBoot first last fault
-    → IsNoConfig (first_fault_of fault) first last link link
-first_refusal (boots.Recover (NotFormatted offset)) first last link refused reads on = (λ is. is, inl (held_none _ first last link refused reads on))
-first_refusal (boots.Recover NoOpenSlot) first last link refused reads on = (λ is. is, inl (held_none _ first last link refused reads on))
-first_refusal (boots.Recover (BadSlot offset)) first last link refused reads on = (λ is. is, inl (held_none _ first last link refused reads on))
-first_refusal (boots.Recover (BadManifest offset)) first last link refused reads on = (λ is. is, inl (held_none _ first last link refused reads on))
-first_refusal (boots.Recover DiskFailed) first last link refused reads on = tt
-first_refusal (boots.Recover Memory) first last link refused reads on = tt
-first_refusal boots.Memory first last link refused reads on = tt
+pub first_refusal : {T : Type 0} (fault : BootFault) (first last : DiskState) (result : Result T BootFault) → result ≡ Err fault → ForSome first.reads (λ image. BootFails image fault) → OnlyReads first last → RunsOnAfterBoot first last fault
+    → HasDiskCause (boots.Recover DiskFailed) first last result → FailsToBegin (first_fault_of fault) first last
+first_refusal (boots.Recover (NotFormatted offset)) first last result is refused reads on cause = (λ of. of, record { none = refused; only_reads = reads; running = on })
+first_refusal (boots.Recover NoOpenSlot) first last result is refused reads on cause = (λ of. of, record { none = refused; only_reads = reads; running = on })
+first_refusal (boots.Recover (BadSlot offset)) first last result is refused reads on cause = (λ of. of, record { none = refused; only_reads = reads; running = on })
+first_refusal (boots.Recover (BadManifest offset)) first last result is refused reads on cause = (λ of. of, record { none = refused; only_reads = reads; running = on })
+first_refusal (boots.Recover DiskFailed) first last result is refused reads on cause = cause.failed is
+first_refusal (boots.Recover Memory) first last result is refused reads on cause = tt
+first_refusal boots.Memory first last result is refused reads on cause = tt
 
 -- the disk reads as it did
 pub last_fault : (fault : RecoverFault) (old new : DiskState) → ForSome old.reads (λ image. Refuses image fault) → RunsOnAfter old new fault
@@ -47,64 +44,109 @@ no_standing (BadManifest offset) disk = tt
 no_standing DiskFailed disk = tt
 no_standing Memory disk = tt
 
-pub of_run : (fault : DriveFault) (first last : DiskState) (link link_then : LinkState) → IsOfRun fault → IsNoConfig fault first last link link_then
-of_run faults.Link first last link link_then of = tt
-of_run faults.Disk first last link link_then of = absurd of
-of_run (faults.NoConfig fault) first last link link_then of = absurd of
-of_run faults.Memory first last link link_then of = tt
+-- ---- why there is no run
 
-pub of_last : (fault : DriveFault) (first last : DiskState) (link link_then : LinkState) → HoldsSome first → IsLastFault fault last → IsNoConfig fault first last link link_then
-of_last faults.Link first last link link_then held refused = tt
-of_last faults.Disk first last link link_then held refused = tt
-of_last (faults.NoConfig fault) first last link link_then held refused = (refused.0, inr (held, refused.1))
-of_last faults.Memory first last link link_then held refused = tt
+no_link : {T : Type 0} (fault : DriveFault) (P : DriveFault → Type 0) → (P faults.Link → ⊥) → P fault → ◌≡◌ {A = Result T DriveFault} (Err fault) (Err faults.Link) → ⊥
+no_link fault P never is link = never (subst P (let same : fault ≡ faults.Link = cc in same) is)
 
--- ---- the link
-
-not_the_link : {T : Type 0} (fault : BootFault) (r : Result T DriveFault) → r ≡ Err (first_fault_of fault) → IsErrOf r faults.Link → ⊥
-not_the_link (boots.Recover (NotFormatted offset)) r is link = cc
-not_the_link (boots.Recover NoOpenSlot) r is link = cc
-not_the_link (boots.Recover (BadSlot offset)) r is link = cc
-not_the_link (boots.Recover (BadManifest offset)) r is link = cc
-not_the_link (boots.Recover DiskFailed) r is link = cc
-not_the_link (boots.Recover Memory) r is link = cc
-not_the_link boots.Memory r is link = cc
-
--- nothing was asked of it before the target came up
-pub first_cause : {T : Type 0} (count : ℕ) (first : DiskState) (fault : BootFault) → FailsInRun {T = T} count count first (Err (first_fault_of fault))
-first_cause count first fault = record {
-  cause = record {
-    later = omega arith;
-    failed = λ link. absurd (not_the_link fault (Err (first_fault_of fault)) refl link);
-    once = omega arith;
-    ok = tt;
-    others = λ other. refl;
+-- nothing was asked of the link before the target came up
+pub refused_first : {T : Type 0} (count : ℕ) (old new : DiskState) (link : LinkState) (fault : DriveFault) → FailsToBegin fault old new → OnlyReads old new → IsRefused {T = T} count count old new link link (Err fault)
+refused_first {T} count old new link fault fails reads = record {
+  link_failed = record {
+    cause = record {
+      later = omega arith;
+      failed = λ is. absurd (no_link {T = T} fault (λ f. FailsToBegin f old new) (λ none. none) fails is);
+      once = omega arith;
+      ok = tt;
+      others = λ other. refl;
+    };
+    began = λ is. absurd (no_link {T = T} fault (λ f. FailsToBegin f old new) (λ none. none) fails is);
   };
-  began = λ link. absurd (not_the_link fault (Err (first_fault_of fault)) refl link);
-}
-
--- it failed in a run, or it didn't
-pub run_cause : {S T : Type 0} (before now : ℕ) (first : DiskState) (fault : DriveFault) → HasDriveCause {T = S} before now (Err fault) → HoldsSome first → FailsInRun {T = T} before now first (Err fault)
-run_cause before now first fault cause held = record {
-  cause = record {
-    later = cause.later;
-    failed = λ link. let same : fault ≡ faults.Link = cc in cause.failed (ap (λ (f : DriveFault). Err f) same);
-    once = cause.once;
-    ok = tt;
-    others = cause.others;
+  disk_failed = record {
+    failed = λ is. subst (λ (f : DriveFault). FailsToBegin f old new) (let same : fault ≡ faults.Disk = cc in same) fails;
+    only_reads = λ is. reads;
+    untouched = λ is. refl;
   };
-  began = λ link. held;
+  no_config = by fault fails;
 }
+  where
+    by : (f : DriveFault) → FailsToBegin f old new → IsNoConfig f old new link link
+    by faults.Link fails = tt
+    by faults.Disk fails = tt
+    by (faults.NoConfig f) fails = (fails.0, inl (record { held = fails.1; untouched = refl }))
+    by faults.Memory fails = tt
 
--- nor did it in the last recovery
-pub last_cause : {T : Type 0} (before now : ℕ) (first last : DiskState) (fault : DriveFault) → now ≡ before → HoldsSome first → IsLastFault fault last → FailsInRun {T = T} before now first (Err fault)
-last_cause before now first last fault same held refused = record {
-  cause = record {
-    later = omega (arith, same);
-    failed = λ link. let is_link : fault ≡ faults.Link = cc in absurd (subst (λ (f : DriveFault). IsLastFault f last) is_link refused);
-    once = omega (arith, same);
-    ok = tt;
-    others = λ other. same;
+-- the link failed in a run, or memory was out
+pub refused_run : {S T : Type 0} (before now : ℕ) (old new : DiskState) (link link_then : LinkState) (fault : DriveFault) → IsOfRun fault → HasDriveCause {T = S} before now (Err fault) → HoldsSome old → IsRefused {T = T} before now old new link link_then (Err fault)
+refused_run {S} {T} before now old new link link_then fault of cause held = record {
+  link_failed = record {
+    cause = record {
+      later = cause.later;
+      failed = λ is. let same : fault ≡ faults.Link = cc in cause.failed (ap (λ (f : DriveFault). Err f) same);
+      once = cause.once;
+      ok = tt;
+      others = cause.others;
+    };
+    began = λ is. held;
   };
-  began = λ link. held;
+  disk_failed = record { failed = λ is. absurd (not_disk is); only_reads = λ is. absurd (not_disk is); untouched = λ is. absurd (not_disk is) };
+  no_config = by fault of;
 }
+  where
+    not_disk : ◌≡◌ {A = Result T DriveFault} (Err fault) (Err faults.Disk) → ⊥
+    not_disk is = subst IsOfRun (let same : fault ≡ faults.Disk = cc in same) of
+
+    by : (f : DriveFault) → IsOfRun f → IsNoConfig f old new link link_then
+    by faults.Link of = tt
+    by faults.Disk of = absurd of
+    by (faults.NoConfig f) of = absurd of
+    by faults.Memory of = tt
+
+-- the last recovery was refused
+pub refused_last : {T : Type 0} (before now : ℕ) (old new : DiskState) (link link_then : LinkState) (fault : DriveFault) → now ≡ before → HoldsSome old → IsLastFault fault new → IsRefused {T = T} before now old new link link_then (Err fault)
+refused_last {T} before now old new link link_then fault same held refused = record {
+  link_failed = record {
+    cause = record {
+      later = omega (arith, same);
+      failed = λ is. absurd (no_link {T = T} fault (λ f. IsLastFault f new) (λ none. none) refused is);
+      once = omega (arith, same);
+      ok = tt;
+      others = λ other. same;
+    };
+    began = λ is. held;
+  };
+  disk_failed = record { failed = λ is. absurd (not_disk is); only_reads = λ is. absurd (not_disk is); untouched = λ is. absurd (not_disk is) };
+  no_config = by fault refused;
+}
+  where
+    not_disk : ◌≡◌ {A = Result T DriveFault} (Err fault) (Err faults.Disk) → ⊥
+    not_disk is = subst (λ (f : DriveFault). IsLastFault f new) (let is_disk : fault ≡ faults.Disk = cc in is_disk) refused
+
+    by : (f : DriveFault) → IsLastFault f new → IsNoConfig f old new link link_then
+    by faults.Link refused = tt
+    by faults.Disk refused = tt
+    by (faults.NoConfig f) refused = (refused.0, inr (held, refused.1))
+    by faults.Memory refused = tt
+
+-- the run came to its end
+pub refused_none : {T : Type 0} (before now : ℕ) (old new : DiskState) (link link_then : LinkState) (x : T) → now ≡ before → IsRefused before now old new link link_then (Ok x)
+refused_none {T} before now old new link link_then x same = record {
+  link_failed = record {
+    cause = record { later = omega (arith, same); failed = λ is. absurd (not_ok faults.Link is); once = omega (arith, same); ok = same; others = tt };
+    began = λ is. absurd (not_ok faults.Link is);
+  };
+  disk_failed = record { failed = λ is. absurd (not_ok faults.Disk is); only_reads = λ is. absurd (not_ok faults.Disk is); untouched = λ is. absurd (not_ok faults.Disk is) };
+  no_config = tt;
+}
+  where
+    not_ok : (f : DriveFault) → ◌≡◌ {A = Result T DriveFault} (Ok x) (Err f) → ⊥
+    not_ok f is = cc
+
+-- after the last recovery
+pub refused_after : {T : Type 0} (before now : ℕ) (old new : DiskState) (link link_then : LinkState) (result : Result T DriveFault) → now ≡ before → HoldsSome old → IfErr result (λ fault. IsLastFault fault new) → IsRefused before now old new link link_then result
+refused_after before now old new link link_then (Ok x) same held refused = refused_none before now old new link link_then x same
+refused_after before now old new link link_then (Err fault) same held refused = refused_last before now old new link link_then fault same held refused
+
+pub never_link : {T : Type 0} (new : DiskState) (result : Result T DriveFault) → IfErr result (λ fault. IsLastFault fault new) → IsErrOf result faults.Link → ⊥
+never_link new (Ok x) refused is = cc
+never_link {T} new (Err fault) refused is = no_link {T = T} fault (λ f. IsLastFault f new) (λ none. none) refused is

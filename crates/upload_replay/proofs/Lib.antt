@@ -1,10 +1,10 @@
 pub mod Begins
-pub mod Booting
 pub mod Counted
+pub mod Driven
 pub mod Ended
-pub mod Good
 pub mod Held
-pub mod Recorded
-pub mod Stepping
+pub mod History
+pub mod Posted
+pub mod Resting
 pub mod Throughout
 pub mod Turning

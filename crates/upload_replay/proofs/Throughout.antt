@@ -3,63 +3,63 @@ use Rattle.std.proofs.Common.{◌≡◌, ◌⊎◌, inl, inr, ℕ, ◌≤◌, Li
 use Rattle.std.specs.Prelude.{is_some, option_map}
 use Rattle.disk_model.specs.Image.{Image}
 use Rattle.disk_model.specs.State.{DiskState, IsSettled, OnlyReads}
-use Rattle.disk_layout.specs.Holds.{HoldsConfig, StandingView, standing_view}
+use Rattle.disk_layout.specs.Holds.{HoldsConfig, StandingView, outline_of, standing_view}
 use Rattle.disk_model.specs.MomentLaws.{settled_stays}
 use Rattle.disk_layout.specs.declared.fault.RecoverFault.{RecoverFault}
 use Rattle.disk_layout.specs.declared.fault.RecoverFault.TheVariants.{BadManifest, BadSlot, DiskFailed, Memory, NoOpenSlot, NotFormatted}
 use Rattle.disk_layout.specs.declared.standing.Standing.{Standing}
 use Rattle.exchange_trace.specs.Steps.{Step}
-use Rattle.replay_rules.specs.BothEnds.{Is_down, Is_up, Setting, TargetState, target_at}
+use Rattle.replay_rules.specs.BothEnds.{Is_down, Is_up, Setting, TargetState, loader_at, reached, target_at}
 use Rattle.replay_rules.specs.Histories.{active_by}
 use Rattle.replay_rules.specs.Promises.{HoldsOneOf}
 use Rattle.target_machine.specs.Boots.{ComesUp}
 use Rattle.target_machine.specs.Decisions as machine
-use Rattle.target_machine.specs.Disks.{StartsOn}
+use Rattle.session_rules.specs.Target.{TargetView, new_target}
+use Rattle.session_rules.specs.TargetLog.{new_target_reading}
+use Rattle.target_machine.specs.Disks.{HoldsContents, StartsOn}
+use Rattle.replay_rules.specs.Due.{AllDue, AllNoted, MayGoDown, due_of_loader, due_of_target, is_up}
+use Rattle.upload_replay.specs.Drivers.{end_step}
 use Rattle.upload_replay.specs.Endings.{HoldsStanding, last_refusal_of}
-use Rattle.upload_replay.specs.Moments.{HeldSoFar, HoldsRun, HoldsThroughout, LeavesNoMore, LeftAtEnd}
-use Rattle.upload_replay.proofs.Booting.{comes_up, ends_as}
-use Rattle.upload_replay.proofs.Held.{OneStanding, moments_kept, same_as_left}
+use Rattle.replay_turns.specs.BootLaws.{settles}
+use Rattle.replay_turns.specs.StepLaws.{OneStanding, one_left, read_now, same_as_left}
+use Rattle.replay_turns.specs.StepsOnDisks.{AreApart, HoldsRun, LeavesNoMore}
+use Rattle.replay_rules.specs.Histories.{may_be_active}
+use Rattle.upload_replay.specs.Moments.{HeldSoFar, HoldsThroughout, LeftAtEnd}
+use Rattle.upload_replay.proofs.Held.{moments_kept}
+
+-- ---- which configuration is active
+
+-- what was recovered
+ends_as : OneStanding → (image : Image) (s : StandingView) (state : TargetState) → AreApart state → HoldsConfig image s → HoldsOneOf (may_be_active state) image → active_by state (Some s) ≡ s
+ends_as one image s (Is_up r) apart held (inl is) = one image r.active s is held
+ends_as one image s (Is_up r) apart held (inr none) = absurd none
+ends_as one image s (Is_down active interrupted) apart held is = settles one image s active interrupted apart held is
 
 -- ---- the start
 
--- a target came up on a settled disk that holds what is active at the start
-pub begins_held : {R : Type 0} → OneStanding → (set : Setting) (rule : R) (target : machine.TargetState R) (old new : DiskState) (image : Image) → IsSettled old → old.reads ≡ Some image → old.now image → HoldsConfig image set.start
-    → StartsOn target.view target.store image new → OnlyReads old new → ComesUp rule 1024 target old → HeldSoFar set old.clock [] (Some target) new
-begins_held {R} one set rule target old new image settled told now start starts reads up = record {
-  holds = comes_up one set (Is_down set.start None) rule target old new image 1024 target.view.active.sequence switched_off settled told now starts reads up refl;
-  clocks = [];
+up_at_first : {R : Type 0} → OneStanding → (set : Setting) (rule : R) (target : machine.TargetState R) (old new : DiskState) (image : Image) → ((left : Image) → old.now left → HoldsConfig left set.start) → old.reads ≡ Some image → old.now image
+    → StartsOn target.view target.store image new → OnlyReads old new → ComesUp rule 1024 target old → HoldsRun set (Is_up (new_target_reading 1024 set.start)) (Some target) new
+up_at_first one set rule target old new image alone told now starts reads up =
+    let same : starts.active ≡ set.start = one image starts.active set.start starts.held (alone image now) in
+    record {
+      kept = ap (λ (v : TargetView). Some v) (up.view_is ∙ (ap (new_target 1024) starts.kept.active ∙ ap (λ (s : StandingView). new_target 1024 (outline_of s)) same));
+      tells = reads.tells ∙ ap is_some told;
+      leaves = λ left may. inl (alone left (reads.now left may));
+      works = subst (λ (s : StandingView). HoldsContents target.store new (record { active = s; live = None })) same starts.holds;
+      apart = tt;
+    }
+
+-- a target came up on a disk of which a power loss leaves nothing but what is active at the start
+pub begins_held : {R : Type 0} → OneStanding → (set : Setting) (rule : R) (target : machine.TargetState R) (old new : DiskState) (image : Image) → ((left : Image) → old.now left → HoldsConfig left set.start) → old.reads ≡ Some image → old.now image
+    → StartsOn target.view target.store image new → OnlyReads old new → ComesUp rule 1024 target old → HeldSoFar set old.clock [] [] (Some target) new
+begins_held {R} one set rule target old new image alone told now starts reads up = record {
+  holds = up_at_first one set rule target old new image alone told now starts reads up;
   timed = reads.clock;
   boots = tt;
   moments = tt;
 }
-  where
-    same : (left : Image) → old.now left → image ≡ left
-    same left may = let e : Some image ≡ Some left = sym told ∙ settled.only left may in cc
-
-    switched_off : HoldsRun {R = R} set (Is_down set.start None) None old
-    switched_off = record {
-      kept = refl;
-      tells = ap is_some told;
-      leaves = λ left may. inl (subst (λ (i : Image). HoldsConfig i set.start) (same left may) start);
-      works = tt;
-      apart = tt;
-    }
-
--- as it was recorded
-pub first_held : {R : Type 0} → OneStanding → (set : Setting) (rule : R) (target : machine.TargetState R) (old new : DiskState) (image : Image) (steps : List Step) → IsSettled old → old.reads ≡ Some image → old.now image → HoldsConfig image set.start
-    → StartsOn target.view target.store image new → OnlyReads old new → ComesUp rule 1024 target old → steps ≡ [] → HeldSoFar set old.clock steps (Some target) new
-first_held one set rule target old new image steps settled told now start starts reads up nothing =
-    subst (λ (list : List Step). HeldSoFar set old.clock list (Some target) new) (sym nothing) (begins_held one set rule target old new image settled told now start starts reads up)
 
 -- ---- the end
-
--- what a read gives
-pub read_now : (disk : DiskState) → is_some disk.reads ≡ true → (image : Image) × (disk.reads ≡ Some image)
-read_now disk tells = by disk.reads refl tells
-  where
-    by : (o : Option Image) → disk.reads ≡ o → is_some o ≡ true → (image : Image) × (disk.reads ≡ Some image)
-    by None is tells = absurd cc
-    by (Some image) is tells = (image, is)
 
 module _ {R : Type 0} (one : OneStanding) (set : Setting) (state : TargetState) (target : Option (machine.TargetState R)) (old new : DiskState) (holds : HoldsRun set state target old) (no_more : LeavesNoMore old new)
     (reads_now : (image : Image) → new.reads ≡ Some image → new.now image) where
@@ -99,17 +99,16 @@ module _ {R : Type 0} (one : OneStanding) (set : Setting) (state : TargetState) 
   active_at_end None held s is = absurd cc
   active_at_end (Some standing) held s is = let same : standing_view standing ≡ s = cc in subst (λ (x : StandingView). active_by state (Some x) ≡ x) same (was_active (standing_view standing) held)
 
-pub throughout : {R : Type 0} → OneStanding → (set : Setting) (steps : List Step) (target : Option (machine.TargetState R)) (first old new : DiskState) (standing : Option Standing)
+pub throughout : {R : Type 0} → OneStanding → (set : Setting) (since : ℕ) (clocks : List ℕ) (steps : List Step) (target : Option (machine.TargetState R)) (old new : DiskState) (standing : Option Standing)
     → ((t u : ℕ) (image : Image) → t ≤ old.clock → old.clock ≤ u → old.now image → old.between t u image) → ((t u : ℕ) (image : Image) → old.clock ≤ t → old.between t u image → old.now image)
-    → ((image : Image) → new.reads ≡ Some image → new.now image) → HeldSoFar set first.clock steps target old → LeavesNoMore old new → HoldsStanding standing new
-    → ((s : Standing) → standing ≡ Some s → (is_some target ≡ true) ⊎ IsSettled new) → HoldsThroughout set steps (option_map standing_view standing) first new
-throughout one set steps target first old new standing counts only reads_now held no_more holds either = record {
-  clocks = held.clocks;
+    → ((image : Image) → new.reads ≡ Some image → new.now image) → HeldSoFar set since clocks steps target old → LeavesNoMore old new → HoldsStanding standing new
+    → ((s : Standing) → standing ≡ Some s → (is_some target ≡ true) ⊎ IsSettled new) → HoldsThroughout set steps (option_map standing_view standing) since clocks new
+throughout one set since clocks steps target old new standing counts only reads_now held no_more holds either = record {
   end = old.clock;
   timed = held.timed;
   boots = held.boots;
   moments = moments_kept set old new one counts (λ t u image early may. elim (no_more.each t u image may) [ inl before ↦ inl before | inr left ↦ inr (same_as_left set (target_at set steps) target old image held.holds left) ])
-      no_more.earlier first.clock old.clock held.clocks steps (omega arith) held.timed held.moments;
+      no_more.earlier since old.clock clocks steps (omega arith) held.timed held.moments;
   after = λ u image may. elim (no_more.each old.clock u image may) [
     | inl before ↦ held.holds.leaves image (only old.clock u image (omega arith) before)
     | inr left ↦ held.holds.leaves image left
@@ -117,6 +116,49 @@ throughout one set steps target first old new standing counts only reads_now hel
   left = left_at_end one set (target_at set steps) target old new held.holds no_more reads_now standing holds either;
   active = active_at_end one set (target_at set steps) target old new held.holds no_more reads_now standing holds;
 }
+
+-- ---- the end of a driver
+
+reached_none : (set : Setting) (state : TargetState) → reached set None state ≡ state
+reached_none set (Is_up r) = refl
+reached_none set (Is_down active interrupted) = refl
+
+-- the end comes to nothing
+pub ended_at : (set : Setting) (steps : List Step) → target_at set (end_step ∷ steps) ≡ target_at set steps
+ended_at set steps = reached_none set (target_at set steps)
+
+-- with the step in which the end comes
+pub held_to_end : {R : Type 0} (set : Setting) (since : ℕ) (clocks : List ℕ) (steps : List Step) (target : Option (machine.TargetState R)) (disk : DiskState) → ((t u : ℕ) (image : Image) → disk.clock ≤ t → disk.between t u image → disk.now image)
+    → HeldSoFar set since clocks steps target disk → HeldSoFar set since (disk.clock ∷ clocks) (end_step ∷ steps) target disk
+held_to_end set since clocks steps target disk only held =
+    let same = ended_at set steps in
+    record {
+      holds = subst (λ (state : TargetState). HoldsRun set state target disk) (sym same) held.holds;
+      timed = (omega arith, held.timed);
+      boots = (tt, held.boots);
+      moments = (
+        λ image may. one_left image (may_be_active (target_at set steps)) (may_be_active (target_at set (end_step ∷ steps))) (held.holds.leaves image (only disk.clock disk.clock image (omega arith) may)),
+        λ image may. subst (λ (state : TargetState). HoldsOneOf (may_be_active state) image) (sym same) (held.holds.leaves image (only disk.clock disk.clock image (omega arith) may)),
+        held.moments,
+      );
+    }
+
+none_due : (set : Setting) (state : TargetState) → due_of_target set state None ≡ []
+none_due set (Is_up r) = refl
+none_due set (Is_down active interrupted) = refl
+
+none_noted : (up : Bool) → MayGoDown up []
+none_noted true = inl refl
+none_noted false = refl
+
+loader_none_due : (set : Setting) (steps : List Step) → due_of_loader set (loader_at set steps) None ≡ []
+loader_none_due set steps = refl
+
+pub due_to_end : (set : Setting) (steps : List Step) → AllDue set steps → AllDue set (end_step ∷ steps)
+due_to_end set steps due = (sym (none_due set (target_at set steps)), due)
+
+pub noted_to_end : (set : Setting) (steps : List Step) → AllNoted set steps → AllNoted set (end_step ∷ steps)
+noted_to_end set steps noted = (none_noted (is_up (target_at set steps)), noted)
 
 -- ---- what recovery leaves
 
@@ -138,3 +180,13 @@ refused_is_none (BadSlot offset) = tt
 refused_is_none (BadManifest offset) = tt
 refused_is_none DiskFailed = refl
 refused_is_none Memory = tt
+
+-- no call was made
+pub no_change : (disk : DiskState) → LeavesNoMore disk disk
+no_change disk = record {
+  tells = refl;
+  later = omega arith;
+  each = λ t u image may. inl may;
+  now = λ image may. may;
+  earlier = λ t u image early may. may;
+}

@@ -1,12 +1,13 @@
--- A turn keeps what holds of a run.
-use Rattle.std.proofs.Common.{◌≡◌, inl, inr, Result, Ok, Err, IfOk, OnOk, false, Bool, cond, List, [], ◌∷◌, ◌++◌, Option, Some, None, refl, sym, ap, subst, ◌∙◌, ℕ}
+-- A step keeps what holds of a driver, and a turn what holds of a run.
+use Rattle.std.proofs.Common.{◌≡◌, Result, Ok, Err, IfOk, true, false, Bool, cond, List, [], ◌∷◌, ◌++◌, Option, Some, None, refl, sym, ap, subst, ◌∙◌}
 use Rattle.std.specs.Prelude.{is_some}
 use Rattle.std.proofs.lemmas.List.{append-nil}
+use Rattle.disk_model.specs.State.{DiskState}
 use Rattle.exchange_trace.specs.declared.trace.Side.TheVariants as sides
 use Rattle.exchange_trace.specs.Happenings.{DatagramView, HappeningView, Booted, Delivered, Ended, Info_started, Injected, Lost, Power_cut, Size_told, Ticked, Upload_started}
 use Rattle.exchange_trace.specs.Lines.{Line}
 use Rattle.exchange_trace.specs.Logs.{Event, event_for, logged, loader_log}
-use Rattle.exchange_trace.specs.Posts.{IsHonest, posted_in, first_port_after}
+use Rattle.exchange_trace.specs.Posts.{IsHonest, first_port_after, happenings_of, posted_in}
 use Rattle.exchange_trace.specs.Steps.{Boot_refused, Came_up, Note, Step, Went_down, with_given}
 use Rattle.link_net.specs.Followed.{HasFollowed}
 use Rattle.link_net.specs.FollowedLaws.{followed_next}
@@ -17,20 +18,19 @@ use Rattle.session_rules.specs.LoaderLog.{LoaderReading, SessionLog, loader_read
 use Rattle.session_rules.specs.MediaFiles.{Media}
 use Rattle.session_rules.specs.Target.{TargetView}
 use Rattle.session_rules.specs.TargetLog.{TargetSessionLog, session_view as target_session}
-use Rattle.replay_rules.specs.BothEnds.{Is_down, Is_up, Setting, TargetState, gone_down, loader_at, reached, target_at, waiting, waits_in}
 use Rattle.loader_machine.specs.Machine.{LoaderState, media_of}
+use Rattle.replay_rules.specs.BothEnds.{Is_down, Is_up, Setting, TargetState, loader_at, reached, target_at, waiting, waits_in}
 use Rattle.replay_rules.specs.Due.{MayBeNoted, goes_down, is_up}
-use Rattle.replay_rules.specs.Ties.{Reacts, StepKeepsTie, kept_after, kept_by, loader_next, loader_says, target_next, target_says}
-use Rattle.upload_replay.specs.Drives.{LoaderGoesOn, LoaderTurns, NeverBoots, RunGoesOn, HasTurned, KeepsGoing, TargetTurns, Turns, has_session, is_end, loader_moved, loader_sends}
-use Rattle.target_machine.specs.Decisions as machine
-use Rattle.accept_rules.specs.Interlocks.{Follows}
-use Rattle.load_header.specs.declared.header.LoadHeader.{LoadHeader}
-use Rattle.load_header.specs.Header.{HeaderView}
 use Rattle.replay_rules.specs.Promises.{IsNoEnd}
-use Rattle.disk_model.specs.State.{DiskState}
-use Rattle.upload_replay.specs.Moments.{HeldSoFar, HoldsRun, RunsOnDisk}
-use Rattle.upload_replay.specs.declared.outcome.DriveFault.{DriveFault}
-use Rattle.upload_replay.specs.Turns.{LoaderTakes, TargetTakes, link_with, target_kept}
+use Rattle.replay_rules.specs.Ties.{IsTied, Reacts, StepKeepsTie, kept_after, kept_by, loader_next, loader_says, target_next, target_says}
+use Rattle.target_machine.specs.Decisions as machine
+use Rattle.replay_turns.specs.Ends.{HasStepped as Moved}
+use Rattle.replay_turns.specs.StepLaws.{gone_keeps_none}
+use Rattle.replay_turns.specs.Targets.{TargetTurns}
+use Rattle.replay_turns.specs.Turns.{LoaderTakes, target_kept}
+use Rattle.upload_replay.specs.Drivers.{DriverState, GoesOn, HasStepped, IsLinked, IsTiedTo, RunGoesOn}
+use Rattle.upload_replay.specs.Drives.{LoaderGoesOn, has_session, is_end, loader_moved, loader_sends}
+use Rattle.upload_replay.specs.Turns.{link_with}
 
 -- ---- what a side keeps tells whether it waits, and is up
 
@@ -54,11 +54,6 @@ up_is set (Is_up r) = refl
 up_is set (Is_down active interrupted) = refl
 
 -- ---- the target
-
-pub gone_keeps_none : (set : Setting) (before after : TargetState) → kept_by set (gone_down before after) ≡ None
-gone_keeps_none set (Is_up r) (Is_up s) = refl
-gone_keeps_none set (Is_up r) (Is_down active interrupted) = refl
-gone_keeps_none set (Is_down active interrupted) after = refl
 
 pub target_reacts : (set : Setting) (e : Option Event) (state : TargetState) (before after : Option TargetView) (posts : List DatagramView) (notes : List Note)
     → TargetTurns set e state before after posts notes → after ≡ kept_after set notes state (reached set e state) (target_next set before e)
@@ -84,49 +79,7 @@ target_posts set e state before after posts (Went_down ∷ note ∷ notes) turns
 target_posts set e state before after posts (Boot_refused fault ∷ note ∷ notes) turns = absurd turns
 target_posts set e state before after posts (Came_up first_port sequence ∷ note ∷ notes) turns = absurd turns
 
--- ---- the whole turn
-
-module _ (set : Setting) (began : LinkState) (steps : List Step) (s : Step) (loader loader_then : LoaderView) (target target_then : Option TargetView) (link link_then : LinkState) where
-  reacts : Turns set steps s loader loader_then target target_then link link_then → Reacts set steps loader loader_then target target_then s
-  reacts t = record {
-    loader_does = t.loader_does;
-    target_does = target_reacts set (event_for sides.Target (posted_in steps) s.given) (target_at set steps) target target_then t.target_posts s.notes t.target_does;
-    both_post = t.both_post
-        ∙ (ap (λ (posts : List DatagramView). posts ++ t.target_posts) t.loader_says_so
-        ∙ ap (λ (posts : List DatagramView). loader_says set loader (event_for sides.Loader (posted_in steps) s.given) ++ posts)
-        (target_posts set (event_for sides.Target (posted_in steps) s.given) (target_at set steps) target target_then t.target_posts s.notes t.target_does));
-  }
-
-  -- the link as it was asked, with the posts of the step
-  followed_step : (script : List Line) (given : LinkState) → HasFollowed (waiting set) script (with_given steps s.given) given → HasFollowed (waiting set) script (s ∷ steps) (link_with given s.posts)
-  followed_step script given is = record {
-    posted = ap (λ (posted : List DatagramView). posted ++ s.posts) (is.posted ∙ append-nil (posted_in steps));
-    given = is.given;
-    plan = is.plan;
-    follows = is.follows;
-  }
-
-  pub turn_goes_on : StepKeepsTie → RunGoesOn set began steps loader target link → Turns set steps s loader loader_then target target_then link link_then
-      → RunGoesOn set began (s ∷ steps) loader_then target_then link_then
-  turn_goes_on keeps on t =
-      let tied = keeps set steps loader loader_then target target_then link.posted s on.tied (reacts t) in
-      let up : is_some target ≡ is_up (target_at set steps) = ap is_some on.tied.target_is ∙ up_is set (target_at set steps) in
-      let loader_side : is_some loader.live ≡ waiting set sides.Loader steps = ap (λ (v : LoaderView). is_some v.live) on.tied.loader_is ∙ loader_waits_is (loader_at set steps) in
-      let target_side : has_session target ≡ waiting set sides.Target steps = ap has_session on.tied.target_is ∙ target_waits_is set (target_at set steps) in
-      let asked : Gives link t.given (scene_of link (waiting set sides.Loader steps) (waiting set sides.Target steps)) s.given =
-      subst (λ (b : Bool). Gives link t.given (scene_of link b (waiting set sides.Target steps)) s.given) loader_side
-      (subst (λ (b : Bool). Gives link t.given (scene_of link (is_some loader.live) b) s.given) target_side t.gives) in
-      record {
-        tied = rw (t.linked, t.gives.posted) tied;
-        noted = (subst (λ (b : Bool). MayBeNoted b (first_port_after steps) s.given s.notes) up t.noted, on.noted);
-        given = ap (λ (l : LinkState). l.given) t.linked ∙ (t.gives.given ∙ ap (λ (given : List HappeningView). s.given ∷ given) on.given);
-        honest = (subst (λ (posted : List DatagramView). IsHonest posted s.given) on.tied.posted_is t.gives.honest, on.honest);
-        follows = λ script start.
-            subst (λ (l : LinkState). HasFollowed (waiting set) script (s ∷ steps) l) (sym t.linked)
-            (followed_step script t.given (followed_next (waiting set) script steps link t.given s.given (on.follows script start) asked));
-      }
-
--- ---- how a turn comes about
+-- ---- the loader
 
 loader_turns : (set : Setting) (e : Option Event) (before after : LoaderState) (sent : List DatagramView) → set.media ≡ media_of before.set → LoaderTakes e before after sent
     → (after.view ≡ loader_next set before.view e) × (sent ≡ loader_says set before.view e) × (after.set ≡ before.set)
@@ -137,81 +90,20 @@ pub is_up_kept : {R : Type 0} (target : Option (machine.TargetState R)) → is_s
 is_up_kept None = refl
 is_up_kept (Some t) = refl
 
-pub turned : (set : Setting) (steps : List Step) (h : HappeningView) (loader loader_then : LoaderState) (target target_then : Option TargetView) (link given link_then : LinkState)
-    (first second : List DatagramView) (notes : List Note) (loader_side target_side : Bool) → loader_side ≡ is_some loader.view.live → target_side ≡ has_session target
-    → Gives link given (scene_of link loader_side target_side) h → set.media ≡ media_of loader.set
-    → LoaderTakes (event_for sides.Loader (posted_in steps) h) loader loader_then first
-    → TargetTurns set (event_for sides.Target (posted_in steps) h) (target_at set steps) target target_then second notes
-    → MayBeNoted (is_some target) (first_port_after steps) h notes → link_then ≡ link_with given (first ++ second)
-    → Turns set steps (record { given = h; posts = first ++ second; notes = notes }) loader.view loader_then.view target target_then link link_then
-turned set steps h loader loader_then target target_then link given link_then first second notes loader_side target_side l t gives media takes turns may linked =
-    let does = loader_turns set (event_for sides.Loader (posted_in steps) h) loader loader_then first media takes in
-    record {
-      given = given;
-      loader_posts = first;
-      target_posts = second;
-      gives = subst (λ (b : Bool). Gives link given (scene_of link b (has_session target)) h) l (subst (λ (b : Bool). Gives link given (scene_of link loader_side b) h) t gives);
-      loader_does = does.0;
-      loader_says_so = does.1;
-      target_does = turns;
-      both_post = refl;
-      noted = may;
-      linked = linked;
-    }
-
 pub same_media : (e : Option Event) (before after : LoaderState) (sent : List DatagramView) → LoaderTakes e before after sent → after.set ≡ before.set
 same_media None before after sent takes = ap (λ (l : LoaderState). l.set) takes.0
 same_media (Some e) before after sent takes = takes.set
 
--- where a turn is recorded, a run goes on
-pub gone_on : {R : Type 0} (knows : Type 0) → StepKeepsTie → (set : Setting) (began : LinkState) (ended : Bool) (steps steps_then : List Step) (loader loader_then : LoaderState)
-    (target target_then : Option (machine.TargetState R)) (link link_then : LinkState)
-    → HasTurned knows set ended steps steps_then loader loader_then target target_then link link_then
-    → KeepsGoing set began steps steps_then loader loader_then target target_then link link_then
-gone_on knows keeps set began ended steps steps_then loader loader_then target target_then link link_then t before all =
-    let here : NeverBoots (t.step ∷ steps) = subst (λ (list : List Step). NeverBoots list) t.recorded all in
-    subst (λ (list : List Step). RunGoesOn set began list loader_then.view (target_kept target_then) link_then) (sym t.recorded)
-    (turn_goes_on set began steps t.step loader.view loader_then.view (target_kept target) (target_kept target_then) link link_then keeps (before here.1) (t.turns (inl here.0)))
+pub loader_turned : (e : Option Event) (before after : LoaderState) (sent : List DatagramView) → LoaderTakes e before after sent
+    → (after.view ≡ loader_moved (media_of before.set) before.view e) × (sent ≡ loader_sends (media_of before.set) before.view e)
+loader_turned None before after sent takes = (ap (λ (l : LoaderState). l.view) takes.0, takes.1)
+loader_turned (Some e) before after sent takes = (takes.keeps, takes.posts)
 
--- and so does its disk
-pub ran_on : {R : Type 0} → StepKeepsTie → (set : Setting) (began : LinkState) (since : ℕ) (ended : Bool) (steps steps_then : List Step) (loader loader_then : LoaderState)
-    (target target_then : Option (machine.TargetState R)) (link link_then : LinkState) (old new : DiskState)
-    → HasTurned (HoldsRun set (target_at set steps) target old) set ended steps steps_then loader loader_then target target_then link link_then → HeldSoFar set since steps_then target_then new
-    → RunsOnDisk set began since steps loader target link old → RunsOnDisk set began since steps_then loader_then target_then link_then new
-ran_on keeps set began since ended steps steps_then loader loader_then target target_then link link_then old new t held runs = record {
-  goes_on = subst (λ (list : List Step). RunGoesOn set began list loader_then.view (target_kept target_then) link_then) (sym t.recorded)
-      (turn_goes_on set began steps t.step loader.view loader_then.view (target_kept target) (target_kept target_then) link link_then keeps runs.goes_on (t.turns (inr runs.held.holds)));
-  held = held;
-}
+moved_on : LoaderFollows → (media : Media) (log : List Event) (e : Option Event) → loader_moved media (loader_view (loader_reading media log)) e ≡ loader_view (loader_reading media (logged e log))
+moved_on follows media log None = refl
+moved_on follows media log (Some e) = follows media log e
 
-pub ran_on_ok : {R : Type 0} → StepKeepsTie → (set : Setting) (began : LinkState) (since : ℕ) (result : Result Bool DriveFault) (steps steps_then : List Step) (loader loader_then : LoaderState)
-    (target target_then : Option (machine.TargetState R)) (link link_then : LinkState) (old new : DiskState)
-    → IfOk result (λ ended. HasTurned (HoldsRun set (target_at set steps) target old) set ended steps steps_then loader loader_then target target_then link link_then) → OnOk result (HeldSoFar set since steps_then target_then new)
-    → RunsOnDisk set began since steps loader target link old → OnOk result (RunsOnDisk set began since steps_then loader_then target_then link_then new)
-ran_on_ok keeps set began since (Ok ended) steps steps_then loader loader_then target target_then link link_then old new t held runs =
-    ran_on keeps set began since ended steps steps_then loader loader_then target target_then link link_then old new t held runs
-ran_on_ok keeps set began since (Err fault) steps steps_then loader loader_then target target_then link link_then old new t held runs = tt
-
--- a target that nothing reaches
-pub quiet_turn : (set : Setting) (state : TargetState) (kept : Option TargetView) → TargetTurns set None state kept kept [] []
-quiet_turn set state None = (refl, refl)
-quiet_turn set state (Some v) = (refl, refl)
-
--- ---- turn after turn
-
--- a target that takes what reaches it
-pub took : {R : Type 0} (set : Setting) (e : Option Event) (state : TargetState) (slot : Option (machine.TargetState R)) (before after : machine.TargetState R) (posts : List DatagramView)
-    → slot ≡ Some before → TargetTakes set.accepts e before after posts → TargetTurns set e state (target_kept slot) (Some after.view) posts []
-took {R} set e state slot before after posts is takes = subst (λ (o : Option (machine.TargetState R)). TargetTurns set e state (target_kept o) (Some after.view) posts []) (sym is) (by e takes)
-  where
-    by : (e : Option Event) → TargetTakes set.accepts e before after posts → TargetTurns set e state (Some before.view) (Some after.view) posts []
-    by None takes = (ap (λ (t : machine.TargetState R). Some t.view) takes.0, takes.1)
-    by (Some event) takes = (ap (λ (v : TargetView). Some v) takes.keeps, takes.posts)
-
-pub took_rule : {R : Type 0} (may_say : R → LoadHeader → Bool → Type 0) (accepts : HeaderView → Bool) (e : Option Event) (before after : machine.TargetState R) (posts : List DatagramView)
-    → TargetTakes accepts e before after posts → Follows may_say before.rule accepts → Follows may_say after.rule accepts
-took_rule {R} may_say accepts None before after posts takes follows = subst (λ (t : machine.TargetState R). Follows may_say t.rule accepts) (sym takes.0) follows
-took_rule {R} may_say accepts (Some e) before after posts takes follows = subst (λ (rule : R). Follows may_say rule accepts) (sym takes.rule) follows
+-- ---- the end
 
 pub no_end_of : (h : HappeningView) → is_end h ≡ false → IsNoEnd h
 no_end_of (Delivered side n) e = tt
@@ -225,25 +117,170 @@ no_end_of (Info_started hw pos) e = tt
 no_end_of (Upload_started hw pos parts) e = tt
 no_end_of Ended e = absurd cc
 
--- ---- what needs no disk
+-- ---- one step
 
-pub loader_turned : (e : Option Event) (before after : LoaderState) (sent : List DatagramView) → LoaderTakes e before after sent
-    → (after.view ≡ loader_moved (media_of before.set) before.view e) × (sent ≡ loader_sends (media_of before.set) before.view e)
-loader_turned None before after sent takes = (ap (λ (l : LoaderState). l.view) takes.0, takes.1)
-loader_turned (Some e) before after sent takes = (takes.keeps, takes.posts)
+module _ (set : Setting) (steps : List Step) (s : Step) (loader loader_then : LoaderState) (target target_then : Option TargetView) (loader_sent target_sent : List DatagramView) (media : set.media ≡ media_of loader.set)
+    (both : s.posts ≡ loader_sent ++ target_sent) (takes : LoaderTakes (event_for sides.Loader (posted_in steps) s.given) loader loader_then loader_sent)
+    (turns : TargetTurns set (event_for sides.Target (posted_in steps) s.given) (target_at set steps) target target_then target_sent s.notes) where
+  reacts : Reacts set steps loader.view loader_then.view target target_then s
+  reacts =
+      let does = loader_turns set (event_for sides.Loader (posted_in steps) s.given) loader loader_then loader_sent media takes in
+      record {
+        loader_does = does.0;
+        target_does = target_reacts set (event_for sides.Target (posted_in steps) s.given) (target_at set steps) target target_then target_sent s.notes turns;
+        both_post = both
+            ∙ (ap (λ (posts : List DatagramView). posts ++ target_sent) does.1
+            ∙ ap (λ (posts : List DatagramView). loader_says set loader.view (event_for sides.Loader (posted_in steps) s.given) ++ posts)
+            (target_posts set (event_for sides.Target (posted_in steps) s.given) (target_at set steps) target target_then target_sent s.notes turns));
+      }
 
-moved_on : LoaderFollows → (media : Media) (log : List Event) (e : Option Event) → loader_moved media (loader_view (loader_reading media log)) e ≡ loader_view (loader_reading media (logged e log))
-moved_on follows media log None = refl
-moved_on follows media log (Some e) = follows media log e
+  pub step_tied : StepKeepsTie → IsTied set steps loader.view target (posted_in steps) → IsTied set (s ∷ steps) loader_then.view target_then (posted_in (s ∷ steps))
+  step_tied keeps tied = keeps set steps loader.view loader_then.view target target_then (posted_in steps) s tied reacts
+
+-- ---- a driver
 
 -- the loader goes on as its log says
-pub loader_on : LoaderFollows → (media : Media) (steps steps_then : List Step) (loader loader_then : LoaderView) (posted : List DatagramView) → LoaderTurns media steps steps_then loader loader_then posted
-    → posted ≡ posted_in steps → LoaderGoesOn media steps loader → LoaderGoesOn media steps_then loader_then
-loader_on follows media steps steps_then loader loader_then posted t same on =
-    let e = event_for sides.Loader (posted_in steps) t.step.given in
-    subst (λ (list : List Step). LoaderGoesOn media list loader_then) (sym t.recorded) (record {
-      kept = t.moves ∙ (ap (λ (v : LoaderView). loader_moved media v e) on.kept ∙ moved_on follows media (loader_log steps) e);
-      due = ((t.target_posts, t.posts ∙ ap (λ (v : LoaderView). loader_sends media v e ++ t.target_posts) on.kept), on.due);
-      noted = ((t.up, t.noted), on.noted);
-      honest = (subst (λ (list : List DatagramView). IsHonest list t.step.given) same t.honest, on.honest);
-    })
+loader_on : LoaderFollows → (media : Media) (steps : List Step) (s : Step) (before after : LoaderState) (up : Bool) (loader_sent target_sent : List DatagramView) → media ≡ media_of before.set
+    → LoaderTakes (event_for sides.Loader (posted_in steps) s.given) before after loader_sent → s.posts ≡ loader_sent ++ target_sent → MayBeNoted up (first_port_after steps) s.given s.notes → IsHonest (posted_in steps) s.given
+    → LoaderGoesOn media steps before.view → LoaderGoesOn media (s ∷ steps) after.view
+loader_on follows media steps s before after up loader_sent target_sent is takes both noted honest on =
+    let e = event_for sides.Loader (posted_in steps) s.given in
+    let does = rw (sym is) at (loader_turned e before after loader_sent takes) in
+    record {
+      kept = does.0 ∙ (ap (λ (v : LoaderView). loader_moved media v e) on.kept ∙ moved_on follows media (loader_log steps) e);
+      due = ((target_sent, both ∙ (ap (λ (posts : List DatagramView). posts ++ target_sent) does.1 ∙ ap (λ (v : LoaderView). loader_sends media v e ++ target_sent) on.kept)), on.due);
+      noted = ((up, noted), on.noted);
+      honest = (honest, on.honest);
+    }
+
+module _ {R : Type 0} (before after : DriverState R) (old new : DiskState) (h : HappeningView) (posts : List DatagramView)
+    (moved : Moved h posts before.steps after.steps before.loader after.loader before.target after.target old new) where
+  pub step_of : Step
+  step_of = record { given = h; posts = posts; notes = moved.notes }
+
+  loader_set : after.loader.set ≡ before.loader.set
+  loader_set = same_media (event_for sides.Loader (posted_in before.steps) h) before.loader after.loader moved.loader_posts moved.takes
+
+  pub has_stepped : LoaderFollows → after.rule ≡ before.rule → after.identity ≡ before.identity → IsNoEnd h → IsHonest (posted_in before.steps) h → GoesOn before → HasStepped h posts before after old new
+  has_stepped follows rule identity no_end honest on =
+      let step : Step = record { given = h; posts = posts; notes = moved.notes } in
+      record {
+        step = step;
+        recorded = moved.recorded;
+        given = refl;
+        posted = refl;
+        rule = rule;
+        identity = identity;
+        media = loader_set;
+        goes_on = record {
+          loader = subst (λ (steps : List Step). LoaderGoesOn (media_of after.loader.set) steps after.loader.view) (sym moved.recorded)
+              (loader_on follows (media_of after.loader.set) before.steps step before.loader after.loader (is_some before.target) moved.loader_posts moved.target_posts (ap media_of loader_set) moved.takes moved.both_post moved.noted honest
+              (subst (λ (media : Media). LoaderGoesOn media before.steps before.loader.view) (sym (ap media_of loader_set)) on.loader));
+          carries = rw moved.recorded ((moved.carries, moved.injects), on.carries);
+          no_end = rw moved.recorded (no_end, on.no_end);
+        };
+        running = moved.running;
+        stops = moved.stops;
+      }
+
+  -- it is tied to its trace
+  pub tied_on : StepKeepsTie → (set : Setting) → set.media ≡ media_of before.loader.set
+      → TargetTurns set (event_for sides.Target (posted_in before.steps) h) (target_at set before.steps) (target_kept before.target) (target_kept after.target) moved.target_posts moved.notes
+      → IsTiedTo set before → IsTiedTo set after
+  tied_on keeps set media turns was =
+      let step : Step = record { given = h; posts = posts; notes = moved.notes } in
+      let up : is_some before.target ≡ is_up (target_at set before.steps) = sym (is_up_kept before.target) ∙ (ap is_some was.tied.target_is ∙ up_is set (target_at set before.steps)) in
+      record {
+        tied = rw moved.recorded (step_tied set before.steps step before.loader after.loader (target_kept before.target) (target_kept after.target) moved.loader_posts moved.target_posts media moved.both_post moved.takes turns keeps was.tied);
+        noted = rw moved.recorded (subst (λ (b : Bool). MayBeNoted b (first_port_after before.steps) h moved.notes) up moved.noted, was.noted);
+      }
+
+pub set_stays : {R : Type 0} (h : HappeningView) (posts : List DatagramView) (steps steps_then : List Step) (loader loader_then : LoaderState) (target target_then : Option (machine.TargetState R)) (old new : DiskState)
+    → Moved h posts steps steps_then loader loader_then target target_then old new → loader_then.set ≡ loader.set
+set_stays h posts steps steps_then loader loader_then target target_then old new moved = same_media (event_for sides.Loader (posted_in steps) h) loader loader_then moved.loader_posts moved.takes
+
+-- two things that hold with Ok
+pub both_ok : {T E : Type 0} (result : Result T E) (P Q : T → Type 0) → IfOk result P → IfOk result Q → IfOk result (λ x. P x × Q x)
+both_ok (Ok x) P Q one other = (one, other)
+both_ok (Err e) P Q one other = tt
+
+-- ---- over a link
+
+-- which sides wait, by the trace
+module _ {R : Type 0} (set : Setting) (d : DriverState R) (tied : IsTiedTo set d) where
+  pub loader_waits : is_some d.loader.view.live ≡ waiting set sides.Loader d.steps
+  loader_waits = ap (λ (v : LoaderView). is_some v.live) tied.tied.loader_is ∙ loader_waits_is (loader_at set d.steps)
+
+  pub target_waits : has_session (target_kept d.target) ≡ waiting set sides.Target d.steps
+  target_waits = ap has_session tied.tied.target_is ∙ target_waits_is set (target_at set d.steps)
+
+module _ {R : Type 0} (set : Setting) (d : DriverState R) (script : List Line) (link given : LinkState) (h : HappeningView) (loader_side target_side : Bool) (l : loader_side ≡ is_some d.loader.view.live)
+    (t : target_side ≡ has_session (target_kept d.target)) (gives : Gives link given (scene_of link loader_side target_side) h) (tied : IsTiedTo set d) where
+  -- the link as it was asked
+  pub asked_on : HasFollowed (waiting set) script d.steps link → HasFollowed (waiting set) script (with_given d.steps h) given
+  asked_on is = followed_next (waiting set) script d.steps link given h is
+      (subst (λ (b : Bool). Gives link given (scene_of link b (waiting set sides.Target d.steps)) h) (l ∙ loader_waits set d tied)
+      (subst (λ (b : Bool). Gives link given (scene_of link loader_side b) h) (t ∙ target_waits set d tied) gives))
+
+  -- with the posts of the step
+  pub posts_on : (s : Step) → s.given ≡ h → HasFollowed (waiting set) script d.steps link → HasFollowed (waiting set) script (s ∷ d.steps) (link_with given s.posts)
+  posts_on s is follows =
+      let asked = asked_on follows in
+      record {
+        posted = ap (λ (posted : List DatagramView). posted ++ s.posts) (asked.posted ∙ append-nil (posted_in d.steps));
+        given = asked.given ∙ ap (λ (x : HappeningView). x ∷ happenings_of d.steps) (sym is);
+        plan = asked.plan ∙ rw is refl;
+        follows = rw is asked.follows;
+      }
+
+-- what was given and posted
+pub linked_on : (began link given link_then : LinkState) (steps steps_then : List Step) (s : Step) (scene_loader scene_target : Bool) → Gives link given (scene_of link scene_loader scene_target) s.given → link_then ≡ link_with given s.posts
+    → steps_then ≡ s ∷ steps → IsLinked false began link steps → IsLinked false began link_then steps_then
+linked_on began link given link_then steps steps_then s scene_loader scene_target gives linked recorded was = record {
+  given = rw (linked, recorded) (gives.given ∙ ap (λ (rest : List HappeningView). s.given ∷ rest) was.given);
+  posted = rw (linked, recorded) (ap (λ (posted : List DatagramView). posted ++ s.posts) (gives.posted ∙ was.posted));
+}
+
+pub linked_end : (began link given : LinkState) (steps : List Step) (h : HappeningView) (scene_loader scene_target : Bool) → h ≡ Ended → Gives link given (scene_of link scene_loader scene_target) h
+    → IsLinked false began link steps → IsLinked true began given steps
+linked_end began link given steps h scene_loader scene_target is gives was = record {
+  given = gives.given ∙ (ap (λ (x : HappeningView). x ∷ link.given) is ∙ ap (λ (rest : List HappeningView). Ended ∷ rest) was.given);
+  posted = gives.posted ∙ was.posted;
+}
+
+pub is_the_end : (h : HappeningView) → is_end h ≡ true → h ≡ Ended
+is_the_end (Delivered side n) e = absurd cc
+is_the_end (Lost n) e = absurd cc
+is_the_end (Injected d) e = absurd cc
+is_the_end (Ticked side) e = absurd cc
+is_the_end (Size_told size) e = absurd cc
+is_the_end (Power_cut calls pick) e = absurd cc
+is_the_end Booted e = absurd cc
+is_the_end (Info_started hw pos) e = absurd cc
+is_the_end (Upload_started hw pos parts) e = absurd cc
+is_the_end Ended e = refl
+
+-- the run goes on after a turn
+pub turn_on : {R : Type 0} (set : Setting) (began link given link_then : LinkState) (d after : DriverState R) (h : HappeningView) (posts : List DatagramView) (old new : DiskState) → HasStepped h posts d after old new → (loader_side target_side : Bool)
+    → loader_side ≡ is_some d.loader.view.live → target_side ≡ has_session (target_kept d.target) → Gives link given (scene_of link loader_side target_side) h → link_then ≡ link_with given posts
+    → RunGoesOn set false began link d → IsTiedTo set after → RunGoesOn set false began link_then after
+turn_on set began link given link_then d after h posts old new stepped loader_side target_side l t gives linked on tied =
+    let step = stepped.step in
+    let there : link_then ≡ link_with given step.posts = linked ∙ ap (link_with given) (sym stepped.posted) in
+    record {
+      linked = linked_on began link given link_then d.steps after.steps step loader_side target_side (subst (λ (x : HappeningView). Gives link given (scene_of link loader_side target_side) x) (sym stepped.given) gives) there stepped.recorded on.linked;
+      tied = tied;
+      follows = λ script start.
+          subst (λ (steps : List Step). HasFollowed (waiting set) script steps link_then) (sym stepped.recorded)
+          (subst (λ (x : LinkState). HasFollowed (waiting set) script (step ∷ d.steps) x) (sym there)
+          (posts_on set d script link given h loader_side target_side l t gives on.tied step stepped.given (on.follows script start)));
+    }
+
+-- and where the end came
+pub end_on : {R : Type 0} (set : Setting) (began link given : LinkState) (d : DriverState R) (h : HappeningView) (loader_side target_side : Bool) → h ≡ Ended
+    → loader_side ≡ is_some d.loader.view.live → target_side ≡ has_session (target_kept d.target) → Gives link given (scene_of link loader_side target_side) h → RunGoesOn set false began link d → RunGoesOn set true began given d
+end_on set began link given d h loader_side target_side is l t gives on = record {
+  linked = linked_end began link given d.steps h loader_side target_side is gives on.linked;
+  tied = on.tied;
+  follows = λ script start. subst (λ (x : HappeningView). HasFollowed (waiting set) script (with_given d.steps x) given) is (asked_on set d script link given h loader_side target_side l t gives on.tied (on.follows script start));
+}

@@ -1,5 +1,5 @@
 -- How a run ends, and why there is none (docs/EXCHANGE.md, "Runs").
-use Rattle.std.specs.Prelude.{◌≡◌, ℕ, ◌+◌, true, ◌⊎◌, List, Option, Some, None, Result, Ok, Err, IsErrOf, ⊤}
+use Rattle.std.specs.Prelude.{◌≡◌, ℕ, ◌+◌, ◌≤◌, true, ◌⊎◌, List, ◌∷◌, map, Option, Some, None, Result, Ok, Err, IfErr, IsErrOf, ⊤}
 use Rattle.std.specs.Option.{ForSome}
 use Rattle.load_base.specs.Counts.{Rose}
 use Rattle.disk_layout.specs.DiskReads.{IsOfDisk, RunsOn}
@@ -14,7 +14,15 @@ use Rattle.target_machine.specs.declared.boot.BootFault.{BootFault}
 use Rattle.target_machine.specs.declared.boot.BootFault.TheVariants as boots
 use Rattle.upload_replay.specs.declared.outcome.DriveFault.{DriveFault}
 use Rattle.upload_replay.specs.declared.outcome.DriveFault.TheVariants as faults
-use Rattle.upload_replay.specs.Powers.{RoseBy, disk_stops}
+use Rattle.replay_turns.specs.Powers.{RoseBy, disk_stops}
+use Rattle.replay_turns.specs.Orders.{IsInOrder}
+use Rattle.replay_turns.specs.StepsOnDisks.{LeavesNoMore}
+use Rattle.exchange_trace.specs.Steps.{steps_of}
+use Rattle.loader_machine.specs.Machine.{LoaderState, media_of, session_view}
+use Rattle.session_rules.specs.MediaFiles.{Media}
+use Rattle.upload_replay.specs.Drivers.{end_step}
+use Rattle.upload_replay.specs.Drives.{IsLoadersRun, TellsLink}
+use Rattle.upload_replay.specs.declared.outcome.Drive.{Drive}
 use Rattle.upload_replay.specs.Turns.{HasDriveCause}
 
 -- why there is no run where the target doesn't come up at first
@@ -54,8 +62,7 @@ pub record CountsStops (steps : List Step) (standing : Option Standing) (old new
 -- nothing was written, and nothing happened.
 pub record FailsAtFirst {T : Type 0} (old new : DiskState) (link link_then : LinkState) (result : Result T DriveFault) : Type 0 where
   pub failed : IsErrOf result faults.Disk → Rose old.faults new.faults × (new.stopped ≡ true)
-  pub clock : IsErrOf result faults.Disk → new.clock ≡ old.clock
-  pub power : IsErrOf result faults.Disk → KeepsPower old new
+  pub only_reads : IsErrOf result faults.Disk → OnlyReads old new
   pub untouched : IsErrOf result faults.Disk → link_then ≡ link
 
 -- the disk holds no configuration, and this is the first fault
@@ -90,3 +97,43 @@ abbrev pub IsNoConfig : DriveFault → (first last : DiskState) (link link_then 
 IsNoConfig (faults.NoConfig fault) first last link link_then =
     ¬ IsOfDisk fault × (NeverBegan fault first last link link_then ⊎ (HoldsSome first × HoldsNone fault last))
 IsNoConfig fault first last link link_then = ⊤
+
+-- why a driver doesn't begin: the disk failed, and is stopped; or it held no configuration; or memory was out
+abbrev pub FailsToBegin : DriveFault → (old new : DiskState) → Type 0
+FailsToBegin faults.Link old new = ⊥
+FailsToBegin faults.Disk old new = Rose old.faults new.faults × (new.stopped ≡ true)
+FailsToBegin (faults.NoConfig fault) old new = ¬ IsOfDisk fault × HeldNone fault old new
+FailsToBegin faults.Memory old new = ⊤
+
+-- There is no run, and why: the link failed in one, the disk at first, or it held no configuration.
+pub record IsRefused {T : Type 0} (before now : ℕ) (old new : DiskState) (link link_then : LinkState) (result : Result T DriveFault) : Type 0 where
+  pub link_failed : FailsInRun before now old result
+  pub disk_failed : FailsAtFirst old new link link_then result
+  pub no_config : IfErr result (λ fault. IsNoConfig fault old new link link_then)
+
+-- ---- how a run ends
+
+-- A driver with these steps came to its end: it is one step more, after which the lines of the trace stand in their order. The
+-- loader did what its rules say, whatever is known of the disk; and what was recovered stands there.
+pub record EndsUnit (before : List Step) (loader : LoaderState) (drive : Drive) (new : DiskState) : Type 0 where
+  pub ended : steps_of drive.trace.items ≡ end_step ∷ before
+  pub ordered : IsInOrder drive.trace.items
+  pub ran : IsLoadersRun (media_of loader.set) (steps_of drive.trace.items) (map session_view drive.sessions.items)
+  pub standing : HoldsStanding drive.standing new
+
+-- At the end of a driver no loss of power is armed, and no image comes that a power loss couldn't leave before.
+pub record LeavesUnit (old new : DiskState) : Type 0 where
+  pub power : KeepsPower old new
+  pub faults : old.faults ≤ new.faults
+  pub no_more : LeavesNoMore old new
+
+-- A run came to its end, whatever is known of its disk: the disk held a configuration at first; the loader did what its rules
+-- say; the link gave exactly what happened and was posted exactly what both ends posted; the lines of the trace stand in their
+-- order; the disk failed as often as it stopped; and what was recovered stands there.
+pub record EndsRun (media : Media) (began ended : LinkState) (drive : Drive) (old new : DiskState) : Type 0 where
+  pub stood : HoldsSome old
+  pub loader : IsLoadersRun media (steps_of drive.trace.items) (map session_view drive.sessions.items)
+  pub told : TellsLink began ended (steps_of drive.trace.items)
+  pub ordered : IsInOrder drive.trace.items
+  pub stops : CountsStops (steps_of drive.trace.items) drive.standing old new
+  pub standing : HoldsStanding drive.standing new

@@ -1,10 +1,11 @@
+pub mod Armings
+pub mod Drivers
 pub mod Drives
 pub mod Endings
 pub mod Faults
-pub mod Powers
-pub mod Recordings
+pub mod Leaves
+pub mod Moments
+pub mod OrderLaws
+pub mod Orders
 pub mod Texts
 pub mod Turns
-pub mod Moments
-pub mod Orders
-pub mod OrderLaws

@@ -8,7 +8,8 @@ use Rattle.exchange_trace.specs.declared.trace.TraceStep.TheVariants as lines
 use Rattle.exchange_trace.specs.Happenings.{DatagramView}
 use Rattle.exchange_trace.specs.Posts.{posted_in}
 use Rattle.exchange_trace.specs.Steps.{Note, Step, steps_of}
-use Rattle.upload_replay.specs.Orders.{Happens, IsInOrder, Notes, Posts, SeenLine, lines_of, seen_from, seen_line, seen_text, seen_with, wire_of_steps}
+use Rattle.replay_turns.specs.Orders.{Happens, IsInOrder, Notes, Posts, SeenLine, lines_of, seen_line}
+use Rattle.upload_replay.specs.Orders.{seen_from, seen_text, seen_with, wire_of_steps}
 use Rattle.upload_replay.specs.Texts.{is_post, posted_with, step_line, wire, wire_from}
 
 -- ---- the trace as text

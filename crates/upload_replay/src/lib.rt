@@ -2,18 +2,18 @@
 //! happened in it, line by line (docs/FORMATS.md, "Printed text").
 #![tactic(auto)]
 
+mod driver;
 mod driving;
+mod ending;
 mod outcome;
 mod posting;
-mod powering;
-mod reaching;
-mod recording;
 mod report;
 mod running;
-mod turn;
 mod wire;
 
+pub use driver::Driver;
 pub use driving::drive;
 pub use outcome::{Drive, DriveFault};
+pub use replay_turns::Posts;
 pub use report::report_text;
 pub use wire::wire_text;

@@ -1,40 +1,24 @@
-//! Hands what a side posts to the link, and records it.
-ghost use Rattle.std.specs.Prelude.{◌≡◌, IfErr, IfOk, OnOk};
-ghost use Rattle.std.specs.List.{AllByRecursion};
-ghost use Rattle.exchange_trace.specs.Happenings.{datagram_view};
-ghost use Rattle.field_grammar.specs.Grammar.{IsBytes};
-ghost use Rattle.replay_rules.specs.Changes.{CarriesBytes};
+//! Hands what is posted to the link.
+ghost use Rattle.std.specs.Prelude.{◌≡◌, IfErr, OnOk};
 ghost use Rattle.transfer_end.specs.Calls.{posted, posts_view};
-ghost use Rattle.upload_replay.specs.Recordings.{HasBegun};
-ghost use Rattle.upload_replay.specs.Turns.{HasDriveCause, IsOfRun, IsPosted};
+ghost use Rattle.upload_replay.specs.Turns.{HasDriveCause, IsOfRun, IsPostedInPart, link_with};
 
 use crate::outcome::DriveFault;
-use crate::recording::Recording;
 use exchange_trace::Datagram;
 use link_net::Link;
-use load_base::{Bytes, NoMemory};
-use loader_machine::Posts;
-use std::alloc::Global;
+use replay_turns::Posts;
 
-/// Both datagrams of a side's posts, as far as there are any.
-pub(crate) fn post_all<L: Link>(
-    alloc: Global,
-    link: &mut L,
-    recording: &mut Recording,
-    posts: Posts,
-) -> Result<(), DriveFault>
-    requires { HasBegun recording.old }
-    ensures posts { OnOk result (IsPosted (posts_view posts) (L.state link.old) (L.state link.new)
-        recording.old recording.new) }
-    ensures begun { OnOk result (HasBegun recording.new) }
-    ensures carries { OnOk result (AllByRecursion CarriesBytes (posts_view posts)) }
-    ensures given { (L.state link.new).given ≡ (L.state link.old).given }
+/// Both datagrams, as far as there are any.
+pub(crate) fn post_all<L: Link>(link: &mut L, posts: Posts) -> Result<(), DriveFault>
+    ensures posts { OnOk result (L.state link.new
+        ≡ link_with (L.state link.old) (posts_view posts)) }
+    ensures in_part { IsPostedInPart (posts_view posts) (L.state link.old) (L.state link.new) }
     ensures told { IfErr result (λ fault. IsOfRun fault) }
     ensures cause { HasDriveCause (L.faults link.old) (L.faults link.new) result }
 {
     let Posts { first, second } = posts;
-    match post(alloc, link, recording, first) {
-        Ok(()) => post(alloc, link, recording, second),
+    match post(link, first) {
+        Ok(()) => post(link, second),
         Err(fault) => {
             // For the proof: dropped by a call, not by scope.
             drop(second);
@@ -43,49 +27,15 @@ pub(crate) fn post_all<L: Link>(
     }
 }
 
-fn post<L: Link>(
-    alloc: Global,
-    link: &mut L,
-    recording: &mut Recording,
-    datagram: Option<Datagram>,
-) -> Result<(), DriveFault>
-    requires { HasBegun recording.old }
-    ensures posts { OnOk result (IsPosted (posted datagram) (L.state link.old) (L.state link.new)
-        recording.old recording.new) }
-    ensures begun { OnOk result (HasBegun recording.new) }
-    ensures carries { OnOk result (AllByRecursion CarriesBytes (posted datagram)) }
-    ensures given { (L.state link.new).given ≡ (L.state link.old).given }
+fn post<L: Link>(link: &mut L, datagram: Option<Datagram>) -> Result<(), DriveFault>
+    ensures posts { OnOk result (L.state link.new
+        ≡ link_with (L.state link.old) (posted datagram)) }
+    ensures in_part { IsPostedInPart (posted datagram) (L.state link.old) (L.state link.new) }
     ensures told { IfErr result (λ fault. IsOfRun fault) }
     ensures cause { HasDriveCause (L.faults link.old) (L.faults link.new) result }
 {
     match datagram {
-        Some(datagram) => {
-            link.post(copy_of(alloc, &datagram)?)?;
-            recording.post(datagram)?;
-            Ok(())
-        }
+        Some(datagram) => Ok(link.post(datagram)?),
         None => Ok(()),
     }
-}
-
-/// What is lent as bytes is bytes.
-// For the proof: does nothing.
-pub(crate) fn are_bytes(bytes: &[u8])
-    ensures { IsBytes bytes.now }
-{}
-
-fn copy_of(alloc: Global, datagram: &Datagram) -> Result<Datagram, NoMemory>
-    ensures copy { IfOk result (λ copy. datagram_view copy ≡ datagram_view datagram.now) }
-    ensures carries { CarriesBytes (datagram_view datagram.now) }
-{
-    let carried = datagram.bytes.as_slice();
-    are_bytes(carried);
-    let mut bytes = Bytes::new(alloc);
-    bytes.extend(carried)?;
-    Ok(Datagram {
-        from_side: datagram.from_side,
-        from: datagram.from,
-        to: datagram.to,
-        bytes,
-    })
 }

@@ -1,141 +1,124 @@
-//! A run, turn by turn to its end.
-ghost use Rattle.std.specs.Prelude.{◌≡◌, ◌++◌, [], ℕ, Bool, List, IfErr, IfOk, OnOk};
-ghost use Rattle.accept_rules.specs.Interlocks.{Follows};
-ghost use Rattle.exchange_trace.specs.Happenings.{HappeningView};
-ghost use Rattle.exchange_trace.specs.Posts.{happenings_of, posted_in};
-ghost use Rattle.load_header.specs.Header.{HeaderView};
+//! A run over a link, turn by turn to its end.
+ghost use Rattle.std.specs.Prelude.{◌≡◌, ℕ, Bool, true, false, Err, IfErr, IfOk, OnOk};
+ghost use Rattle.exchange_trace.specs.Happenings.{happening_view};
 ghost use Rattle.link_net.specs.Links.{LinkState};
-ghost use Rattle.loader_machine.specs.Machine.{media_of};
-ghost use Rattle.replay_rules.specs.BothEnds.{Setting, target_at};
-ghost use Rattle.replay_rules.specs.Changes.{AllCarryBytes};
-ghost use Rattle.replay_rules.specs.Promises.{EndsOnce};
-ghost use Rattle.run_promises.specs.Promises.{AcceptsPermitted};
-ghost use Rattle.session_rules.specs.MediaFiles.{Media};
-ghost use Rattle.upload_replay.specs.Drives.{IsNewStep, KeepsGoing, LoaderGoesOn};
-ghost use Rattle.upload_replay.specs.Moments.{HoldsRun, LeavesGood, RunsOnDisk};
-ghost use Rattle.upload_replay.specs.Powers.{ArmsAsGiven, RoseBy, disk_stops};
-ghost use Rattle.upload_replay.specs.Turns.{HasDriveCause, IsOfRun, RuleFollows, RunsWhileUp};
+ghost use Rattle.media_check.specs.Sets.{SetView};
+ghost use Rattle.replay_rules.specs.BothEnds.{Setting};
+ghost use Rattle.upload_replay.specs.Armings.{ArmsAsGiven};
+ghost use Rattle.upload_replay.specs.Drivers.{IsReady, IsUnderWay, RunGoesOn, RunsOnDisk, StandsOn};
+ghost use Rattle.upload_replay.specs.Drives.{NeverBoots};
+ghost use Rattle.upload_replay.specs.Drives.{is_end as is_end_of};
+ghost use Rattle.upload_replay.specs.Leaves.{LeavesHistory};
+ghost use Rattle.upload_replay.specs.Turns.{EndsTurn};
 
+use crate::driver::Driver;
 use crate::outcome::DriveFault;
-use crate::turn::{Replay, turn};
-use accept_rules::{Interlock, Rule};
+use crate::posting::post_all;
+use accept_rules::Rule;
 use disk_model::Power;
+use exchange_trace::Happening;
 use link_net::Link;
-use replay_rules::laws::{a_step_keeps_the_tie, the_configuration_changes_by_good_verdicts};
-use session_rules::laws::both_ends_follow_their_logs;
-use std::alloc::Global;
+use load_base::NoMemory;
 
-/// All turns to the end, from a run in which nothing has happened yet. What [`go_on`] says of a turn
-/// it says of all, clause by clause.
-pub(crate) fn run_to_end<'r, L: Link, K: Power, R: Rule>(
-    alloc: Global,
-    interlock: &'r Interlock<R>,
-    run: &mut Replay<'r, R>,
+/// All turns to the end. What [`turn`] says of one it says of all, clause by clause.
+pub(crate) fn run_to_end<L: Link, K: Power, R: Rule>(
     link: &mut L,
     disk: &mut K,
+    driver: &mut Driver<'_, R>,
 ) -> Result<(), DriveFault>
-    requires nothing { run.old.recording ≡ [] }
-    requires running { RunsWhileUp run.old.target (K.state disk.old) }
-    ensures goes_on { (set : Setting) (began : LinkState)
-        → set.media ≡ media_of run.old.loader.set → Follows R.may_say interlock.now set.accepts
-        → RuleFollows R.may_say set.accepts run.old.target → OnOk result (KeepsGoing set began
-        run.old.recording run.new.recording run.old.loader run.new.loader run.old.target
-        run.new.target (L.state link.old) (L.state link.new)) }
-    ensures loader { (media : Media) → media ≡ media_of run.old.loader.set
-        → (L.state link.old).posted ≡ posted_in run.old.recording
-        → LoaderGoesOn media run.old.recording run.old.loader.view
-        → OnOk result (LoaderGoesOn media run.new.recording run.new.loader.view) }
+    requires { IsReady (L.state link.old) driver.old (K.state disk.old) }
+    // With Ok.
+    ensures ready { OnOk result (IsReady (L.state link.new) driver.new (K.state disk.new)) }
+    ensures under_way { (began : LinkState) (faults : ℕ) (media : SetView) → IsUnderWay false
+        began (L.state link.old) faults media driver.old (K.state disk.old) → OnOk result (IsUnderWay true
+        began (L.state link.new) faults media driver.new (K.state disk.new)) }
+    ensures stands { (set : Setting) → StandsOn R.may_say set driver.old
+        → OnOk result (StandsOn R.may_say set driver.new) }
+    ensures goes_on { (set : Setting) (began : LinkState) → StandsOn R.may_say set driver.old
+        → (NeverBoots driver.old.steps
+        → RunGoesOn set false began (L.state link.old) driver.old)
+        → OnOk result (NeverBoots driver.new.steps
+        → RunGoesOn set true began (L.state link.new) driver.new) }
     ensures held { (set : Setting) (began : LinkState) (since : ℕ)
-        → set.media ≡ media_of run.old.loader.set → Follows R.may_say interlock.now set.accepts
-        → RuleFollows R.may_say set.accepts run.old.target
-        → RunsOnDisk set began since run.old.recording run.old.loader run.old.target
-        (L.state link.old) (K.state disk.old) → OnOk result (RunsOnDisk set began since
-        run.new.recording run.new.loader run.new.target (L.state link.new) (K.state disk.new)) }
-    ensures ends { OnOk result (EndsOnce run.new.recording) }
-    ensures carries { OnOk result (AllCarryBytes run.new.recording) }
-    ensures running { OnOk result (RunsWhileUp run.new.target (K.state disk.new)) }
-    ensures stops { (began : ℕ) → RoseBy (disk_stops run.old.recording) began
-        (K.state disk.old).faults → OnOk result (RoseBy (disk_stops run.new.recording) began
-        (K.state disk.new).faults) }
-    ensures happened { (began : List HappeningView)
-        → (L.state link.old).given ≡ happenings_of run.old.recording ++ began
-        → OnOk result ((L.state link.new).given ≡ happenings_of run.new.recording ++ began) }
-    ensures posted { (L.state link.old).posted ≡ posted_in run.old.recording
-        → OnOk result ((L.state link.new).posted ≡ posted_in run.new.recording) }
+        → StandsOn R.may_say set driver.old → RunsOnDisk set false began (L.state link.old) since
+        driver.old (K.state disk.old) → OnOk result (RunsOnDisk set true began
+        (L.state link.new) since driver.new (K.state disk.new)) }
     // Whatever it answers.
-    ensures told { IfErr result (λ fault. IsOfRun fault) }
-    ensures cause { HasDriveCause (L.faults link.old) (L.faults link.new) result }
+    ensures refused { EndsTurn (L.faults link.old) (L.faults link.new) result }
     ensures arms { ArmsAsGiven (L.state link.old).given (L.state link.new).given
         (K.state disk.old) (K.state disk.new) }
     ensures leaves { (set : Setting) (began : LinkState) (since : ℕ)
-        → set.media ≡ media_of run.old.loader.set → Follows R.may_say interlock.now set.accepts
-        → RuleFollows R.may_say set.accepts run.old.target → AcceptsPermitted set
-        → RunsOnDisk set began since run.old.recording run.old.loader run.old.target
-        (L.state link.old) (K.state disk.old)
-        → LeavesGood set since (K.state disk.old) → LeavesGood set since (K.state disk.new) }
+        → StandsOn R.may_say set driver.old → RunsOnDisk set false began (L.state link.old) since
+        driver.old (K.state disk.old) → IfErr result (λ fault. LeavesHistory {T = Unit} set began
+        (L.state link.new) since (K.state disk.new) (Err fault)) }
 {
     // Memory for the trace is spent long before that many turns.
     'turns: for _ in 0..u64::MAX {
-        if go_on(alloc, interlock, run, link, disk)? {
-            return Ok(());
+        match turn(link, disk, driver) {
+            Ok(ended) => {
+                if ended {
+                    return Ok(());
+                }
+            }
+            Err(fault) => return Err(fault),
         }
     }
     Err(DriveFault::Memory)
 }
 
-/// A turn of a run that goes on. Each clause is what one of the promises of a run keeps by, under a
-/// premise of its own, so that they are many and no record joins them.
-fn go_on<'r, L: Link, K: Power, R: Rule>(
-    alloc: Global,
-    interlock: &'r Interlock<R>,
-    run: &mut Replay<'r, R>,
+/// A turn: what the link gives comes to both ends, and what they post goes to the link. Whether it
+/// was the end.
+///
+/// There is a clause for each of the promises of a run, which stand on premises of their own.
+fn turn<L: Link, K: Power, R: Rule>(
     link: &mut L,
     disk: &mut K,
+    driver: &mut Driver<'_, R>,
 ) -> Result<bool, DriveFault>
-    requires { RunsWhileUp run.old.target (K.state disk.old) }
-    ensures goes_on { (set : Setting) (began : LinkState)
-        → set.media ≡ media_of run.old.loader.set → RuleFollows R.may_say set.accepts run.old.target
-        → OnOk result (KeepsGoing set began run.old.recording run.new.recording run.old.loader
-        run.new.loader run.old.target run.new.target (L.state link.old) (L.state link.new)) }
-    ensures loader { (media : Media) → media ≡ media_of run.old.loader.set
-        → (L.state link.old).posted ≡ posted_in run.old.recording
-        → LoaderGoesOn media run.old.recording run.old.loader.view
-        → OnOk result (LoaderGoesOn media run.new.recording run.new.loader.view) }
+    requires { IsReady (L.state link.old) driver.old (K.state disk.old) }
+    // With Ok.
+    ensures ready { OnOk result (IsReady (L.state link.new) driver.new (K.state disk.new)) }
+    ensures under_way { (began : LinkState) (faults : ℕ) (media : SetView) → IsUnderWay false
+        began (L.state link.old) faults media driver.old (K.state disk.old) → IfOk result (λ ended.
+        IsUnderWay ended began (L.state link.new) faults media driver.new (K.state disk.new)) }
+    ensures stands { (set : Setting) → StandsOn R.may_say set driver.old
+        → OnOk result (StandsOn R.may_say set driver.new) }
+    ensures goes_on { (set : Setting) (began : LinkState) → StandsOn R.may_say set driver.old
+        → (NeverBoots driver.old.steps
+        → RunGoesOn set false began (L.state link.old) driver.old)
+        → IfOk result (λ ended. NeverBoots driver.new.steps
+        → RunGoesOn set ended began (L.state link.new) driver.new) }
     ensures held { (set : Setting) (began : LinkState) (since : ℕ)
-        → set.media ≡ media_of run.old.loader.set → RuleFollows R.may_say set.accepts run.old.target
-        → RunsOnDisk set began since run.old.recording run.old.loader run.old.target
-        (L.state link.old) (K.state disk.old) → OnOk result (RunsOnDisk set began since
-        run.new.recording run.new.loader run.new.target (L.state link.new) (K.state disk.new)) }
-    ensures step { IfOk result (λ ended. IsNewStep ended run.old.recording run.new.recording) }
-    ensures carries { AllCarryBytes run.old.recording
-        → OnOk result (AllCarryBytes run.new.recording) }
-    ensures media { OnOk result (run.new.loader.set ≡ run.old.loader.set) }
-    ensures rule { (accepts : HeaderView → Bool) → Follows R.may_say interlock.now accepts
-        → RuleFollows R.may_say accepts run.old.target
-        → OnOk result (RuleFollows R.may_say accepts run.new.target) }
-    ensures running { OnOk result (RunsWhileUp run.new.target (K.state disk.new)) }
-    ensures stops { (began : ℕ) → RoseBy (disk_stops run.old.recording) began
-        (K.state disk.old).faults → OnOk result (RoseBy (disk_stops run.new.recording) began
-        (K.state disk.new).faults) }
-    ensures happened { (began : List HappeningView)
-        → (L.state link.old).given ≡ happenings_of run.old.recording ++ began
-        → OnOk result ((L.state link.new).given ≡ happenings_of run.new.recording ++ began) }
-    ensures posted { (L.state link.old).posted ≡ posted_in run.old.recording
-        → OnOk result ((L.state link.new).posted ≡ posted_in run.new.recording) }
+        → StandsOn R.may_say set driver.old → RunsOnDisk set false began (L.state link.old) since
+        driver.old (K.state disk.old) → IfOk result (λ ended. RunsOnDisk set ended began
+        (L.state link.new) since driver.new (K.state disk.new)) }
     // Whatever it answers.
-    ensures told { IfErr result (λ fault. IsOfRun fault) }
-    ensures cause { HasDriveCause (L.faults link.old) (L.faults link.new) result }
+    ensures refused { EndsTurn (L.faults link.old) (L.faults link.new) result }
     ensures arms { ArmsAsGiven (L.state link.old).given (L.state link.new).given
         (K.state disk.old) (K.state disk.new) }
-    ensures leaves { (set : Setting) → RuleFollows R.may_say set.accepts run.old.target
-        → AcceptsPermitted set → AllCarryBytes run.old.recording
-        → HoldsRun set (target_at set run.old.recording) run.old.target (K.state disk.old)
-        → (since : ℕ) → LeavesGood set since (K.state disk.old)
-        → LeavesGood set since (K.state disk.new) }
+    ensures leaves { (set : Setting) (began : LinkState) (since : ℕ)
+        → StandsOn R.may_say set driver.old → RunsOnDisk set false began (L.state link.old) since
+        driver.old (K.state disk.old) → IfErr result (λ fault. LeavesHistory {T = Bool} set began (L.state link.new) since
+        (K.state disk.new) (Err fault)) }
 {
-    // For the proof: these do nothing.
-    a_step_keeps_the_tie();
-    both_ends_follow_their_logs();
-    the_configuration_changes_by_good_verdicts();
-    turn(alloc, interlock, run, link, disk)
+    let waits = driver.waits();
+    let happening = link.next(waits.loader, waits.target)?;
+    if is_end(&happening) {
+        drop(happening);
+        return Ok(true);
+    }
+    let posts = match driver.step(disk, happening) {
+        Ok(posts) => posts,
+        Err(NoMemory) => return Err(DriveFault::Memory),
+    };
+    match post_all(link, posts) {
+        Ok(()) => Ok(false),
+        Err(fault) => Err(fault),
+    }
+}
+
+fn is_end(happening: &Happening) -> bool
+    ensures { result ≡ is_end_of (happening_view happening.now) }
+{
+    matches!(happening, Happening::End)
 }

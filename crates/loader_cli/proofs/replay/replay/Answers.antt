@@ -26,4 +26,7 @@ returns-in-Refused-clause-replays g c =
     rw (c.of.ensures.answer, c.of.ensures.drive) (unread refuses kept refl)
 
 pub returns-in-Refused-clause-leaves : goal.returns-in-Refused-clause-leaves
-returns-in-Refused-clause-leaves g c = untouched_leaves (g.K.Disk.state c.args.disk.now) (g.met.K.Disk.only_now c.args.disk.now)
+returns-in-Refused-clause-leaves g c = untouched_leaves (g.K.Disk.state c.args.disk.now) (g.met.K.Disk.only_now c.args.disk.now) (c.a_power_loss_takes_only_work.ensures.holds c.args.disk.now)
+
+pub returns-in_err-set-clause-leaves : goal.returns-in_err-set-clause-leaves
+returns-in_err-set-clause-leaves g c = untouched_leaves (g.K.Disk.state c.args.disk.now) (g.met.K.Disk.only_now c.args.disk.now) (c.a_power_loss_takes_only_work.ensures.holds c.args.disk.now)

@@ -107,7 +107,7 @@ returns-in-Some-Trial-clause-faults g c = none_failed _ _ _ c.trial.result refl
 -- ---- what is left on the disk
 
 pub returns-in-Some-List-clause-while_running : goal.returns-in-Some-List-clause-while_running
-returns-in-Some-List-clause-while_running g c = λ other. reads_leave (g.K.Disk.state c.args.disk.now) (g.met.K.Disk.only_now c.args.disk.now) (g.K.Disk.state c.list.new.disk) c.list.ensures.only_reads
+returns-in-Some-List-clause-while_running g c = λ other. reads_leave (g.K.Disk.state c.args.disk.now) (g.met.K.Disk.only_now c.args.disk.now) (c.a_power_loss_takes_only_work.ensures.holds c.args.disk.now) (g.K.Disk.state c.list.new.disk) c.list.ensures.only_reads
 
 pub returns-in-Some-Format-clause-while_running : goal.returns-in-Some-Format-clause-while_running
 returns-in-Some-Format-clause-while_running g c = λ other.
@@ -124,16 +124,16 @@ pub returns-in-Some-Trial-clause-while_running : goal.returns-in-Some-Trial-clau
 returns-in-Some-Trial-clause-while_running g c = λ other. c.trial.ensures.leaves
 
 pub returns-in-None-clause-while_running : goal.returns-in-None-clause-while_running
-returns-in-None-clause-while_running g c = λ other. untouched_leaves (g.K.Disk.state c.args.disk.now) (g.met.K.Disk.only_now c.args.disk.now)
+returns-in-None-clause-while_running g c = λ other. untouched_leaves (g.K.Disk.state c.args.disk.now) (g.met.K.Disk.only_now c.args.disk.now) (c.a_power_loss_takes_only_work.ensures.holds c.args.disk.now)
 
 pub returns-in-Some-Show-clause-while_running : goal.returns-in-Some-Show-clause-while_running
-returns-in-Some-Show-clause-while_running g c = λ other. untouched_leaves (g.K.Disk.state c.args.disk.now) (g.met.K.Disk.only_now c.args.disk.now)
+returns-in-Some-Show-clause-while_running g c = λ other. untouched_leaves (g.K.Disk.state c.args.disk.now) (g.met.K.Disk.only_now c.args.disk.now) (c.a_power_loss_takes_only_work.ensures.holds c.args.disk.now)
 
 pub returns-in-Some-Check-clause-while_running : goal.returns-in-Some-Check-clause-while_running
-returns-in-Some-Check-clause-while_running g c = λ other. untouched_leaves (g.K.Disk.state c.args.disk.now) (g.met.K.Disk.only_now c.args.disk.now)
+returns-in-Some-Check-clause-while_running g c = λ other. untouched_leaves (g.K.Disk.state c.args.disk.now) (g.met.K.Disk.only_now c.args.disk.now) (c.a_power_loss_takes_only_work.ensures.holds c.args.disk.now)
 
 pub returns-in-Some-Build-clause-while_running : goal.returns-in-Some-Build-clause-while_running
-returns-in-Some-Build-clause-while_running g c = λ other. untouched_leaves (g.K.Disk.state c.args.disk.now) (g.met.K.Disk.only_now c.args.disk.now)
+returns-in-Some-Build-clause-while_running g c = λ other. untouched_leaves (g.K.Disk.state c.args.disk.now) (g.met.K.Disk.only_now c.args.disk.now) (c.a_power_loss_takes_only_work.ensures.holds c.args.disk.now)
 
 pub returns-in-Some-Make-clause-while_running : goal.returns-in-Some-Make-clause-while_running
-returns-in-Some-Make-clause-while_running g c = λ other. untouched_leaves (g.K.Disk.state c.args.disk.now) (g.met.K.Disk.only_now c.args.disk.now)
+returns-in-Some-Make-clause-while_running g c = λ other. untouched_leaves (g.K.Disk.state c.args.disk.now) (g.met.K.Disk.only_now c.args.disk.now) (c.a_power_loss_takes_only_work.ensures.holds c.args.disk.now)

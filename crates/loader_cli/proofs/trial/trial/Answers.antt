@@ -18,7 +18,7 @@ returns-in-Ok-script_for-clause-tries g c =
     let read = c.in-Ok.ensures.reads_disk in
     IfOk-weaker c.run_script-said.result _ _
     (λ said runs. tried id set (names_target old.reads c.in-Ok.surveyed c.in-Ok.ensures.found) c.in_ok-set-in-Ok.ensures
-    (run_since Report set _ old mid new _ _ _ read.only_reads read.ok.reads (rw c.in-Ok-script_for.ensures at runs))) c.run_script-said.ensures.runs
+    (run_since Report set _ old mid new _ _ _ read.only_reads read.ok.reads (c.a_power_loss_takes_only_work.ensures.still c.args.disk.now c.survey.new.disk read.ok.reads read.only_reads.now) (rw c.in-Ok-script_for.ensures at runs))) c.run_script-said.ensures.runs
 
 pub returns-in_default-clause-tries : goal.returns-in_default-clause-tries
 returns-in_default-clause-tries g c =
@@ -30,13 +30,22 @@ returns-in_default-clause-tries g c =
 pub returns-in-Ok-script_for-clause-leaves : goal.returns-in-Ok-script_for-clause-leaves
 returns-in-Ok-script_for-clause-leaves g c =
     let read = c.in-Ok.ensures.reads_disk in
-    leaves_since (g.K.Disk.state c.args.disk.now) (g.K.Disk.state c.survey.new.disk) (g.K.Disk.state c.run_script-said.new.disk) read.only_reads read.ok.reads c.run_script-said.ensures.leaves
+    leaves_since (g.K.Disk.state c.args.disk.now) (g.K.Disk.state c.survey.new.disk) (g.K.Disk.state c.run_script-said.new.disk) read.only_reads read.ok.reads
+    (c.a_power_loss_takes_only_work.ensures.still c.args.disk.now c.survey.new.disk read.ok.reads read.only_reads.now) c.run_script-said.ensures.leaves
 
 pub returns-in_err-set-in-Ok-clause-leaves : goal.returns-in_err-set-in-Ok-clause-leaves
-returns-in_err-set-in-Ok-clause-leaves g c = reads_leave (g.K.Disk.state c.args.disk.now) (g.met.K.Disk.only_now c.args.disk.now) (g.K.Disk.state c.survey.new.disk) c.survey.ensures.reads_disk.only_reads
+returns-in_err-set-in-Ok-clause-leaves g c = reads_leave (g.K.Disk.state c.args.disk.now) (g.met.K.Disk.only_now c.args.disk.now) (c.a_power_loss_takes_only_work.ensures.holds c.args.disk.now) (g.K.Disk.state c.survey.new.disk) c.survey.ensures.reads_disk.only_reads
 
 pub returns-in-Err-script_for-clause-leaves : goal.returns-in-Err-script_for-clause-leaves
-returns-in-Err-script_for-clause-leaves g c = reads_leave (g.K.Disk.state c.args.disk.now) (g.met.K.Disk.only_now c.args.disk.now) (g.K.Disk.state c.survey.new.disk) c.survey.ensures.reads_disk.only_reads
+returns-in-Err-script_for-clause-leaves g c = reads_leave (g.K.Disk.state c.args.disk.now) (g.met.K.Disk.only_now c.args.disk.now) (c.a_power_loss_takes_only_work.ensures.holds c.args.disk.now) (g.K.Disk.state c.survey.new.disk) c.survey.ensures.reads_disk.only_reads
 
 pub returns-in_default-clause-leaves : goal.returns-in_default-clause-leaves
-returns-in_default-clause-leaves g c = reads_leave (g.K.Disk.state c.args.disk.now) (g.met.K.Disk.only_now c.args.disk.now) (g.K.Disk.state c.survey.new.disk) c.survey.ensures.reads_disk.only_reads
+returns-in_default-clause-leaves g c = reads_leave (g.K.Disk.state c.args.disk.now) (g.met.K.Disk.only_now c.args.disk.now) (c.a_power_loss_takes_only_work.ensures.holds c.args.disk.now) (g.K.Disk.state c.survey.new.disk) c.survey.ensures.reads_disk.only_reads
+
+pub returns-in-Memory-clause-leaves : goal.returns-in-Memory-clause-leaves
+returns-in-Memory-clause-leaves g c =
+    reads_leave (g.K.Disk.state c.args.disk.now) (g.met.K.Disk.only_now c.args.disk.now) (c.a_power_loss_takes_only_work.ensures.holds c.args.disk.now) (g.K.Disk.state c.survey.new.disk) c.survey.ensures.reads_disk.only_reads
+
+pub returns-in-DiskFailed-clause-leaves : goal.returns-in-DiskFailed-clause-leaves
+returns-in-DiskFailed-clause-leaves g c =
+    reads_leave (g.K.Disk.state c.args.disk.now) (g.met.K.Disk.only_now c.args.disk.now) (c.a_power_loss_takes_only_work.ensures.holds c.args.disk.now) (g.K.Disk.state c.survey.new.disk) c.survey.ensures.reads_disk.only_reads

@@ -16,12 +16,12 @@ returns-clause-holds g c image told =
 pub returns-clause-fits : goal.returns-clause-fits
 returns-clause-fits g c =
     c.a_store_goes_on_fitting.ensures.read_fits c.new-store.result c.args.disk.now _ c.in_ok-found.ensures.reads_disk.ok
-    (c.a_settled_disk_works.ensures.fits c.new-store.result c.args.disk.now c.new-store.ensures.idle c.requires
+    (c.an_idle_store_works.ensures.fits c.new-store.result c.args.disk.now c.new-store.ensures.idle c.requires
     (λ image told. let (s, holds, is) = returns-clause-holds g c image told in (s, holds)))
 
 pub returns-clause-works : goal.returns-clause-works
 returns-clause-works g c settled =
-    let fits = c.a_settled_disk_works.ensures.fits c.new-store.result c.args.disk.now c.new-store.ensures.idle c.requires
+    let fits = c.an_idle_store_works.ensures.fits c.new-store.result c.args.disk.now c.new-store.ensures.idle c.requires
     (λ image told. let (s, holds, is) = returns-clause-holds g c image told in (s, holds)) in
     c.a_store_goes_on_fitting.ensures.read_works c.new-store.result c.args.disk.now _ c.in_ok-found.ensures.reads_disk.ok c.in_ok-found.ensures.reads_disk.only_reads.now
-    (c.a_settled_disk_works.ensures.works c.new-store.result c.args.disk.now c.new-store.ensures.idle settled fits)
+    (c.an_idle_store_works.ensures.works c.new-store.result c.args.disk.now c.new-store.ensures.idle settled fits)

@@ -1,82 +1,47 @@
-use Rattle.std.proofs.Common.{List, sym, ap, subst, ◌∙◌}
-use Rattle.std.specs.List.{AllByRecursion}
-use Rattle.exchange_trace.specs.Steps.{Step}
-use Rattle.loader_machine.specs.Machine.{media_of}
-use Rattle.replay_rules.specs.Promises.{IsNoEnd}
+use Rattle.std.proofs.Common.{Err, sym, ◌∙◌}
+use Rattle.upload_replay.specs.declared.outcome.DriveFault.TheVariants as faults
 use Rattle.upload_replay.proofs.Counted.{arms_on}
-use Rattle.upload_replay.proofs.Turning.{no_end_of}
+use Rattle.upload_replay.proofs.History.{all_held, as_err, history_now}
 use Rattle.upload_replay.proofs.running.run_to_end.Goals as goal
 
-pub returns-then-branch-clause-goes_on : goal.returns-then-branch-clause-goes_on
-returns-then-branch-clause-goes_on g c =
-    λ set began media says follows before.
-    c.in_ok-go_on.ensures.goes_on set began (media ∙ ap media_of (sym c.turns.invariant.media))
-    (c.turns.invariant.rule set.accepts says follows)
-    (c.turns.invariant.goes_on set began media says follows before)
+pub returns-in-Err-clause-arms : goal.returns-in-Err-clause-arms
+returns-in-Err-clause-arms g c = arms_on _ _ _ _ _ _ c.turns.invariant.arms c.turn.ensures.arms
 
-pub returns-then-branch-clause-stops : goal.returns-then-branch-clause-stops
-returns-then-branch-clause-stops g c = λ began first. c.in_ok-go_on.ensures.stops began (c.turns.invariant.stops began first)
+pub returns-in-Err-clause-leaves : goal.returns-in-Err-clause-leaves
+returns-in-Err-clause-leaves g c = λ set began since stands runs.
+    as_err set began (g.L.Link.state c.turn.new.link) since (g.K.Disk.state c.turn.new.disk) c.in-Err.fault
+    (c.in-Err.ensures.leaves set began since (c.turns.invariant.stands set stands) (c.turns.invariant.held set began since stands runs))
+
+pub returns-then-ended-clause-under_way : goal.returns-then-ended-clause-under_way
+returns-then-ended-clause-under_way g c = λ began faults media was. rw (sym c.if-ended.true) (c.in-Ok.ensures.under_way began faults media (c.turns.invariant.under_way began faults media was))
+
+pub returns-then-ended-clause-stands : goal.returns-then-ended-clause-stands
+returns-then-ended-clause-stands g c = λ set stands. c.in-Ok.ensures.stands set (c.turns.invariant.stands set stands)
+
+pub returns-then-ended-clause-goes_on : goal.returns-then-ended-clause-goes_on
+returns-then-ended-clause-goes_on g c = λ set began stands before all. rw (sym c.if-ended.true) (c.in-Ok.ensures.goes_on set began (c.turns.invariant.stands set stands) (c.turns.invariant.goes_on set began stands before) all)
+
+pub returns-then-ended-clause-held : goal.returns-then-ended-clause-held
+returns-then-ended-clause-held g c = λ set began since stands runs. rw (sym c.if-ended.true) (c.in-Ok.ensures.held set began since (c.turns.invariant.stands set stands) (c.turns.invariant.held set began since stands runs))
+
+pub returns-then-ended-clause-arms : goal.returns-then-ended-clause-arms
+returns-then-ended-clause-arms g c = arms_on _ _ _ _ _ _ c.turns.invariant.arms c.turn.ensures.arms
+
+pub returns-clause-leaves : goal.returns-clause-leaves
+returns-clause-leaves g c = λ set began since stands runs.
+    let on = c.turns.invariant.held set began since stands runs in
+    let disk = g.K.Disk.state c.turns.disk in
+    history_now set began since c.turns.driver disk c.turns.invariant.ready.goes_on on.goes_on.tied on.clocks on.held
+    (all_held set disk (g.met.K.Disk.wider c.turns.disk) (g.met.K.Disk.splits c.turns.disk) (g.met.K.Disk.only_now c.turns.disk) since on.clocks c.turns.driver.steps c.turns.driver.target on.held) (Err faults.Memory)
+    (g.L.Link.state c.turns.link) on.goes_on.linked
 
 pub turns-preserved : goal.turns-preserved
 turns-preserved g c = record {
-  goes_on = λ set began media says follows before.
-      c.in_ok-go_on.ensures.goes_on set began (media ∙ ap media_of (sym c.turns.invariant.media))
-      (c.turns.invariant.rule set.accepts says follows)
-      (c.turns.invariant.goes_on set began media says follows before);
-  held = λ set began since media says follows before.
-      c.in_ok-go_on.ensures.held set began since (media ∙ ap media_of (sym c.turns.invariant.media)) (c.turns.invariant.rule set.accepts says follows)
-      (c.turns.invariant.held set began since media says follows before);
-  loader = λ media is posted on.
-      c.in_ok-go_on.ensures.loader media (is ∙ ap media_of (sym c.turns.invariant.media)) (c.turns.invariant.posted posted) (c.turns.invariant.loader media is posted on);
-  carries = c.in_ok-go_on.ensures.carries c.turns.invariant.carries;
-  leaves = λ set began since media says follows accepts before was.
-      c.go_on.ensures.leaves set (c.turns.invariant.rule set.accepts says follows) accepts c.turns.invariant.carries (c.turns.invariant.held set began since media says follows before).held.holds
-      since (c.turns.invariant.leaves set began since media says follows accepts before was);
-  no_end = subst (λ (steps : List Step). AllByRecursion (λ (s : Step). IsNoEnd s.given) steps) (sym c.in_ok-go_on.ensures.step.recorded)
-      (no_end_of c.in_ok-go_on.ensures.step.step.given (sym c.in_ok-go_on.ensures.step.end ∙ c.if-branch.false), c.turns.invariant.no_end);
-  media = c.in_ok-go_on.ensures.media ∙ c.turns.invariant.media;
-  rule = λ accepts says follows. c.in_ok-go_on.ensures.rule accepts says (c.turns.invariant.rule accepts says follows);
-  running = c.in_ok-go_on.ensures.running;
-  stops = λ began first. c.in_ok-go_on.ensures.stops began (c.turns.invariant.stops began first);
-  happened = λ began first. c.in_ok-go_on.ensures.happened began (c.turns.invariant.happened began first);
-  posted = λ first. c.in_ok-go_on.ensures.posted (c.turns.invariant.posted first);
-  arms = arms_on _ _ _ _ _ _ c.turns.invariant.arms c.go_on.ensures.arms;
-  faults = c.in_ok-go_on.ensures.cause.ok ∙ c.turns.invariant.faults;
+  ready = c.in-Ok.ensures.ready;
+  under_way = λ began faults media was. rw (sym c.if-ended.false) (c.in-Ok.ensures.under_way began faults media (c.turns.invariant.under_way began faults media was));
+  stands = λ set stands. c.in-Ok.ensures.stands set (c.turns.invariant.stands set stands);
+  goes_on = λ set began stands before all. rw (sym c.if-ended.false) (c.in-Ok.ensures.goes_on set began (c.turns.invariant.stands set stands) (c.turns.invariant.goes_on set began stands before) all);
+  held = λ set began since stands runs. rw (sym c.if-ended.false) (c.in-Ok.ensures.held set began since (c.turns.invariant.stands set stands) (c.turns.invariant.held set began since stands runs));
+  arms = arms_on _ _ _ _ _ _ c.turns.invariant.arms c.turn.ensures.arms;
+  faults = c.in-Ok.ensures.refused.cause.ok ∙ c.turns.invariant.faults;
 }
-
-pub returns-in_err-go_on-clause-arms : goal.returns-in_err-go_on-clause-arms
-returns-in_err-go_on-clause-arms g c = arms_on _ _ _ _ _ _ c.turns.invariant.arms c.go_on.ensures.arms
-
-pub returns-then-branch-clause-arms : goal.returns-then-branch-clause-arms
-returns-then-branch-clause-arms g c = arms_on _ _ _ _ _ _ c.turns.invariant.arms c.go_on.ensures.arms
-
-pub returns-then-branch-clause-happened : goal.returns-then-branch-clause-happened
-returns-then-branch-clause-happened g c = λ began first. c.in_ok-go_on.ensures.happened began (c.turns.invariant.happened began first)
-
-pub returns-then-branch-clause-held : goal.returns-then-branch-clause-held
-returns-then-branch-clause-held g c =
-    λ set began since media says follows before.
-    c.in_ok-go_on.ensures.held set began since (media ∙ ap media_of (sym c.turns.invariant.media)) (c.turns.invariant.rule set.accepts says follows)
-    (c.turns.invariant.held set began since media says follows before)
-
-pub returns-then-branch-clause-carries : goal.returns-then-branch-clause-carries
-returns-then-branch-clause-carries g c = c.in_ok-go_on.ensures.carries c.turns.invariant.carries
-
-pub returns-in_err-go_on-clause-leaves : goal.returns-in_err-go_on-clause-leaves
-returns-in_err-go_on-clause-leaves g c =
-    λ set began since media says follows accepts before was.
-    c.go_on.ensures.leaves set (c.turns.invariant.rule set.accepts says follows) accepts c.turns.invariant.carries (c.turns.invariant.held set began since media says follows before).held.holds
-    since (c.turns.invariant.leaves set began since media says follows accepts before was)
-
-pub returns-then-branch-clause-leaves : goal.returns-then-branch-clause-leaves
-returns-then-branch-clause-leaves g c =
-    λ set began since media says follows accepts before was.
-    c.go_on.ensures.leaves set (c.turns.invariant.rule set.accepts says follows) accepts c.turns.invariant.carries (c.turns.invariant.held set began since media says follows before).held.holds
-    since (c.turns.invariant.leaves set began since media says follows accepts before was)
-
-pub returns-then-branch-clause-posted : goal.returns-then-branch-clause-posted
-returns-then-branch-clause-posted g c = λ first. c.in_ok-go_on.ensures.posted (c.turns.invariant.posted first)
-
-pub returns-then-branch-clause-loader : goal.returns-then-branch-clause-loader
-returns-then-branch-clause-loader g c =
-    λ media is posted on. c.in_ok-go_on.ensures.loader media (is ∙ ap media_of (sym c.turns.invariant.media)) (c.turns.invariant.posted posted) (c.turns.invariant.loader media is posted on)

@@ -17,7 +17,7 @@ returns-in_ok-on_request-in-Some-clause-stays_on g c =
 pub returns-in_err-on_request-in-Some-clause-keeps_disk : goal.returns-in_err-on_request-in-Some-clause-keeps_disk
 returns-in_err-on_request-in-Some-clause-keeps_disk g c = λ accepts follows x kept holds.
     keeps_disk c.args.self.now.store (g.K.Disk.state c.args.disk.now) c.on_request.new.self.store (g.K.Disk.state c.args.disk.now) x _ c.from_residual.result
-    (λ left may. c.a_settled_disk_works.ensures.now c.args.self.now.store c.args.disk.now x.active left holds.beside may) (λ s left beside may. c.a_settled_disk_works.ensures.now c.on_request.new.self.store c.args.disk.now s left beside may)
+    (λ left may. c.an_idle_store_works.ensures.now c.args.self.now.store c.args.disk.now x.active left holds.beside may) (λ s left beside may. c.an_idle_store_works.ensures.now c.on_request.new.self.store c.args.disk.now s left beside may)
     (fails_here c.on_request.new.self.store (g.K.Disk.state c.args.disk.now) x.active _ _ _ c.from_residual.result c.from_residual.ensures.0)
 
 pub returns-in_ok-on_request-in-Some-clause-keeps_disk : goal.returns-in_ok-on_request-in-Some-clause-keeps_disk
@@ -27,7 +27,7 @@ returns-in_ok-on_request-in-Some-clause-keeps_disk g c = λ accepts follows x ke
     let found : packet_in c.args.bytes.now ≡ Some p = search rules in
     let port : (c.args.to == 59) ≡ true = search rules in
     keeps_disk c.args.self.now.store (g.K.Disk.state c.args.disk.now) c.on_request.new.self.store (g.K.Disk.state c.args.disk.now) x _ (Ok c.in_ok-on_request-in-Some.field-0)
-    (λ left may. c.a_settled_disk_works.ensures.now c.args.self.now.store c.args.disk.now x.active left holds.beside may) (λ s left beside may. c.a_settled_disk_works.ensures.now c.on_request.new.self.store c.args.disk.now s left beside may)
+    (λ left may. c.an_idle_store_works.ensures.now c.args.self.now.store c.args.disk.now x.active left holds.beside may) (λ s left beside may. c.an_idle_store_works.ensures.now c.on_request.new.self.store c.args.disk.now s left beside may)
     (same_heard (g.K.Disk.state c.args.disk.now) c.on_request.new.self.store (g.K.Disk.state c.args.disk.now) x (request_decision v c.args.from p).change _ (Ok c.in_ok-on_request-in-Some.field-0) (ap (λ (d : TargetDecision). d.change) (got_request accepts v c.args.from c.args.to (packet_in c.args.bytes.now) p found port))
     (quiet_brings c.args.self.now.store c.on_request.new.self.store (g.K.Disk.state c.args.disk.now) v x c.on_request.new.self.view.live _ (request_decision v c.args.from p).change c.in_ok-on_request-in-Some.field-0 (quiet_request v c.args.from p) kept
     (ap (λ (y : TargetView). y.live) c.in_ok-on_request-in-Some.ensures.does.keeps) c.in_ok-on_request-in-Some.ensures.store c.in_ok-on_request-in-Some.ensures.work holds))
@@ -39,7 +39,7 @@ returns-in-Some-2-clause-keeps_disk g c = λ accepts follows x kept holds.
     let found : packet_in c.args.bytes.now ≡ Some p = search rules in
     let port : (c.args.to == 59) ≡ false = search rules in
     keeps_disk c.args.self.now.store (g.K.Disk.state c.args.disk.now) c.on_transfer.new.self.store (g.K.Disk.state c.on_transfer.new.disk) x _ c.on_transfer.result
-    (λ left may. c.a_settled_disk_works.ensures.now c.args.self.now.store c.args.disk.now x.active left holds.beside may) (λ s left beside may. c.a_settled_disk_works.ensures.now c.on_transfer.new.self.store c.on_transfer.new.disk s left beside may)
+    (λ left may. c.an_idle_store_works.ensures.now c.args.self.now.store c.args.disk.now x.active left holds.beside may) (λ s left beside may. c.an_idle_store_works.ensures.now c.on_transfer.new.self.store c.on_transfer.new.disk s left beside may)
     (same_heard (g.K.Disk.state c.args.disk.now) c.on_transfer.new.self.store (g.K.Disk.state c.on_transfer.new.disk) x (transfer_decision accepts v v.live c.args.from c.args.to p).change _ c.on_transfer.result (ap (λ (d : TargetDecision). d.change) (got_transfer accepts v c.args.from c.args.to (packet_in c.args.bytes.now) p found port))
     (c.on_transfer.ensures.brings accepts follows x kept holds))
 
@@ -48,5 +48,5 @@ returns-in-None-clause-keeps_disk g c = λ accepts follows x kept holds.
     let v = c.args.self.now.view in
     let found : packet_in c.args.bytes.now ≡ None = search rules in
     keeps_disk c.args.self.now.store (g.K.Disk.state c.args.disk.now) c.args.self.now.store (g.K.Disk.state c.args.disk.now) x _ (Ok _)
-    (λ left may. c.a_settled_disk_works.ensures.now c.args.self.now.store c.args.disk.now x.active left holds.beside may) (λ s left beside may. c.a_settled_disk_works.ensures.now c.args.self.now.store c.args.disk.now s left beside may)
+    (λ left may. c.an_idle_store_works.ensures.now c.args.self.now.store c.args.disk.now x.active left holds.beside may) (λ s left beside may. c.an_idle_store_works.ensures.now c.args.self.now.store c.args.disk.now s left beside may)
     (same_heard (g.K.Disk.state c.args.disk.now) c.args.self.now.store (g.K.Disk.state c.args.disk.now) x (Continues []) _ (Ok _) (got_nothing accepts v c.args.from c.args.to (packet_in c.args.bytes.now) found) (drops c.args.self.now.store (g.K.Disk.state c.args.disk.now) x _ holds))

@@ -1,0 +1,4 @@
+pub mod Recorded
+pub mod Stepping
+pub mod Speaking
+pub mod Taking

@@ -1,0 +1,215 @@
+//! What a happening does to the target.
+ghost use Rattle.std.specs.Prelude.{◌≡◌, ◌⊎◌, [], ℕ, Bool, is_some, IfOk, OnOk};
+ghost use Rattle.accept_rules.specs.Interlocks.{Follows};
+ghost use Rattle.bank_store.specs.DiskWrites.{IsRunning};
+ghost use Rattle.exchange_trace.specs.declared.trace.Side.TheVariants as sides;
+ghost use Rattle.exchange_trace.specs.Happenings.{Booted, happening_view};
+ghost use Rattle.exchange_trace.specs.Logs.{Gets, event_for};
+ghost use Rattle.exchange_trace.specs.Posts.{first_port_after, posted_in};
+ghost use Rattle.load_header.specs.Header.{HeaderView};
+ghost use Rattle.load_intake.specs.Stores.{Writes};
+ghost use Rattle.replay_rules.specs.BothEnds.{Setting, TargetState};
+ghost use Rattle.replay_rules.specs.Due.{MayBeNoted};
+ghost use Rattle.replay_turns.specs.Powers.{ArmsBy, LeavesPower, RoseBy, stops_in};
+ghost use Rattle.replay_turns.specs.StepsOnDisks.{BeginsStep, HasContents, Reboots, StepsOn};
+ghost use Rattle.replay_turns.specs.StepsOnDisks.{contents_then};
+ghost use Rattle.replay_turns.specs.Targets.{IsNoBoot, TargetSpeaks, TargetTurns};
+ghost use Rattle.replay_turns.specs.Turns.{RuleFollows, RunsWhileUp, TargetTakes};
+ghost use Rattle.replay_turns.specs.Turns.{notes_of, target_kept};
+ghost use Rattle.session_rules.specs.Contents.{TargetContents, contents_after};
+ghost use Rattle.target_machine.specs.Decisions.{Takes};
+ghost use Rattle.target_machine.specs.Disks.{KeepsDisk};
+ghost use Rattle.transfer_end.specs.Calls.{posts_view};
+
+use crate::powering::{PowerNote, boot_again, cut_power};
+use crate::recording::Recording;
+use accept_rules::{Interlock, Rule};
+use disk_model::{Disk, Power};
+use exchange_trace::{Datagram, Happening, Side};
+use load_base::NoMemory;
+use loader_machine::Posts;
+use std::alloc::Global;
+use target_machine::{Down, Target};
+
+/// What the target does where something happens.
+#[derive(Drop)]
+pub(crate) struct Reply {
+    pub(crate) posts: Posts,
+    pub(crate) note: Option<PowerNote>,
+}
+
+/// The target takes what this happening brings to it, where this was recorded before, or its power
+/// is cut, or it is switched off and on.
+pub(crate) fn target_turn<'i, K: Power, R: Rule>(
+    alloc: Global,
+    interlock: &'i Interlock<R>,
+    slot: &mut Option<Target<'i, R>>,
+    disk: &mut K,
+    recording: &Recording,
+    happening: &Happening,
+) -> Result<Reply, NoMemory>
+    requires { RunsWhileUp slot.old (K.state disk.old) }
+    // With Ok.
+    ensures turns { (set : Setting) (state : TargetState)
+        → RuleFollows R.may_say set.accepts slot.old → IsNoBoot (happening_view happening.now)
+        ⊎ BeginsStep R.may_say set state slot.old (K.state disk.old)
+        → IfOk result (λ reply. TargetTurns set
+        (event_for sides.Target (posted_in recording.now) (happening_view happening.now)) state
+        (target_kept slot.old) (target_kept slot.new) (posts_view reply.posts)
+        (notes_of reply.note)) }
+    ensures silent { IfOk result (λ reply. ¬ TargetSpeaks (happening_view happening.now)
+        → posts_view reply.posts ≡ []) }
+    ensures noted { IfOk result (λ reply. MayBeNoted (is_some slot.old)
+        (first_port_after recording.now) (happening_view happening.now) (notes_of reply.note)) }
+    ensures rule { (accepts : HeaderView → Bool) → Follows R.may_say interlock.now accepts
+        → RuleFollows R.may_say accepts slot.old
+        → OnOk result (RuleFollows R.may_say accepts slot.new) }
+    ensures running { OnOk result (RunsWhileUp slot.new (K.state disk.new)) }
+    ensures stops { IfOk result (λ reply. RoseBy
+        (stops_in (happening_view happening.now) (notes_of reply.note))
+        (K.state disk.old).faults (K.state disk.new).faults) }
+    // Whatever it answers.
+    ensures reboots { happening_view happening.now ≡ Booted
+        → Reboots (K.state disk.old) (K.state disk.new) }
+    ensures arms { ArmsBy (happening_view happening.now) (K.state disk.old) (K.state disk.new) }
+    ensures steps { (set : Setting) (state : TargetState)
+        → BeginsStep R.may_say set state slot.old (K.state disk.old)
+        → StepsOn set (event_for sides.Target (posted_in recording.now)
+        (happening_view happening.now)) state slot.new (λ reply. notes_of reply.note)
+        (K.state disk.old) (K.state disk.new) result }
+{
+    match happening {
+        Happening::Power { calls, pick } => Ok(Reply {
+            posts: Posts::none(),
+            note: cut_power(slot, disk, *calls, *pick),
+        }),
+        Happening::Boot => {
+            let note = boot_again(alloc, interlock, slot, disk, recording.first_port())?;
+            Ok(Reply {
+                posts: Posts::none(),
+                note: Some(note),
+            })
+        }
+        Happening::ToLoader(_) | Happening::ToTarget(_) | Happening::Lost(_) => {
+            reach_target(slot, disk, recording, happening)
+        }
+        Happening::Injected(_) | Happening::TickLoader | Happening::TickTarget => {
+            reach_target(slot, disk, recording, happening)
+        }
+        Happening::BlockSize(_) | Happening::StartInfo { .. } | Happening::StartUpload { .. } => {
+            reach_target(slot, disk, recording, happening)
+        }
+        Happening::End => reach_target(slot, disk, recording, happening),
+    }
+}
+
+/// A target that is up takes what this happening brings to it; it goes down where its disk fails.
+fn reach_target<K: Disk, R: Rule>(
+    slot: &mut Option<Target<'_, R>>,
+    disk: &mut K,
+    recording: &Recording,
+    happening: &Happening,
+) -> Result<Reply, NoMemory>
+    requires running { RunsWhileUp slot.old (K.state disk.old) }
+    requires power { LeavesPower (happening_view happening.now) }
+    ensures turns { (set : Setting) (state : TargetState)
+        → RuleFollows R.may_say set.accepts slot.old → IfOk result (λ reply. TargetTurns set
+        (event_for sides.Target (posted_in recording.now) (happening_view happening.now)) state
+        (target_kept slot.old) (target_kept slot.new) (posts_view reply.posts)
+        (notes_of reply.note)) }
+    ensures silent { IfOk result (λ reply. ¬ TargetSpeaks (happening_view happening.now)
+        → posts_view reply.posts ≡ []) }
+    ensures noted { (first_port : ℕ) → IfOk result (λ reply. MayBeNoted (is_some slot.old)
+        first_port (happening_view happening.now) (notes_of reply.note)) }
+    ensures rule { (accepts : HeaderView → Bool) → RuleFollows R.may_say accepts slot.old
+        → OnOk result (RuleFollows R.may_say accepts slot.new) }
+    ensures running { OnOk result (RunsWhileUp slot.new (K.state disk.new)) }
+    ensures stops { IfOk result (λ reply. RoseBy
+        (stops_in (happening_view happening.now) (notes_of reply.note))
+        (K.state disk.old).faults (K.state disk.new).faults) }
+    ensures arms { ArmsBy (happening_view happening.now) (K.state disk.old) (K.state disk.new) }
+    ensures steps { (set : Setting) (state : TargetState)
+        → BeginsStep R.may_say set state slot.old (K.state disk.old)
+        → StepsOn set (event_for sides.Target (posted_in recording.now)
+        (happening_view happening.now)) state slot.new (λ reply. notes_of reply.note)
+        (K.state disk.old) (K.state disk.new) result }
+{
+    let Some(target) = slot else {
+        return Ok(Reply {
+            posts: Posts::none(),
+            note: None,
+        });
+    };
+    match target_takes(target, disk, recording, happening) {
+        Ok(posts) => Ok(Reply { posts, note: None }),
+        Err(Down::DiskFailed) => {
+            drop(slot.take());
+            Ok(Reply {
+                posts: Posts::none(),
+                note: Some(PowerNote::Down),
+            })
+        }
+        Err(Down::Memory) => Err(NoMemory),
+    }
+}
+
+/// The target takes what this happening brings to it, where this was recorded before.
+fn target_takes<K: Disk, R: Rule>(
+    target: &mut Target<'_, R>,
+    disk: &mut K,
+    recording: &Recording,
+    happening: &Happening,
+) -> Result<Posts, Down>
+    requires { IsRunning (K.state disk.old) }
+    ensures takes { (accepts : HeaderView → Bool) → Follows R.may_say target.old.rule accepts
+        → IfOk result (λ posts. TargetTakes accepts
+        (event_for sides.Target (posted_in recording.now) (happening_view happening.now))
+        target.old target.new (posts_view posts)) }
+    ensures silent { IfOk result (λ posts. ¬ TargetSpeaks (happening_view happening.now)
+        → posts_view posts ≡ []) }
+    ensures keeps { (accepts : HeaderView → Bool) → Follows R.may_say target.old.rule accepts
+        → (c : TargetContents) → HasContents target.old (K.state disk.old) c
+        → KeepsDisk (K.state disk.old) target.new.store (K.state disk.new) c
+        (contents_then accepts target.old.view (event_for sides.Target (posted_in recording.now)
+        (happening_view happening.now)) c) result }
+    ensures writes { Writes (K.state disk.old) (K.state disk.new) result }
+{
+    match happening {
+        Happening::ToTarget(number) => match recording.datagram(*number) {
+            Some(datagram) => target_gets(target, disk, datagram),
+            None => Ok(Posts::none()),
+        },
+        Happening::Injected(datagram) => match datagram.from_side {
+            Side::Loader => target_gets(target, disk, datagram),
+            Side::Target => Ok(Posts::none()),
+        },
+        Happening::TickTarget => target.on_tick(disk),
+        Happening::BlockSize(size) => {
+            target.ask_blocks(*size);
+            Ok(Posts::none())
+        }
+        Happening::ToLoader(_) | Happening::Lost(_) | Happening::TickLoader => Ok(Posts::none()),
+        Happening::StartInfo { .. } | Happening::StartUpload { .. } => Ok(Posts::none()),
+        Happening::Power { .. } | Happening::Boot | Happening::End => Ok(Posts::none()),
+    }
+}
+
+fn target_gets<K: Disk, R: Rule>(
+    target: &mut Target<'_, R>,
+    disk: &mut K,
+    datagram: &Datagram,
+) -> Result<Posts, Down>
+    requires { IsRunning (K.state disk.old) }
+    ensures takes { (accepts : HeaderView → Bool) → Follows R.may_say target.old.rule accepts
+        → IfOk result (λ posts. Takes accepts
+        (Gets datagram.now.from datagram.now.to datagram.now.bytes.items)
+        target.old target.new (posts_view posts)) }
+    ensures keeps { (accepts : HeaderView → Bool) → Follows R.may_say target.old.rule accepts
+        → (c : TargetContents) → HasContents target.old (K.state disk.old) c
+        → KeepsDisk (K.state disk.old) target.new.store (K.state disk.new) c
+        (contents_after accepts target.old.view
+        (Gets datagram.now.from datagram.now.to datagram.now.bytes.items) c) result }
+    ensures writes { Writes (K.state disk.old) (K.state disk.new) result }
+{
+    target.on_datagram(disk, datagram.from, datagram.to, datagram.bytes.as_slice())
+}

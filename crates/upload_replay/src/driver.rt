@@ -1,0 +1,272 @@
+//! A loader and the target of one disk, happening by happening.
+ghost use Rattle.std.specs.Prelude.{◌≡◌, ◌∷◌, [], ℕ, IfErr, IfOk, Some, map, option_map};
+ghost use Rattle.std.specs.Prelude.{OnOk, is_some, false, true};
+ghost use Rattle.bank_store.specs.DiskWrites.{IsRunning};
+ghost use Rattle.bank_store.specs.Fits.{LosesOnlyWork};
+ghost use Rattle.disk_layout.specs.Holds.{standing_view};
+ghost use Rattle.disk_model.specs.Image.{Image};
+ghost use Rattle.disk_model.specs.State.{KeepsPower, OnlyReads};
+ghost use Rattle.exchange_trace.specs.declared.trace.Side.TheVariants as sides;
+ghost use Rattle.exchange_trace.specs.Happenings.{Booted, happening_view};
+ghost use Rattle.exchange_trace.specs.Logs.{event_for};
+ghost use Rattle.exchange_trace.specs.Posts.{IsHonest, posted_in};
+ghost use Rattle.exchange_trace.specs.Steps.{steps_of};
+ghost use Rattle.loader_machine.specs.Machine.{all_sessions, media_of, session_view};
+ghost use Rattle.media_check.specs.Sets.{set_view};
+ghost use Rattle.replay_rules.specs.BothEnds.{Setting, target_at};
+ghost use Rattle.replay_rules.specs.Changes.{InjectsBytes};
+ghost use Rattle.replay_rules.specs.Promises.{IsNoEnd};
+ghost use Rattle.replay_turns.specs.Orders.{IsInOrder};
+ghost use Rattle.replay_turns.specs.Powers.{ArmsBy, RoseBy, disk_stops};
+ghost use Rattle.replay_turns.specs.StepsOnDisks.{AddsInStep, HoldsRun, LeavesNoMore, Reboots};
+ghost use Rattle.replay_turns.specs.Turns.{RunsWhileUp, target_kept};
+ghost use Rattle.transfer_end.specs.Calls.{posts_view};
+ghost use Rattle.upload_replay.specs.Drivers.{BeginsUnit, GoesOn, HasStepped, HoldsUnit, IsTiedTo};
+ghost use Rattle.upload_replay.specs.Drivers.{StandsOn, end_step};
+ghost use Rattle.upload_replay.specs.Drives.{IsLoadersRun, IsSet, IsUnitRun, NeverBoots};
+ghost use Rattle.upload_replay.specs.Drives.{has_session};
+ghost use Rattle.upload_replay.specs.Endings.{EndsUnit, FailsToBegin, FailedIfUnknown, HoldsSome};
+ghost use Rattle.upload_replay.specs.Endings.{HoldsStanding, IsLastFault, LeavesUnit, first_fault_of};
+ghost use Rattle.upload_replay.specs.Moments.{Clocks, HoldsThroughout};
+
+use crate::ending::standing_at_end;
+use crate::outcome::{Drive, DriveFault};
+use accept_rules::{Interlock, Rule};
+use bank_store::{a_power_loss_takes_only_work, an_idle_store_works};
+use disk_layout::{Identity, RecoverFault, an_image_holds_one_configuration};
+use disk_model::Power;
+use exchange_trace::{Happening, TraceStep};
+use link_net::Waits;
+use load_base::{List, NoMemory};
+use loader_machine::{Loader, Session};
+use media_check::MediaSet;
+use replay_rules::laws::{a_step_keeps_the_tie, contents_follow_their_trace};
+use replay_turns::{Ends, Posts, Recording};
+use run_promises::laws::a_run_keeps_its_promises;
+use session_rules::laws::both_ends_follow_their_logs;
+use std::alloc::Global;
+use std::marker::Model;
+use target_machine::{BootFault, Target};
+
+/// A loader that serves a media set, and the target of one disk, which takes what happens step by
+/// step. It holds no disk: each call that may reach it is lent it. After a call that was out of
+/// memory it isn't used again.
+#[derive(Drop)]
+pub struct Driver<'m, R: Rule> {
+    /// As the first boot read it.
+    identity: Identity,
+    ends: Ends<'m, R>,
+}
+
+impl<'m, R: Rule> Model for Driver<'m, R> {
+    ghost use Rattle.upload_replay.specs.Drivers.{DriverState};
+
+    ghost Value = { DriverState R };
+
+    ghost view = { λ d. record {
+      rule = d.ends.interlock.now;
+      identity = d.identity;
+      steps = d.ends.recording;
+      loader = d.ends.loader;
+      target = d.ends.target;
+    } };
+}
+
+impl<'m, R: Rule> Driver<'m, R> {
+    /// The target comes up on its disk, and nothing has happened yet. Nothing is written.
+    pub fn boot<K: Power>(
+        alloc: Global,
+        disk: &mut K,
+        media: &'m MediaSet,
+        interlock: &'m Interlock<R>,
+    ) -> Result<Driver<'m, R>, DriveFault>
+        requires { IsRunning (K.state disk.old) }
+        // With Ok.
+        ensures begins { IfOk result (λ driver. BeginsUnit interlock.now (set_view media.now) driver
+            (K.state disk.old) (K.state disk.new)) }
+        ensures stands { (set : Setting) (image : Image) → IsSet R.may_say set interlock.now
+            (set_view media.now) image → (K.state disk.old).reads ≡ Some image
+            → IfOk result (λ driver. StandsOn R.may_say set driver) }
+        ensures tied { (set : Setting) (image : Image) → IsSet R.may_say set interlock.now
+            (set_view media.now) image → (K.state disk.old).reads ≡ Some image
+            → IfOk result (λ driver. IsTiedTo set driver) }
+        ensures held { (set : Setting) (image : Image) → IsSet R.may_say set interlock.now
+            (set_view media.now) image → (K.state disk.old).reads ≡ Some image
+            → LosesOnlyWork (K.state disk.old) → IfOk result (λ driver. HoldsUnit set
+            (K.state disk.old).clock [] driver (K.state disk.new)) }
+        ensures stood { OnOk result (HoldsSome (K.state disk.old)) }
+        // Refusals, and whatever it answers.
+        ensures refused { IfErr result (λ fault. FailsToBegin fault (K.state disk.old)
+            (K.state disk.new)) }
+        ensures reads { OnlyReads (K.state disk.old) (K.state disk.new) }
+    {
+        // For the proof: these do nothing.
+        an_image_holds_one_configuration();
+        a_power_loss_takes_only_work::<K>();
+        an_idle_store_works::<K>();
+        match Target::boot(alloc, disk, interlock, 1024) {
+            Ok(target) => Ok(Driver {
+                identity: *target.identity(),
+                ends: Ends {
+                    alloc,
+                    interlock,
+                    recording: Recording::new(alloc),
+                    loader: Loader::new(alloc, media),
+                    target: Some(target),
+                },
+            }),
+            Err(fault) => Err(first_fault(fault)),
+        }
+    }
+
+    /// Both ends take what happens. What they post is the link's to carry: one end at most posts in
+    /// a step, two datagrams at most.
+    pub fn step<K: Power>(&mut self, disk: &mut K, happening: Happening) -> Result<Posts, NoMemory>
+        requires goes_on { GoesOn self.old }
+        requires no_end { IsNoEnd (happening_view happening) }
+        requires honest { IsHonest (posted_in self.old.steps) (happening_view happening) }
+        requires running { RunsWhileUp self.old.target (K.state disk.old) }
+        // With Ok.
+        ensures stepped { IfOk result (λ posts. HasStepped (happening_view happening)
+            (posts_view posts) self.old self.new (K.state disk.old) (K.state disk.new)) }
+        ensures stands { (set : Setting) → StandsOn R.may_say set self.old
+            → OnOk result (StandsOn R.may_say set self.new) }
+        ensures tied { (set : Setting) → StandsOn R.may_say set self.old
+            → (NeverBoots self.old.steps → IsTiedTo set self.old)
+            → OnOk result (NeverBoots self.new.steps → IsTiedTo set self.new) }
+        ensures held { (set : Setting) (since : ℕ) (clocks : Clocks)
+            → StandsOn R.may_say set self.old
+            → HoldsUnit set since clocks self.old (K.state disk.old) → OnOk result (HoldsUnit set
+            since ((K.state disk.old).clock ∷ clocks) self.new (K.state disk.new)) }
+        // Whatever it answers.
+        ensures arms { ArmsBy (happening_view happening) (K.state disk.old) (K.state disk.new) }
+        ensures reboots { happening_view happening ≡ Booted
+            → Reboots (K.state disk.old) (K.state disk.new) }
+        ensures injects { InjectsBytes (happening_view happening) }
+        ensures adds { (set : Setting) → StandsOn R.may_say set self.old
+            → HoldsRun set (target_at set self.old.steps) self.old.target (K.state disk.old)
+            → AddsInStep set (event_for sides.Target (posted_in self.old.steps)
+            (happening_view happening)) (target_at set self.old.steps) (K.state disk.old)
+            (K.state disk.new) }
+    {
+        // For the proof: these do nothing.
+        an_image_holds_one_configuration();
+        contents_follow_their_trace();
+        a_step_keeps_the_tie();
+        both_ends_follow_their_logs();
+        self.ends.take(disk, happening)
+    }
+
+    /// The end comes: what each session came to, and what the disk holds. Where the target is down
+    /// the disk is restarted first.
+    pub fn end<K: Power>(self, disk: &mut K) -> Result<Drive, DriveFault>
+        requires goes_on { GoesOn self }
+        requires running { RunsWhileUp self.target (K.state disk.old) }
+        // With Ok.
+        ensures ended { IfOk result (λ drive. EndsUnit self.entry.steps self.entry.loader drive
+            (K.state disk.new)) }
+        ensures run { (set : Setting) → StandsOn R.may_say set self.entry
+            → IsTiedTo set self.entry → IfOk result (λ drive. IsUnitRun set
+            (steps_of drive.trace.items) (map session_view drive.sessions.items)
+            (option_map standing_view drive.standing)) }
+        ensures moments { (set : Setting) (since : ℕ) (clocks : Clocks)
+            → HoldsUnit set since clocks self.entry (K.state disk.old)
+            → IfOk result (λ drive. HoldsThroughout set (steps_of drive.trace.items)
+            (option_map standing_view drive.standing) since ((K.state disk.old).clock ∷ clocks)
+            (K.state disk.new)) }
+        ensures rests { (set : Setting) (since : ℕ) (clocks : Clocks)
+            → HoldsUnit set since clocks self.entry (K.state disk.old)
+            → IfOk result (λ drive. is_some drive.standing ≡ true → LosesOnlyWork (K.state disk.new)) }
+        ensures unknown { (began : ℕ) → RoseBy (disk_stops self.entry.steps) began
+            (K.state disk.old).faults → IfOk result (λ drive. FailedIfUnknown drive.standing began
+            (disk_stops self.entry.steps) (K.state disk.new)) }
+        ensures reboots { is_some self.entry.target ≡ false
+            → OnOk result (Reboots (K.state disk.old) (K.state disk.new)) }
+        // Refusals, and whatever it answers.
+        ensures refused { IfErr result (λ fault. IsLastFault fault (K.state disk.new)) }
+        ensures leaves { LeavesUnit (K.state disk.old) (K.state disk.new) }
+    {
+        // For the proof: these do nothing.
+        an_image_holds_one_configuration();
+        a_power_loss_takes_only_work::<K>();
+        a_run_keeps_its_promises();
+        let Driver { ends, .. } = self;
+        let Ends {
+            alloc,
+            mut recording,
+            loader,
+            target,
+            ..
+        } = ends;
+        let up = target.is_some();
+        // For the proof: dropped by a call, not by scope.
+        drop(target);
+        let sessions = loader.into_sessions();
+        match recording.give(Happening::End) {
+            Ok(()) => {}
+            Err(NoMemory) => {
+                drop((recording, sessions));
+                return Err(DriveFault::Memory);
+            }
+        }
+        match standing_at_end(alloc, disk, up) {
+            Ok(standing) => Ok(Drive {
+                trace: recording.into_trace(),
+                sessions,
+                standing,
+            }),
+            Err(fault) => {
+                drop((recording, sessions));
+                Err(fault)
+            }
+        }
+    }
+
+    /// Which ends have a live session, and so would be ticked.
+    pub fn waits(&self) -> Waits
+        ensures loader { result.loader ≡ is_some self.now.loader.view.live }
+        ensures target { result.target ≡ has_session (target_kept self.now.target) }
+    {
+        Waits {
+            loader: self.ends.loader.waits(),
+            target: match &self.ends.target {
+                Some(target) => target.waits(),
+                None => false,
+            },
+        }
+    }
+
+    /// What has happened so far, line by line.
+    pub fn trace(&self) -> &List<TraceStep>
+        ensures steps { steps_of result.now.items ≡ self.now.steps }
+        ensures ordered { IsInOrder result.now.items }
+    {
+        self.ends.recording.trace()
+    }
+
+    /// The loader's sessions so far, in the order of their starts.
+    pub fn sessions(&self) -> &List<Session>
+        ensures { map session_view result.now.items ≡ all_sessions self.now.loader.view }
+    {
+        self.ends.loader.sessions()
+    }
+
+    /// The target's identity, as its first boot read it.
+    pub fn identity(&self) -> &Identity
+        ensures { result.now ≡ self.now.identity }
+    {
+        &self.identity
+    }
+}
+
+/// Why the target doesn't come up at first.
+fn first_fault(fault: BootFault) -> DriveFault
+    ensures { result ≡ first_fault_of fault }
+{
+    match fault {
+        BootFault::Recover(RecoverFault::DiskFailed) => DriveFault::Disk,
+        BootFault::Recover(RecoverFault::Memory) => DriveFault::Memory,
+        BootFault::Recover(fault) => DriveFault::NoConfig(fault),
+        BootFault::Memory => DriveFault::Memory,
+    }
+}
