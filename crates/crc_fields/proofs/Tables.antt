@@ -24,11 +24,11 @@ tables_from : (width polynomial count : ℕ) → List ℕ → List (List ℕ)
 tables_from width polynomial zero table = []
 tables_from width polynomial (suc count) table = table ∷ tables_from width polynomial count (map (after_zero width polynomial) table)
 
-computed_16 : TABLES_16 ≡ tables_from 16 0x1021 8 (map (entry_of 16 0x1021) (range_with_len 0 256))
+computed_16 : TABLES_16 ≡ tables_from 16 0x1021 16 (map (entry_of 16 0x1021) (range_with_len 0 256))
 unfolding tables_from after_zero entry_of register_after_bits register_after_bit lowest_bits
 computed_16 = refl
 
-computed_32 : TABLES_32 ≡ tables_from 32 0x04C11DB7 8 (map (entry_of 32 0x04C11DB7) (range_with_len 0 256))
+computed_32 : TABLES_32 ≡ tables_from 32 0x04C11DB7 16 (map (entry_of 32 0x04C11DB7) (range_with_len 0 256))
 unfolding tables_from after_zero entry_of register_after_bits register_after_bit lowest_bits
 computed_32 = refl
 
@@ -44,20 +44,20 @@ in_tables w p (suc count) (suc index) byte table within in_table =
     ∙ ap (λ (r : ℕ). register_after w p r (replicate index 0)) (get_or-map (after_zero w p) table byte 0 0 in_table)
     ∙ sym (after_first w p (get_or table byte 0) 0 (replicate index 0))
 
-in_tables_of_entries : (w p zeros byte : ℕ) → zeros < 8 → byte < 256
-    → get_or (get_or (tables_from w p 8 (map (entry_of w p) (range_with_len 0 256))) zeros []) byte 0 ≡ register_after w p 0 (byte ∷ replicate zeros 0)
+in_tables_of_entries : (w p zeros byte : ℕ) → zeros < 16 → byte < 256
+    → get_or (get_or (tables_from w p 16 (map (entry_of w p) (range_with_len 0 256))) zeros []) byte 0 ≡ register_after w p 0 (byte ∷ replicate zeros 0)
 unfolding entry_of
 in_tables_of_entries w p zeros byte within is_byte =
     let entries = map (entry_of w p) (range_with_len 0 256) in
     let in_entries : byte < length entries = omega (arith, is_byte, length-map-range_with_len (entry_of w p) 0 256) in
-    in_tables w p 8 zeros byte entries within in_entries
+    in_tables w p 16 zeros byte entries within in_entries
     ∙ ap (λ (r : ℕ). register_after w p r (replicate zeros 0)) (get_or-map-range_with_len (entry_of w p) 0 256 byte byte 0 is_byte (omega arith))
     ∙ sym (after_first w p 0 byte (replicate zeros 0))
 
-pub entry_16 : (zeros byte : ℕ) → zeros < 8 → byte < 256 → get_or (get_or TABLES_16 zeros []) byte 0 ≡ register_after 16 0x1021 0 (byte ∷ replicate zeros 0)
+pub entry_16 : (zeros byte : ℕ) → zeros < 16 → byte < 256 → get_or (get_or TABLES_16 zeros []) byte 0 ≡ register_after 16 0x1021 0 (byte ∷ replicate zeros 0)
 entry_16 zeros byte within is_byte = ap (λ tables. get_or (get_or tables zeros []) byte 0) computed_16 ∙ in_tables_of_entries 16 0x1021 zeros byte within is_byte
 
-pub entry_32 : (zeros byte : ℕ) → zeros < 8 → byte < 256 → get_or (get_or TABLES_32 zeros []) byte 0 ≡ register_after 32 0x04C11DB7 0 (byte ∷ replicate zeros 0)
+pub entry_32 : (zeros byte : ℕ) → zeros < 16 → byte < 256 → get_or (get_or TABLES_32 zeros []) byte 0 ≡ register_after 32 0x04C11DB7 0 (byte ∷ replicate zeros 0)
 entry_32 zeros byte within is_byte = ap (λ tables. get_or (get_or tables zeros []) byte 0) computed_32 ∙ in_tables_of_entries 32 0x04C11DB7 zeros byte within is_byte
 
 -- a byte by one entry

@@ -1,4 +1,4 @@
-//! CRC-32 eight bytes at a time, by tables of what each byte makes of an empty register.
+//! CRC-32 sixteen bytes at a time, by tables of what each byte makes of an empty register.
 ghost use Rattle.std.specs.Prelude.{◌≡◌, ◌<◌, ◌∷◌, replicate};
 ghost use Rattle.crc_fields.specs.CheckSums.{crc32_after, lowest_bits, register_after};
 ghost use Rattle.crc_fields.specs.CheckSums.{register_after_bits};
@@ -6,7 +6,7 @@ ghost use Rattle.crc_fields.specs.CheckSums.{register_after_bits};
 use crate::entries::entries;
 
 // Table `zeros` has what a byte, and that many zero bytes after it, make of an empty register.
-static TABLES: [[u32; 256]; 8] = [
+static TABLES: [[u32; 256]; 16] = [
     entries!(
         0x04C11DB7, 0x09823B6E, 0x130476DC, 0x2608EDB8, 0x4C11DB70, 0x9823B6E0, 0x34867077,
         0x690CE0EE
@@ -39,6 +39,38 @@ static TABLES: [[u32; 256]; 8] = [
         0x5BA1DCCA, 0xB743B994, 0x6A466E9F, 0xD48CDD3E, 0xADD8A7CB, 0x5F705221, 0xBEE0A442,
         0x79005533
     ),
+    entries!(
+        0xF200AA66, 0xE0C0497B, 0xC5418F41, 0x8E420335, 0x18451BDD, 0x308A37BA, 0x61146F74,
+        0xC228DEE8
+    ),
+    entries!(
+        0x8090A067, 0x05E05D79, 0x0BC0BAF2, 0x178175E4, 0x2F02EBC8, 0x5E05D790, 0xBC0BAF20,
+        0x7CD643F7
+    ),
+    entries!(
+        0xF9AC87EE, 0xF798126B, 0xEBF13961, 0xD3236F75, 0xA287C35D, 0x41CE9B0D, 0x839D361A,
+        0x03FB7183
+    ),
+    entries!(
+        0x07F6E306, 0x0FEDC60C, 0x1FDB8C18, 0x3FB71830, 0x7F6E3060, 0xFEDC60C0, 0xF979DC37,
+        0xF632A5D9
+    ),
+    entries!(
+        0xE8A45605, 0xD589B1BD, 0xAFD27ECD, 0x5B65E02D, 0xB6CBC05A, 0x69569D03, 0xD2AD3A06,
+        0xA19B69BB
+    ),
+    entries!(
+        0x47F7CEC1, 0x8FEF9D82, 0x1B1E26B3, 0x363C4D66, 0x6C789ACC, 0xD8F13598, 0xB5237687,
+        0x6E87F0B9
+    ),
+    entries!(
+        0xDD0FE172, 0xBEDEDF53, 0x797CA311, 0xF2F94622, 0xE13391F3, 0xC6A63E51, 0x898D6115,
+        0x17DBDF9D
+    ),
+    entries!(
+        0x2FB7BF3A, 0x5F6F7E74, 0xBEDEFCE8, 0x797CE467, 0xF2F9C8CE, 0xE1328C2B, 0xC6A405E1,
+        0x89891675
+    ),
 ];
 
 #[tactic(auto, unfolding(crate::specs::CheckSums::crc32_after))]
@@ -47,27 +79,37 @@ pub(crate) fn crc32_after(sum: u32, bytes: &[u8]) -> u32
 {
     let mut register = !sum;
     let mut rest = bytes;
-    while let Some((eight, after)) = rest.split_first_chunk::<8>() {
-        register = after_eight(register, eight);
+    while let Some((sixteen, after)) = rest.split_first_chunk::<16>() {
+        register = after_sixteen(register, sixteen);
         rest = after;
     }
     !after_bytes(register, rest)
 }
 
-#[tactic(auto, using(crate::proofs::Eights::by_entries_32))]
-fn after_eight(register: u32, eight: &[u8; 8]) -> u32
-    ensures { result ≡ register_after 32 0x04C11DB7 register eight.now }
+#[tactic(auto, using(crate::proofs::Sixteens::by_entries_32))]
+fn after_sixteen(register: u32, sixteen: &[u8; 16]) -> u32
+    ensures { result ≡ register_after 32 0x04C11DB7 register sixteen.now }
 {
     let [highest, high, low, lowest] = register.to_be_bytes();
-    let [a, b, c, d, e, f, g, h] = *eight;
-    entry(7, highest ^ a)
-        ^ entry(6, high ^ b)
-        ^ entry(5, low ^ c)
-        ^ entry(4, lowest ^ d)
-        ^ entry(3, e)
-        ^ entry(2, f)
-        ^ entry(1, g)
-        ^ entry(0, h)
+    let [a, b, c, d, e, f, g, h, i, j, k, l, m, n, o, p] = *sixteen;
+    // The register doesn't meet these: apart, they can be summed while it isn't known yet.
+    let later = entry(11, e)
+        ^ entry(10, f)
+        ^ entry(9, g)
+        ^ entry(8, h)
+        ^ entry(7, i)
+        ^ entry(6, j)
+        ^ entry(5, k)
+        ^ entry(4, l)
+        ^ entry(3, m)
+        ^ entry(2, n)
+        ^ entry(1, o)
+        ^ entry(0, p);
+    entry(15, highest ^ a)
+        ^ entry(14, high ^ b)
+        ^ entry(13, low ^ c)
+        ^ entry(12, lowest ^ d)
+        ^ later
 }
 
 #[tactic(auto, using(crate::proofs::Cuts::after_nothing, crate::proofs::Cuts::after_more))]
@@ -92,7 +134,7 @@ fn after_byte(register: u32, byte: u8) -> u32
 // What `byte`, and `zeros` zero bytes after it, make of an empty register.
 #[tactic(auto, using(crate::proofs::Tables::entry_32))]
 fn entry(zeros: usize, byte: u8) -> u32
-    requires { zeros < 8 }
+    requires { zeros < 16 }
     ensures { result ≡ register_after 32 0x04C11DB7 0 (byte ∷ replicate zeros 0) }
 {
     TABLES[zeros][usize::from(byte)]
