@@ -31,6 +31,13 @@ impl Writer {
         }
     }
 
+    /// Reserves memory for this many bytes more.
+    pub fn reserve(&mut self, more: usize) -> Result<(), NoMemory>
+        ensures { self.new ≡ self.old }
+    {
+        self.out.reserve(more)
+    }
+
     /// Writes a byte.
     pub fn put_u8(&mut self, value: u8) -> Result<(), NoMemory>
         ensures ok { OnOk result (self.new ≡ self.old ++ number_bytes 1 value) }

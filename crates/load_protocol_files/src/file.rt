@@ -17,6 +17,9 @@ use field_codec::{Reader, Writer};
 use load_base::{Bytes, NoMemory};
 use std::alloc::Global;
 
+/// How many bytes are reserved for the fields of a file before they are written.
+const RESERVED_BODY: usize = 64;
+
 /// A type of protocol file: the format of its fields, and how they are read and written.
 pub(crate) trait ProtocolFile: Drop {
     /// A file as contracts see it.
@@ -79,6 +82,7 @@ pub(crate) fn encode<F: ProtocolFile>(alloc: Global, it: &F) -> Result<Bytes, No
     ensures { IfOk result (λ bytes. FileSpells F.fields F.Fits (F.view it.now) bytes.items) }
 {
     let mut body = Writer::new(alloc);
+    body.reserve(RESERVED_BODY)?;
     it.put_body(&mut body)?;
     file_of(alloc, body)
 }

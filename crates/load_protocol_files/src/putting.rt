@@ -59,6 +59,7 @@ pub(crate) fn file_of(alloc: Global, body: Writer) -> Result<Bytes, NoMemory>
 {
     let body = body.finish();
     let mut out = Writer::new(alloc);
+    out.reserve(6 + body.len())?;
     out.put_u32(6 + body.len() as u32)?;
     out.put_u16(0x4133)?;
     out.put_raw(body.as_slice())?;

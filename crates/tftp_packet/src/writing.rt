@@ -13,6 +13,13 @@ use field_codec::Writer;
 use itoa::Buffer;
 use load_base::{Name, NoMemory};
 
+/// The bytes of a request or an OACK but for the name, where all three options are as long as can
+/// be: 2 + 1 + 6 + 14 + 12 + 17.
+const MOST_BUT_NAME: usize = 52;
+
+/// The opcode and the number before the bytes, and the zero after those of an ERROR.
+const NUMBERED: usize = 5;
+
 pub(crate) fn put_packet(out: &mut Writer, packet: &Packet) -> Result<(), NoMemory>
     ensures ok { OnOk result (out.new ≡ out.old ++ packet_bytes (packet_view packet.now)) }
     ensures typed { OnOk result (IsTyped (packet_view packet.now)) }
@@ -27,6 +34,7 @@ pub(crate) fn put_packet(out: &mut Writer, packet: &Packet) -> Result<(), NoMemo
             out.put_raw(&[0])?;
         }
         Packet::Oack { options } => {
+            out.reserve(MOST_BUT_NAME)?;
             out.put_u16(OACK)?;
             put_options(out, options)?;
         }
@@ -44,6 +52,7 @@ fn put_request(
         ++ concat (request_fields opcode name.now (codes "octet") (written_options options.now))) }
     ensures is_name { OnOk result (IsName name.now) }
 {
+    out.reserve(name.as_slice().len() + MOST_BUT_NAME)?;
     out.put_u16(opcode)?;
     put_text(out, name.as_slice())?;
     put_text(out, b"octet")?;
@@ -56,6 +65,7 @@ fn put_numbered(out: &mut Writer, opcode: u16, number: u16, bytes: &[u8]) -> Res
         (out.new ≡ out.old ++ (number_bytes 2 opcode ++ (number_bytes 2 number ++ bytes.now))) }
     ensures typed { OnOk result ((number < 2 ^ 16) × IsBytes bytes.now) }
 {
+    out.reserve(bytes.len() + NUMBERED)?;
     out.put_u16(opcode)?;
     out.put_u16(number)?;
     out.put_raw(bytes)?;
