@@ -1,5 +1,5 @@
 //! Datagrams that are posted.
-ghost use Rattle.std.specs.Prelude.{◌≡◌, IfOk};
+ghost use Rattle.std.specs.Prelude.{◌≡◌, IfOk, OnOk};
 ghost use Rattle.tftp_packet.specs.Packets.{IsInRange, packet_view};
 ghost use Rattle.exchange_trace.specs.Happenings.{datagram_view};
 ghost use Rattle.transfer_end.specs.Moves.{datagram as datagram_of};
@@ -28,6 +28,18 @@ pub(crate) fn datagram(
         to,
         bytes,
     })
+}
+
+/// Makes this datagram the same as another, in the memory that it has.
+pub(crate) fn copy_into(kept: &mut Datagram, datagram: &Datagram) -> Result<(), NoMemory>
+    ensures { OnOk result (datagram_view kept.new ≡ datagram_view datagram.now) }
+{
+    kept.bytes.clear();
+    kept.bytes.extend(datagram.bytes.as_slice())?;
+    kept.from_side = datagram.from_side;
+    kept.from = datagram.from;
+    kept.to = datagram.to;
+    Ok(())
 }
 
 /// The same datagram once more.

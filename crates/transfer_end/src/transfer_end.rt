@@ -19,7 +19,7 @@ ghost use Rattle.transfer_end.specs.Transfers.{Reads, ServesRead, ServesWrite, W
 ghost use Rattle.transfer_end.specs.Views.{EndView, TransferView, new_end};
 
 use crate::file_end::FileEnd;
-use crate::posting::{copy_of, datagram};
+use crate::posting::{copy_into, copy_of, datagram};
 use crate::transfer::Transfer;
 use exchange_trace::{Datagram, Side};
 use load_base::{Name, NoMemory};
@@ -280,10 +280,24 @@ impl<'f> TransferEnd<'f> {
         ensures { OnOk result
             (self.new ≡ with_last self.old (last_of self.old.last (posted post.now))) }
     {
-        if let Some(datagram) = post {
-            self.last = Some(copy_of(self.alloc, datagram)?);
+        match post {
+            Some(datagram) => self.repeat_later(datagram),
+            None => Ok(()),
         }
-        Ok(())
+    }
+
+    /// A tick repeats this datagram now. It takes the place of what a tick repeated before.
+    fn repeat_later(&mut self, datagram: &Datagram) -> Result<(), NoMemory>
+        ensures { OnOk result
+            (self.new ≡ with_last self.old (Some (datagram_view datagram.now))) }
+    {
+        match &mut self.last {
+            Some(last) => copy_into(last, datagram),
+            None => {
+                self.last = Some(copy_of(self.alloc, datagram)?);
+                Ok(())
+            }
+        }
     }
 
     /// The kept transfer gets a packet, if it is one of its: the block taken last is acknowledged
@@ -411,7 +425,7 @@ impl<'f> TransferEnd<'f> {
         let own = self.next_port as u16;
         let to = peer.unwrap_or(REQUEST_PORT);
         let post = datagram(self.alloc, side, own, to, &end.first())?;
-        self.last = Some(copy_of(self.alloc, &post)?);
+        self.repeat_later(&post)?;
         self.next_port += 1;
         self.live = Some(Transfer { own, peer, end });
         Ok(post)
