@@ -6,6 +6,9 @@ use load_base::{Bytes, Ident, Name, NoMemory};
 use session_rules::FileKind;
 use std::alloc::Global;
 
+/// The bytes of the longest of these names, with 20 of each Ident.
+const MOST_BYTES: usize = 45;
+
 /// The name of the protocol file of this kind at the target with this hardware and position, as in
 /// `HW1_L.LUI`.
 #[tactic(auto, using(crate::proofs::Names::is_name))]
@@ -24,6 +27,7 @@ fn name_bytes(alloc: Global, hw: &[u8], pos: &[u8], kind: FileKind) -> Result<By
     ensures { IfOk result (λ bytes. bytes.items ≡ name_of hw.now pos.now kind) }
 {
     let mut bytes = Bytes::new(alloc);
+    bytes.reserve(MOST_BYTES)?;
     bytes.extend(hw)?;
     bytes.extend(b"_")?;
     bytes.extend(pos)?;

@@ -7,7 +7,7 @@ use Rattle.session_files.proofs.name.file_name.Goals as goal
 untrue : false ≡ true → ⊥
 untrue e = absurd cc
 
--- src/name.rt:18:19
+-- src/name.rt:21:19
 pub unreachable-requires : goal.unreachable-requires
 unreachable-requires c =
     let named = is_name c.as_slice.result.now c.as_slice-2.result.now c.args.kind
