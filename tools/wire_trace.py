@@ -36,7 +36,8 @@ def read(lines):
         except (IndexError, KeyError, ValueError) as fault:
             raise NoTrace(f"no trace of `gablecumin wire`: {line.strip()[:60]!r}") from fault
     if not steps or steps[-1] != ["end"]:
-        raise NoTrace("no whole trace of `gablecumin wire`: its last line isn't `end`")
+        last = " ".join(steps[-1])[:200] if steps and isinstance(steps[-1], list) else ""
+        raise NoTrace(f"no whole trace of `gablecumin wire`: its last line isn't `end`, but {last!r}")
     return [
         step if isinstance(step, list) else Datagram(*step, Fate(given[step[0]], step[0] in lost, step[0] is None))
         for step in steps
