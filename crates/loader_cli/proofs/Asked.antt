@@ -302,3 +302,18 @@ says_of_show work kind file status text asked (shows kind_2 file_2 is found) =
     let shown : kind_2 ≡ kind = one_kind kind kind_2 file asked.2 (subst (λ (f : List ℕ). IsNameOf kind_2 f) name is.2) in
     subst (λ (k : ShownKind). Shows k work.files work.host_faults work.host_faults_after file status text) shown
     (subst (λ (f : List ℕ). Shows kind_2 work.files work.host_faults work.host_faults_after f status text) name found)
+
+-- ---- `format`
+
+-- another command formats nothing
+pub formats_no : (words : List (List ℕ)) (command : CommandView) (id : Identity) → IsCommand words command → ¬ FormatsDisk command → IsCommand words (format id) → ⊥
+unfolding verb
+formats_no words list id asked other is = let no = same_verb words (format id) list is asked in absurd cc
+formats_no words (format target) id asked other is = other tt
+formats_no words (show kind file) id asked other is = let no = same_verb words (format id) (show kind file) is asked in absurd cc
+formats_no words (check folder) id asked other is = let no = same_verb words (format id) (check folder) is asked in absurd cc
+formats_no words (build recipe folder) id asked other is = let no = same_verb words (format id) (build recipe folder) is asked in absurd cc
+formats_no words (make number folder) id asked other is = let no = same_verb words (format id) (make number folder) is asked in absurd cc
+formats_no words (replay folder script) id asked other is = apart_format_replay (same_verb words (format id) (replay folder script) is asked)
+formats_no words (wire folder script) id asked other is = let no = same_verb words (format id) (wire folder script) is asked in absurd cc
+formats_no words (trial number) id asked other is = let no = same_verb words (format id) (trial number) is asked in absurd cc

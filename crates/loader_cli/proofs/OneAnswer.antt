@@ -61,8 +61,8 @@ same_target words id other one two = ap (λ (list : List (List ℕ)). line (code
 
 one_format : (id other : Identity) (old new old_2 new_2 : DiskState) (a b : ℕ) (s t : List ℕ) → formatted_line id ≡ formatted_line other → ¬ Rose old.faults new.faults → ¬ Rose old_2.faults new_2.faults
     → Formats old new id a s → Formats old_2 new_2 other b t → (a ≡ b) × (s ≡ t)
-one_format id other old new old_2 new_2 a b s t same answers answers_2 (formatted_it _ _ _ _ status text) (formatted_it _ _ _ _ status_2 text_2) = (status ∙ sym status_2, text ∙ (same ∙ sym text_2))
-one_format id other old new old_2 new_2 a b s t same answers answers_2 (formatted_it _ _ _ _ _ _) (formatting_failed rose _ _ _) = absurd (answers_2 rose)
+one_format id other old new old_2 new_2 a b s t same answers answers_2 (formatted_it _ _ _ _ _ status text) (formatted_it _ _ _ _ _ status_2 text_2) = (status ∙ sym status_2, text ∙ (same ∙ sym text_2))
+one_format id other old new old_2 new_2 a b s t same answers answers_2 (formatted_it _ _ _ _ _ _ _) (formatting_failed rose _ _ _) = absurd (answers_2 rose)
 one_format id other old new old_2 new_2 a b s t same answers answers_2 (formatting_failed rose _ _ _) two = absurd (answers rose)
 
 -- ---- `show`
@@ -82,7 +82,7 @@ module _ (laws : ShownLaws) (kind : ShownKind) (known : Files) (name : List ℕ)
       let more = long.2 in
       absurd (omega (arith, size, short, more))
 
-  one_show : (a b : ℕ) (s t : List ℕ) → Shows kind (Some known) before after name a s → Shows kind (Some known) before_2 after_2 name b t → (a ≡ b) × (s ≡ t)
+  pub one_show : (a b : ℕ) (s t : List ℕ) → Shows kind (Some known) before after name a s → Shows kind (Some known) before_2 after_2 name b t → (a ≡ b) × (s ≡ t)
   one_show a b s t (read bytes has short found) (read bytes_2 has_2 short_2 found_2) =
       let same : bytes_2 ≡ bytes = some_same (sym has_2 ∙ has) in
       one_shown laws kind name bytes a b s t found (subst (λ (l : List ℕ). ShowsBytes kind name l b t) same found_2)
@@ -193,13 +193,13 @@ module _ (fixed : WholeRunsAreFixed) (active : ActiveIsFixed) (laws : ImageLaws)
       (said_of_trial fixed active two second number image (record { asked = asked_too (trial number) asked; steady = so.steady; promised = so.promised }) at_end_2 b t says)
 
   ended_alike : Ends one first → Ends two second → (first.status ≡ 6) ⊎ ((second.status ≡ 6) ⊎ PutTheSame one two first second)
-  ended_alike (told text says put) (told text_2 says_2 put_2) =
-      let same = same_said first.status second.status text text_2 says says_2 in
+  ended_alike (told text all put) (told text_2 all_2 put_2) =
+      let same = same_said first.status second.status text text_2 all.says all_2.says in
       inr (inr (record { status = same.0; text = text; one_puts = put; two_puts = subst (λ (u : List ℕ). IsExtended two.output two.output_after u) (sym same.1) put_2 }))
-  ended_alike (no_memory six _) two_ends = inl six
+  ended_alike (no_memory six _ _) two_ends = inl six
   ended_alike (sink_failed _ _ _ _ _ rose _) two_ends = absurd (is.steady.answers.sink_answers rose)
-  ended_alike (told text says put) (no_memory six _) = inr (inl six)
-  ended_alike (told text says put) (sink_failed _ _ _ _ _ rose _) = absurd (so.steady.answers.sink_answers rose)
+  ended_alike (told text all put) (no_memory six _ _) = inr (inl six)
+  ended_alike (told text all put) (sink_failed _ _ _ _ _ rose _) = absurd (so.steady.answers.sink_answers rose)
 
   pub put_alike : (first.status ≡ 6) ⊎ ((second.status ≡ 6) ⊎ PutTheSame one two first second)
   put_alike = ended_alike is.promised.ends.ends so.promised.ends.ends

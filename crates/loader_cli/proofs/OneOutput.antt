@@ -120,9 +120,9 @@ module _ (fixed : WholeRunsAreFixed) (active : ActiveIsFixed) (run : Run) (ended
       (says_of_run telling run.work folder name status text is.asked says))
 
   put_by : Ends run ended → PutsOnly run ended (Gives telling folder name files image)
-  put_by (told text says put) = inr (text, said_of_replay ended.status text says, put)
+  put_by (told text all put) = inr (text, said_of_replay ended.status text all.says, put)
   put_by (sink_failed _ _ _ _ _ rose _) = absurd (is.steady.answers.sink_answers rose)
-  put_by (no_memory six _) = inl six
+  put_by (no_memory six _ _) = inl six
 
   pub puts_only : PutsOnly run ended (Gives telling folder name files image)
   puts_only = put_by is.promised.ends.ends
@@ -194,15 +194,15 @@ module _ (fixed : WholeRunsAreFixed) (active : ActiveIsFixed) (run : Run) (ended
       (outcome_gives fixed active Report set (trial_script id) image run.work.disk run.work.disk_after run.work.handed laws (is.promised.leaves (trial_formats_none run.work.words number is.asked))
       is.steady.reads is.steady.rests is.steady.disk_answers is.steady.stays_up status text ran_to)
   trial_given status text (target_unread read rose stopped handed _ _) = absurd (is.steady.disk_answers rose)
-  trial_given status text (no_target fault read other none handed eight tells) = untried fault (none image is.steady.reads) eight tells
+  trial_given status text (no_target fault other none_held handed eight tells) = untried fault (none_held.none image is.steady.reads) eight tells
 
   pub said_of_trial : (status : ℕ) (text : List ℕ) → Says run.work status text → GivesTrial number image status text
   said_of_trial status text says = trial_given status text (says_of_trial run.work number status text is.asked says)
 
   trial_put_by : Ends run ended → PutsOnly run ended (GivesTrial number image)
-  trial_put_by (told text says put) = inr (text, said_of_trial ended.status text says, put)
+  trial_put_by (told text all put) = inr (text, said_of_trial ended.status text all.says, put)
   trial_put_by (sink_failed _ _ _ _ _ rose _) = absurd (is.steady.answers.sink_answers rose)
-  trial_put_by (no_memory six _) = inl six
+  trial_put_by (no_memory six _ _) = inl six
 
   pub trial_puts_only : PutsOnly run ended (GivesTrial number image)
   trial_puts_only = trial_put_by is.promised.ends.ends

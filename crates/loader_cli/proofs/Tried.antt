@@ -18,6 +18,7 @@ use Rattle.replay_rules.specs.BothEnds.{Setting}
 use Rattle.upload_replay.specs.Moments.{AreClocks, HoldsAllAlong}
 use Rattle.bank_store.specs.Fits.{LosesOnlyWork}
 use Rattle.replay_turns.specs.Powers.{RoseBy, disk_stops}
+use Rattle.replay_turns.specs.Turns.{RunsOut}
 use Rattle.upload_replay.specs.Armings.{armed_after, armings_after}
 use Rattle.loader_cli.specs.Replays.{CountsPower, IsAnyRun, RunSeen, RunsScript, RunsTo, setting_of}
 use Rattle.loader_cli.specs.Replays.RunsTo.{ended, unknown, disk_failed, no_config}
@@ -46,6 +47,17 @@ any_since set old mid new run read any = record { counts = counts_since (steps_o
 
 held_since : (old mid : DiskState) → mid.reads ≡ old.reads → HoldsSome mid → HoldsSome old
 held_since old mid same held image is = held image (same ∙ is)
+
+-- it is only read, or held a configuration
+pub held_or_read : (old mid new : DiskState) → OnlyReads old mid → mid.reads ≡ old.reads → OnlyReads mid new ⊎ HoldsSome mid → OnlyReads old new ⊎ HoldsSome old
+held_or_read old mid new read same (inl reads) = inl (reads_joined old mid new read reads)
+held_or_read old mid new read same (inr held) = inr (held_since old mid same held)
+
+-- where memory ran out after a survey
+pub out_since : (old mid new : DiskState) → OnlyReads old mid → mid.reads ≡ old.reads → RunsOut mid new ⊎ HoldsSome mid → RunsOut old new ⊎ HoldsSome old
+out_since old mid new read same (inl (inl on)) = inl (inl on)
+out_since old mid new read same (inl (inr out)) = let before = read.refusals in let rose = out.counted in inl (inr (record { counted = grind (arith, before, rose); stopped = out.stopped }))
+out_since old mid new read same (inr held) = inr (held_since old mid same held)
 
 none_since : (fault : RecoverFault) (old mid new : DiskState) → OnlyReads old mid → mid.reads ≡ old.reads → HeldNone fault mid new ⊎ (HoldsSome mid × HoldsNone fault new)
     → HeldNone fault old new ⊎ (HoldsSome old × HoldsNone fault new)

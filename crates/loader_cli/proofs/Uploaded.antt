@@ -155,7 +155,7 @@ module _ (run : Run) (number : ℕ) (is : TriesSound run number) (uploads : Uplo
       came_to_end set is_set status text
       (subst (λ (target : Identity). RunsTo Report set (trial_script target) run.work.disk run.work.disk_after run.work.handed status text) (same_target id (names is.image is.reads)) runs)
   by_trial status text (target_unread read rose stopped _ _ _) = absurd (is.disk_answers rose)
-  by_trial status text (no_target fault read other none _ _ _) = absurd (laws.not_both is.image is.start fault is.holds (none is.image is.reads))
+  by_trial status text (no_target fault other held _ _ _) = absurd (laws.not_both is.image is.start fault is.holds (held.none is.image is.reads))
 
   pub was_uploaded : (status : ℕ) (text : List ℕ) → Says run.work status text → WasUploaded run number status text
   was_uploaded status text says = by_trial status text (says_of_trial run.work number status text is.asked says)

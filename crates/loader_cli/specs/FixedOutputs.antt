@@ -1,12 +1,11 @@
 -- What `replay`, `wire` and `trial` put, as a function of their inputs (docs/PROMISES.md).
-use Rattle.std.specs.Prelude.{◌≡◌, ℕ, ◌⊎◌, List, ◌++◌, length, Option, Some, ⊤}
+use Rattle.std.specs.Prelude.{◌≡◌, ℕ, ◌⊎◌, List, ◌++◌, length, Some, ⊤}
 use Rattle.std.specs.List.{AllByRecursion}
 use Rattle.std.specs.Option.{ForSome}
 use Rattle.load_base.specs.Counts.{Rose}
 use Rattle.load_base.specs.Host.{Files}
 use Rattle.load_base.specs.Sink.{IsExtended}
 use Rattle.disk_model.specs.Image.{Image}
-use Rattle.disk_model.specs.State.{DiskState}
 use Rattle.bank_store.specs.Fits.{LosesOnlyWork}
 use Rattle.disk_layout.specs.Holds.{HasDiskFault, HoldsConfig, StandingView}
 use Rattle.disk_layout.specs.Identity.{HasIdentity}
@@ -27,10 +26,11 @@ use Rattle.generated_uploads.specs.GeneratedMedia.{IsGeneratedSet}
 use Rattle.generated_uploads.specs.GeneratedUploads.{trial_script}
 use Rattle.upload_replay.specs.Orders.{wire_of_steps}
 use Rattle.upload_replay.specs.Texts.{datagrams_line, sessions_from}
-use Rattle.loader_cli.specs.Commands.{FormatsDisk, IsCommand, IsNo}
+use Rattle.loader_cli.specs.Calls.{IsPromised}
+use Rattle.loader_cli.specs.Commands.{IsCommand}
 use Rattle.loader_cli.specs.Commands.CommandView.{trial}
-use Rattle.loader_cli.specs.Replays.{HasInputs, LeavesFirstOrGood, RefusesInputs, RunSeen, StatusOfRun, run_command, setting_of}
-use Rattle.loader_cli.specs.Runs.{EndsAsPromised, NothingFails, Run}
+use Rattle.loader_cli.specs.Replays.{HasInputs, RefusesInputs, StatusOfRun, run_command, setting_of}
+use Rattle.loader_cli.specs.Runs.{NothingFails, Run}
 use Rattle.loader_cli.specs.Texts.{no_configuration}
 use Rattle.loader_cli.specs.declared.replay.Telling.{Telling}
 use Rattle.loader_cli.specs.declared.replay.Telling.TheVariants as telling
@@ -88,11 +88,6 @@ pub record RunsSteadily (run : Run) (image : Image) : Type 0 where
   pub disk_answers : ¬ Rose run.work.disk.faults run.work.disk_after.faults
   pub stays_up : ForSome run.work.handed (λ seen. NeverGoesDown (steps_of seen.trace))
 
--- What `run` promises of a call: how it ends, and what it leaves on the disk.
-pub record IsPromised (run : Run) (ended : Ended) : Type 0 where
-  pub ends : EndsAsPromised run ended
-  pub leaves : IsNo FormatsDisk run.work.words → LeavesFirstOrGood run.work.disk run.work.disk_after
-
 -- exactly a text was put, with a status, of which this holds; or the run is out of memory
 abbrev pub PutsOnly : Run → Ended → (status_and_text : ℕ → List ℕ → Type 0) → Type 0
 PutsOnly run ended Says = (ended.status ≡ 6) ⊎ ((text : List ℕ) × Says ended.status text × IsExtended run.output run.output_after text)
@@ -104,37 +99,7 @@ pub record PutTheSame (one two : Run) (first second : Ended) : Type 0 where
   pub one_puts : IsExtended one.output one.output_after text
   pub two_puts : IsExtended two.output two.output_after text
 
--- ---- calls of `run`
-
--- A call of `run`: its arguments, the run that it handed out, if one, and host, sink and disk before and after.
-pub record Call (H O K : Type 0) : Type 0 where
-  pub words : List (List ℕ)
-  pub handed : Option RunSeen
-  pub host : H
-  pub host_after : H
-  pub out : O
-  pub out_after : O
-  pub disk : K
-  pub disk_after : K
-
--- as contracts see it
-abbrev pub run_of : {H O K : Type 0} → (files : H → Option Files) → (host_faults : H → ℕ) → (content : O → Option (List ℕ)) → (sink_faults : O → ℕ) → (state : K → DiskState) → Call H O K → Run
-run_of files host_faults content sink_faults state call = record {
-  work = record {
-    words = call.words;
-    disk = state call.disk;
-    disk_after = state call.disk_after;
-    files = files call.host;
-    files_after = files call.host_after;
-    host_faults = host_faults call.host;
-    host_faults_after = host_faults call.host_after;
-    handed = call.handed;
-  };
-  output = content call.out;
-  output_after = content call.out_after;
-  sink_faults = sink_faults call.out;
-  sink_faults_after = sink_faults call.out_after;
-}
+-- ---- calls of `run` in which nothing fails
 
 -- a call of `replay` or `wire` in which nothing fails, of a host that tells these files
 pub record ReplaysSteadily (run : Run) (ended : Ended) (told : Telling) (folder name : List ℕ) (known : Files) (image : Image) : Type 0 where

@@ -1,5 +1,7 @@
 pub mod Answers
 pub mod Builds
+pub mod Calls
+pub mod Chains
 pub mod Commands
 pub mod FixedOutputs
 pub mod HostFiles
@@ -7,4 +9,5 @@ pub mod Inputs
 pub mod Replays
 pub mod Runs
 pub mod Texts
+pub mod Touches
 pub mod Trials

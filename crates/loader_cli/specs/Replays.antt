@@ -4,7 +4,7 @@ use Rattle.std.specs.Option.{ForSome}
 use Rattle.load_base.specs.Counts.{Rose}
 use Rattle.load_base.specs.Host.{Files, longest_file}
 use Rattle.disk_model.specs.Image.{Image}
-use Rattle.disk_model.specs.State.{DiskState, KeepsPower, OnlyReads}
+use Rattle.disk_model.specs.State.{DiskState, OnlyReads}
 use Rattle.bank_store.specs.Fits.{LosesOnlyWork}
 use Rattle.disk_layout.specs.DiskReads.{IsOfDisk}
 use Rattle.disk_layout.specs.Holds.{HoldsConfig, StandingView, standing_view}
@@ -40,7 +40,7 @@ use Rattle.completion_reports.specs.Reports.{AllReportsAreTrue}
 use Rattle.run_promises.specs.Promises.{CanBeTold, ChangesByGoodLoads, IsLeftToLastFinish, TellsTrue}
 use Rattle.upload_replay.specs.declared.outcome.Drive.{Drive}
 use Rattle.upload_replay.specs.Drives.{IsLoadersRun, IsRun, NeverBoots}
-use Rattle.upload_replay.specs.Endings.{HeldNone, HoldsNone, HoldsSome}
+use Rattle.upload_replay.specs.Endings.{HeldNone, HoldsNone, HoldsSome, StaysAsItWas}
 use Rattle.replay_turns.specs.Orders.{IsInOrder}
 use Rattle.replay_turns.specs.Powers.{RoseBy, disk_stops}
 use Rattle.upload_replay.specs.Armings.{armed_after, armings_after}
@@ -240,18 +240,10 @@ pub data RefusesInputs (folder name : List ℕ) (files : Option Files) (before a
 
 -- ---- `replay FOLDER SCRIPT` and `wire FOLDER SCRIPT`
 
--- the disk is as it was
-pub record IsKept (old new : DiskState) : Type 0 where
-  pub clock : new.clock ≡ old.clock
-  pub reads : new.reads ≡ old.reads
-  pub faults : new.faults ≡ old.faults
-  pub stopped : new.stopped ≡ old.stopped
-  pub power : KeepsPower old new
-
 -- The status, the text, the run that is handed out, and what they say of the host and of the disk.
 pub data Replays (told : Telling) (folder name : List ℕ) (files : Option Files) (before after : ℕ) (old new : DiskState) (handed : Option RunSeen) (status : ℕ) (text : List ℕ) : Type 0 where
   -- the script is run on the set
   ran : (set : SetView) (script : List Line) → HasInputs folder name files set script → RunsTo told set script old new handed status text
       → Replays told folder name files before after old new handed status text
   -- 3 or 4: an input is refused, and the disk isn't touched
-  unread : RefusesInputs folder name files before after status text → IsKept old new → handed ≡ None → Replays told folder name files before after old new handed status text
+  unread : RefusesInputs folder name files before after status text → StaysAsItWas old new → handed ≡ None → Replays told folder name files before after old new handed status text

@@ -1,5 +1,5 @@
 -- What a run of the program prints, its status, and the cause of each (docs/PROMISES.md).
-use Rattle.std.specs.Prelude.{◌≡◌, ◌≢◌, ℕ, ◌<◌, ◌≤◌, List, [], ◌∷◌, ◌+◌, length, true, false, Option, Some, None, Ok, take, codes, ◌⊎◌}
+use Rattle.std.specs.Prelude.{◌≡◌, ◌≢◌, ℕ, ◌<◌, ◌≤◌, List, [], ◌∷◌, ◌+◌, length, true, false, Option, Some, None, Ok, take, codes, is_some, ◌⊎◌}
 use Rattle.std.specs.Option.{ForSome}
 use Rattle.load_base.specs.Counts.{Rose}
 use Rattle.load_base.specs.Host.{Files, longest_file}
@@ -22,7 +22,7 @@ use Rattle.bank_store.specs.Fits.{LosesOnlyWork}
 use Rattle.bank_store.specs.Formatting.{formatted, KeepsRest}
 use Rattle.disk_layout.specs.declared.identity.Identity.{Identity}
 use Rattle.disk_layout.specs.Offsets.{IsBankSize}
-use Rattle.disk_layout.specs.DiskReads.{IsOfDisk, RunsOn}
+use Rattle.disk_layout.specs.DiskReads.{IsOfDisk, IsOutOfMemory, RunsOn}
 use Rattle.disk_layout.specs.Holds.{StandingView, HoldsConfig, HasDiskFault}
 use Rattle.disk_layout.specs.declared.fault.RecoverFault.{RecoverFault}
 use Rattle.listing.specs.Listing.{listing}
@@ -30,7 +30,8 @@ use Rattle.exchange_trace.specs.Lines.{Line}
 use Rattle.generated_uploads.specs.GeneratedMedia.{uploaded_load}
 use Rattle.generated_uploads.specs.GeneratedUploads.{CanTakeGeneratedSet, IsOneUpload}
 use Rattle.replay_turns.specs.Powers.{RoseBy}
-use Rattle.loader_cli.specs.Commands.{IsCommand, IsNo, IsAny}
+use Rattle.upload_replay.specs.Endings.{HoldsSome}
+use Rattle.loader_cli.specs.Commands.{CommandView, IsAny, IsCommand, IsNo, UsesScript}
 use Rattle.loader_cli.specs.Commands.CommandView.{list, format, show, check, build, make, replay, wire, trial}
 use Rattle.loader_cli.specs.Builds.{Builds, Makes, IsNameBuilt, IsNameMade}
 use Rattle.loader_cli.specs.Replays.{HasInputs, Replays, RunSeen, RunsScript, StatusOfRun, run_command, stops_of, told_as}
@@ -59,8 +60,8 @@ pub data Lists (old new : DiskState) (status : ℕ) (text : List ℕ) : Type 0 w
 -- the status, the text, and what it says of the disk, where the disk tells its content
 pub data Formats (old new : DiskState) (id : Identity) (status : ℕ) (text : List ℕ) : Type 0 where
   -- 0: a power loss leaves nothing but the disk as it reads, it holds this target without loads and has all other bytes
-  -- that it had, and it runs on
-  formatted_it : ForSome new.reads (λ image. HoldsConfig image (formatted id))
+  -- that it had, and it runs on, telling its content as before
+  formatted_it : is_some new.reads ≡ is_some old.reads → ForSome new.reads (λ image. HoldsConfig image (formatted id))
       → ((before after : Image) → old.reads ≡ Some before → new.reads ≡ Some after → KeepsRest id before after) → IsSettled new → new.stopped ≡ false
       → status ≡ 0 → text ≡ formatted_line id → Formats old new id status text
   -- 5: the disk failed in this call
@@ -158,21 +159,52 @@ pub data Says (work : Work) (status : ℕ) (text : List ℕ) : Type 0 where
       → Replays Trace folder script work.files work.host_faults work.host_faults_after work.disk work.disk_after work.handed status text → Says work status text
   tries : (number : ℕ) → IsCommand work.words (trial number) → Trials number work.disk work.disk_after work.handed status text → Says work status text
 
+-- What a command has to say, in which no failure is hidden: unless it says that the host failed, no call of it did; and unless
+-- it says that the disk failed, the disk runs on, where no script was run.
+pub record TellsAll (work : Work) (status : ℕ) (text : List ℕ) : Type 0 where
+  pub says : Says work status text
+  pub host : status ≢ 4 → work.host_faults_after ≡ work.host_faults
+  pub disk : status ≢ 5 → IsNo UsesScript work.words → work.disk_after.stopped ≡ false
+
+-- the same work, with this run to hand out
+abbrev pub handing : Option RunSeen → Work → Work
+handing handed work = record {
+  words = work.words;
+  disk = work.disk;
+  disk_after = work.disk_after;
+  files = work.files;
+  files_after = work.files_after;
+  host_faults = work.host_faults;
+  host_faults_after = work.host_faults_after;
+  handed = handed;
+}
+
+-- where a command runs out of memory, no failure of the disk is told so: it runs on, or was itself out of memory, which it
+-- counts; or a script was run, on a disk that held a configuration
+pub data DiskRunsOut (work : Work) : Type 0 where
+  runs : work.disk_after.stopped ≡ false → DiskRunsOut work
+  refused_memory : IsOutOfMemory work.disk work.disk_after → DiskRunsOut work
+  in_run : (command : CommandView) → IsCommand work.words command → UsesScript command → HoldsSome work.disk → DiskRunsOut work
+
+-- it ran out in the command, which hides no failure of the host or of the disk
+pub record RunsOutInCommand (work : Work) : Type 0 where
+  pub host : work.host_faults_after ≡ work.host_faults
+  pub disk : DiskRunsOut work
+
+-- why memory is out: the command had this to say, and it ran out as that was put; or it ran out in the command
+pub data RunsOutOfMemory (work : Work) : Type 0 where
+  as_it_was_put : (handed : Option RunSeen) (status : ℕ) (text : List ℕ) → TellsAll (handing handed work) status text → RunsOutOfMemory work
+  in_command : RunsOutInCommand work → RunsOutOfMemory work
+
 -- how a run ends
 pub data Ends (run : Run) (ended : Ended) : Type 0 where
   -- exactly the text goes out
-  told : (text : List ℕ) → Says run.work ended.status text → IsExtended run.output run.output_after text → Ends run ended
+  told : (text : List ℕ) → TellsAll run.work ended.status text → IsExtended run.output run.output_after text → Ends run ended
   -- 7: the sink failed in this call, and a prefix of the text went out
-  sink_failed : (status : ℕ) (text : List ℕ) (n : ℕ) → Says run.work status text → IsExtended run.output run.output_after (take n text)
+  sink_failed : (status : ℕ) (text : List ℕ) (n : ℕ) → TellsAll run.work status text → IsExtended run.output run.output_after (take n text)
       → Rose run.sink_faults run.sink_faults_after → ended.status ≡ 7 → Ends run ended
   -- 6: out of memory
-  no_memory : ended.status ≡ 6 → run.work.handed ≡ None → Ends run ended
-
--- A failure of the host or of the sink is told, unless memory runs out before it can be: the host's count of faults is what
--- it was where the status isn't 4, 6 or 7, and that of the sink where it isn't 7.
-pub record HidesNoFailure (run : Run) (ended : Ended) : Type 0 where
-  pub host : ended.status ≢ 4 → ended.status ≢ 6 → ended.status ≢ 7 → run.work.host_faults_after ≡ run.work.host_faults
-  pub sink : ended.status ≢ 7 → run.sink_faults_after ≡ run.sink_faults
+  no_memory : ended.status ≡ 6 → run.work.handed ≡ None → RunsOutOfMemory run.work → Ends run ended
 
 -- ---- where a run can't but succeed
 
@@ -184,6 +216,32 @@ Succeeds run ended text = (ended.status ≡ 6) ⊎ ((ended.status ≡ 0) × IsEx
 pub record NothingFails (run : Run) : Type 0 where
   pub host_answers : ¬ Rose run.work.host_faults run.work.host_faults_after
   pub sink_answers : ¬ Rose run.sink_faults run.sink_faults_after
+
+-- The arguments list a disk that tells its content and holds this configuration; and neither disk nor sink fails in the run.
+pub record ListsSound (run : Run) (s : StandingView) : Type 0 where
+  pub asked : IsCommand run.work.words list
+  pub image : Image
+  pub reads : run.work.disk.reads ≡ Some image
+  pub holds : HoldsConfig image s
+  pub disk_answers : ¬ Rose run.work.disk.faults run.work.disk_after.faults
+  pub sink_answers : ¬ Rose run.sink_faults run.sink_faults_after
+
+-- The arguments format the disk for this target; and neither disk nor sink fails in the run.
+pub record FormatsSound (run : Run) (id : Identity) : Type 0 where
+  pub asked : IsCommand run.work.words (format id)
+  pub disk_answers : ¬ Rose run.work.disk.faults run.work.disk_after.faults
+  pub sink_answers : ¬ Rose run.sink_faults run.sink_faults_after
+
+-- The arguments show this file, of at most 16,777,215 bytes, which the host has among these files, and whose bytes spell these
+-- fields.
+pub record ShowsSound (run : Run) (kind : ShownKind) (file : List ℕ) (told : Files) (fields : List ℕ) : Type 0 where
+  pub asked : IsCommand run.work.words (show kind file)
+  pub files : run.work.files ≡ Some told
+  pub bytes : List ℕ
+  pub there : told file ≡ Some bytes
+  pub short : length bytes ≤ longest_file
+  pub spells : HasFields kind bytes fields
+  pub answers : NothingFails run
 
 -- The arguments check the set in this folder, which the host has with these files, which can be read and has no finding.
 pub record ChecksCleanSet (run : Run) (folder : List ℕ) (told : Files) : Type 0 where
@@ -285,11 +343,14 @@ pub data IsWritten (words : List (List ℕ)) (told : Files) (name : List ℕ) : 
 
 -- ---- the whole
 
--- How a run ends, and that a failure is told; where it can't but succeed; and what it leaves where it says that it built or
--- made a set.
+-- How a run ends, and that a failure of the sink is told; where it can't but succeed; and what it leaves where it says that it
+-- built or made a set.
 pub record EndsAsPromised (run : Run) (ended : Ended) : Type 0 where
   pub ends : Ends run ended
-  pub hides_nothing : HidesNoFailure run ended
+  pub sink_told : ended.status ≢ 7 → run.sink_faults_after ≡ run.sink_faults
+  pub lists_it : (s : StandingView) → ListsSound run s → Succeeds run ended (listing s)
+  pub formats_it : (id : Identity) → FormatsSound run id → Succeeds run ended (formatted_line id)
+  pub shows_it : (kind : ShownKind) (file : List ℕ) (told : Files) (fields : List ℕ) → ShowsSound run kind file told fields → Succeeds run ended fields
   pub finds_nothing : (folder : List ℕ) (told : Files) → ChecksCleanSet run folder told → Succeeds run ended (findings_text [])
   pub builds_it : (recipe folder : List ℕ) (told : Files) (lines : List RecipeLine) → BuildsRightSet run recipe folder told lines
       → Succeeds run ended (built_line (length (loads_of lines)) (length (recipe_bodies (sources_in told) lines)))

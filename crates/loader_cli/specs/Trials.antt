@@ -10,7 +10,7 @@ use Rattle.disk_layout.specs.declared.identity.Identity.{Identity}
 use Rattle.media_check.specs.Sets.{SetView}
 use Rattle.generated_uploads.specs.GeneratedMedia.{IsGeneratedSet}
 use Rattle.generated_uploads.specs.GeneratedUploads.{trial_script}
-use Rattle.upload_replay.specs.Endings.{HoldsNone}
+use Rattle.upload_replay.specs.Endings.{HeldNone}
 use Rattle.loader_cli.specs.Replays.{RunSeen, RunsTo}
 use Rattle.loader_cli.specs.Texts.{disk_fault, no_configuration}
 use Rattle.loader_cli.specs.declared.replay.Telling.TheVariants.{Report}
@@ -23,6 +23,6 @@ pub data Trials (number : ℕ) (old new : DiskState) (handed : Option RunSeen) (
   -- 5: the disk failed before its target was known, and nothing was written
   target_unread : OnlyReads old new → Rose old.faults new.faults → new.stopped ≡ true → handed ≡ None → status ≡ 5 → text ≡ disk_fault
       → Trials number old new handed status text
-  -- 8: the disk holds no configuration, for this first fault, and nothing was written
-  no_target : (fault : RecoverFault) → OnlyReads old new → ¬ IsOfDisk fault → HoldsNone fault old → handed ≡ None → status ≡ 8 → text ≡ no_configuration fault
+  -- 8: the disk holds no configuration, for this first fault, nothing was written, and it runs on
+  no_target : (fault : RecoverFault) → ¬ IsOfDisk fault → HeldNone fault old new → handed ≡ None → status ≡ 8 → text ≡ no_configuration fault
       → Trials number old new handed status text

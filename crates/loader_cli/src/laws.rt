@@ -1,13 +1,24 @@
 //! What holds of several calls of `run`. These functions do nothing; their clauses are the laws.
-ghost use Rattle.std.specs.Prelude.{◌≡◌, ◌⊎◌, ℕ, List};
+ghost use Rattle.std.specs.Option.{ForSome};
+ghost use Rattle.std.specs.Prelude.{◌≡◌, ◌⊎◌, ℕ, List, Some, is_some, true};
 ghost use Rattle.load_base.specs.Host.{Files};
+ghost use Rattle.bank_store.specs.Fits.{LosesOnlyWork};
+ghost use Rattle.disk_layout.specs.Holds.{HoldsConfig, StandingView};
+ghost use Rattle.disk_layout.specs.declared.identity.Identity.{Identity};
 ghost use Rattle.disk_model.specs.Image.{Image};
-ghost use Rattle.loader_cli.specs.FixedOutputs.{Call, CallsSteadily, Gives, GivesTrial};
-ghost use Rattle.loader_cli.specs.FixedOutputs.{PutTheSame, PutsOnly};
-ghost use Rattle.loader_cli.specs.FixedOutputs.{ReplaysSteadily, TriesSteadily, run_of};
+ghost use Rattle.media_check.specs.Sets.{SetView};
+ghost use Rattle.run_promises.specs.Promises.{HoldsFirstOrGood};
+ghost use Rattle.loader_cli.specs.Calls.{Call, IsPromised, run_of};
+ghost use Rattle.loader_cli.specs.Chains.{AreInTurn, EachKeeps, IsRestarted, Took};
+ghost use Rattle.loader_cli.specs.Commands.{FormatsDisk, IsCommand, IsNo};
+ghost use Rattle.loader_cli.specs.Commands.CommandView.{format};
+ghost use Rattle.loader_cli.specs.FixedOutputs.{CallsSteadily, Gives, GivesTrial, PutTheSame};
+ghost use Rattle.loader_cli.specs.FixedOutputs.{PutsOnly, ReplaysSteadily, TriesSteadily};
+ghost use Rattle.loader_cli.specs.Replays.{setting_of};
 ghost use Rattle.loader_cli.specs.declared.replay.Telling.{Telling};
 ghost use Rattle.loader_cli.specs.declared.top_call.Ended.{Ended};
 
+use bank_store::a_power_loss_takes_only_work;
 use disk_layout::an_image_holds_one_configuration;
 use disk_model::Power;
 use fixed_runs::laws::a_run_is_fixed_by_its_script;
@@ -89,4 +100,36 @@ pub fn two_calls_put_the_same<H: Host, O: Sink, K: Power>()
     loads_list_laws();
     files_list_laws();
     protocol_file_laws();
+}
+
+/// Commands follow one another on one disk: each keeps what `run` promises on a disk at rest, as
+/// long as those before it left it at rest. So it is from a disk at rest on, and after `format` with
+/// status 0 on any disk that tells its content. After a call that didn't leave it so, since the disk
+/// failed, power was lost or memory ran out, a restart of the disk does: it is at rest then, and
+/// what stands on it was active as the call began, or has good loads alone.
+pub fn commands_follow_one_another<H: Host, O: Sink, K: Power>()
+    ensures at_rest { (disk : K) (calls : List (Took H O K)) → LosesOnlyWork (K.state disk)
+        → AreInTurn (run_of H.files H.faults O.content O.faults K.state) disk calls
+        → EachKeeps (run_of H.files H.faults O.content O.faults K.state) calls }
+    ensures after_format { (first : Took H O K) (id : Identity) (calls : List (Took H O K))
+        → IsPromised (run_of H.files H.faults O.content O.faults K.state first.call) first.ended
+        → IsCommand first.call.words (format id) → is_some (K.state first.call.disk).reads ≡ true
+        → first.ended.status ≡ 0
+        → AreInTurn (run_of H.files H.faults O.content O.faults K.state) first.call.disk_after calls
+        → EachKeeps (run_of H.files H.faults O.content O.faults K.state) calls }
+    ensures after_restart { (last : Took H O K) (disk : K)
+        → IsPromised (run_of H.files H.faults O.content O.faults K.state last.call) last.ended
+        → IsNo FormatsDisk last.call.words → LosesOnlyWork (K.state last.call.disk)
+        → IsRestarted (K.state last.call.disk_after) (K.state disk) → LosesOnlyWork (K.state disk) }
+    ensures stands_then { (last : Took H O K) (disk : K) (set : SetView) (start : StandingView)
+        (image : Image)
+        → IsPromised (run_of H.files H.faults O.content O.faults K.state last.call) last.ended
+        → IsNo FormatsDisk last.call.words → LosesOnlyWork (K.state last.call.disk)
+        → (K.state last.call.disk).reads ≡ Some image → HoldsConfig image start
+        → IsRestarted (K.state last.call.disk_after) (K.state disk)
+        → ForSome (K.state disk).reads (HoldsFirstOrGood (setting_of set start)) }
+{
+    // For the proof: these do nothing.
+    an_image_holds_one_configuration();
+    a_power_loss_takes_only_work::<K>();
 }

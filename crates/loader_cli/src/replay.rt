@@ -1,9 +1,13 @@
 //! The commands `replay` and `wire`.
-ghost use Rattle.std.specs.Prelude.{◌≡◌, All, IsSome, IsTrue, ◌↔◌, IfOk, map, option_map, false};
+ghost use Rattle.std.specs.Prelude.{◌≡◌, ◌⊎◌, All, IsSome, IsTrue, ◌↔◌, IfOk, OnErr, map};
+ghost use Rattle.std.specs.Prelude.{option_map, false};
 ghost use Rattle.std.specs.Option.{ForSome};
+ghost use Rattle.disk_model.specs.State.{OnlyReads};
 ghost use Rattle.disk_layout.specs.Holds.{standing_view};
 ghost use Rattle.loader_machine.specs.Machine.{session_view};
 ghost use Rattle.media_check.specs.Sets.{set_view};
+ghost use Rattle.replay_turns.specs.Turns.{RunsOut};
+ghost use Rattle.upload_replay.specs.Endings.{HoldsSome};
 ghost use Rattle.loader_cli.specs.Answers.{HidesNoFault, answered_status, status_of, text_of};
 ghost use Rattle.loader_cli.specs.Replays.{IsCompleted, Replays, RunsTo, Tells, run_seen};
 ghost use Rattle.loader_cli.specs.Replays.{LeavesFirstOrGood, told_as};
@@ -48,6 +52,9 @@ pub(crate) fn replay<'w, H: Host, K: Power>(
         result }
     ensures kept { H.files host.new ≡ H.files host.old }
     ensures leaves { LeavesFirstOrGood (K.state disk.old) (K.state disk.new) }
+    ensures held { OnlyReads (K.state disk.old) (K.state disk.new) ⊎ HoldsSome (K.state disk.old) }
+    ensures memory { OnErr result (RunsOut (K.state disk.old) (K.state disk.new)
+        ⊎ HoldsSome (K.state disk.old)) }
 {
     // For the proof: does nothing.
     a_power_loss_takes_only_work::<K>();
@@ -75,6 +82,9 @@ pub(crate) fn run_script<'w, K: Power>(
         (K.state disk.old) (K.state disk.new) (option_map run_seen said.drive)
         (status_of said.answer) (text_of said.answer)) }
     ensures leaves { LeavesFirstOrGood (K.state disk.old) (K.state disk.new) }
+    ensures held { OnlyReads (K.state disk.old) (K.state disk.new) ⊎ HoldsSome (K.state disk.old) }
+    ensures memory { OnErr result (RunsOut (K.state disk.old) (K.state disk.new)
+        ⊎ HoldsSome (K.state disk.old)) }
 {
     // For the proof: does nothing.
     what_a_disk_holds_can_be_listed();

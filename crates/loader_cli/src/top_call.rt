@@ -1,18 +1,14 @@
 //! The top call.
-ghost use Rattle.std.specs.Option.{ForSome};
-ghost use Rattle.std.specs.Prelude.{◌≡◌, None, false, option_map, IfOk};
-ghost use Rattle.disk_model.specs.State.{KeepsPower, OnlyReads};
+ghost use Rattle.std.specs.Prelude.{◌≡◌, None, false, option_map, IfErr, IfOk, OnErr};
+ghost use Rattle.disk_model.specs.State.{KeepsPower};
 ghost use Rattle.disk_layout.specs.Offsets.{IsBankSize};
-ghost use Rattle.disk_layout.specs.declared.identity.Identity.{Identity};
 ghost use Rattle.bank_store.specs.Formatting.{LeavesOldOrFormatted};
-ghost use Rattle.media_build.specs.WrittenFolders.{KeepsAllBut};
-ghost use Rattle.loader_cli.specs.Answers.{HidesNoFault, answered_of, answered_status};
-ghost use Rattle.loader_cli.specs.Answers.{status_of, text_of};
-ghost use Rattle.loader_cli.specs.Commands.{texts_of, IsCommand, IsNo, UsesDisk, WritesDisk};
-ghost use Rattle.loader_cli.specs.Commands.{FormatsDisk, UsesScript, UsesHost, WritesHost};
-ghost use Rattle.loader_cli.specs.Commands.CommandView.{format as format_command};
-ghost use Rattle.loader_cli.specs.Replays.{LeavesFirstOrGood, run_seen};
-ghost use Rattle.loader_cli.specs.Runs.{Run, Lists, Formats, Says, EndsAsPromised, IsWritten};
+ghost use Rattle.loader_cli.specs.Answers.{answered_of, status_of, text_of};
+ghost use Rattle.loader_cli.specs.Commands.{texts_of, IsNo, UsesScript};
+ghost use Rattle.loader_cli.specs.Replays.{run_seen};
+ghost use Rattle.loader_cli.specs.Runs.{EndsAsPromised, Formats, Lists, RunsOutInCommand, TellsAll};
+ghost use Rattle.loader_cli.specs.Touches.{LeavesDisk, OnlyLooks, TouchesDisk, TouchesHost};
+ghost use Rattle.replay_turns.specs.Turns.{RunsOut};
 
 use crate::answer::{Answer, Answered};
 use crate::build::{build, make};
@@ -29,7 +25,10 @@ use disk_layout::{Identity, an_image_holds_one_configuration};
 use disk_model::{Disk, Power};
 use generated_uploads::laws::{a_generated_upload_completes, only_a_trial_happens};
 use load_base::{Host, NoMemory, Sink, WriteFault};
+use load_header::header_laws;
+use load_protocol_files::protocol_file_laws;
 use media_build::laws::{a_written_folder_holds_the_set, building_laws};
+use media_lists::{files_list_laws, loads_list_laws};
 use recovery::RecoverFault;
 use run_promises::laws::what_a_disk_holds_can_be_listed;
 use std::alloc::Global;
@@ -71,9 +70,6 @@ pub struct Ended {
 /// Only `list`, `format`, `replay`, `wire` and `trial` use the disk, and `list` only reads it.
 /// While `format` writes, a power loss leaves the old configuration whole, or a disk that holds
 /// nothing, or the formatted one. `list`, `format` and `trial` don't use the host.
-///
-/// What is touched has a clause for each of host, disk, files, run and arming, each for other
-/// commands, so that there are ten.
 pub fn run<H: Host, O: Sink, K: Power>(
     alloc: Global,
     words: &[String],
@@ -83,10 +79,11 @@ pub fn run<H: Host, O: Sink, K: Power>(
 ) -> Ended
     requires { (K.state disk.old).stopped ≡ false }
     // The status with its cause, and exactly the text that goes out. Where neither host nor sink
-    // fails, `check` of a set that can be read and has no finding, `build` of a recipe of which
-    // nothing is refused, and `make` succeed, but for out of memory; and where neither sink nor disk
-    // fails, `trial` on a target that can take its set. After `build` and `make` with status 0 the
-    // folder has exactly their set, can be read and has no finding.
+    // fails, `show` of a file that spells its fields, `check` of a set that can be read and has no
+    // finding, `build` of a recipe of which nothing is refused, and `make` succeed, but for out of
+    // memory; where neither sink nor disk fails, `list` of a disk that holds a configuration,
+    // `format`, and `trial` on a target that can take its set. After `build` and `make` with status
+    // 0 the folder has exactly their set, can be read and has no finding.
     ensures ends { EndsAsPromised (record {
       work = record {
         words = texts_of words.now;
@@ -103,24 +100,14 @@ pub fn run<H: Host, O: Sink, K: Power>(
       sink_faults = O.faults out.old;
       sink_faults_after = O.faults out.new;
     }) result }
-    // What is touched by no command but those that use it; and, in every ending, no file of the
-    // host but those of the set that `build` or `make` writes.
-    ensures disk_untouched { IsNo UsesDisk (texts_of words.now) → disk.new ≡ disk.old }
-    ensures only_reads { IsNo WritesDisk (texts_of words.now)
-        → OnlyReads (K.state disk.old) (K.state disk.new) }
-    ensures host_untouched { IsNo UsesHost (texts_of words.now) → host.new ≡ host.old }
-    ensures files_kept { IsNo WritesHost (texts_of words.now)
-        → H.files host.new ≡ H.files host.old }
-    ensures other_files { ForSome (H.files host.old) (λ told.
-        KeepsAllBut (IsWritten (texts_of words.now) told) told (H.files host.new)) }
+    // What is touched, in every ending.
+    ensures disk { TouchesDisk (texts_of words.now) disk.old disk.new (K.state disk.old)
+        (K.state disk.new) }
+    ensures host { TouchesHost (texts_of words.now) host.old host.new (H.files host.old)
+        (H.files host.new) }
     ensures no_run { IsNo UsesScript (texts_of words.now) → result.drive ≡ None }
-    ensures never_armed { IsNo UsesScript (texts_of words.now)
-        → KeepsPower (K.state disk.old) (K.state disk.new) }
     // What a power loss leaves.
-    ensures while_formatting { (id : Identity) → IsCommand (texts_of words.now) (format_command id)
-        → LeavesOldOrFormatted id (K.state disk.old) (K.state disk.new) }
-    ensures while_running { IsNo FormatsDisk (texts_of words.now)
-        → LeavesFirstOrGood (K.state disk.old) (K.state disk.new) }
+    ensures leaves { LeavesDisk (texts_of words.now) (K.state disk.old) (K.state disk.new) }
 {
     // For the proof: these do nothing.
     building_laws();
@@ -129,6 +116,10 @@ pub fn run<H: Host, O: Sink, K: Power>(
     what_a_disk_holds_can_be_listed();
     only_a_trial_happens();
     a_generated_upload_completes();
+    header_laws();
+    loads_list_laws();
+    files_list_laws();
+    protocol_file_laws();
     let Ok(Answered { answer, drive }) = answer(alloc, words, host, disk) else {
         return out_of_memory();
     };
@@ -169,7 +160,7 @@ fn answer<'w, H: Host, K: Power>(
     disk: &mut K,
 ) -> Result<Answered<'w>, NoMemory>
     requires { (K.state disk.old).stopped ≡ false }
-    ensures says { IfOk result (λ said. Says (record {
+    ensures tells { IfOk result (λ said. TellsAll (record {
       words = texts_of words.now;
       disk = K.state disk.old;
       disk_after = K.state disk.new;
@@ -179,27 +170,27 @@ fn answer<'w, H: Host, K: Power>(
       host_faults_after = H.faults host.new;
       handed = option_map run_seen said.drive;
     }) (status_of said.answer) (text_of said.answer)) }
-    ensures faults { HidesNoFault answered_status (H.faults host.old) (H.faults host.new)
-        result }
+    ensures no_memory { OnErr result (RunsOutInCommand (record {
+      words = texts_of words.now;
+      disk = K.state disk.old;
+      disk_after = K.state disk.new;
+      files = H.files host.old;
+      files_after = H.files host.new;
+      host_faults = H.faults host.old;
+      host_faults_after = H.faults host.new;
+      handed = None;
+    })) }
+    ensures disk { TouchesDisk (texts_of words.now) disk.old disk.new (K.state disk.old)
+        (K.state disk.new) }
+    ensures host { TouchesHost (texts_of words.now) host.old host.new (H.files host.old)
+        (H.files host.new) }
     ensures no_run { IsNo UsesScript (texts_of words.now)
         → IfOk result (λ said. said.drive ≡ None) }
-    ensures never_armed { IsNo UsesScript (texts_of words.now)
-        → KeepsPower (K.state disk.old) (K.state disk.new) }
-    ensures disk_untouched { IsNo UsesDisk (texts_of words.now) → disk.new ≡ disk.old }
-    ensures only_reads { IsNo WritesDisk (texts_of words.now)
-        → OnlyReads (K.state disk.old) (K.state disk.new) }
-    ensures host_untouched { IsNo UsesHost (texts_of words.now) → host.new ≡ host.old }
-    ensures files_kept { IsNo WritesHost (texts_of words.now)
-        → H.files host.new ≡ H.files host.old }
-    ensures other_files { ForSome (H.files host.old) (λ told.
-        KeepsAllBut (IsWritten (texts_of words.now) told) told (H.files host.new)) }
-    ensures while_formatting { (id : Identity) → IsCommand (texts_of words.now) (format_command id)
-        → LeavesOldOrFormatted id (K.state disk.old) (K.state disk.new) }
-    ensures while_running { IsNo FormatsDisk (texts_of words.now)
-        → LeavesFirstOrGood (K.state disk.old) (K.state disk.new) }
+    ensures leaves { LeavesDisk (texts_of words.now) (K.state disk.old) (K.state disk.new) }
 {
-    // For the proof: does nothing.
+    // For the proof: these do nothing.
     a_power_loss_takes_only_work::<K>();
+    an_image_holds_one_configuration();
     match Command::read(words) {
         None => Ok(Answered::of(Answer::RefusedWords)),
         Some(Command::List) => alone(list(alloc, disk)),
@@ -236,7 +227,8 @@ fn list<'w, K: Disk>(alloc: Global, disk: &mut K) -> Result<Answer<'w>, NoMemory
     requires { (K.state disk.old).stopped ≡ false }
     ensures says { IfOk result (λ answer.
         Lists (K.state disk.old) (K.state disk.new) (status_of answer) (text_of answer)) }
-    ensures only_reads { OnlyReads (K.state disk.old) (K.state disk.new) }
+    ensures looks { OnlyLooks (K.state disk.old) (K.state disk.new) }
+    ensures memory { OnErr result (RunsOut (K.state disk.old) (K.state disk.new)) }
 {
     match recovery::list(alloc, disk) {
         Ok(text) => Ok(Answer::Done(text)),
@@ -261,6 +253,7 @@ fn format_disk<'w, K: Disk>(
     ensures while_formatting { LeavesOldOrFormatted identity.now (K.state disk.old)
         (K.state disk.new) }
     ensures power { KeepsPower (K.state disk.old) (K.state disk.new) }
+    ensures memory { OnErr result (RunsOut (K.state disk.old) (K.state disk.new)) }
 {
     an_unformatted_disk_is_as_it_was::<K>();
     // Made first: once the disk is written, memory may not be what is lacking for saying so.

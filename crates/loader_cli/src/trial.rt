@@ -1,6 +1,9 @@
 //! The command `trial`.
-ghost use Rattle.std.specs.Prelude.{◌≡◌, codes, false, option_map, IfOk};
+ghost use Rattle.std.specs.Prelude.{◌≡◌, ◌⊎◌, codes, false, option_map, IfOk, OnErr};
+ghost use Rattle.disk_model.specs.State.{OnlyReads};
 ghost use Rattle.media_check.specs.Sets.{set_view};
+ghost use Rattle.replay_turns.specs.Turns.{RunsOut};
+ghost use Rattle.upload_replay.specs.Endings.{HoldsSome};
 ghost use Rattle.loader_cli.specs.Answers.{status_of, text_of};
 ghost use Rattle.loader_cli.specs.Replays.{LeavesFirstOrGood, run_seen};
 ghost use Rattle.generated_uploads.specs.GeneratedMedia.{IsGeneratedSet};
@@ -29,6 +32,9 @@ pub(crate) fn trial<'w, K: Power>(
     ensures tries { IfOk result (λ said. Trials number (K.state disk.old) (K.state disk.new)
         (option_map run_seen said.drive) (status_of said.answer) (text_of said.answer)) }
     ensures leaves { LeavesFirstOrGood (K.state disk.old) (K.state disk.new) }
+    ensures held { OnlyReads (K.state disk.old) (K.state disk.new) ⊎ HoldsSome (K.state disk.old) }
+    ensures memory { OnErr result (RunsOut (K.state disk.old) (K.state disk.new)
+        ⊎ HoldsSome (K.state disk.old)) }
 {
     // For the proof: does nothing.
     a_power_loss_takes_only_work::<K>();

@@ -3,6 +3,7 @@ use Rattle.std.specs.Prelude.{◌≡◌, ◌⊎◌, ℕ, List, [], ◌∷◌, �
 use Rattle.std.specs.List.{AllByRecursion}
 use Rattle.accept_rules.specs.Interlocks.{Follows}
 use Rattle.bank_store.specs.DiskWrites.{IsRunning}
+use Rattle.disk_layout.specs.DiskReads.{IsOutOfMemory}
 use Rattle.disk_model.specs.State.{DiskState}
 use Rattle.exchange_trace.specs.Happenings.{DatagramView, HappeningView, Booted}
 use Rattle.exchange_trace.specs.Logs.{Event}
@@ -44,6 +45,10 @@ RuleFollows may_say accepts (Some t) = Follows may_say t.rule accepts
 abbrev pub RunsWhileUp : {R : Type 0} → Option (TargetState R) → DiskState → Type 0
 RunsWhileUp None disk = ⊤
 RunsWhileUp (Some t) disk = IsRunning disk
+
+-- Memory ran out, and no failure of the disk is told so: the disk runs, or it was itself out of memory, which it counts.
+abbrev pub RunsOut : (old new : DiskState) → Type 0
+RunsOut old new = (new.stopped ≡ false) ⊎ IsOutOfMemory old new
 
 -- what is noted of it
 abbrev pub notes_of : Option PowerNote → List Note

@@ -1,6 +1,6 @@
 //! What becomes of the target's power.
 ghost use Rattle.std.specs.Prelude.{◌≡◌, ℕ, [], Bool, None, Option, Some, is_some};
-ghost use Rattle.std.specs.Prelude.{IfOk, Ok, OnOk};
+ghost use Rattle.std.specs.Prelude.{IfOk, Ok, OnErr, OnOk};
 ghost use Rattle.accept_rules.specs.Interlocks.{Follows};
 ghost use Rattle.bank_store.specs.DiskWrites.{IsRunning};
 ghost use Rattle.disk_layout.specs.Holds.{StandingView};
@@ -12,7 +12,8 @@ ghost use Rattle.replay_rules.specs.Due.{IsBooted, MayBeNoted};
 ghost use Rattle.replay_turns.specs.Targets.{TargetTurns};
 ghost use Rattle.replay_turns.specs.StepsOnDisks.{BeginsStep, HasBooted, HoldsRun, Reboots, StepsOn};
 ghost use Rattle.replay_turns.specs.Powers.{ArmsBy, RoseBy, stops_in, stops_noted};
-ghost use Rattle.replay_turns.specs.Turns.{RuleFollows, RunsWhileUp, notes_of, target_kept};
+ghost use Rattle.replay_turns.specs.Turns.{RuleFollows, RunsOut, RunsWhileUp, notes_of};
+ghost use Rattle.replay_turns.specs.Turns.{target_kept};
 ghost use Rattle.load_base.specs.declared.list.NoMemory.{NoMemory as OutOfMemory};
 
 use accept_rules::{Interlock, Rule};
@@ -84,6 +85,7 @@ pub(crate) fn boot_again<'i, K: Power, R: Rule>(
     ensures stops { IfOk result (λ note. RoseBy (stops_noted (notes_of (Some note)))
         (K.state disk.old).faults (K.state disk.new).faults) }
     ensures power { KeepsPower (K.state disk.old) (K.state disk.new) }
+    ensures memory { OnErr result (RunsOut (K.state disk.old) (K.state disk.new)) }
     ensures reboots { Reboots (K.state disk.old) (K.state disk.new) }
     ensures steps { (set : Setting) (state : TargetState)
         → BeginsStep R.may_say set state slot.old (K.state disk.old)
@@ -115,6 +117,7 @@ fn come_up<'i, K: Power, R: Rule>(
     ensures stops { IfOk result (λ note. RoseBy (stops_noted (notes_of (Some note)))
         (K.state disk.old).faults (K.state disk.new).faults) }
     ensures power { KeepsPower (K.state disk.old) (K.state disk.new) }
+    ensures memory { OnErr result (RunsOut (K.state disk.old) (K.state disk.new)) }
     ensures reads { OnlyReads (K.state disk.old) (K.state disk.new) }
     ensures holds { (set : Setting) (active : StandingView) (interrupted : Option StandingView)
         → IsSettled (K.state disk.old)

@@ -1,5 +1,5 @@
 //! What a happening does to the target.
-ghost use Rattle.std.specs.Prelude.{◌≡◌, ◌⊎◌, [], ℕ, Bool, is_some, IfOk, OnOk};
+ghost use Rattle.std.specs.Prelude.{◌≡◌, ◌⊎◌, [], ℕ, Bool, is_some, IfOk, None, OnErr, OnOk};
 ghost use Rattle.accept_rules.specs.Interlocks.{Follows};
 ghost use Rattle.bank_store.specs.DiskWrites.{IsRunning};
 ghost use Rattle.exchange_trace.specs.declared.trace.Side.TheVariants as sides;
@@ -14,7 +14,7 @@ ghost use Rattle.replay_turns.specs.Powers.{ArmsBy, LeavesPower, RoseBy, stops_i
 ghost use Rattle.replay_turns.specs.StepsOnDisks.{BeginsStep, HasContents, Reboots, StepsOn};
 ghost use Rattle.replay_turns.specs.StepsOnDisks.{contents_then};
 ghost use Rattle.replay_turns.specs.Targets.{IsNoBoot, TargetSpeaks, TargetTurns};
-ghost use Rattle.replay_turns.specs.Turns.{RuleFollows, RunsWhileUp, TargetTakes};
+ghost use Rattle.replay_turns.specs.Turns.{RuleFollows, RunsOut, RunsWhileUp, TargetTakes};
 ghost use Rattle.replay_turns.specs.Turns.{notes_of, target_kept};
 ghost use Rattle.session_rules.specs.Contents.{TargetContents, contents_after};
 ghost use Rattle.target_machine.specs.Decisions.{Takes};
@@ -69,6 +69,7 @@ pub(crate) fn target_turn<'i, K: Power, R: Rule>(
         (stops_in (happening_view happening.now) (notes_of reply.note))
         (K.state disk.old).faults (K.state disk.new).faults) }
     // Whatever it answers.
+    ensures memory { OnErr result (RunsOut (K.state disk.old) (K.state disk.new)) }
     ensures reboots { happening_view happening.now ≡ Booted
         → Reboots (K.state disk.old) (K.state disk.new) }
     ensures arms { ArmsBy (happening_view happening.now) (K.state disk.old) (K.state disk.new) }
@@ -127,6 +128,7 @@ fn reach_target<K: Disk, R: Rule>(
     ensures stops { IfOk result (λ reply. RoseBy
         (stops_in (happening_view happening.now) (notes_of reply.note))
         (K.state disk.old).faults (K.state disk.new).faults) }
+    ensures memory { OnErr result (RunsOut (K.state disk.old) (K.state disk.new)) }
     ensures arms { ArmsBy (happening_view happening.now) (K.state disk.old) (K.state disk.new) }
     ensures steps { (set : Setting) (state : TargetState)
         → BeginsStep R.may_say set state slot.old (K.state disk.old)
@@ -143,7 +145,7 @@ fn reach_target<K: Disk, R: Rule>(
     match target_takes(target, disk, recording, happening) {
         Ok(posts) => Ok(Reply { posts, note: None }),
         Err(Down::DiskFailed) => {
-            drop(slot.take());
+            go_down(slot);
             Ok(Reply {
                 posts: Posts::none(),
                 note: Some(PowerNote::Down),
@@ -151,6 +153,14 @@ fn reach_target<K: Disk, R: Rule>(
         }
         Err(Down::Memory) => Err(NoMemory),
     }
+}
+
+/// The target is let go. A function of its own has the target's place on the stack, which is cleared
+/// at each call.
+fn go_down<R: Rule>(slot: &mut Option<Target<'_, R>>)
+    ensures { slot.new ≡ None }
+{
+    drop(slot.take());
 }
 
 /// The target takes what this happening brings to it, where this was recorded before.

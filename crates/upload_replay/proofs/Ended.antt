@@ -1,5 +1,5 @@
 -- Why there is no run, and what is known at the end of one.
-use Rattle.std.proofs.Common.{◌≡◌, ℕ, inl, inr, refl, sym, ap, subst, ◌∙◌, arith}
+use Rattle.std.proofs.Common.{◌≡◌, ◌≤◌, ℕ, inl, inr, refl, sym, ap, subst, ◌∙◌, arith}
 use Rattle.std.specs.Prelude.{IfErr, IfOk, IsErrOf, Result, Ok, Err}
 use Rattle.std.specs.Option.{ForSome}
 use Rattle.disk_layout.specs.DiskReads.{HasDiskCause, RunsOnAfter}
@@ -14,7 +14,7 @@ use Rattle.target_machine.specs.declared.boot.BootFault.TheVariants as boots
 use Rattle.upload_replay.specs.declared.outcome.DriveFault.{DriveFault}
 use Rattle.upload_replay.specs.declared.outcome.DriveFault.TheVariants as faults
 use Rattle.upload_replay.specs.Turns.{HasDriveCause, IsOfRun}
-use Rattle.upload_replay.specs.Endings.{FailsToBegin, HoldsSome, HoldsStanding, IsLastFault, IsNoConfig, IsRefused, first_fault_of, last_refusal_of}
+use Rattle.upload_replay.specs.Endings.{FailsToBegin, HoldsSome, HoldsStanding, IsEndFault, IsLastFault, IsNoConfig, IsRefused, StaysAsItWas, first_fault_of, last_refusal_of}
 
 pub first_refusal : {T : Type 0} (fault : BootFault) (first last : DiskState) (result : Result T BootFault) → result ≡ Err fault → ForSome first.reads (λ image. BootFails image fault) → OnlyReads first last → RunsOnAfterBoot first last fault
     → HasDiskCause (boots.Recover DiskFailed) first last result → FailsToBegin (first_fault_of fault) first last
@@ -23,18 +23,52 @@ first_refusal (boots.Recover NoOpenSlot) first last result is refused reads on c
 first_refusal (boots.Recover (BadSlot offset)) first last result is refused reads on cause = (λ of. of, record { none = refused; only_reads = reads; running = on })
 first_refusal (boots.Recover (BadManifest offset)) first last result is refused reads on cause = (λ of. of, record { none = refused; only_reads = reads; running = on })
 first_refusal (boots.Recover DiskFailed) first last result is refused reads on cause = cause.failed is
-first_refusal (boots.Recover Memory) first last result is refused reads on cause = tt
-first_refusal boots.Memory first last result is refused reads on cause = tt
+first_refusal (boots.Recover Memory) first last result is refused reads on cause = on
+first_refusal boots.Memory first last result is refused reads on cause = on
 
 -- the disk reads as it did
 pub last_fault : (fault : RecoverFault) (old new : DiskState) → ForSome old.reads (λ image. Refuses image fault) → RunsOnAfter old new fault
-    → IfErr (last_refusal_of fault) (λ f. IsLastFault f new)
+    → IfErr (last_refusal_of fault) (λ f. IsLastFault f old new)
 last_fault (NotFormatted offset) old new refused on = (λ is. is, λ image told. refused image (sym on.reads ∙ told))
 last_fault NoOpenSlot old new refused on = (λ is. is, λ image told. refused image (sym on.reads ∙ told))
 last_fault (BadSlot offset) old new refused on = (λ is. is, λ image told. refused image (sym on.reads ∙ told))
 last_fault (BadManifest offset) old new refused on = (λ is. is, λ image told. refused image (sym on.reads ∙ told))
 last_fault DiskFailed old new refused on = tt
-last_fault Memory old new refused on = tt
+last_fault Memory old new refused on = elim on [ inl runs ↦ inl runs.running | inr out ↦ inr out ]
+
+-- and so at the end, where the disk was restarted before
+pub last_since : (fault : DriveFault) (old mid new : DiskState) → old.refusals ≤ mid.refusals → IsLastFault fault mid new → IsLastFault fault old new
+last_since faults.Memory old mid new later runs = elim runs [ inl on ↦ inl on | inr out ↦ inr (record { counted = grind (arith, later, out.counted); stopped = out.stopped }) ]
+last_since (faults.NoConfig f) old mid new later is = is
+last_since faults.Disk old mid new later is = is
+last_since faults.Link old mid new later is = is
+
+-- a disk that isn't touched is as it was
+pub stays : (disk : DiskState) → StaysAsItWas disk disk
+stays disk = record {
+  only_reads = record {
+    tells = refl;
+    power = record { steady = refl; armings = refl; armed = refl };
+    faults = omega arith;
+    refusals = omega arith;
+    clock = refl;
+    now = λ image may. may;
+    between = λ t u image may. may;
+    keeps = λ t u image may. may;
+    closed = λ steady at n closed. closed;
+  };
+  reads = refl;
+  left = λ image may. may;
+  faults = refl;
+  refusals = refl;
+  stopped = refl;
+}
+
+pub end_fault : (fault : DriveFault) (old new : DiskState) → IsLastFault fault old new → IsEndFault fault old new
+end_fault faults.Memory old new runs = inl runs
+end_fault (faults.NoConfig f) old new is = is
+end_fault faults.Disk old new is = is
+end_fault faults.Link old new is = is
 
 pub no_standing : (fault : RecoverFault) (disk : DiskState) → IfOk (last_refusal_of fault) (λ standing. HoldsStanding standing disk)
 no_standing (NotFormatted offset) disk = tt
@@ -68,6 +102,7 @@ refused_first {T} count old new link fault fails reads = record {
     untouched = λ is. refl;
   };
   no_config = by fault fails;
+  no_memory = λ is. inl (record { only_reads = reads; runs = subst (λ (f : DriveFault). FailsToBegin f old new) (let same : fault ≡ faults.Memory = cc in same) fails; untouched = refl });
 }
   where
     by : (f : DriveFault) → FailsToBegin f old new → IsNoConfig f old new link link
@@ -91,6 +126,7 @@ refused_run {S} {T} before now old new link link_then fault of cause held = reco
   };
   disk_failed = record { failed = λ is. absurd (not_disk is); only_reads = λ is. absurd (not_disk is); untouched = λ is. absurd (not_disk is) };
   no_config = by fault of;
+  no_memory = λ is. inr held;
 }
   where
     not_disk : ◌≡◌ {A = Result T DriveFault} (Err fault) (Err faults.Disk) → ⊥
@@ -103,12 +139,12 @@ refused_run {S} {T} before now old new link link_then fault of cause held = reco
     by faults.Memory of = tt
 
 -- the last recovery was refused
-pub refused_last : {T : Type 0} (before now : ℕ) (old new : DiskState) (link link_then : LinkState) (fault : DriveFault) → now ≡ before → HoldsSome old → IsLastFault fault new → IsRefused {T = T} before now old new link link_then (Err fault)
-refused_last {T} before now old new link link_then fault same held refused = record {
+pub refused_last : {T : Type 0} (before now : ℕ) (old last new : DiskState) (link link_then : LinkState) (fault : DriveFault) → now ≡ before → HoldsSome old → IsEndFault fault last new → IsRefused {T = T} before now old new link link_then (Err fault)
+refused_last {T} before now old last new link link_then fault same held refused = record {
   link_failed = record {
     cause = record {
       later = omega (arith, same);
-      failed = λ is. absurd (no_link {T = T} fault (λ f. IsLastFault f new) (λ none. none) refused is);
+      failed = λ is. absurd (no_link {T = T} fault (λ f. IsEndFault f last new) (λ none. none) refused is);
       once = omega (arith, same);
       ok = tt;
       others = λ other. same;
@@ -117,36 +153,38 @@ refused_last {T} before now old new link link_then fault same held refused = rec
   };
   disk_failed = record { failed = λ is. absurd (not_disk is); only_reads = λ is. absurd (not_disk is); untouched = λ is. absurd (not_disk is) };
   no_config = by fault refused;
+  no_memory = λ is. inr held;
 }
   where
     not_disk : ◌≡◌ {A = Result T DriveFault} (Err fault) (Err faults.Disk) → ⊥
-    not_disk is = subst (λ (f : DriveFault). IsLastFault f new) (let is_disk : fault ≡ faults.Disk = cc in is_disk) refused
+    not_disk is = subst (λ (f : DriveFault). IsEndFault f last new) (let is_disk : fault ≡ faults.Disk = cc in is_disk) refused
 
-    by : (f : DriveFault) → IsLastFault f new → IsNoConfig f old new link link_then
+    by : (f : DriveFault) → IsEndFault f last new → IsNoConfig f old new link link_then
     by faults.Link refused = tt
     by faults.Disk refused = tt
     by (faults.NoConfig f) refused = (refused.0, inr (held, refused.1))
     by faults.Memory refused = tt
 
 -- the run came to its end
-pub refused_none : {T : Type 0} (before now : ℕ) (old new : DiskState) (link link_then : LinkState) (x : T) → now ≡ before → IsRefused before now old new link link_then (Ok x)
-refused_none {T} before now old new link link_then x same = record {
+pub refused_none : {T : Type 0} (before now : ℕ) (old new : DiskState) (link link_then : LinkState) (x : T) → now ≡ before → HoldsSome old → IsRefused before now old new link link_then (Ok x)
+refused_none {T} before now old new link link_then x same held = record {
   link_failed = record {
     cause = record { later = omega (arith, same); failed = λ is. absurd (not_ok faults.Link is); once = omega (arith, same); ok = same; others = tt };
     began = λ is. absurd (not_ok faults.Link is);
   };
   disk_failed = record { failed = λ is. absurd (not_ok faults.Disk is); only_reads = λ is. absurd (not_ok faults.Disk is); untouched = λ is. absurd (not_ok faults.Disk is) };
   no_config = tt;
+  no_memory = λ is. inr held;
 }
   where
     not_ok : (f : DriveFault) → ◌≡◌ {A = Result T DriveFault} (Ok x) (Err f) → ⊥
     not_ok f is = cc
 
 -- after the last recovery
-pub refused_after : {T : Type 0} (before now : ℕ) (old new : DiskState) (link link_then : LinkState) (result : Result T DriveFault) → now ≡ before → HoldsSome old → IfErr result (λ fault. IsLastFault fault new) → IsRefused before now old new link link_then result
-refused_after before now old new link link_then (Ok x) same held refused = refused_none before now old new link link_then x same
-refused_after before now old new link link_then (Err fault) same held refused = refused_last before now old new link link_then fault same held refused
+pub refused_after : {T : Type 0} (before now : ℕ) (old last new : DiskState) (link link_then : LinkState) (result : Result T DriveFault) → now ≡ before → HoldsSome old → IfErr result (λ fault. IsEndFault fault last new) → IsRefused before now old new link link_then result
+refused_after before now old last new link link_then (Ok x) same held refused = refused_none before now old new link link_then x same held
+refused_after before now old last new link link_then (Err fault) same held refused = refused_last before now old last new link link_then fault same held refused
 
-pub never_link : {T : Type 0} (new : DiskState) (result : Result T DriveFault) → IfErr result (λ fault. IsLastFault fault new) → IsErrOf result faults.Link → ⊥
-never_link new (Ok x) refused is = cc
-never_link {T} new (Err fault) refused is = no_link {T = T} fault (λ f. IsLastFault f new) (λ none. none) refused is
+pub never_link : {T : Type 0} (old new : DiskState) (result : Result T DriveFault) → IfErr result (λ fault. IsEndFault fault old new) → IsErrOf result faults.Link → ⊥
+never_link old new (Ok x) refused is = cc
+never_link {T} old new (Err fault) refused is = no_link {T = T} fault (λ f. IsEndFault f old new) (λ none. none) refused is

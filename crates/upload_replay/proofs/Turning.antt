@@ -28,7 +28,7 @@ use Rattle.replay_turns.specs.Ends.{HasStepped as Moved}
 use Rattle.replay_turns.specs.StepLaws.{gone_keeps_none}
 use Rattle.replay_turns.specs.Targets.{TargetTurns}
 use Rattle.replay_turns.specs.Turns.{LoaderTakes, target_kept}
-use Rattle.upload_replay.specs.Drivers.{DriverState, GoesOn, HasStepped, IsLinked, IsTiedTo, RunGoesOn}
+use Rattle.upload_replay.specs.Drivers.{DriverState, GoesOn, IsLinked, IsTiedTo, RunGoesOn, StepsUnit}
 use Rattle.upload_replay.specs.Drives.{LoaderGoesOn, has_session, is_end, loader_moved, loader_sends}
 use Rattle.upload_replay.specs.Turns.{link_with}
 
@@ -161,7 +161,7 @@ module _ {R : Type 0} (before after : DriverState R) (old new : DiskState) (h : 
   loader_set : after.loader.set ≡ before.loader.set
   loader_set = same_media (event_for sides.Loader (posted_in before.steps) h) before.loader after.loader moved.loader_posts moved.takes
 
-  pub has_stepped : LoaderFollows → after.rule ≡ before.rule → after.identity ≡ before.identity → IsNoEnd h → IsHonest (posted_in before.steps) h → GoesOn before → HasStepped h posts before after old new
+  pub has_stepped : LoaderFollows → after.rule ≡ before.rule → after.identity ≡ before.identity → IsNoEnd h → IsHonest (posted_in before.steps) h → GoesOn before → StepsUnit h posts before after old new
   has_stepped follows rule identity no_end honest on =
       let step : Step = record { given = h; posts = posts; notes = moved.notes } in
       record {
@@ -261,7 +261,7 @@ is_the_end (Upload_started hw pos parts) e = absurd cc
 is_the_end Ended e = refl
 
 -- the run goes on after a turn
-pub turn_on : {R : Type 0} (set : Setting) (began link given link_then : LinkState) (d after : DriverState R) (h : HappeningView) (posts : List DatagramView) (old new : DiskState) → HasStepped h posts d after old new → (loader_side target_side : Bool)
+pub turn_on : {R : Type 0} (set : Setting) (began link given link_then : LinkState) (d after : DriverState R) (h : HappeningView) (posts : List DatagramView) (old new : DiskState) → StepsUnit h posts d after old new → (loader_side target_side : Bool)
     → loader_side ≡ is_some d.loader.view.live → target_side ≡ has_session (target_kept d.target) → Gives link given (scene_of link loader_side target_side) h → link_then ≡ link_with given posts
     → RunGoesOn set false began link d → IsTiedTo set after → RunGoesOn set false began link_then after
 turn_on set began link given link_then d after h posts old new stepped loader_side target_side l t gives linked on tied =

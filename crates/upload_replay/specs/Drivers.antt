@@ -65,7 +65,7 @@ pub record HoldsUnit {R : Type 0} (set : Setting) (since : ℕ) (clocks : List �
 
 -- It has one step more, in which this happened and this was posted; it stands on what it stood on, and goes on; its disk runs
 -- while its target is up, and counted a fault where the step notes that it stopped.
-pub record HasStepped {R : Type 0} (h : HappeningView) (posts : List DatagramView) (before after : DriverState R) (old new : DiskState) : Type 0 where
+pub record StepsUnit {R : Type 0} (h : HappeningView) (posts : List DatagramView) (before after : DriverState R) (old new : DiskState) : Type 0 where
   pub step : Step
   pub recorded : after.steps ≡ step ∷ before.steps
   pub given : step.given ≡ h

@@ -2,11 +2,12 @@
 use Rattle.std.specs.Prelude.{◌≡◌, ℕ, ◌+◌, ◌≤◌, true, ◌⊎◌, List, ◌∷◌, map, Option, Some, None, Result, Ok, Err, IfErr, IsErrOf, ⊤}
 use Rattle.std.specs.Option.{ForSome}
 use Rattle.load_base.specs.Counts.{Rose}
-use Rattle.disk_layout.specs.DiskReads.{IsOfDisk, RunsOn}
+use Rattle.disk_layout.specs.DiskReads.{IsOfDisk, RunsOn, RunsOnAfter}
 use Rattle.disk_layout.specs.Holds.{HasDiskFault, HoldsConfig, StandingView, standing_view}
 use Rattle.disk_layout.specs.declared.fault.RecoverFault.{RecoverFault}
 use Rattle.disk_layout.specs.declared.fault.RecoverFault.TheVariants as recovers
 use Rattle.disk_layout.specs.declared.standing.Standing.{Standing}
+use Rattle.disk_model.specs.Image.{Image}
 use Rattle.disk_model.specs.State.{DiskState, KeepsPower, OnlyReads}
 use Rattle.exchange_trace.specs.Steps.{Step}
 use Rattle.link_net.specs.Links.{LinkState}
@@ -17,6 +18,7 @@ use Rattle.upload_replay.specs.declared.outcome.DriveFault.TheVariants as faults
 use Rattle.replay_turns.specs.Powers.{RoseBy, disk_stops}
 use Rattle.replay_turns.specs.Orders.{IsInOrder}
 use Rattle.replay_turns.specs.StepsOnDisks.{LeavesNoMore}
+use Rattle.replay_turns.specs.Turns.{RunsOut}
 use Rattle.exchange_trace.specs.Steps.{steps_of}
 use Rattle.loader_machine.specs.Machine.{LoaderState, media_of, session_view}
 use Rattle.session_rules.specs.MediaFiles.{Media}
@@ -69,11 +71,25 @@ pub record FailsAtFirst {T : Type 0} (old new : DiskState) (link link_then : Lin
 abbrev pub HoldsNone : RecoverFault → DiskState → Type 0
 HoldsNone fault disk = ForSome disk.reads (λ image. HasDiskFault image fault)
 
+-- the disk is as it was
+pub record StaysAsItWas (old new : DiskState) : Type 0 where
+  pub only_reads : OnlyReads old new
+  pub reads : new.reads ≡ old.reads
+  pub left : (image : Image) → old.now image → new.now image
+  pub faults : new.faults ≡ old.faults
+  pub refusals : new.refusals ≡ old.refusals
+  pub stopped : new.stopped ≡ old.stopped
+
 -- a refusal of the last recovery
-abbrev pub IsLastFault : DriveFault → DiskState → Type 0
-IsLastFault (faults.NoConfig fault) disk = ¬ IsOfDisk fault × HoldsNone fault disk
-IsLastFault faults.Memory disk = ⊤
-IsLastFault fault disk = ⊥
+abbrev pub IsLastFault : DriveFault → (old new : DiskState) → Type 0
+IsLastFault (faults.NoConfig fault) old new = ¬ IsOfDisk fault × HoldsNone fault new
+IsLastFault faults.Memory old new = RunsOut old new
+IsLastFault fault old new = ⊥
+
+-- a refusal at the end of a driver: memory may also run out before the disk is touched
+abbrev pub IsEndFault : DriveFault → (old new : DiskState) → Type 0
+IsEndFault faults.Memory old new = RunsOut old new ⊎ StaysAsItWas old new
+IsEndFault fault old new = IsLastFault fault old new
 
 -- The link failed only in a run, and there is one only where the disk held a configuration at first.
 pub record FailsInRun {T : Type 0} (before now : ℕ) (first : DiskState) (result : Result T DriveFault) : Type 0 where
@@ -98,18 +114,27 @@ IsNoConfig (faults.NoConfig fault) first last link link_then =
     ¬ IsOfDisk fault × (NeverBegan fault first last link link_then ⊎ (HoldsSome first × HoldsNone fault last))
 IsNoConfig fault first last link link_then = ⊤
 
--- why a driver doesn't begin: the disk failed, and is stopped; or it held no configuration; or memory was out
+-- why a driver doesn't begin: the disk failed, and is stopped; or it held no configuration; or memory was out, and the disk
+-- runs on, or was itself out of memory
 abbrev pub FailsToBegin : DriveFault → (old new : DiskState) → Type 0
 FailsToBegin faults.Link old new = ⊥
 FailsToBegin faults.Disk old new = Rose old.faults new.faults × (new.stopped ≡ true)
 FailsToBegin (faults.NoConfig fault) old new = ¬ IsOfDisk fault × HeldNone fault old new
-FailsToBegin faults.Memory old new = ⊤
+FailsToBegin faults.Memory old new = RunsOnAfter old new recovers.Memory
 
--- There is no run, and why: the link failed in one, the disk at first, or it held no configuration.
+-- Memory ran out before anything happened: nothing was written, and the disk runs on, or was itself out of memory.
+pub record RunsOutAtFirst (old new : DiskState) (link link_then : LinkState) : Type 0 where
+  pub only_reads : OnlyReads old new
+  pub runs : RunsOnAfter old new recovers.Memory
+  pub untouched : link_then ≡ link
+
+-- There is no run, and why: the link failed in one, the disk at first, or it held no configuration; or memory ran out at
+-- first, or in a run, on a disk that held one.
 pub record IsRefused {T : Type 0} (before now : ℕ) (old new : DiskState) (link link_then : LinkState) (result : Result T DriveFault) : Type 0 where
   pub link_failed : FailsInRun before now old result
   pub disk_failed : FailsAtFirst old new link link_then result
   pub no_config : IfErr result (λ fault. IsNoConfig fault old new link link_then)
+  pub no_memory : IsErrOf result faults.Memory → RunsOutAtFirst old new link link_then ⊎ HoldsSome old
 
 -- ---- how a run ends
 

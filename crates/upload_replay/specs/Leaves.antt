@@ -1,8 +1,8 @@
 -- What a run leaves, however it ends (docs/EXCHANGE.md, "Runs"; docs/POWER.md).
-use Rattle.std.specs.Prelude.{◌≡◌, ℕ, List, [], ◌∷◌, ◌++◌, is_some, true, Option, Some, None, Result, IsErrOf, ⊤}
+use Rattle.std.specs.Prelude.{◌≡◌, ℕ, ◌≤◌, List, [], ◌∷◌, ◌++◌, is_some, true, Option, Some, None, Result, IsErrOf, ⊤}
 use Rattle.disk_model.specs.Image.{Image}
 use Rattle.disk_model.specs.State.{DiskState}
-use Rattle.disk_layout.specs.Holds.{StandingView}
+use Rattle.disk_layout.specs.Holds.{HoldsConfig, StandingView}
 use Rattle.exchange_trace.specs.declared.trace.Side.TheVariants as sides
 use Rattle.exchange_trace.specs.Happenings.{DatagramView, HappeningView}
 use Rattle.exchange_trace.specs.Logs.{event_for}
@@ -42,7 +42,7 @@ IsPostedUpTo [] posted = posted ≡ []
 IsPostedUpTo (s ∷ earlier) posted = (sent : List DatagramView) × (left : List DatagramView) × (s.posts ≡ sent ++ left) × (posted ≡ posted_in earlier ++ sent)
 
 -- However a run ended that began on this link at this clock: there are its steps, and perhaps a happening more that came to no
--- step since memory ran out. The link gave exactly these and was posted their datagrams, all of which were due, but perhaps
+-- step: that of the end, or one at which memory ran out. The link gave exactly these and was posted their datagrams, all of which were due, but perhaps
 -- not the last. Each image that a power loss might have left since, or may leave now, holds what may have been active in turn,
 -- now what may be active after these steps; so it is the configuration of the start, or one that an installation of these
 -- steps made whole. Where the link failed, no happening was left over: so nothing is posted before what it reports is there.
@@ -60,3 +60,16 @@ pub record LeavesHistory {T : Type 0} (set : Setting) (began link : LinkState) (
   pub tells : is_some disk.reads ≡ true
   pub each : (u : ℕ) (image : Image) → disk.between since u image → HoldsOneOf (brought_last set steps last ++ all_active set steps) image
   pub here : (image : Image) → disk.now image → HoldsOneOf (brought_last set steps last ++ may_be_active (target_at set steps)) image
+
+-- ---- what follows for what is left
+
+-- a configuration of the same target as one at the start, and not older
+pub record IsNoOlder (start s : StandingView) : Type 0 where
+  pub identity : s.identity ≡ start.identity
+  pub sequence : start.sequence ≤ s.sequence
+
+-- the image holds such a configuration
+pub record HoldsNoOlder (start : StandingView) (image : Image) : Type 0 where
+  pub active : StandingView
+  pub holds : HoldsConfig image active
+  pub no_older : IsNoOlder start active

@@ -21,12 +21,12 @@ ghost use Rattle.replay_turns.specs.Powers.{ArmsBy, RoseBy, disk_stops};
 ghost use Rattle.replay_turns.specs.StepsOnDisks.{AddsInStep, HoldsRun, LeavesNoMore, Reboots};
 ghost use Rattle.replay_turns.specs.Turns.{RunsWhileUp, target_kept};
 ghost use Rattle.transfer_end.specs.Calls.{posts_view};
-ghost use Rattle.upload_replay.specs.Drivers.{BeginsUnit, GoesOn, HasStepped, HoldsUnit, IsTiedTo};
-ghost use Rattle.upload_replay.specs.Drivers.{StandsOn, end_step};
+ghost use Rattle.upload_replay.specs.Drivers.{BeginsUnit, GoesOn, HoldsUnit, IsTiedTo};
+ghost use Rattle.upload_replay.specs.Drivers.{StandsOn, StepsUnit, end_step};
 ghost use Rattle.upload_replay.specs.Drives.{IsLoadersRun, IsSet, IsUnitRun, NeverBoots};
 ghost use Rattle.upload_replay.specs.Drives.{has_session};
 ghost use Rattle.upload_replay.specs.Endings.{EndsUnit, FailsToBegin, FailedIfUnknown, HoldsSome};
-ghost use Rattle.upload_replay.specs.Endings.{HoldsStanding, IsLastFault, LeavesUnit, first_fault_of};
+ghost use Rattle.upload_replay.specs.Endings.{HoldsStanding, IsEndFault, LeavesUnit, first_fault_of};
 ghost use Rattle.upload_replay.specs.Moments.{Clocks, HoldsThroughout};
 
 use crate::ending::standing_at_end;
@@ -127,7 +127,7 @@ impl<'m, R: Rule> Driver<'m, R> {
         requires honest { IsHonest (posted_in self.old.steps) (happening_view happening) }
         requires running { RunsWhileUp self.old.target (K.state disk.old) }
         // With Ok.
-        ensures stepped { IfOk result (λ posts. HasStepped (happening_view happening)
+        ensures stepped { IfOk result (λ posts. StepsUnit (happening_view happening)
             (posts_view posts) self.old self.new (K.state disk.old) (K.state disk.new)) }
         ensures stands { (set : Setting) → StandsOn R.may_say set self.old
             → OnOk result (StandsOn R.may_say set self.new) }
@@ -183,7 +183,8 @@ impl<'m, R: Rule> Driver<'m, R> {
         ensures reboots { is_some self.entry.target ≡ false
             → OnOk result (Reboots (K.state disk.old) (K.state disk.new)) }
         // Refusals, and whatever it answers.
-        ensures refused { IfErr result (λ fault. IsLastFault fault (K.state disk.new)) }
+        ensures refused { IfErr result (λ fault. IsEndFault fault (K.state disk.old)
+            (K.state disk.new)) }
         ensures leaves { LeavesUnit (K.state disk.old) (K.state disk.new) }
     {
         // For the proof: these do nothing.

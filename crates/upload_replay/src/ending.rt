@@ -24,7 +24,8 @@ pub(crate) fn standing_at_end<K: Disk>(
         → IfOk result (λ standing. FailedIfUnknown standing began stops (K.state disk.new)) }
     ensures faults { (K.state disk.old).faults ≤ (K.state disk.new).faults }
     ensures standing { IfOk result (λ standing. HoldsStanding standing (K.state disk.new)) }
-    ensures refused { IfErr result (λ fault. IsLastFault fault (K.state disk.new)) }
+    ensures refused { IfErr result (λ fault. IsLastFault fault (K.state disk.old)
+        (K.state disk.new)) }
     ensures power { KeepsPower (K.state disk.old) (K.state disk.new) }
     ensures leaves { LeavesNoMore (K.state disk.old) (K.state disk.new) }
     ensures same { up ≡ true → OnOk result ((K.state disk.new).reads ≡ (K.state disk.old).reads)
@@ -50,7 +51,8 @@ fn recovered<K: Disk>(alloc: Global, disk: &mut K) -> Result<Option<Standing>, D
         → IfOk result (λ standing. FailedIfUnknown standing began stops (K.state disk.new)) }
     ensures faults { (K.state disk.old).faults ≤ (K.state disk.new).faults }
     ensures standing { IfOk result (λ standing. HoldsStanding standing (K.state disk.new)) }
-    ensures refused { IfErr result (λ fault. IsLastFault fault (K.state disk.new)) }
+    ensures refused { IfErr result (λ fault. IsLastFault fault (K.state disk.old)
+        (K.state disk.new)) }
     ensures power { KeepsPower (K.state disk.old) (K.state disk.new) }
     ensures reads { OnlyReads (K.state disk.old) (K.state disk.new) }
     ensures same { OnOk result ((K.state disk.new).reads ≡ (K.state disk.old).reads)

@@ -5,6 +5,7 @@
 mod driver;
 mod driving;
 mod ending;
+pub mod laws;
 mod outcome;
 mod posting;
 mod report;

@@ -1,9 +1,9 @@
 use Rattle.std.proofs.Common.{refl, arith}
 use Rattle.std.proofs.lemmas.Result.{IfOk-weaker}
 use Rattle.media_check.specs.Sets.{set_view}
-use Rattle.loader_cli.specs.Replays.{IsKept}
 use Rattle.loader_cli.specs.Replays.Replays.{ran, unread}
 use Rattle.loader_cli.proofs.Left.{untouched_leaves}
+use Rattle.loader_cli.proofs.Touched.{stays}
 use Rattle.loader_cli.proofs.replay.replay.Goals as goal
 
 pub returns-in-Ready-clause-replays : goal.returns-in-Ready-clause-replays
@@ -16,14 +16,7 @@ pub returns-in-Refused-clause-replays : goal.returns-in-Refused-clause-replays
 returns-in-Refused-clause-replays g c =
     let reads = rw c.in-Refused.is at (c.in_ok-set.ensures.reads (g.H.Host.faults c.args.host.now) (omega arith)) in
     let refuses = rw (c.as_bytes.ensures.value, c.as_bytes-2.ensures.value) at reads in
-    let kept : IsKept (g.K.Disk.state c.args.disk.now) (g.K.Disk.state c.args.disk.now) = record {
-      clock = refl;
-      reads = refl;
-      faults = refl;
-      stopped = refl;
-      power = record { steady = refl; armings = refl; armed = refl };
-    } in
-    rw (c.of.ensures.answer, c.of.ensures.drive) (unread refuses kept refl)
+    rw (c.of.ensures.answer, c.of.ensures.drive) (unread refuses (stays (g.K.Disk.state c.args.disk.now)) refl)
 
 pub returns-in-Refused-clause-leaves : goal.returns-in-Refused-clause-leaves
 returns-in-Refused-clause-leaves g c = untouched_leaves (g.K.Disk.state c.args.disk.now) (g.met.K.Disk.only_now c.args.disk.now) (c.a_power_loss_takes_only_work.ensures.holds c.args.disk.now)

@@ -1,10 +1,16 @@
-use Rattle.std.proofs.Common.{◌≡◌, ◌≢◌, ℕ, List, take, ◌∙◌, refl, subst}
+use Rattle.std.proofs.Common.{◌≡◌, ℕ, List, take, ◌∙◌, refl, subst}
+use Rattle.std.specs.Prelude.{option_map}
 use Rattle.load_base.specs.Sink.{IsExtended}
-use Rattle.load_base.specs.declared.sink.WriteFault.TheVariants.{Failed}
-use Rattle.loader_cli.specs.Answers.{text_of}
-use Rattle.loader_cli.specs.Runs.Ends.{told, sink_failed}
+use Rattle.load_base.specs.declared.sink.WriteFault.TheVariants.{Failed, Memory}
+use Rattle.loader_cli.specs.Answers.{status_of, text_of}
+use Rattle.loader_cli.specs.Replays.{run_seen}
+use Rattle.loader_cli.specs.Runs.Ends.{no_memory, sink_failed, told}
+use Rattle.loader_cli.specs.Runs.RunsOutOfMemory.{as_it_was_put, in_command}
+use Rattle.loader_cli.proofs.OneOutput.{ImageLaws}
 use Rattle.loader_cli.proofs.Promised.{as_promised}
+use Rattle.loader_cli.proofs.ReplayRuns.{EndLaws}
 use Rattle.loader_cli.proofs.SetRuns.{BuildingLaws}
+use Rattle.loader_cli.proofs.ShownOnce.{ShownLaws}
 use Rattle.loader_cli.proofs.Uploaded.{UploadLaws}
 use Rattle.loader_cli.proofs.top_call.run.Goals as goal
 
@@ -24,12 +30,26 @@ returns-in-Ok-put-clause-ends g c =
       happens = c.only_a_trial_happens.ensures;
       fits = c.what_a_disk_holds_can_be_listed.ensures.fits;
     } in
-    as_promised laws uploads _ _ (record { not_both = c.an_image_holds_one_configuration.ensures.not_both; reads_now = g.met.K.Disk.reads_now c.answer.new.disk }) c.answer.ensures.while_running
-    (told (text_of c.in-Ok.field-0.answer) (rw (← c.status-status.ensures) at c.in-Ok.ensures.says) (subst (λ (bytes : List ℕ). IsExtended was now bytes) text c.in-Ok-put.ensures.content))
-    (record {
-      host = λ not_four not_six not_seven. c.in-Ok.ensures.faults.answered (subst (λ (status : ℕ). status ≢ 4) c.status-status.ensures not_four);
-      sink = λ not_seven. c.in-Ok-put.ensures.cause.ok;
-    })
+    let images : ImageLaws = record {
+      not_both = c.an_image_holds_one_configuration.ensures.not_both;
+      one_standing = c.an_image_holds_one_configuration.ensures.one_standing;
+      one_fault = c.an_image_holds_one_configuration.ensures.one_fault;
+    } in
+    let shows : ShownLaws = record {
+      of_header = λ value bytes spells. (c.header_laws.ensures.spelled value bytes).1 spells;
+      of_loads = λ value bytes spells. (c.loads_list_laws.ensures.spelled value bytes).1 spells;
+      of_files = λ value bytes spells. (c.files_list_laws.ensures.spelled value bytes).1 spells;
+      of_lci = λ value bytes spells. (c.protocol_file_laws.ensures.lci.spelled bytes value).1 spells;
+      of_lcl = λ value bytes spells. (c.protocol_file_laws.ensures.lcl.spelled bytes value).1 spells;
+      of_lcs = λ value bytes spells. (c.protocol_file_laws.ensures.lcs.spelled bytes value).1 spells;
+      of_lui = λ value bytes spells. (c.protocol_file_laws.ensures.lui.spelled bytes value).1 spells;
+      of_lur = λ value bytes spells. (c.protocol_file_laws.ensures.lur.spelled bytes value).1 spells;
+      of_lus = λ value bytes spells. (c.protocol_file_laws.ensures.lus.spelled bytes value).1 spells;
+    } in
+    let at_end : EndLaws (g.K.Disk.state c.args.disk.now) (g.K.Disk.state c.answer.new.disk) = record { not_both = c.an_image_holds_one_configuration.ensures.not_both; reads_now = g.met.K.Disk.reads_now c.answer.new.disk } in
+    as_promised laws uploads images shows _ _ at_end c.answer.ensures.leaves.while_running
+    (told (text_of c.in-Ok.field-0.answer) (rw (← c.status-status.ensures) at c.in-Ok.ensures.tells) (subst (λ (bytes : List ℕ). IsExtended was now bytes) text c.in-Ok-put.ensures.content))
+    (λ not_seven. c.in-Ok-put.ensures.cause.ok)
 
 pub returns-in-Err-Failed-clause-ends : goal.returns-in-Err-Failed-clause-ends
 returns-in-Err-Failed-clause-ends g c =
@@ -49,7 +69,127 @@ returns-in-Err-Failed-clause-ends g c =
       happens = c.only_a_trial_happens.ensures;
       fits = c.what_a_disk_holds_can_be_listed.ensures.fits;
     } in
-    as_promised laws uploads _ _ (record { not_both = c.an_image_holds_one_configuration.ensures.not_both; reads_now = g.met.K.Disk.reads_now c.answer.new.disk }) c.answer.ensures.while_running
-    (sink_failed c.status-status.result (text_of c.in-Ok.field-0.answer) part.0 (rw (← c.status-status.ensures) at c.in-Ok.ensures.says)
+    let images : ImageLaws = record {
+      not_both = c.an_image_holds_one_configuration.ensures.not_both;
+      one_standing = c.an_image_holds_one_configuration.ensures.one_standing;
+      one_fault = c.an_image_holds_one_configuration.ensures.one_fault;
+    } in
+    let shows : ShownLaws = record {
+      of_header = λ value bytes spells. (c.header_laws.ensures.spelled value bytes).1 spells;
+      of_loads = λ value bytes spells. (c.loads_list_laws.ensures.spelled value bytes).1 spells;
+      of_files = λ value bytes spells. (c.files_list_laws.ensures.spelled value bytes).1 spells;
+      of_lci = λ value bytes spells. (c.protocol_file_laws.ensures.lci.spelled bytes value).1 spells;
+      of_lcl = λ value bytes spells. (c.protocol_file_laws.ensures.lcl.spelled bytes value).1 spells;
+      of_lcs = λ value bytes spells. (c.protocol_file_laws.ensures.lcs.spelled bytes value).1 spells;
+      of_lui = λ value bytes spells. (c.protocol_file_laws.ensures.lui.spelled bytes value).1 spells;
+      of_lur = λ value bytes spells. (c.protocol_file_laws.ensures.lur.spelled bytes value).1 spells;
+      of_lus = λ value bytes spells. (c.protocol_file_laws.ensures.lus.spelled bytes value).1 spells;
+    } in
+    let at_end : EndLaws (g.K.Disk.state c.args.disk.now) (g.K.Disk.state c.answer.new.disk) = record { not_both = c.an_image_holds_one_configuration.ensures.not_both; reads_now = g.met.K.Disk.reads_now c.answer.new.disk } in
+    as_promised laws uploads images shows _ _ at_end c.answer.ensures.leaves.while_running
+    (sink_failed c.status-status.result (text_of c.in-Ok.field-0.answer) part.0 (rw (← c.status-status.ensures) at c.in-Ok.ensures.tells)
     (subst (λ (bytes : List ℕ). IsExtended was now (take part.0 bytes)) text part.1) (c.in-Err-Failed.ensures.cause.failed (cc)) refl)
-    (record { host = λ not_four not_six not_seven. absurd (not_seven refl); sink = λ not_seven. absurd (not_seven refl) })
+    (λ not_seven. absurd (not_seven refl))
+
+pub returns-in_default-clause-ends : goal.returns-in_default-clause-ends
+returns-in_default-clause-ends g c =
+    let laws : BuildingLaws = record {
+      sizes = c.building_laws.ensures.sizes;
+      sources = c.building_laws.ensures.sources;
+      built = c.a_written_folder_holds_the_set.ensures.built;
+      made = c.a_written_folder_holds_the_set.ensures.made;
+    } in
+    let uploads : UploadLaws = record {
+      completes = c.a_generated_upload_completes.ensures;
+      happens = c.only_a_trial_happens.ensures;
+      fits = c.what_a_disk_holds_can_be_listed.ensures.fits;
+    } in
+    let images : ImageLaws = record {
+      not_both = c.an_image_holds_one_configuration.ensures.not_both;
+      one_standing = c.an_image_holds_one_configuration.ensures.one_standing;
+      one_fault = c.an_image_holds_one_configuration.ensures.one_fault;
+    } in
+    let shows : ShownLaws = record {
+      of_header = λ value bytes spells. (c.header_laws.ensures.spelled value bytes).1 spells;
+      of_loads = λ value bytes spells. (c.loads_list_laws.ensures.spelled value bytes).1 spells;
+      of_files = λ value bytes spells. (c.files_list_laws.ensures.spelled value bytes).1 spells;
+      of_lci = λ value bytes spells. (c.protocol_file_laws.ensures.lci.spelled bytes value).1 spells;
+      of_lcl = λ value bytes spells. (c.protocol_file_laws.ensures.lcl.spelled bytes value).1 spells;
+      of_lcs = λ value bytes spells. (c.protocol_file_laws.ensures.lcs.spelled bytes value).1 spells;
+      of_lui = λ value bytes spells. (c.protocol_file_laws.ensures.lui.spelled bytes value).1 spells;
+      of_lur = λ value bytes spells. (c.protocol_file_laws.ensures.lur.spelled bytes value).1 spells;
+      of_lus = λ value bytes spells. (c.protocol_file_laws.ensures.lus.spelled bytes value).1 spells;
+    } in
+    let at_end : EndLaws (g.K.Disk.state c.args.disk.now) (g.K.Disk.state c.answer.new.disk) = record { not_both = c.an_image_holds_one_configuration.ensures.not_both; reads_now = g.met.K.Disk.reads_now c.answer.new.disk } in
+    rw (c.out_of_memory.ensures.status, c.out_of_memory.ensures.drive)
+    (as_promised laws uploads images shows _ _ at_end c.answer.ensures.leaves.while_running (no_memory refl refl (in_command c.in_default.ensures.no_memory)) (λ not_seven. refl))
+
+pub returns-in_default-into_text-clause-ends : goal.returns-in_default-into_text-clause-ends
+returns-in_default-into_text-clause-ends g c =
+    let laws : BuildingLaws = record {
+      sizes = c.building_laws.ensures.sizes;
+      sources = c.building_laws.ensures.sources;
+      built = c.a_written_folder_holds_the_set.ensures.built;
+      made = c.a_written_folder_holds_the_set.ensures.made;
+    } in
+    let uploads : UploadLaws = record {
+      completes = c.a_generated_upload_completes.ensures;
+      happens = c.only_a_trial_happens.ensures;
+      fits = c.what_a_disk_holds_can_be_listed.ensures.fits;
+    } in
+    let images : ImageLaws = record {
+      not_both = c.an_image_holds_one_configuration.ensures.not_both;
+      one_standing = c.an_image_holds_one_configuration.ensures.one_standing;
+      one_fault = c.an_image_holds_one_configuration.ensures.one_fault;
+    } in
+    let shows : ShownLaws = record {
+      of_header = λ value bytes spells. (c.header_laws.ensures.spelled value bytes).1 spells;
+      of_loads = λ value bytes spells. (c.loads_list_laws.ensures.spelled value bytes).1 spells;
+      of_files = λ value bytes spells. (c.files_list_laws.ensures.spelled value bytes).1 spells;
+      of_lci = λ value bytes spells. (c.protocol_file_laws.ensures.lci.spelled bytes value).1 spells;
+      of_lcl = λ value bytes spells. (c.protocol_file_laws.ensures.lcl.spelled bytes value).1 spells;
+      of_lcs = λ value bytes spells. (c.protocol_file_laws.ensures.lcs.spelled bytes value).1 spells;
+      of_lui = λ value bytes spells. (c.protocol_file_laws.ensures.lui.spelled bytes value).1 spells;
+      of_lur = λ value bytes spells. (c.protocol_file_laws.ensures.lur.spelled bytes value).1 spells;
+      of_lus = λ value bytes spells. (c.protocol_file_laws.ensures.lus.spelled bytes value).1 spells;
+    } in
+    let at_end : EndLaws (g.K.Disk.state c.args.disk.now) (g.K.Disk.state c.answer.new.disk) = record { not_both = c.an_image_holds_one_configuration.ensures.not_both; reads_now = g.met.K.Disk.reads_now c.answer.new.disk } in
+    rw (c.out_of_memory-in_default-into_text.ensures.status, c.out_of_memory-in_default-into_text.ensures.drive)
+    (as_promised laws uploads images shows _ _ at_end c.answer.ensures.leaves.while_running
+    (no_memory refl refl (as_it_was_put (option_map run_seen c.in-Ok.field-0.drive) (status_of c.in-Ok.field-0.answer) (text_of c.in-Ok.field-0.answer) c.in-Ok.ensures.tells)) (λ not_seven. refl))
+
+pub returns-clause-ends : goal.returns-clause-ends
+returns-clause-ends g c =
+    let laws : BuildingLaws = record {
+      sizes = c.building_laws.ensures.sizes;
+      sources = c.building_laws.ensures.sources;
+      built = c.a_written_folder_holds_the_set.ensures.built;
+      made = c.a_written_folder_holds_the_set.ensures.made;
+    } in
+    let uploads : UploadLaws = record {
+      completes = c.a_generated_upload_completes.ensures;
+      happens = c.only_a_trial_happens.ensures;
+      fits = c.what_a_disk_holds_can_be_listed.ensures.fits;
+    } in
+    let images : ImageLaws = record {
+      not_both = c.an_image_holds_one_configuration.ensures.not_both;
+      one_standing = c.an_image_holds_one_configuration.ensures.one_standing;
+      one_fault = c.an_image_holds_one_configuration.ensures.one_fault;
+    } in
+    let shows : ShownLaws = record {
+      of_header = λ value bytes spells. (c.header_laws.ensures.spelled value bytes).1 spells;
+      of_loads = λ value bytes spells. (c.loads_list_laws.ensures.spelled value bytes).1 spells;
+      of_files = λ value bytes spells. (c.files_list_laws.ensures.spelled value bytes).1 spells;
+      of_lci = λ value bytes spells. (c.protocol_file_laws.ensures.lci.spelled bytes value).1 spells;
+      of_lcl = λ value bytes spells. (c.protocol_file_laws.ensures.lcl.spelled bytes value).1 spells;
+      of_lcs = λ value bytes spells. (c.protocol_file_laws.ensures.lcs.spelled bytes value).1 spells;
+      of_lui = λ value bytes spells. (c.protocol_file_laws.ensures.lui.spelled bytes value).1 spells;
+      of_lur = λ value bytes spells. (c.protocol_file_laws.ensures.lur.spelled bytes value).1 spells;
+      of_lus = λ value bytes spells. (c.protocol_file_laws.ensures.lus.spelled bytes value).1 spells;
+    } in
+    let at_end : EndLaws (g.K.Disk.state c.args.disk.now) (g.K.Disk.state c.answer.new.disk) = record { not_both = c.an_image_holds_one_configuration.ensures.not_both; reads_now = g.met.K.Disk.reads_now c.answer.new.disk } in
+    let memory : c.in-Err-Memory.field-0 ≡ Memory = c.in-Err-Memory.field-0-is in
+    rw (c.out_of_memory-in-Err-Memory.ensures.status, c.out_of_memory-in-Err-Memory.ensures.drive)
+    (as_promised laws uploads images shows _ _ at_end c.answer.ensures.leaves.while_running
+    (no_memory refl refl (as_it_was_put (option_map run_seen c.in-Ok.field-0.drive) (status_of c.in-Ok.field-0.answer) (text_of c.in-Ok.field-0.answer) c.in-Ok.ensures.tells))
+    (λ not_seven. c.in-Err-Memory.ensures.cause.memory (cc)))

@@ -1,11 +1,11 @@
 use Rattle.std.proofs.Common.{refl}
-use Rattle.std.proofs.lemmas.Result.{IfOk-weaker}
+use Rattle.std.proofs.lemmas.Result.{IfErr-weaker, IfOk-weaker}
 use Rattle.media_check.specs.Sets.{set_view}
 use Rattle.loader_cli.specs.Trials.Trials.{tried, no_target}
 use Rattle.loader_cli.specs.declared.replay.Telling.TheVariants.{Report}
 use Rattle.loader_cli.proofs.Left.{leaves_since, reads_leave}
-use Rattle.loader_cli.proofs.Outputs.{names_the_condition, not_of_disk}
-use Rattle.loader_cli.proofs.Tried.{names_target, run_since}
+use Rattle.loader_cli.proofs.Outputs.{leaves_running, names_the_condition, not_of_disk}
+use Rattle.loader_cli.proofs.Tried.{held_or_read, names_target, out_since, run_since}
 use Rattle.loader_cli.proofs.trial.trial.Goals as goal
 
 pub returns-in-Ok-script_for-clause-tries : goal.returns-in-Ok-script_for-clause-tries
@@ -25,7 +25,11 @@ returns-in_default-clause-tries g c =
     let fault = c.in-Err.fault in
     let other = not_of_disk fault c.in_default.not-DiskFailed c.in_default.not-Memory in
     rw (c.of-in_default.ensures.answer, c.of-in_default.ensures.drive)
-    (no_target fault c.in-Err.ensures.reads_disk.only_reads other (λ image told. names_the_condition image fault other (c.in-Err.ensures.refused image told)) refl refl refl)
+    (no_target fault other (record {
+      none = λ image told. names_the_condition image fault other (c.in-Err.ensures.refused image told);
+      only_reads = c.in-Err.ensures.reads_disk.only_reads;
+      running = leaves_running _ _ fault other c.in-Err.ensures.reads_disk.err;
+    }) refl refl refl)
 
 pub returns-in-Ok-script_for-clause-leaves : goal.returns-in-Ok-script_for-clause-leaves
 returns-in-Ok-script_for-clause-leaves g c =
@@ -49,3 +53,14 @@ returns-in-Memory-clause-leaves g c =
 pub returns-in-DiskFailed-clause-leaves : goal.returns-in-DiskFailed-clause-leaves
 returns-in-DiskFailed-clause-leaves g c =
     reads_leave (g.K.Disk.state c.args.disk.now) (g.met.K.Disk.only_now c.args.disk.now) (c.a_power_loss_takes_only_work.ensures.holds c.args.disk.now) (g.K.Disk.state c.survey.new.disk) c.survey.ensures.reads_disk.only_reads
+
+pub returns-in-Ok-script_for-clause-held : goal.returns-in-Ok-script_for-clause-held
+returns-in-Ok-script_for-clause-held g c =
+    let read = c.in-Ok.ensures.reads_disk in
+    held_or_read (g.K.Disk.state c.args.disk.now) (g.K.Disk.state c.survey.new.disk) (g.K.Disk.state c.run_script-said.new.disk) read.only_reads read.ok.reads c.run_script-said.ensures.held
+
+pub returns-in-Ok-script_for-clause-memory : goal.returns-in-Ok-script_for-clause-memory
+returns-in-Ok-script_for-clause-memory g c =
+    let read = c.in-Ok.ensures.reads_disk in
+    IfErr-weaker c.run_script-said.result _ _ (λ fault out. out_since (g.K.Disk.state c.args.disk.now) (g.K.Disk.state c.survey.new.disk) (g.K.Disk.state c.run_script-said.new.disk) read.only_reads read.ok.reads out)
+    c.run_script-said.ensures.memory

@@ -46,7 +46,7 @@ returns-in-Err-DiskFailed-clause-steps g c =
     let e = event_for sides.Target (posted_in c.args.recording.now) (happening_view c.args.happening.now) in
     let rule = subst (λ o. RuleFollows g.R.Rule.may_say set.accepts o) slot begins.rule in
     down_steps g.R.Rule.may_say set e c.args.slot.now c.in-Some.target c.target_takes.new.target (g.K.Disk.state c.args.disk.now) (g.K.Disk.state c.target_takes.new.disk) c.target_takes.result slot
-    (g.met.K.Disk.reads_now c.args.disk.now) c.target_takes.ensures.writes.goes_on (λ x has. c.target_takes.ensures.keeps set.accepts rule x has) _ c.take.new.self _ _ c.take.ensures.after refl state begins
+    (g.met.K.Disk.reads_now c.args.disk.now) c.target_takes.ensures.writes.goes_on (λ x has. c.target_takes.ensures.keeps set.accepts rule x has) _ c.go_down.new.slot _ _ c.go_down.ensures refl state begins
 
 pub returns-in-Err-Memory-clause-steps : goal.returns-in-Err-Memory-clause-steps
 returns-in-Err-Memory-clause-steps g c =

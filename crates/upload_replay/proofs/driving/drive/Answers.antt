@@ -49,7 +49,7 @@ returns-in-Ok-run_to_end-clause-arms g c =
 
 pub returns-in-Ok-run_to_end-clause-refused : goal.returns-in-Ok-run_to_end-clause-refused
 returns-in-Ok-run_to_end-clause-refused g c =
-    refused_after _ _ (g.K.Disk.state c.args.disk.now) (g.K.Disk.state c.end.new.disk) (g.L.Link.state c.args.link.now) (g.L.Link.state c.run_to_end.new.link) c.end.result c.in-Ok-run_to_end.ensures.refused.cause.ok
+    refused_after _ _ (g.K.Disk.state c.args.disk.now) (g.K.Disk.state c.run_to_end.new.disk) (g.K.Disk.state c.end.new.disk) (g.L.Link.state c.args.link.now) (g.L.Link.state c.run_to_end.new.link) c.end.result c.in-Ok-run_to_end.ensures.refused.cause.ok
     c.in-Ok.ensures.stood c.end.ensures.refused
 
 pub returns-in-Ok-run_to_end-clause-ended : goal.returns-in-Ok-run_to_end-clause-ended
@@ -113,7 +113,7 @@ returns-in-Ok-run_to_end-clause-leaves g c = λ set image is told loses.
     (runs_started set link old.clock c.in-Ok.driver (g.K.Disk.state c.boot.new.disk) c.in-Ok.ensures.begins.nothing c.requires.nothing_posted (c.in-Ok.ensures.held set image is told loses)) in
     history_ended set link (g.L.Link.state c.run_to_end.new.link) old.clock driver last (g.K.Disk.state c.end.new.disk) c.in-Ok-run_to_end.ensures.ready.goes_on runs
     (all_held set last (g.met.K.Disk.wider c.run_to_end.new.disk) (g.met.K.Disk.splits c.run_to_end.new.disk) (g.met.K.Disk.only_now c.run_to_end.new.disk) old.clock runs.clocks driver.steps driver.target runs.held)
-    c.end.ensures.leaves.no_more c.end.result (never_link (g.K.Disk.state c.end.new.disk) c.end.result c.end.ensures.refused)
+    c.end.ensures.leaves.no_more c.end.result (never_link last (g.K.Disk.state c.end.new.disk) c.end.result c.end.ensures.refused)
 
 pub returns-in-Err-clause-good : goal.returns-in-Err-clause-good
 returns-in-Err-clause-good g c = λ set image is told loses accepts. history_good c.the_configuration_changes_by_good_verdicts.ensures.active set accepts _ _ _ _ _ (returns-in-Err-clause-leaves g c set image is told loses)

@@ -1,4 +1,4 @@
-use Rattle.std.proofs.Common.{◌≡◌, ◌∷◌, List, refl, sym, ap, subst, ◌∙◌, arith}
+use Rattle.std.proofs.Common.{◌≡◌, inr, ◌∷◌, List, refl, sym, ap, subst, ◌∙◌, arith}
 use Rattle.std.specs.Prelude.{is_some, map, option_map}
 use Rattle.disk_layout.specs.Holds.{standing_view}
 use Rattle.exchange_trace.specs.Steps.{Step, steps_of}
@@ -6,6 +6,7 @@ use Rattle.loader_machine.specs.Machine.{session_view}
 use Rattle.upload_replay.specs.Drivers.{end_step}
 use Rattle.upload_replay.specs.Moments.{HoldsThroughout}
 use Rattle.upload_replay.proofs.Begins.{unit_run}
+use Rattle.upload_replay.proofs.Ended.{end_fault, stays}
 use Rattle.upload_replay.proofs.Resting.{rests_on}
 use Rattle.upload_replay.proofs.Throughout.{held_to_end, no_change, settled_if, throughout}
 use Rattle.upload_replay.proofs.driver.Driver.end.Goals as goal
@@ -16,6 +17,12 @@ returns-in-Err-clause-leaves g c = record {
   faults = omega arith;
   no_more = no_change (g.K.Disk.state c.args.disk.now);
 }
+
+pub returns-in-Err-clause-refused : goal.returns-in-Err-clause-refused
+returns-in-Err-clause-refused g c = inr (stays (g.K.Disk.state c.args.disk.now))
+
+pub returns-in-Err-standing_at_end-clause-refused : goal.returns-in-Err-standing_at_end-clause-refused
+returns-in-Err-standing_at_end-clause-refused g c = end_fault c.in-Err-standing_at_end.fault (g.K.Disk.state c.args.disk.now) (g.K.Disk.state c.standing_at_end.new.disk) c.in-Err-standing_at_end.ensures.refused
 
 pub returns-in-Ok-standing_at_end-clause-run : goal.returns-in-Ok-standing_at_end-clause-run
 returns-in-Ok-standing_at_end-clause-run g c =

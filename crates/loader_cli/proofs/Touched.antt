@@ -1,0 +1,99 @@
+-- What commands touch.
+use Rattle.std.proofs.Common.{◌≡◌, ◌⊎◌, inl, inr, ℕ, List, Option, refl, subst, arith}
+use Rattle.std.specs.Option.{ForSome}
+use Rattle.load_base.specs.Host.{Files}
+use Rattle.disk_model.specs.Image.{Image}
+use Rattle.disk_model.specs.State.{DiskState, KeepsPower, OnlyReads}
+use Rattle.disk_layout.specs.Holds.{HasDiskFault, HoldsConfig, StandingView}
+use Rattle.disk_layout.specs.declared.fault.RecoverFault.{RecoverFault}
+use Rattle.disk_layout.specs.declared.identity.Identity.{Identity}
+use Rattle.bank_store.specs.Formatting.{LeavesOldOrFormatted}
+use Rattle.media_build.specs.WrittenFolders.{KeepsAllBut}
+use Rattle.upload_replay.specs.Endings.{HoldsSome, StaysAsItWas}
+use Rattle.loader_cli.specs.Commands.{CommandView, FormatsDisk, IsAny, IsCommand, IsNo, UsesDisk, UsesHost, UsesScript, WritesDisk, WritesHost}
+use Rattle.loader_cli.specs.Commands.CommandView.{format, list}
+use Rattle.loader_cli.specs.Replays.{LeavesFirstOrGood}
+use Rattle.loader_cli.specs.Runs.{IsWritten}
+use Rattle.loader_cli.specs.Touches.{LeavesDisk, OnlyLooks, TouchesDisk, TouchesHost}
+use Rattle.loader_cli.proofs.Asked.{formats_no}
+use Rattle.loader_cli.proofs.OtherFiles.{nothing_set}
+use Rattle.loader_cli.proofs.Targets.{one_target}
+
+-- ---- the disk
+
+reads_nothing : (disk : DiskState) → OnlyReads disk disk
+reads_nothing disk = record {
+  tells = refl;
+  power = record { steady = refl; armings = refl; armed = refl };
+  faults = omega arith;
+  refusals = omega arith;
+  clock = refl;
+  now = λ image may. may;
+  between = λ t u image may. may;
+  keeps = λ t u image may. may;
+  closed = λ steady at n closed. closed;
+}
+
+-- a disk that isn't touched is as it was
+pub stays : (disk : DiskState) → StaysAsItWas disk disk
+stays disk = record { only_reads = reads_nothing disk; reads = refl; left = λ image may. may; faults = refl; refusals = refl; stopped = refl }
+
+pub disk_unused : {K : Type 0} (words : List (List ℕ)) (disk : K) (state : DiskState) → TouchesDisk words disk disk state state
+disk_unused words disk state = record {
+  untouched = λ none. refl;
+  looks = λ none. record { only_reads = reads_nothing state; same = λ running. refl };
+  none_held = λ none image fault read has. reads_nothing state;
+  never_armed = λ none. record { steady = refl; armings = refl; armed = refl };
+}
+
+pub disk_listed : {K : Type 0} (words : List (List ℕ)) (before after : K) (old new : DiskState) → IsCommand words list → OnlyLooks old new → TouchesDisk words before after old new
+disk_listed words before after old new asked looked = record {
+  untouched = λ none. absurd (none list asked tt);
+  looks = λ none. looked;
+  none_held = λ none image fault read has. looked.only_reads;
+  never_armed = λ none. looked.only_reads.power;
+}
+
+pub disk_formatted : {K : Type 0} (words : List (List ℕ)) (before after : K) (old new : DiskState) (id : Identity) → IsCommand words (format id) → KeepsPower old new → TouchesDisk words before after old new
+disk_formatted words before after old new id asked power = record {
+  untouched = λ none. absurd (none (format id) asked tt);
+  looks = λ none. absurd (none (format id) asked tt);
+  none_held = λ none. absurd (none (format id) asked tt);
+  never_armed = λ none. power;
+}
+
+-- a script is run on a disk that held a configuration, or that is only read
+pub disk_run : {K : Type 0} (words : List (List ℕ)) (before after : K) (old new : DiskState) (command : CommandView) → IsCommand words command → UsesDisk command → WritesDisk command → UsesScript command
+    → ((image : Image) (s : StandingView) (f : RecoverFault) → HoldsConfig image s → HasDiskFault image f → ⊥) → OnlyReads old new ⊎ HoldsSome old → TouchesDisk words before after old new
+disk_run words before after old new command asked uses writes runs not_both held = record {
+  untouched = λ none. absurd (none command asked uses);
+  looks = λ none. absurd (none command asked writes);
+  none_held = λ none image fault read has. elim held [ inl reads ↦ reads | inr some ↦ absurd (let (s, holds) = some image read in not_both image s fault holds has) ];
+  never_armed = λ none. absurd (none command asked runs);
+}
+
+-- ---- the host
+
+pub host_unused : {H : Type 0} (words : List (List ℕ)) (host : H) (files : Option Files) → TouchesHost words host host files files
+host_unused words host files = record { untouched = λ none. refl; kept = λ none. refl; others = nothing_set (λ told. IsWritten words told) files files refl }
+
+pub host_read : {H : Type 0} (words : List (List ℕ)) (before after : H) (old new : Option Files) (command : CommandView) → IsCommand words command → UsesHost command → new ≡ old → TouchesHost words before after old new
+host_read words before after old new command asked uses same = record { untouched = λ none. absurd (none command asked uses); kept = λ none. same; others = nothing_set (λ told. IsWritten words told) old new same }
+
+pub host_written : {H : Type 0} (words : List (List ℕ)) (before after : H) (old new : Option Files) (command : CommandView) → IsCommand words command → UsesHost command → WritesHost command
+    → ForSome old (λ told. KeepsAllBut (IsWritten words told) told new) → TouchesHost words before after old new
+host_written words before after old new command asked uses writes others = record { untouched = λ none. absurd (none command asked uses); kept = λ none. absurd (none command asked writes); others = others }
+
+-- ---- a power loss
+
+pub leaves_running : (words : List (List ℕ)) (old new : DiskState) (command : CommandView) → IsCommand words command → ¬ FormatsDisk command → LeavesFirstOrGood old new → LeavesDisk words old new
+leaves_running words old new command asked other left = record { while_formatting = λ id so. absurd (formats_no words command id asked other so); while_running = λ none. left }
+
+pub leaves_alone : (words : List (List ℕ)) (old new : DiskState) → IsNo IsAny words → LeavesFirstOrGood old new → LeavesDisk words old new
+leaves_alone words old new none left = record { while_formatting = λ id so. absurd (none (format id) so tt); while_running = λ any. left }
+
+pub leaves_formatting : (words : List (List ℕ)) (old new : DiskState) (id : Identity) → IsCommand words (format id) → LeavesOldOrFormatted id old new → LeavesDisk words old new
+leaves_formatting words old new id asked left = record {
+  while_formatting = λ other so. subst (λ (i : Identity). LeavesOldOrFormatted i old new) (one_target words id other asked so) left;
+  while_running = λ none. absurd (none (format id) asked tt);
+}

@@ -1,0 +1,55 @@
+-- Commands one after the other on one disk (docs/POWER.md).
+use Rattle.std.specs.Prelude.{◌≡◌, List, [], ◌∷◌, Some, false, true, is_some, ⊤}
+use Rattle.disk_model.specs.Image.{Image}
+use Rattle.disk_model.specs.State.{DiskState, IsSettled}
+use Rattle.bank_store.specs.Fits.{LosesOnlyWork}
+use Rattle.disk_layout.specs.Holds.{HoldsConfig, StandingView}
+use Rattle.disk_layout.specs.declared.identity.Identity.{Identity}
+use Rattle.media_check.specs.Sets.{SetView}
+use Rattle.upload_replay.specs.Endings.{StaysAsItWas}
+use Rattle.upload_replay.specs.Moments.{LeavesGood}
+use Rattle.loader_cli.specs.Calls.{Call, IsPromised}
+use Rattle.loader_cli.specs.Commands.{CommandView, FormatsDisk, IsCommand, IsNo, UsesScript, WritesDisk}
+use Rattle.loader_cli.specs.Commands.CommandView.{format}
+use Rattle.loader_cli.specs.Replays.{RunSeen, setting_of}
+use Rattle.loader_cli.specs.Runs.{Run}
+use Rattle.loader_cli.specs.declared.top_call.Ended.{Ended}
+
+-- A call after which the next has its premise: the disk runs, and the command doesn't write it; the disk is as it was; it was
+-- formatted; or a script was run, and it is known what stands on the disk.
+pub data LeavesAtRest (run : Run) (ended : Ended) : Type 0 where
+  looks : IsNo WritesDisk run.work.words → run.work.disk_after.stopped ≡ false → LeavesAtRest run ended
+  stays : StaysAsItWas run.work.disk run.work.disk_after → LeavesAtRest run ended
+  was_formatted : (id : Identity) → IsCommand run.work.words (format id) → is_some run.work.disk.reads ≡ true → ended.status ≡ 0 → LeavesAtRest run ended
+  stands : (command : CommandView) (seen : RunSeen) (last : StandingView) → IsCommand run.work.words command → UsesScript command → run.work.handed ≡ Some seen
+      → seen.standing ≡ Some last → LeavesAtRest run ended
+
+-- a call, and how it ended
+pub record Took (H O K : Type 0) : Type 0 where
+  pub call : Call H O K
+  pub ended : Ended
+
+-- calls that each kept what `run` promises, in their order, the first on this disk and each other on the one that was left
+abbrev pub AreInTurn : {H O K : Type 0} → (seen : Call H O K → Run) → K → List (Took H O K) → Type 0
+AreInTurn seen disk [] = ⊤
+AreInTurn seen disk (took ∷ later) = (took.call.disk ≡ disk) × IsPromised (seen took.call) took.ended × AreInTurn seen took.call.disk_after later
+
+-- What a call keeps on a disk at rest, which is the premise of all that is said of what a disk holds: so each image that a
+-- power loss may leave now, or might have left since its start, holds what was active at its start, or good loads alone,
+-- unless it formats.
+pub record Keeps (run : Run) : Type 0 where
+  pub rests : LosesOnlyWork run.work.disk
+  pub leaves : IsNo FormatsDisk run.work.words → (set : SetView) (start : StandingView) (image : Image) → run.work.disk.reads ≡ Some image → HoldsConfig image start
+      → LeavesGood (setting_of set start) run.work.disk.clock run.work.disk_after
+
+-- each does, as long as those before it left the disk at rest
+abbrev pub EachKeeps : {H O K : Type 0} → (seen : Call H O K → Run) → List (Took H O K) → Type 0
+EachKeeps seen [] = ⊤
+EachKeeps seen (took ∷ later) = Keeps (seen took.call) × (LeavesAtRest (seen took.call) took.ended → EachKeeps seen later)
+
+-- what a restart that answers Ok leaves: one of the images that a power loss might have left
+pub record IsRestarted (old new : DiskState) : Type 0 where
+  pub running : new.stopped ≡ false
+  pub settled : IsSettled new
+  pub tells : is_some new.reads ≡ is_some old.reads
+  pub now : (image : Image) → new.now image → old.now image

@@ -1,0 +1,45 @@
+-- What a command touches, and what a power loss leaves of the disk, whatever it answers (docs/PROMISES.md).
+use Rattle.std.specs.Prelude.{◌≡◌, ℕ, List, Option, Some, false}
+use Rattle.std.specs.Option.{ForSome}
+use Rattle.load_base.specs.Host.{Files}
+use Rattle.disk_model.specs.Image.{Image}
+use Rattle.disk_model.specs.State.{DiskState, KeepsPower, OnlyReads}
+use Rattle.disk_layout.specs.Holds.{HasDiskFault}
+use Rattle.disk_layout.specs.declared.fault.RecoverFault.{RecoverFault}
+use Rattle.disk_layout.specs.declared.identity.Identity.{Identity}
+use Rattle.bank_store.specs.Formatting.{LeavesOldOrFormatted}
+use Rattle.media_build.specs.WrittenFolders.{KeepsAllBut}
+use Rattle.loader_cli.specs.Commands.{FormatsDisk, IsCommand, IsNo, UsesDisk, UsesHost, UsesScript, WritesDisk, WritesHost}
+use Rattle.loader_cli.specs.Commands.CommandView.{format}
+use Rattle.loader_cli.specs.Replays.{LeavesFirstOrGood}
+use Rattle.loader_cli.specs.Runs.{IsWritten}
+
+-- Nothing is written; and where the disk runs, it reads what it read.
+pub record OnlyLooks (old new : DiskState) : Type 0 where
+  pub only_reads : OnlyReads old new
+  pub same : new.stopped ≡ false → new.reads ≡ old.reads
+
+-- a disk that holds no configuration is only read
+abbrev pub ReadsWhereNoneIs : (old new : DiskState) → Type 0
+ReadsWhereNoneIs old new = (image : Image) (fault : RecoverFault) → old.reads ≡ Some image → HasDiskFault image fault → OnlyReads old new
+
+-- The disk is touched by no command but those that use it, only read by those that don't write it, and, where it holds no
+-- configuration, by each but `format`. No loss of power is armed but in a run of a script.
+pub record TouchesDisk {K : Type 0} (words : List (List ℕ)) (before after : K) (old new : DiskState) : Type 0 where
+  pub untouched : IsNo UsesDisk words → after ≡ before
+  pub looks : IsNo WritesDisk words → OnlyLooks old new
+  pub none_held : IsNo FormatsDisk words → ReadsWhereNoneIs old new
+  pub never_armed : IsNo UsesScript words → KeepsPower old new
+
+-- The host is touched by no command but those that use it, and its files stay as they are but for those of the set that
+-- `build` or `make` writes.
+pub record TouchesHost {H : Type 0} (words : List (List ℕ)) (before after : H) (old new : Option Files) : Type 0 where
+  pub untouched : IsNo UsesHost words → after ≡ before
+  pub kept : IsNo WritesHost words → new ≡ old
+  pub others : ForSome old (λ told. KeepsAllBut (IsWritten words told) told new)
+
+-- What a power loss leaves: of `format` the old configuration whole, nothing, or the formatted disk; of each other command
+-- what was active at first, or good loads alone.
+pub record LeavesDisk (words : List (List ℕ)) (old new : DiskState) : Type 0 where
+  pub while_formatting : (id : Identity) → IsCommand words (format id) → LeavesOldOrFormatted id old new
+  pub while_running : IsNo FormatsDisk words → LeavesFirstOrGood old new
