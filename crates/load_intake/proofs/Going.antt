@@ -1,8 +1,8 @@
 -- How a store goes on over several calls.
-use Rattle.std.proofs.Common.{◌≡◌, ◌+◌, Result, Ok, IfOk, inl, inr, refl, ap, ◌∙◌, arith}
+use Rattle.std.proofs.Common.{◌≡◌, ◌+◌, Result, Ok, Err, IfOk, OnOk, inl, inr, refl, ap, ◌∙◌, arith}
 use Rattle.std.proofs.lemmas.Result.{IfOk-weaker}
 use Rattle.disk_model.specs.MomentLaws.{power_kept}
-use Rattle.disk_model.specs.State.{DiskState}
+use Rattle.disk_model.specs.State.{DiskState, KeepsCounts}
 use Rattle.bank_store.specs.declared.store.Store.{Store}
 use Rattle.bank_store.specs.DiskWrites.{IsRunning, TimeGoesOn}
 use Rattle.bank_store.specs.Fits.{Fits}
@@ -102,13 +102,22 @@ time_after a b c one two = record {
   power = power_kept a b c one.power two.power;
 }
 
+counts_after : (a b c : DiskState) → KeepsCounts a b → KeepsCounts b c → KeepsCounts a c
+counts_after a b c one two = record { faults = two.faults ∙ one.faults; refusals = two.refusals ∙ one.refusals }
+
+-- after a call that no call of the disk refused
+later_counts : {T : Type 0} (a b c : DiskState) (result : Result T Down) → KeepsCounts a b → OnOk result (KeepsCounts b c) → OnOk result (KeepsCounts a c)
+later_counts a b c (Ok x) one two = counts_after a b c one two
+later_counts a b c (Err down) one two = tt
+
 pub writes_after : {S T : Type 0} (a b c : DiskState) (x : S) (result : Result T Down) → Writes a b (Ok x) → Writes b c result → Writes a c result
 writes_after a b c x result one two = record {
   goes_on = time_after a b c one.goes_on two.goes_on;
   running = two.running;
+  counts = later_counts a b c result one.counts two.counts;
   cause = record { failed = λ is. let found = two.cause.failed is in (omega (arith, found.0, one.goes_on.faults), found.1) };
   memory = λ is. elim (two.memory is) [
-    | inl runs ↦ inl runs
+    | inl runs ↦ inl (record { counts = counts_after a b c one.counts runs.counts; running = runs.running })
     | inr out ↦ inr (record { counted = omega (arith, out.counted, one.goes_on.refusals); stopped = out.stopped })
   ];
 }

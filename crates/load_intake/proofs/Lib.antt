@@ -2,6 +2,7 @@ pub mod NoMore
 pub mod Sizes
 pub mod Steps
 pub mod Going
+pub mod Held
 pub mod Texts
 pub mod Taking
 pub mod Beginning

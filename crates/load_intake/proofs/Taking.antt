@@ -1,5 +1,5 @@
 -- More of a file arrives.
-use Rattle.std.proofs.Common.{◌≡◌, ℕ, ◌+◌, ◌-◌, ◌<◌, ◌≤◌, min, List, [], ◌∷◌, ◌++◌, length, take, Option, Some, None, Result, Ok, Err, OnOk, sym, ap, subst, ◌∙◌, arith, length-take, get_or, slice_get}
+use Rattle.std.proofs.Common.{◌≡◌, ℕ, ◌+◌, ◌-◌, ◌<◌, ◌≤◌, min, List, [], ◌∷◌, ◌++◌, length, take, Option, Some, None, Result, Ok, Err, OnOk, refl, sym, ap, subst, ◌∙◌, arith, length-take, get_or, slice_get}
 use Rattle.std.proofs.lemmas.List.{get_or-map, length-map}
 use Rattle.std.proofs.lemmas.List.Sums.{sum_by_more_le}
 use Rattle.std.proofs.lemmas.Option.{slice_get-get_or}
@@ -83,7 +83,7 @@ file_has store loads missing s new bytes is has = rw is (subst (λ (n : ℕ). Ha
 pub keeps_more : (w : WholeView) (load next : Option OpenLoadView) (arriving more : Arriving) → next ≡ load → (IsOfNext load arriving → IsOfNext next more)
     → IsIntake (intake_at w load arriving) w.need → IsIntake (intake_at w next more) w.need
 keeps_more w load next arriving more same goes i =
-    rw same (record { few = i.few; left = i.left; need = i.need; next = subst (λ (x : Option OpenLoadView). IsOfNext x more) same (goes i.next) })
+    rw same (record { few = i.few; left = i.left; need = i.need; next = subst (λ (x : Option OpenLoadView). IsOfNext x more) same (goes i.next); holds = refl })
 
 pub may_take : (w : WholeView) (load : Option OpenLoadView) (arriving : Arriving) (store : Store) → IsIntake (intake_at w load arriving) w.need → IsInStep (intake_at w load arriving) store → MayTake arriving store
 may_take w None (Kept_bytes b) store i step = tt

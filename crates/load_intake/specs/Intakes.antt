@@ -4,12 +4,13 @@ use Rattle.load_protocol_files.specs.declared.lur.Wanted.{Wanted}
 use Rattle.disk_layout.specs.Manifest.{entry_view}
 use Rattle.session_rules.specs.declared.reason.RequestFault.{RequestFault}
 use Rattle.session_rules.specs.TargetRows as rows
-use Rattle.session_rules.specs.TargetRows.{Arriving, Kept_bytes, Kept_sums, RowView, Reads_file, Writes_progress, Writes_stop, Writes_completion, arriving_of, with_bytes}
+use Rattle.session_rules.specs.TargetRows.{RowView, Reads_file, Writes_progress, Writes_stop, Writes_completion, arriving_of, with_bytes}
 use Rattle.load_intake.specs.declared.finished.Finished.{Finished}
 use Rattle.load_intake.specs.declared.finished.Finished.TheVariants as finished
 use Rattle.load_intake.specs.declared.ended.UploadEnd as declared_end
 use Rattle.load_intake.specs.declared.request.Request.{Request}
 use Rattle.load_intake.specs.declared.request.Request.TheVariants as requests
+use Rattle.load_intake.specs.Held.{upload_kept}
 use Rattle.load_intake.specs.States.{IntakeState}
 
 -- a request that was read: the loads that it asks for, or why it is refused
@@ -32,22 +33,23 @@ row_seen (finished.NextLoad intake) = Writes_progress intake.upload
 row_seen (finished.Stopped end) = Writes_stop (end_view end)
 row_seen (finished.Installed end loads) = Writes_completion (end_view end) (map entry_view loads.loads.items)
 
--- how many bytes of the contents of a file are kept while it arrives: of a data or support file, which goes straight to the
--- other bank, none
-abbrev pub contents_kept : Arriving → ℕ
-contents_kept (Kept_bytes b) = length b.prefix
-contents_kept (Kept_sums s) = 0
-
 -- nothing has arrived yet of the file that comes next
 abbrev pub IsFresh : IntakeState → Type 0
 IsFresh st = st.arriving ≡ arriving_of (Reads_file st.upload) []
 
+-- Between two loads nothing has arrived of the next header, and no bytes are held.
+pub record IsBetweenLoads (st : IntakeState) : Type 0 where
+  pub fresh : IsFresh st
+  pub empty : st.held ≡ 0
+
 -- an intake that goes on has nothing of the next file yet
 abbrev pub BeginsNext : Finished → Type 0
 BeginsNext (finished.MoreFiles intake) = IsFresh intake
-BeginsNext (finished.NextLoad intake) = IsFresh intake
+BeginsNext (finished.NextLoad intake) = IsBetweenLoads intake
 BeginsNext finished = ⊤
 
 -- an intake after these bytes more of the file that arrives
 abbrev pub with_more : IntakeState → List ℕ → IntakeState
-with_more st bytes = record { upload = st.upload; arriving = with_bytes st.arriving bytes }
+with_more st bytes =
+    let more = with_bytes st.arriving bytes in
+    record { upload = st.upload; arriving = more; held = upload_kept st.upload.current more }

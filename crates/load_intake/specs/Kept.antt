@@ -8,6 +8,9 @@ use Rattle.disk_layout.specs.Manifest.{LoadEntry}
 use Rattle.session_rules.specs.Buffers.{Sums}
 use Rattle.session_rules.specs.Uploads.{OpenLoadView, UploadView, files_of, next_entry, planned_load, need_of}
 use Rattle.session_rules.specs.TargetRows.{Arriving, Kept_bytes, Kept_sums, load_entry_of, said_length}
+use Rattle.load_intake.specs.declared.place.Place.{Place}
+use Rattle.load_intake.specs.Held.{upload_kept}
+use Rattle.load_intake.specs.Places.{arriving_at, bytes_held, open_load}
 use Rattle.load_intake.specs.States.{IntakeState, WholeView, upload_of}
 
 -- ---- the loads
@@ -64,12 +67,14 @@ IsOfNext None (Kept_bytes b) = ⊤
 IsOfNext (Some l) (Kept_sums s) = IsOpen l s
 IsOfNext current arriving = ⊥
 
--- A load is still to come of at most 32, and the bytes that all need are counted.
+-- A load is still to come of at most 32, and the bytes that all need are counted. No bytes of the contents of files are held
+-- but those that the upload keeps: what waits for the next header is empty.
 pub record IsIntake (st : IntakeState) (counted : ℕ) : Type 0 where
   pub few : length st.upload.request ≤ 32
   pub left : length st.upload.loads < length st.upload.request
   pub need : counted ≡ need_of (loads_planned st.upload)
   pub next : IsOfNext st.upload.current st.arriving
+  pub holds : st.held ≡ upload_kept st.upload.current st.arriving
 
 -- A load of which the last file that arrived was accepted: it has the first files that its header names, and is the next
 -- of those that were asked for.
@@ -84,4 +89,12 @@ pub record IsAccepted (w : WholeView) (l : OpenLoadView) : Type 0 where
 
 -- an intake of an upload that is so far, with this kept of the file that arrives
 abbrev pub intake_at : WholeView → Option OpenLoadView → Arriving → IntakeState
-intake_at w current arriving = record { upload = upload_of w current; arriving = arriving }
+intake_at w current arriving = record { upload = upload_of w current; arriving = arriving; held = upload_kept current arriving }
+
+-- and one with all that stands where its next file comes
+abbrev pub intake_of : WholeView → Place → IntakeState
+intake_of w place = record { upload = upload_of w (open_load place); arriving = arriving_at place; held = bytes_held place }
+
+-- what waits there is empty
+abbrev pub WaitsEmpty : Place → Type 0
+WaitsEmpty place = bytes_held place ≡ upload_kept (open_load place) (arriving_at place)

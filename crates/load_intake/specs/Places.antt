@@ -1,5 +1,5 @@
 -- The file that comes next (docs/EXCHANGE.md, "Upload").
-use Rattle.std.specs.Prelude.{ℕ, ◌+◌, Option, Some, None}
+use Rattle.std.specs.Prelude.{ℕ, ◌+◌, length, Option, Some, None}
 use Rattle.session_rules.specs.Uploads.{Next, More_files, Next_load, Complete, OpenLoadView}
 use Rattle.session_rules.specs.TargetRows.{Arriving, Kept_bytes, Kept_sums}
 use Rattle.load_intake.specs.declared.place.Place.{Place}
@@ -16,6 +16,12 @@ open_load (places.File load sums waits) = Some load
 abbrev pub arriving_at : Place → Arriving
 arriving_at (places.Header buffer) = Kept_bytes buffer
 arriving_at (places.File load sums waits) = Kept_sums sums
+
+-- how many bytes of the contents of files its lists hold: those of a header that arrives, or the user data of the one that was
+-- read and all that stands in the buffer that waits
+abbrev pub bytes_held : Place → ℕ
+bytes_held (places.Header buffer) = length buffer.prefix
+bytes_held (places.File load sums waits) = length load.header.user + length waits.prefix
 
 -- what comes after a file that was accepted
 abbrev pub next_seen : declared_next.Next → Next

@@ -7,10 +7,12 @@ use Rattle.disk_layout.specs.Manifest.{LoadEntry}
 use Rattle.session_rules.specs.Uploads.{OpenLoadView, UploadView}
 use Rattle.session_rules.specs.TargetRows.{Arriving, load_entry_of}
 
--- how far an upload has come, and what is kept of the file that arrives
+-- how far an upload has come, what is kept of the file that arrives, and how many bytes of the contents of files all lists
+-- of the intake hold together
 pub record IntakeState : Type 0 where
   pub upload : UploadView
   pub arriving : Arriving
+  pub held : ℕ
 
 -- The loads that were asked for, those that are whole, and how many bytes of a bank these need with their manifest, and
 -- with them the one that isn't whole.

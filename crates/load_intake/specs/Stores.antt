@@ -1,7 +1,7 @@
 -- How an intake and the store that it fills go together (docs/EXCHANGE.md, "Upload"; docs/DISK.md).
 use Rattle.std.specs.Prelude.{◌≡◌, ◌⊎◌, ℕ, ◌+◌, ◌-◌, ◌≤◌, ⊤, List, [], ◌∷◌, ◌++◌, length, Result, OnOk, IsErrOf, false}
 use Rattle.std.specs.List.{concat}
-use Rattle.disk_model.specs.State.{DiskState}
+use Rattle.disk_model.specs.State.{DiskState, KeepsCounts}
 use Rattle.disk_layout.specs.DiskReads.{HasDiskCause, IsOutOfMemory}
 use Rattle.disk_layout.specs.Slots.{other_bank, other_slot}
 use Rattle.disk_layout.specs.Manifest.{LoadEntry, total_length, manifest_fields}
@@ -117,13 +117,24 @@ pub record Ends (finished : Finished) (before after : Store) (old new : DiskStat
   pub begins : BeginsNext finished
   pub leaves : Leaves finished before after old new
 
--- Time goes on, whatever is answered; the disk runs on unless it is down, and a failure of the disk has its cause. Where
--- memory is out, the disk runs on, or it was out of memory.
+-- No call of the disk was refused, and it takes calls.
+pub record RunsUnrefused (old new : DiskState) : Type 0 where
+  pub counts : KeepsCounts old new
+  pub running : IsRunning new
+
+-- Memory is out: no call of the disk was refused and it runs, or the disk itself was out of memory, which it counts, and is
+-- stopped.
+abbrev pub RunsOutOfMemory : DiskState → DiskState → Type 0
+RunsOutOfMemory old new = RunsUnrefused old new ⊎ IsOutOfMemory old new
+
+-- Time goes on, whatever is answered; with Ok no call of the disk was refused and it runs, and a failure of the disk has its
+-- cause.
 pub record Writes {T : Type 0} (old new : DiskState) (result : Result T Down) : Type 0 where
   pub goes_on : TimeGoesOn old new
   pub running : OnOk result (new.stopped ≡ false)
   pub cause : HasDiskCause downs.DiskFailed old new result
-  pub memory : IsErrOf result downs.Memory → (new.stopped ≡ false) ⊎ IsOutOfMemory old new
+  pub counts : OnOk result (KeepsCounts old new)
+  pub memory : IsErrOf result downs.Memory → RunsOutOfMemory old new
 
 -- what a failure of the store comes to
 abbrev pub down_of : StoreFault → Down

@@ -250,6 +250,7 @@ fn go_on<K: Disk>(
 
 /// The load has more files.
 fn more_files(whole: Whole, load: OpenLoad, sum: Crc32, buffer: FileBuffer) -> Finished
+    requires empty { buffer ≡ empty_buffer }
     requires accepted { IsAccepted whole load }
     requires more { length load.files < length (files_of load.header) }
     requires sum { sum ≡ load.crc }

@@ -14,9 +14,9 @@ ghost use Rattle.session_rules.specs.TargetRows.{Reads_file, Writes_stop, done_m
 ghost use Rattle.session_rules.specs.TargetRows.{new_upload, new_upload_view, row_moved};
 ghost use Rattle.session_rules.specs.TargetRows.{view_moved};
 ghost use Rattle.load_intake.specs.Contents.{BringsRow, BringsTo, InstallsRow, IsOf};
-ghost use Rattle.load_intake.specs.Intakes.{IsFresh, contents_kept, end_view, row_seen};
-ghost use Rattle.load_intake.specs.Intakes.{with_more};
-ghost use Rattle.load_intake.specs.Kept.{IsIntake, intake_at};
+ghost use Rattle.load_intake.specs.Held.{contents_kept};
+ghost use Rattle.load_intake.specs.Intakes.{IsFresh, end_view, row_seen, with_more};
+ghost use Rattle.load_intake.specs.Kept.{IsIntake, WaitsEmpty, intake_at};
 ghost use Rattle.load_intake.specs.Places.{arriving_at, open_load};
 ghost use Rattle.load_intake.specs.Stores.{Ends, IsInStep, StaysInStep, Writes};
 
@@ -48,21 +48,14 @@ pub struct Intake {
 }
 
 impl Model for Intake {
-    ghost use Rattle.load_intake.specs.Kept.{IsIntake};
-    ghost use Rattle.load_intake.specs.Places.{arriving_at, open_load};
-    ghost use Rattle.load_intake.specs.States.{IntakeState, upload_of};
+    ghost use Rattle.load_intake.specs.Kept.{IsIntake, intake_of};
+    ghost use Rattle.load_intake.specs.States.{IntakeState};
 
     ghost Value = { IntakeState };
 
-    ghost view = { λ i. record {
-      upload = upload_of i.whole (open_load i.place);
-      arriving = arriving_at i.place;
-    } };
+    ghost view = { λ i. intake_of i.whole i.place };
 
-    ghost invariant = { λ i. IsIntake (record {
-      upload = upload_of i.whole (open_load i.place);
-      arriving = arriving_at i.place;
-    }) i.whole.need };
+    ghost invariant = { λ i. IsIntake (intake_of i.whole i.place) i.whole.need };
 }
 
 impl Intake {
@@ -105,7 +98,9 @@ impl Intake {
     }
 
     pub(crate) fn at(whole: Whole, place: Place) -> Intake
-        requires { IsIntake (intake_at whole (open_load place) (arriving_at place)) whole.need }
+        requires intake { IsIntake (intake_at whole (open_load place) (arriving_at place))
+            whole.need }
+        requires waits { WaitsEmpty place }
         ensures { result ≡ intake_at whole (open_load place) (arriving_at place) }
     {
         Intake { whole, place }
@@ -222,10 +217,12 @@ impl Intake {
         whole.stop(store, arrived, Reason::FileNotServed { code })
     }
 
-    /// Of the file that arrives at most 65,536 bytes are kept.
+    /// All its lists hold at most 65,536 bytes of the contents of files together: those of the header
+    /// that arrives, or the user data of the one that was read.
     // For the proof: does nothing.
     pub fn keeps_little(&self)
-        ensures { contents_kept self.now.arriving ≤ buffer_size }
+        ensures held { self.now.held ≤ buffer_size }
+        ensures arriving { contents_kept self.now.arriving ≤ self.now.held }
     {
         match &self.place {
             Place::Header(buffer) => buffer.keeps_little(),

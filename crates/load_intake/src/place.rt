@@ -10,7 +10,7 @@ ghost use Rattle.session_rules.specs.Buffers.{summed_more};
 ghost use Rattle.session_rules.specs.TargetRows.{Reads_file, arriving_load, with_bytes};
 ghost use Rattle.session_rules.specs.Uploads.{Upload, current_view};
 ghost use Rattle.load_intake.specs.Contents.{BringsTo, Gives, InstallsRow, IsGiven};
-ghost use Rattle.load_intake.specs.Kept.{IsOfNext, bytes_taken};
+ghost use Rattle.load_intake.specs.Kept.{IsOfNext, WaitsEmpty, bytes_taken};
 ghost use Rattle.load_intake.specs.Places.{arriving_at, open_load};
 ghost use Rattle.load_intake.specs.Stores.{StoreGoesOn, Has, HasRoomFor, MayTake, Writes};
 
@@ -27,7 +27,8 @@ use session_files::FileBuffer;
 pub(crate) enum Place {
     /// The header of the next load. Its first bytes.
     Header(FileBuffer),
-    /// A data or support file of this load. Its sums, and the buffer for the next header.
+    /// A data or support file of this load. Its sums, and the buffer for the next header, which is
+    /// empty.
     File(OpenLoad, FileSums, FileBuffer),
 }
 
@@ -42,6 +43,7 @@ impl Place {
         requires may_take { MayTake (arriving_at self.old) store.old }
         requires running { IsRunning (K.state disk.old) }
         ensures load { open_load self.new ≡ open_load self.old }
+        ensures waits { WaitsEmpty self.old → WaitsEmpty self.new }
         ensures next { IsOfNext (open_load self.old) (arriving_at self.old)
             → IsOfNext (open_load self.new) (arriving_at self.new) }
         ensures takes { OnOk result

@@ -10,7 +10,7 @@ use Rattle.session_rules.specs.Target.{TargetSession, in_row, is_over}
 use Rattle.session_rules.specs.TargetRows.{Kept_bytes, RowView}
 use Rattle.load_intake.specs.States.{IntakeState}
 use Rattle.target_machine.specs.Decisions.{IsCalm, TargetState}
-use Rattle.target_machine.specs.Machine.{arriving_in, row_seen, session_seen}
+use Rattle.target_machine.specs.Machine.{arriving_in, row_seen, seen_at, session_seen}
 use Rattle.target_machine.specs.Stages.{IsInStage, IsRowStage, StartsFresh}
 use Rattle.target_machine.specs.declared.row.Row.{Row}
 use Rattle.target_machine.specs.declared.row.Row.TheVariants as rows
@@ -49,7 +49,7 @@ calm_now {R} st now active live store same is stage = subst (λ (x : TargetState
 -- ---- a row begins
 
 -- what is kept of it
-pub begins : (active : List LoadEntry) (row : Row) → StartsFresh (Some row) → session_seen active (record { row = row; arriving = empty_buffer }) ≡ in_row (row_seen active row)
+pub begins : (active : List LoadEntry) (row : Row) → StartsFresh (Some row) → seen_at active row empty_buffer ≡ in_row (row_seen active row)
 begins active rows.GivesLci fresh = refl
 begins active rows.WritesLcs fresh = refl
 begins active rows.WritesLcl fresh = refl
@@ -84,12 +84,12 @@ pub none_by : (live : Option LiveSession) → ((s : LiveSession) → live ≡ So
 none_by None not = refl
 none_by (Some s) not = absurd (not s refl)
 
-pub session_in : (s : LiveSession) (row : Row) → s.row ≡ row → s.arriving ≡ empty_buffer → s ≡ record { row = row; arriving = empty_buffer }
-session_in s row r a = rw (r, a) refl
+session_in : (active : List LoadEntry) (s : LiveSession) (row : Row) → s.row ≡ row → s.arriving ≡ empty_buffer → session_seen active s ≡ seen_at active row empty_buffer
+session_in active s row r a = rw (r, a) refl
 
 -- a session that begins its row is seen so
 pub begins_in : (active : List LoadEntry) (live : Option LiveSession) (s : LiveSession) (row : Row) → live ≡ Some s → s.row ≡ row → s.arriving ≡ empty_buffer → StartsFresh (Some row) → option_map (session_seen active) live ≡ Some (in_row (row_seen active row))
-begins_in active live s row e r a fresh = ap (option_map (session_seen active)) e ∙ ap (λ x. Some (session_seen active x)) (session_in s row r a) ∙ ap (λ x. Some x) (begins active row fresh)
+begins_in active live s row e r a fresh = ap (option_map (session_seen active)) e ∙ ap (λ x. Some x) (session_in active s row r a) ∙ ap (λ x. Some x) (begins active row fresh)
 
 pub row_isnt_over : (active : List LoadEntry) (row : Row) → is_over (row_seen active row) ≡ false
 row_isnt_over active rows.GivesLci = refl

@@ -18,7 +18,7 @@ use Rattle.load_intake.specs.ContentLaws.{adds_nothing, adds_same, beside_contin
 use Rattle.load_intake.specs.States.{IntakeState}
 use Rattle.disk_layout.specs.Manifest.{LoadEntry}
 use Rattle.target_machine.specs.Disks.{IsResting, TurnsDisk}
-use Rattle.target_machine.specs.Machine.{row_seen, session_seen, session_with}
+use Rattle.target_machine.specs.Machine.{row_seen, seen_at, session_with}
 use Rattle.target_machine.specs.declared.row.Row.{Row}
 use Rattle.target_machine.specs.declared.row.Row.TheVariants as rows
 
@@ -273,7 +273,7 @@ begin_fails old after other new s row u one (Err e) err brings = record {
 -- ---- more arrives of a file that isn't one of a load
 
 pub row_takes : (active : List LoadEntry) (row : Row) (buffer more : Buffer) (payload : List ℕ) → ((intake : IntakeState) → row ≡ rows.ReadsFile intake → ⊥) → more ≡ buffered_more buffer payload
-    → session_seen active (record { row = row; arriving = more }) ≡ session_with (session_seen active (record { row = row; arriving = buffer })) payload
+    → seen_at active row more ≡ session_with (seen_at active row buffer) payload
 row_takes active rows.GivesLci buffer more payload reads is = rw is refl
 row_takes active rows.WritesLcs buffer more payload reads is = rw is refl
 row_takes active rows.WritesLcl buffer more payload reads is = rw is refl

@@ -1,4 +1,5 @@
 pub mod Calm
+pub mod Own
 pub mod Following
 pub mod Entering
 pub mod Serving

@@ -20,11 +20,13 @@ use Rattle.session_rules.specs.declared.reason.Reason.TheVariants as reasons
 use Rattle.session_rules.specs.Target.{Continues, TargetDecision, TargetSession, TargetView, continued, doing, is_over, nothing, own_name, row_request, target_changed, target_decision, turn_decision, view_turned, without_port, write_decision}
 use Rattle.session_rules.specs.TargetRows.{Arriving, RowView, error_move, TargetRow, Writes_lcs, Writes_lcl, Writes_ready, Awaits_lur, Reads_file, Writes_progress, Writes_stop, Writes_completion, row_move, view_moved}
 
--- the rule of the interlock, the store, and what the target keeps
+-- the rule of the interlock, the store, what the target keeps, and how many bytes of the contents of files all lists of its
+-- session hold together
 pub record TargetState (R : Type 0) : Type 0 where
   pub rule : R
   pub store : Store
   pub view : TargetView
+  pub held : ℕ
 
 -- A call does what is decided: what the target keeps then, and all that it posts.
 pub record Does {R : Type 0} (decision : TargetDecision) (before after : TargetState R) (sent : List DatagramView) : Type 0 where

@@ -46,10 +46,11 @@ pub record IsReading (intake : IntakeState) (store : Store) : Type 0 where
   pub step : IsInStep intake store
   pub calm : with_more intake [] ≡ intake
 
--- an upload between two loads
+-- an upload between two loads: its intake holds no bytes
 pub record IsBetween (intake : IntakeState) (store : Store) : Type 0 where
   pub reads : IsReading intake store
   pub fresh : IsFresh intake
+  pub empty : intake.held ≡ 0
 
 -- how far it is in a row
 abbrev pub IsRowStage : Row → Store → Type 0

@@ -20,8 +20,7 @@ ghost use Rattle.load_intake.specs.Contents.{BringsRow, InstallsRow, IsOf};
 ghost use Rattle.load_intake.specs.Stores.{IsInStep, Writes};
 ghost use Rattle.target_machine.specs.Decisions.{broken_to, kind_given, row_then};
 ghost use Rattle.target_machine.specs.Disks.{TurnsDisk, whole_row_then};
-ghost use Rattle.target_machine.specs.Machine.{arriving_in, next_seen, row_seen, session_at};
-ghost use Rattle.target_machine.specs.Machine.{session_seen};
+ghost use Rattle.target_machine.specs.Machine.{arriving_in, next_seen, row_seen, seen_at};
 ghost use Rattle.target_machine.specs.Stages.{CanBegin, IsNextStage, IsReading, IsRowStage};
 ghost use Rattle.target_machine.specs.Stages.{StartsFresh, StaysOn, TurnsTo};
 
@@ -139,7 +138,7 @@ impl Installed {
         requires running { IsRunning (K.state disk.old) }
         ensures row { (accepts : HeaderView → Bool) → Follows R.may_say interlock.now accepts
             → IfOk result (λ next. TurnsTo next (row_then accepts self.old.active.identity
-            (session_seen self.old.active.loads (session_at row arriving.old)) error)
+            (seen_at self.old.active.loads row arriving.old) error)
             self.old self.new) }
         ensures stage { IfOk result (λ next. IsNextStage next self.new.store) }
         ensures failed { OnErr result (IsIdle self.new.store) }
@@ -147,7 +146,7 @@ impl Installed {
             (K.state disk.new)) }
         ensures brings { (accepts : HeaderView → Bool) → Follows R.may_say interlock.now accepts
             → (s : StandingView) (x : SessionContents)
-            → session_seen self.old.active.loads (session_at row arriving.old) ≡ session_kept x
+            → seen_at self.old.active.loads row arriving.old ≡ session_kept x
             → InstallsRow self.old.store (K.state disk.old) s x.row x.arrived
             → BringsRow (K.state disk.old) self.new.store (K.state disk.new) s
             (whole_row_then accepts self.old.active.identity x error) result }
@@ -177,14 +176,14 @@ impl Installed {
         requires running { IsRunning (K.state disk.old) }
         ensures row { (accepts : HeaderView → Bool) → Follows R.may_say interlock.now accepts
             → IfOk result (λ next. TurnsTo next (row_then accepts self.old.active.identity
-            (session_seen self.old.active.loads (session_at row arriving.old)) error)
+            (seen_at self.old.active.loads row arriving.old) error)
             self.old self.new) }
         ensures stage { IfOk result (λ next. ForSome next (λ row. IsRowStage row self.new.store)) }
         ensures goes_on { OnOk result (StaysOn self.old.store self.new.store (K.state disk.old)
             (K.state disk.new)) }
         ensures brings { (accepts : HeaderView → Bool) → Follows R.may_say interlock.now accepts
             → (s : StandingView) (x : SessionContents)
-            → session_seen self.old.active.loads (session_at row arriving.old) ≡ session_kept x
+            → seen_at self.old.active.loads row arriving.old ≡ session_kept x
             → InstallsRow self.old.store (K.state disk.old) s x.row x.arrived
             → TurnsDisk (K.state disk.old) self.new.store (K.state disk.new) s
             (whole_row_then accepts self.old.active.identity x error) result }
@@ -232,14 +231,14 @@ impl Installed {
         requires running { IsRunning (K.state disk.old) }
         ensures row { (accepts : HeaderView → Bool) → Follows R.may_say interlock.now accepts
             → IfOk result (λ next. TurnsTo next (row_then accepts self.old.active.identity
-            (session_seen self.old.active.loads (session_at row arriving.old)) None)
+            (seen_at self.old.active.loads row arriving.old) None)
             self.old self.new) }
         ensures stage { IfOk result (λ next. ForSome next (λ row. IsRowStage row self.new.store)) }
         ensures goes_on { OnOk result (StaysOn self.old.store self.new.store (K.state disk.old)
             (K.state disk.new)) }
         ensures brings { (accepts : HeaderView → Bool) → Follows R.may_say interlock.now accepts
             → (s : StandingView) (x : SessionContents)
-            → session_seen self.old.active.loads (session_at row arriving.old) ≡ session_kept x
+            → seen_at self.old.active.loads row arriving.old ≡ session_kept x
             → InstallsRow self.old.store (K.state disk.old) s x.row x.arrived
             → TurnsDisk (K.state disk.old) self.new.store (K.state disk.new) s
             (whole_row_then accepts self.old.active.identity x None) result }

@@ -1,16 +1,5 @@
 //! The session of a target.
-ghost use Rattle.std.specs.Prelude.{◌≡◌, ◌≤◌, ◌++◌, List, OnOk};
-ghost use Rattle.bank_store.specs.DiskWrites.{IsRunning};
-ghost use Rattle.bank_store.specs.Store.{bank_size_of};
-ghost use Rattle.disk_layout.specs.Holds.{StandingView};
-ghost use Rattle.disk_layout.specs.Manifest.{LoadEntry};
-ghost use Rattle.session_rules.specs.Buffers.{buffer_size, empty_buffer};
-ghost use Rattle.session_rules.specs.Contents.{SessionContents, session_kept};
-ghost use Rattle.load_intake.specs.Contents.{BringsTo, InstallsRow};
-ghost use Rattle.load_intake.specs.Intakes.{contents_kept};
-ghost use Rattle.load_intake.specs.Stores.{StoreGoesOn, Writes};
-ghost use Rattle.target_machine.specs.Machine.{session_seen, session_with};
-ghost use Rattle.target_machine.specs.Stages.{IsRowStage};
+ghost use Rattle.target_machine.specs.Own.{OwnIsEmpty};
 
 use crate::row::Row;
 use bank_store::Store;
@@ -24,9 +13,24 @@ pub(crate) struct LiveSession {
     pub(crate) row: Row,
     /// What arrived so far of a file that isn't one of a load.
     pub(crate) arriving: FileBuffer,
+    ghost own: { OwnIsEmpty row arriving },
 }
 
 impl LiveSession {
+    ghost use Rattle.std.specs.Prelude.{◌≡◌, ◌≤◌, ◌++◌, List, OnOk};
+    ghost use Rattle.bank_store.specs.DiskWrites.{IsRunning};
+    ghost use Rattle.bank_store.specs.Store.{bank_size_of};
+    ghost use Rattle.bank_store.specs.declared.store.Store.{Store as StoreState};
+    ghost use Rattle.disk_layout.specs.Holds.{StandingView};
+    ghost use Rattle.disk_layout.specs.Manifest.{LoadEntry};
+    ghost use Rattle.session_rules.specs.Buffers.{buffer_size, empty_buffer};
+    ghost use Rattle.session_rules.specs.Contents.{SessionContents, session_kept};
+    ghost use Rattle.load_intake.specs.Contents.{BringsTo, InstallsRow};
+    ghost use Rattle.load_intake.specs.Held.{contents_kept};
+    ghost use Rattle.load_intake.specs.Stores.{StoreGoesOn, Writes};
+    ghost use Rattle.target_machine.specs.Machine.{session_held, session_seen, session_with};
+    ghost use Rattle.target_machine.specs.Stages.{IsRowStage};
+
     /// It comes to a row, and nothing has arrived in it. What arrives comes into this buffer, which
     /// is emptied before.
     pub(crate) fn in_row(row: Row, mut arriving: FileBuffer) -> LiveSession
@@ -37,11 +41,13 @@ impl LiveSession {
         LiveSession { row, arriving }
     }
 
-    /// At most 65,536 bytes are kept of what arrives.
+    /// All its lists hold at most 65,536 bytes of the contents of files together.
     // For the proof: does nothing.
     pub(crate) fn keeps_little(&self)
-        ensures { (active : List LoadEntry)
-            → contents_kept (session_seen active self.now).arriving ≤ buffer_size }
+        ensures held { (store : StoreState) → IsRowStage self.now.row store
+            → session_held self.now ≤ buffer_size }
+        ensures arriving { (active : List LoadEntry)
+            → contents_kept (session_seen active self.now).arriving ≤ session_held self.now }
     {
         match &self.row {
             Row::ReadsFile(intake) => intake.keeps_little(),

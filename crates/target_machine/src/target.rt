@@ -41,7 +41,7 @@ ghost use Rattle.target_machine.specs.Decisions.{writing_decision};
 ghost use Rattle.target_machine.specs.Disks.{BringsContents, HoldsContents, IsAtRest};
 ghost use Rattle.target_machine.specs.Disks.{KeepsDisk, KeepsWork, StartsOn, change_heard};
 ghost use Rattle.target_machine.specs.Disks.{change_turned, whole_row_then};
-ghost use Rattle.target_machine.specs.Machine.{contents_held};
+ghost use Rattle.target_machine.specs.Machine.{contents_arriving};
 ghost use Rattle.target_machine.specs.Stages.{StaysOn};
 
 use crate::boot::BootFault;
@@ -81,7 +81,7 @@ pub struct Target<'i, R: Rule> {
 impl<'i, R: Rule> Model for Target<'i, R> {
     ghost use Rattle.std.specs.Prelude.{option_map};
     ghost use Rattle.target_machine.specs.Decisions.{TargetState};
-    ghost use Rattle.target_machine.specs.Machine.{session_seen};
+    ghost use Rattle.target_machine.specs.Machine.{live_held, session_seen};
     ghost use Rattle.target_machine.specs.Stages.{IsInStage};
 
     ghost Value = { TargetState R };
@@ -95,6 +95,7 @@ impl<'i, R: Rule> Model for Target<'i, R> {
         active = t.installed.active;
         reason = t.reason;
       };
+      held = live_held t.live;
     } };
 
     ghost invariant = { λ t. IsInStage t.live t.installed.store };
@@ -229,11 +230,12 @@ impl<'i, R: Rule> Target<'i, R> {
         self.live.is_some()
     }
 
-    /// The target's own lists hold at most 65,536 bytes of the contents of files together: those of
-    /// a request or a header that arrives.
+    /// All lists of its session hold at most 65,536 bytes of the contents of files together: those
+    /// of a request or a header that arrives, or the user data of the header whose files do.
     // For the proof: does nothing.
     pub fn keeps_little(&self)
-        ensures { contents_held self.now.view.live ≤ buffer_size }
+        ensures held { self.now.held ≤ buffer_size }
+        ensures arriving { contents_arriving self.now.view.live ≤ self.now.held }
     {
         if let Some(session) = &self.live {
             session.keeps_little();

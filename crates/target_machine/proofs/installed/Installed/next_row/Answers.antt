@@ -1,6 +1,6 @@
 use Rattle.std.proofs.Common.{ℕ, Option, subst, sym}
 use Rattle.target_machine.specs.Decisions.{row_then}
-use Rattle.target_machine.specs.Machine.{session_at, session_seen}
+use Rattle.target_machine.specs.Machine.{seen_at}
 use Rattle.target_machine.specs.Stages.{TurnsTo}
 use Rattle.target_machine.proofs.Turning.{stays_too}
 use Rattle.std.proofs.Common.{Ok}
@@ -17,7 +17,7 @@ returns-in-Some-clause-goes_on g c =
 
 pub returns-in-Some-clause-row : goal.returns-in-Some-clause-row
 returns-in-Some-clause-row g c = λ accepts follows.
-    subst (λ (x : Option ℕ). TurnsTo c.broken.result (row_then accepts c.args.self.now.active.identity (session_seen c.args.self.now.active.loads (session_at c.args.row c.args.arriving.now)) x) c.args.self.now c.broken.new.self) (sym c.in-Some.is)
+    subst (λ (x : Option ℕ). TurnsTo c.broken.result (row_then accepts c.args.self.now.active.identity (seen_at c.args.self.now.active.loads c.args.row c.args.arriving.now) x) c.args.self.now c.broken.new.self) (sym c.in-Some.is)
     (c.broken.ensures.row c.args.arriving.now)
 
 pub returns-in-Some-clause-brings : goal.returns-in-Some-clause-brings

@@ -4,7 +4,7 @@ use Rattle.target_machine.proofs.installed.Installed.turn.Goals.{in-Ok-Some, in_
 use Rattle.target_machine.specs.Decisions.{row_then}
 use Rattle.target_machine.specs.Disks.{TurnsDisk, whole_row_then}
 use Rattle.target_machine.proofs.Holding.{no_failure, no_more, turn_abandons}
-use Rattle.target_machine.specs.Machine.{session_at, session_seen}
+use Rattle.target_machine.specs.Machine.{seen_at}
 use Rattle.target_machine.specs.Stages.{InstalledState, StaysOn}
 use Rattle.target_machine.proofs.Turning.{stays_too_ok, turns_too_ok}
 use Rattle.target_machine.proofs.installed.Installed.turn.Goals as goal
@@ -12,7 +12,7 @@ use Rattle.target_machine.proofs.installed.Installed.turn.Goals as goal
 pub returns-then-not-matches-clause-row : goal.returns-then-not-matches-clause-row
 returns-then-not-matches-clause-row g c = λ accepts follows.
     turns_too_ok c.args.self.now c.next_row-result.new.self c.self.inside.identity c.self.inside.manifest c.self.inside.store c.abandon.new.self
-    (row_then accepts c.args.self.now.active.identity (session_seen c.args.self.now.active.loads (session_at c.args.row c.args.arriving.now)) c.args.error) c.next_row-result.result c.self.view_is c.abandon.ensures.continues.active
+    (row_then accepts c.args.self.now.active.identity (seen_at c.args.self.now.active.loads c.args.row c.args.arriving.now) c.args.error) c.next_row-result.result c.self.view_is c.abandon.ensures.continues.active
     (c.next_row-result.ensures.row accepts follows)
 
 pub returns-then-not-matches-clause-goes_on : goal.returns-then-not-matches-clause-goes_on
