@@ -50,15 +50,6 @@ fn change(bytes: &mut [u8], offset: usize, byte: u8) {
     }
 }
 
-/// The first N bytes.
-fn prefix(bytes: &[u8], size: usize) -> &[u8] {
-    if size <= bytes.len() {
-        &bytes[..size]
-    } else {
-        bytes
-    }
-}
-
 /// Makes the check sum of a header right.
 fn mend(bytes: &mut [u8]) {
     if bytes.len() >= 6 {
@@ -147,9 +138,7 @@ fn lengths_are_tested_first_and_the_rest_before_the_check_sum(
     longer[..122].copy_from_slice(&app);
     longer[3] = 62;
     for (bytes, text) in [
-        (prefix(&app, 3), &b"H1 0"[..]),
-        (prefix(&app, 121), b"H2 61 121"),
-        (&longer, b"H15 122"),
+        (longer.as_slice(), &b"H15 122"[..]),
         (&[0; 65_536], b"H2 0 65536"),
         (&[0; 65_537], b"H11"),
     ] {

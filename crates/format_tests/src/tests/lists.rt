@@ -33,15 +33,6 @@ fn change(bytes: &mut [u8], offset: usize, byte: u8, mended: bool) {
     }
 }
 
-/// The first N bytes.
-fn prefix(bytes: &[u8], size: usize) -> &[u8] {
-    if size <= bytes.len() {
-        &bytes[..size]
-    } else {
-        bytes
-    }
-}
-
 /// Makes the check sum of a list right.
 fn mend(bytes: &mut [u8]) {
     if bytes.len() >= 2 {
@@ -354,8 +345,6 @@ fn lengths_are_tested_first_and_the_rest_before_the_check_sum(
     many[75] = 1;
     for (bytes, text) in [
         (APP_FILES.as_slice(), &b"L3 40964"[..]),
-        (prefix(&APP_LOADS, 3), b"L1 0"),
-        (prefix(&APP_LOADS, 85), b"L2 43 85"),
         (&longer, b"L12 86"),
         (&many, b"L11"),
     ] {

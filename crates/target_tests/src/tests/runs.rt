@@ -93,6 +93,7 @@ fn outcome(run: &Drive) -> u8 {
     match run.sessions.as_slice().first() {
         Some(session) => match &session.outcome {
             Outcome::Completed => b'c',
+            Outcome::TargetStopped(_) => b's',
             Outcome::PeerError(_) => b'p',
             Outcome::Replaced => b'r',
             Outcome::Open => b'o',
@@ -120,7 +121,7 @@ fn run_over(alloc: Global, link: &mut FailLink, call: u32) -> Result<[u8; 2], Fa
 }
 
 // The disk of a target, of which this call fails.
-pub(crate) fn failing(alloc: Global, call: u32) -> Result<Fused<MemDisk>, Fail>
+fn failing(alloc: Global, call: u32) -> Result<Fused<MemDisk>, Fail>
     ensures { IfOk result (λ disk. IsRunning (fused_in state_of disk)) }
 {
     let mut disk = formatted(alloc)?;
