@@ -362,7 +362,7 @@ impl<'m> Loader<'m> {
             (write_decision self.old.view.end s.start from name.now options (kind_taken s.row))
             self.old self.new (posts_view posts))) }
     {
-        if !self.awaits(name)? {
+        if !self.awaits(name) {
             return Ok(Posts::none());
         }
         if !self.may_serve(from)? {
@@ -373,19 +373,18 @@ impl<'m> Loader<'m> {
     }
 
     /// Whether the row of the live session takes a file of this name.
-    fn awaits(&self, name: &Name) -> Result<bool, NoMemory>
-        ensures { ForSome self.now.view.live (λ s. IfOk result (λ awaits.
-            awaits ≡ awaits_file s name.now)) }
+    fn awaits(&self, name: &Name) -> bool
+        ensures { ForSome self.now.view.live (λ s. result ≡ awaits_file s name.now) }
     {
         let Some(session) = &self.live else {
-            return Ok(false);
+            return false;
         };
         let Some(kind) = session.row.kind_taken() else {
-            return Ok(false);
+            return false;
         };
         let start = &session.start;
-        let awaited = file_name(self.alloc, &start.hw, &start.pos, kind)?;
-        Ok(name.as_slice() == awaited.as_slice())
+        let awaited = file_name(&start.hw, &start.pos, kind);
+        name.as_slice() == awaited.as_slice()
     }
 
     /// Whether a request from this port is taken now. Only one from a fresh port is, and where no
@@ -549,15 +548,14 @@ fn request(
         end.old end.new (posted post)) }
 {
     match row {
-        Row::ReadsLci => ask_to_read(alloc, end, start, FileKind::Lci),
-        Row::ReadsLui => ask_to_read(alloc, end, start, FileKind::Lui),
+        Row::ReadsLci => ask_to_read(end, start, FileKind::Lci),
+        Row::ReadsLui => ask_to_read(end, start, FileKind::Lui),
         Row::WritesLur => ask_to_write(alloc, end, start),
         Row::TakesLcs | Row::TakesLcl | Row::TakesLus | Row::ServesFiles => Ok(None),
     }
 }
 
 fn ask_to_read(
-    alloc: Global,
     end: &mut TransferEnd<'_>,
     start: &Start,
     kind: FileKind,
@@ -567,7 +565,7 @@ fn ask_to_read(
         (name_of start.now.hw start.now.pos kind) (wanted_options end.old.asks_size 0)) ∷ [])
         end.old end.new (posted post)) }
 {
-    let name = file_name(alloc, &start.hw, &start.pos, kind)?;
+    let name = file_name(&start.hw, &start.pos, kind);
     let options = end.wanted_options(0);
     Ok(Some(end.ask_to_read(Side::Loader, name, options)?))
 }
@@ -585,7 +583,7 @@ fn ask_to_write(
         (wanted_options end.old.asks_size (length (lur_file start.now.request.loads.items)))
         (lur_file start.now.request.loads.items)) ∷ []) end.old end.new (posted post)) }
 {
-    let name = file_name(alloc, &start.hw, &start.pos, FileKind::Lur)?;
+    let name = file_name(&start.hw, &start.pos, FileKind::Lur);
     let file = start.request.encode(alloc)?;
     let options = end.wanted_options(file.len());
     Ok(Some(end.ask_to_write(Side::Loader, name, options, FileBytes::Owned(file))?))

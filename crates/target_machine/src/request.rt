@@ -50,12 +50,12 @@ pub(crate) fn request(
 {
     match row {
         Row::GivesLci | Row::GivesLui | Row::GivesDenial | Row::AwaitsLur => Ok(None),
-        Row::WritesLcs => ask_to_write(alloc, end, identity, FileKind::Lcs, lcs_file(alloc)?),
+        Row::WritesLcs => ask_to_write(end, identity, FileKind::Lcs, lcs_file(alloc)?),
         Row::WritesLcl => {
             let file = lcl_file(alloc, identity, loads)?;
-            ask_to_write(alloc, end, identity, FileKind::Lcl, file)
+            ask_to_write(end, identity, FileKind::Lcl, file)
         }
-        Row::WritesReady => ask_to_write(alloc, end, identity, FileKind::Lus, ready_lus(alloc)?),
+        Row::WritesReady => ask_to_write(end, identity, FileKind::Lus, ready_lus(alloc)?),
         Row::ReadsFile(intake) => {
             let options = end.wanted_options(0);
             Ok(Some(end.ask_to_read(Side::Target, intake.next_name(), options)?))
@@ -64,11 +64,11 @@ pub(crate) fn request(
             let arrived = intake.arrived();
             let request = intake.request().as_slice();
             let file = progress_lus(alloc, request, usize::from(arrived), arrived + 1)?;
-            ask_to_write(alloc, end, identity, FileKind::Lus, file)
+            ask_to_write(end, identity, FileKind::Lus, file)
         }
         Row::WritesStop(ended) | Row::WritesCompletion(ended) => {
             let file = last_lus(alloc, ended)?;
-            ask_to_write(alloc, end, identity, FileKind::Lus, file)
+            ask_to_write(end, identity, FileKind::Lus, file)
         }
     }
 }
@@ -94,7 +94,6 @@ fn last_lus(alloc: Global, ended: &UploadEnd) -> Result<Bytes, NoMemory>
 
 /// Asks to write one of the target's own files.
 fn ask_to_write(
-    alloc: Global,
     end: &mut TransferEnd<'_>,
     identity: &Identity,
     kind: FileKind,
@@ -107,7 +106,7 @@ fn ask_to_write(
         (wanted_options end.old.asks_size (length file.items)) file.items) ∷ [])
         end.old end.new (posted post)) }
 {
-    let name = file_name(alloc, &identity.hw, &identity.pos, kind)?;
+    let name = file_name(&identity.hw, &identity.pos, kind);
     let options = end.wanted_options(file.len());
     Ok(Some(end.ask_to_write(Side::Target, name, options, FileBytes::Owned(file))?))
 }

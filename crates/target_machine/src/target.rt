@@ -322,32 +322,32 @@ impl<'i, R: Rule> Target<'i, R> {
         ensures store { OnOk result (Continues self.old.store self.new.store) }
         ensures work { OnOk result (KeepsWork self.old self.new) }
     {
-        match self.given(name)? {
+        match self.given(name) {
             Some(kind) => self.begin(from, kind, options),
             None => self.refuse(from),
         }
     }
 
     /// The operation that a request to read the file of this name begins, if it begins one.
-    fn given(&self, name: &Name) -> Result<Option<SessionKind>, NoMemory>
-        ensures { IfOk result (λ kind. kind ≡ given_kind self.now.view name.now) }
+    fn given(&self, name: &Name) -> Option<SessionKind>
+        ensures { result ≡ given_kind self.now.view name.now }
     {
-        if self.is_own(name, FileKind::Lci)? {
-            return Ok(Some(SessionKind::Info));
+        if self.is_own(name, FileKind::Lci) {
+            return Some(SessionKind::Info);
         }
-        if self.is_own(name, FileKind::Lui)? {
-            return Ok(Some(SessionKind::Upload));
+        if self.is_own(name, FileKind::Lui) {
+            return Some(SessionKind::Upload);
         }
-        Ok(None)
+        None
     }
 
     /// Whether this is the name of the target's own file of this kind.
-    fn is_own(&self, name: &Name, kind: FileKind) -> Result<bool, NoMemory>
-        ensures { IfOk result (λ is. is ≡ bytes_eq name.now (own_name self.now.view kind)) }
+    fn is_own(&self, name: &Name, kind: FileKind) -> bool
+        ensures { result ≡ bytes_eq name.now (own_name self.now.view kind) }
     {
         let identity = &self.installed.identity;
-        let own = file_name(self.alloc, &identity.hw, &identity.pos, kind)?;
-        Ok(name.as_slice() == own.as_slice())
+        let own = file_name(&identity.hw, &identity.pos, kind);
+        name.as_slice() == own.as_slice()
     }
 
     /// Refuses a request for a file that isn't there, unless a transfer is live.
@@ -418,7 +418,7 @@ impl<'i, R: Rule> Target<'i, R> {
         ensures store { OnOk result (Continues self.old.store self.new.store) }
         ensures work { OnOk result (KeepsWork self.old self.new) }
     {
-        if self.end.is_busy() || !self.awaits(name)? {
+        if self.end.is_busy() || !self.awaits(name) {
             return Ok(Posts::none());
         }
         if !self.may_serve(from) {
@@ -429,9 +429,8 @@ impl<'i, R: Rule> Target<'i, R> {
     }
 
     /// Whether the live session awaits a request to write the file of this name.
-    fn awaits(&self, name: &Name) -> Result<bool, NoMemory>
-        ensures { IfOk result (λ awaits.
-            awaits ≡ awaits_file self.now.view self.now.view.live name.now) }
+    fn awaits(&self, name: &Name) -> bool
+        ensures { result ≡ awaits_file self.now.view self.now.view.live name.now }
     {
         match &self.live {
             Some(
@@ -440,7 +439,7 @@ impl<'i, R: Rule> Target<'i, R> {
                     ..
                 },
             ) => self.is_own(name, FileKind::Lur),
-            _ => Ok(false),
+            _ => false,
         }
     }
 

@@ -12,6 +12,6 @@ pub returns : goal.returns
 returns c =
     let start = c.args.start.now in
     let written = is_request start.request.loads.items c.in_ok-file.file.items c.in_ok-file.ensures.spells in
-    asks_so sides.Loader c.args.end.now c.ask_to_write.new.self (datagram_view c.in_ok-ask_to_write.field-0 ∷ []) c.in_ok-name.name (file_name start.hw start.pos Lur)
+    asks_so sides.Loader c.args.end.now c.ask_to_write.new.self (datagram_view c.in_ok-ask_to_write.field-0 ∷ []) c.file_name-name.result (file_name start.hw start.pos Lur)
     c.in_ok-file.file.items (lur_file start.request.loads.items) c.wanted_options-options.result (wanted_options c.args.end.now.asks_size (length (lur_file start.request.loads.items)))
-    c.in_ok-name.ensures (c.wanted_options-options.ensures.is ∙ ap (λ n. wanted_options c.args.end.now.asks_size n) (c.len.ensures ∙ ap length written)) written c.in_ok-ask_to_write.ensures
+    c.file_name-name.ensures (c.wanted_options-options.ensures.is ∙ ap (λ n. wanted_options c.args.end.now.asks_size n) (c.len.ensures ∙ ap length written)) written c.in_ok-ask_to_write.ensures

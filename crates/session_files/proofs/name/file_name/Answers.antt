@@ -12,4 +12,4 @@ pub unreachable-requires : goal.unreachable-requires
 unreachable-requires c =
     let named = is_name c.as_slice.result.now c.as_slice-2.result.now c.args.kind
     (subst IsIdent (sym c.as_slice.ensures.bytes) c.as_slice.ensures.is_ident) (subst IsIdent (sym c.as_slice-2.ensures.bytes) c.as_slice-2.ensures.is_ident) in
-    untrue (c.in-Err.ensures.only (subst IsName (sym (c.as_slice-3.ensures ∙ c.in_ok-bytes.ensures)) named))
+    untrue (c.in-Err.ensures.only (subst IsName (sym (c.as_slice-3.ensures.value ∙ c.name_bytes-bytes.ensures)) named))

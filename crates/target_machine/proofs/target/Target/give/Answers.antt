@@ -4,4 +4,4 @@ use Rattle.target_machine.proofs.target.Target.give.Goals as goal
 
 pub returns-in-Some-clause-does : goal.returns-in-Some-clause-does
 returns-in-Some-clause-does g c =
-    gives_so c.args.self.now c.begin.new.self c.args.from c.args.name.now c.args.options c.in-Some.kind c.begin.result (sym c.in_ok-kind.ensures ∙ c.in-Some.is) (c.begin.ensures.does c.args.name.now)
+    gives_so c.args.self.now c.begin.new.self c.args.from c.args.name.now c.args.options c.in-Some.kind c.begin.result (sym c.given.ensures ∙ c.in-Some.is) (c.begin.ensures.does c.args.name.now)
