@@ -18,7 +18,6 @@ use Rattle.session_rules.specs.MediaFiles.{wanted_of}
 use Rattle.session_rules.specs.NewConfigs.{IsGoodLoad}
 use Rattle.replay_rules.specs.BothEnds.{Setting}
 use Rattle.replay_rules.specs.FaultFree.{AreServed, IsFaultFree, IsGranted}
-use Rattle.replay_rules.specs.Promises.{NoneGoesDown}
 use Rattle.replay_rules.specs.Runs.{IsWithinMargin}
 use Rattle.session_completion.specs.FinishedRuns.{FinishIsLeft}
 use Rattle.run_promises.specs.Promises.{IsLeftToLastFinish}
@@ -95,5 +94,5 @@ module _ (number : ℕ) (set : Setting) (good : AreGoodMedia number set.media) (
   pub finish_left : FinishIsLeft set script (start ∷ [])
   finish_left = record { idle = []; lines = refl; over = refl; give_nothing = tt }
 
-  abbrev pub left : (steps more : List Step) → steps ≡ more ++ start ∷ [] → NoneGoesDown more → IsLeftToLastFinish set script steps
-  left steps more split up = record { before = start ∷ []; more = more; split = split; free = free; margin = margin; left = finish_left; stays_up = up }
+  abbrev pub left : (steps more : List Step) → steps ≡ more ++ start ∷ [] → IsLeftToLastFinish set script steps
+  left steps more split = record { before = start ∷ []; more = more; split = split; free = free; margin = margin; left = finish_left }

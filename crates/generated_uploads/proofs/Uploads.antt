@@ -91,7 +91,7 @@ module _ (keeps : RunsKeepPromises) (media : GeneratedMediaAreGood) (one : OneSe
       let split : steps ≡ run.more ++ start number set good is.granted is.can_take first.posts ∷ [] =
       run.split ∙ ap (λ (s : Step). run.more ++ s ∷ []) (same_step first.given _ first.posts first.notes starts ups.1) in
       (keeps set steps (Some last) is.whole).completes is.permitted good.told is.fits (trial_script set.start.identity) is.follows
-      (left number set good is.granted is.can_take first.posts steps run.more split ups.0) last refl active
+      (left number set good is.granted is.can_take first.posts steps run.more split) ups.0 last refl active
 
   complete : CompletesUpload number set steps
   complete =

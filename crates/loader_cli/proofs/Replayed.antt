@@ -13,13 +13,18 @@ use Rattle.exchange_trace.specs.Posts.{happenings_of}
 use Rattle.exchange_trace.specs.Steps.{Step, steps_of}
 use Rattle.media_check.specs.Sets.{SetView}
 use Rattle.link_net.specs.Links.{LinkState}
+use Rattle.loader_machine.specs.Machine.{media_of}
 use Rattle.run_promises.specs.Listing.{StandingFits}
+use Rattle.run_promises.specs.Promises.{CanBeTold}
 use Rattle.upload_replay.specs.Drives.{IsRun}
 use Rattle.upload_replay.specs.Moments.{HoldsAllAlong}
 use Rattle.bank_store.specs.Fits.{LosesOnlyWork}
+use Rattle.replay_rules.specs.Due.{AllNoted}
+use Rattle.replay_rules.specs.Runs.{Follows}
+use Rattle.session_completion.specs.FinishedRuns.{FinishLeavesPower}
 use Rattle.replay_turns.specs.Orders.{IsInOrder}
 use Rattle.upload_replay.specs.Endings.{CountsStops, FailedIfUnknown, HoldsSome, HoldsStanding, IsNoConfig}
-use Rattle.replay_turns.specs.Powers.{disk_stops}
+use Rattle.replay_turns.specs.Powers.{RoseBy, disk_stops}
 use Rattle.upload_replay.specs.Armings.{ArmsAsGiven, armed_after, armings_after}
 use Rattle.upload_replay.specs.declared.outcome.Drive.{Drive}
 use Rattle.upload_replay.specs.declared.outcome.DriveFault.TheVariants.{NoConfig}
@@ -32,6 +37,7 @@ use Rattle.loader_cli.specs.Replays.RunsTo.{ended, unknown, no_config}
 use Rattle.loader_cli.specs.Texts.{no_configuration}
 use Rattle.loader_cli.specs.declared.replay.Telling.{Telling}
 use Rattle.loader_cli.proofs.Left.{accepts_permitted}
+use Rattle.loader_cli.proofs.StaysUp.{none_down_since, none_since}
 
 alone : (one other none : List HappeningView) → none ≡ [] → one ++ none ≡ other ++ none → one ≡ other
 alone one other none is same = sym (append-nil one) ∙ (ap (λ (rest : List HappeningView). one ++ rest) (sym is) ∙ (same ∙ (ap (λ (rest : List HappeningView). other ++ rest) is ∙ append-nil other)))
@@ -48,14 +54,14 @@ counts_power steps standing old new before after none stops is arms =
     }
 
 -- a run of a link that followed a script
-pub script_run : (set : SetView) (script : List Line) (start : StandingView) (run : RunSeen) (link : LinkState) → StandingFits start → IsInOrder run.trace
+pub script_run : (set : SetView) (script : List Line) (start : StandingView) (run : RunSeen) (link : LinkState) → CanBeTold (media_of set) → StandingFits start → IsInOrder run.trace
     → IsRun (setting_of set start) (link_of script) link (steps_of run.trace) run.sessions run.standing → IsScriptRun set script start run
-script_run set script start run link fits ordered is = record {
+script_run set script start run link can fits ordered is = record {
   ended = link;
   is = is;
   good = is.keeps.good accepts_permitted;
   reports = is.keeps.reports accepts_permitted;
-  tells = λ can none. is.keeps.tells accepts_permitted can fits none;
+  tells = λ none. is.keeps.tells accepts_permitted can fits none;
   bounded = is.keeps.bounded script (is.follows script (record { posted = refl; given = refl; plan = refl; follows = tt })).follows;
   ordered = ordered;
 }
@@ -66,13 +72,18 @@ some_standing None P known is = absurd cc
 some_standing (Some s) P known is = known refl
 
 -- on a disk that holds it throughout
-pub held_run : (set : SetView) (script : List Line) (start : StandingView) (old new : DiskState) (run : RunSeen) → StandingFits start → IsScriptRun set script start run → HoldsAllAlong (setting_of set start) (steps_of run.trace) run.standing old new → (is_some run.standing ≡ true → LosesOnlyWork new)
+pub held_run : (set : SetView) (script : List Line) (start : StandingView) (old new : DiskState) (run : RunSeen) → FinishLeavesPower → CanBeTold (media_of set) → StandingFits start → IsScriptRun set script start run → RoseBy (disk_stops (steps_of run.trace)) old.faults new.faults → HoldsAllAlong (setting_of set start) (steps_of run.trace) run.standing old new → (is_some run.standing ≡ true → LosesOnlyWork new)
     → HoldsScriptRun set script start old new run
-held_run set script start old new run fits is (clocks, moments) rests = record {
+held_run set script start old new run power can fits is stops (clocks, moments) rests = record {
   moments = (clocks, moments);
   rests = rests;
-  completes = λ can left last stands.
-      is.is.keeps.completes accepts_permitted can fits script (is.is.follows script (record { posted = refl; given = refl; plan = refl; follows = tt })).follows left last stands (sym (moments.active last stands));
+  completes = λ left answers last stands.
+      let steps = steps_of run.trace in
+      let follows = (is.is.follows script (record { posted = refl; given = refl; plan = refl; follows = tt })).follows in
+      let leaves = power (setting_of set start) script left.before left.more left.left (subst (λ (list : List Step). Follows (setting_of set start) script list) left.split follows) in
+      let up = none_down_since (setting_of set start) left.more left.before leaves (subst (λ (list : List Step). AllNoted (setting_of set start) list) left.split is.is.trace.noted)
+      (none_since left.more left.before steps old.faults new.faults left.split answers stops) in
+      is.is.keeps.completes accepts_permitted can fits script follows left up last stands (sym (moments.active last stands));
 }
 
 pub ran_to : (told : Telling) (set : SetView) (script : List Line) (old new : DiskState) (run : Drive) (status : ℕ) (text : List ℕ) → HoldsSome old

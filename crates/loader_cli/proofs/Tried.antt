@@ -1,5 +1,5 @@
 -- A run after a survey of its disk.
-use Rattle.std.proofs.Common.{◌≡◌, ℕ, ◌+◌, ◌≤◌, ◌⊎◌, inl, inr, List, Option, ap, subst, ◌∙◌, arith}
+use Rattle.std.proofs.Common.{◌≡◌, ℕ, ◌+◌, ◌≤◌, ◌⊎◌, inl, inr, List, Option, Some, ap, subst, ◌∙◌, arith}
 use Rattle.std.specs.Option.{ForSome}
 use Rattle.disk_model.specs.Image.{Image}
 use Rattle.disk_model.specs.MomentLaws.{reads_joined}
@@ -20,7 +20,9 @@ use Rattle.bank_store.specs.Fits.{LosesOnlyWork}
 use Rattle.replay_turns.specs.Powers.{RoseBy, disk_stops}
 use Rattle.replay_turns.specs.Turns.{RunsOut}
 use Rattle.upload_replay.specs.Armings.{armed_after, armings_after}
-use Rattle.loader_cli.specs.Replays.{CountsPower, IsAnyRun, RunSeen, RunsScript, RunsTo, setting_of}
+use Rattle.session_completion.specs.FinishedRuns.{IsComplete}
+use Rattle.run_promises.specs.Promises.{IsLeftToLastFinish}
+use Rattle.loader_cli.specs.Replays.{CountsPower, HoldsScriptRun, IsAnyRun, RunSeen, RunsScript, RunsTo, setting_of}
 use Rattle.loader_cli.specs.Replays.RunsTo.{ended, unknown, disk_failed, no_config}
 use Rattle.loader_cli.specs.declared.replay.Telling.{Telling}
 
@@ -41,7 +43,7 @@ counts_since steps old mid new read counts = record {
 }
 
 any_since : (set : SetView) (old mid new : DiskState) (run : RunSeen) → OnlyReads old mid → IsAnyRun set mid new run → IsAnyRun set old new run
-any_since set old mid new run read any = record { counts = counts_since (steps_of run.trace) old mid new read any.counts; loader = any.loader; ordered = any.ordered }
+any_since set old mid new run read any = record { counts = counts_since (steps_of run.trace) old mid new read any.counts; loader = any.loader; lives = any.lives; ordered = any.ordered }
 
 -- ---- the run
 
@@ -83,13 +85,19 @@ throughout_since set steps standing old mid new read (clocks, holds) = (
   },
 )
 
+completes_since : (set : SetView) (script : List Line) (start : StandingView) (old mid new : DiskState) (run : RunSeen) → OnlyReads old mid → HoldsScriptRun set script start mid new run
+    → (left : IsLeftToLastFinish (setting_of set start) script (steps_of run.trace)) → ¬ RoseBy (disk_stops left.before + 1) old.faults new.faults → (last : StandingView) → run.standing ≡ Some last
+    → IsComplete (setting_of set start) left.before left.free (steps_of run.trace) last
+completes_since set script start old mid new run read held left answers =
+    held.completes left (λ rose. answers (rose_since (disk_stops left.before + 1) old.faults mid.faults new.faults read.faults rose))
+
 runs_since : (set : SetView) (script : List Line) (old mid new : DiskState) (run : RunSeen) → OnlyReads old mid → mid.reads ≡ old.reads → (LosesOnlyWork old → LosesOnlyWork mid) → RunsScript set script mid new run → RunsScript set script old new run
 runs_since set script old mid new run read same still runs = λ start image told holds.
     let both = runs start image (same ∙ told) holds in (
       λ all. both.0 (elim all [ inl none ↦ inl none | inr loses ↦ inr (still loses) ]),
       λ loses.
           let held = both.1 (still loses) in
-          record { moments = throughout_since (setting_of set start) (steps_of run.trace) run.standing old mid new read held.moments; rests = held.rests; completes = held.completes },
+          record { moments = throughout_since (setting_of set start) (steps_of run.trace) run.standing old mid new read held.moments; rests = held.rests; completes = completes_since set script start old mid new run read held },
     )
 
 -- a run on a disk that was only read comes to the same of the disk as it was before

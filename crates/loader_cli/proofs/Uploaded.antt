@@ -1,10 +1,9 @@
 -- How a run ends that uploads the generated set to a target that can take it.
-use Rattle.std.proofs.Common.{◌≡◌, ◌⊎◌, inl, inr, ℕ, zero, suc, ◌+◌, Bool, true, false, not, List, [], ◌∷◌, Some, refl, sym, ap, subst, ◌∙◌, arith}
+use Rattle.std.proofs.Common.{◌≡◌, ◌⊎◌, inl, inr, ℕ, Bool, true, false, not, List, [], ◌∷◌, Some, refl, sym, subst, arith}
 use Rattle.std.specs.Prelude.{All, ◌==◌}
 use Rattle.std.specs.List.{AllByRecursion}
 use Rattle.std.proofs.lemmas.Bool.{ne_eqb}
 use Rattle.std.proofs.lemmas.List.Elements.{All-cons, All-nil}
-use Rattle.load_base.specs.Counts.{Rose}
 use Rattle.load_header.specs.Header.{HeaderView}
 use Rattle.disk_layout.specs.Holds.{StandingView}
 use Rattle.disk_layout.specs.Identity.{HasIdentity, identity}
@@ -13,19 +12,16 @@ use Rattle.disk_layout.specs.declared.identity.Identity.{Identity}
 use Rattle.field_grammar.specs.ExactLaws.{one_value}
 use Rattle.exchange_trace.specs.Happenings.{Delivered, Ended, HappeningView, Ticked, Upload_started}
 use Rattle.exchange_trace.specs.Lines.{Line}
-use Rattle.exchange_trace.specs.Posts.{first_port_after}
-use Rattle.exchange_trace.specs.Steps.{Note, Step, steps_of}
+use Rattle.exchange_trace.specs.Steps.{Step, steps_of}
 use Rattle.accept_rules.specs.Permissions.{Grants, permits}
 use Rattle.media_check.specs.Sets.{SetView}
 use Rattle.session_rules.specs.Loader.{EndedSession}
-use Rattle.replay_rules.specs.Due.{AllNoted, MayBeNoted, MayGoDown, is_up}
-use Rattle.replay_rules.specs.Promises.{NoneGoesDown}
-use Rattle.replay_rules.specs.BothEnds.{Setting, target_at}
+use Rattle.replay_rules.specs.Due.{LeavesPower}
 use Rattle.run_promises.specs.Listing.{WhatIsHeldFits}
 use Rattle.generated_uploads.specs.GeneratedMedia.{IsGeneratedSet, uploaded_load}
 use Rattle.generated_uploads.specs.GeneratedUploads.{GeneratedUploadsComplete, IsGeneratedUpload, IsOfTrial, IsOneUpload, OnlyTrialHappens, trial_script}
 use Rattle.upload_replay.specs.Endings.{HeldNone, HoldsNone, HoldsSome}
-use Rattle.replay_turns.specs.Powers.{RoseBy, disk_stops, stops_in, stops_noted}
+use Rattle.replay_turns.specs.Powers.{disk_stops}
 use Rattle.loader_cli.specs.Replays.{HoldsScriptRun, IsAnyRun, IsCompleted, IsScriptRun, LeavesFirstOrGood, RunSeen, RunsScript, RunsTo, StatusOfRun, setting_of, told_as}
 use Rattle.loader_cli.specs.Replays.RunsTo.{disk_failed, ended, no_config, unknown}
 use Rattle.loader_cli.specs.Replays.StatusOfRun.{all_completed, not_completed}
@@ -36,6 +32,7 @@ use Rattle.loader_cli.specs.declared.replay.Telling.TheVariants.{Report}
 use Rattle.loader_cli.proofs.Asked.{says_of_trial}
 use Rattle.loader_cli.proofs.Left.{accepts_permitted}
 use Rattle.loader_cli.proofs.ReplayRuns.{EndLaws, read_of}
+use Rattle.loader_cli.proofs.StaysUp.{none_down, none_stops, rose_once}
 
 -- what the laws say of an upload of the generated set, and of what a disk holds
 pub record UploadLaws : Type 0 where
@@ -43,31 +40,18 @@ pub record UploadLaws : Type 0 where
   pub happens : OnlyTrialHappens
   pub fits : WhatIsHeldFits
 
--- ---- a disk that doesn't fail never takes the target down
+-- ---- power is left alone
 
-rose_once : (n before now : ℕ) → RoseBy (n + 1) before now → Rose before now
-rose_once n before now rose = grind (arith, rose)
+leaves_power : (h : HappeningView) → IsOfTrial h → LeavesPower h
+leaves_power (Upload_started hw pos parts) is = tt
+leaves_power (Delivered side n) is = tt
+leaves_power (Ticked side) is = tt
+leaves_power Ended is = tt
+leaves_power h is = absurd is
 
-none_stops : (n before now : ℕ) → ¬ Rose before now → RoseBy n before now → n ≡ 0
-none_stops zero before now answers rose = refl
-none_stops (suc n) before now answers rose = absurd (answers (rose_once n before now (let e : suc n ≡ n + 1 = omega arith in subst (λ (m : ℕ). RoseBy m before now) e rose)))
-
-not_down : (up : Bool) (notes : List Note) → MayGoDown up notes → stops_noted notes ≡ 0 → notes ≡ []
-not_down true notes (inl none) still = none
-not_down true notes (inr down) still = absurd (let one : 1 ≡ 0 = ap stops_noted (sym down) ∙ still in omega (arith, one))
-not_down false notes none still = none
-
-stays_up : (up : Bool) (port : ℕ) (h : HappeningView) (notes : List Note) → IsOfTrial h → MayBeNoted up port h notes → stops_in h notes ≡ 0 → notes ≡ []
-stays_up up port (Upload_started hw pos parts) notes is may still = not_down up notes may still
-stays_up up port (Delivered side n) notes is may still = not_down up notes may still
-stays_up up port (Ticked side) notes is may still = not_down up notes may still
-stays_up up port Ended notes is may still = not_down up notes may still
-stays_up up port h notes is may still = absurd is
-
-none_down : (set : Setting) (steps : List Step) → AllByRecursion (λ (s : Step). IsOfTrial s.given) steps → AllNoted set steps → disk_stops steps ≡ 0 → NoneGoesDown steps
-none_down set [] all noted still = tt
-none_down set (s ∷ earlier) (is, before) (may, noted) still =
-    (stays_up (is_up (target_at set earlier)) (first_port_after earlier) s.given s.notes is may (omega (arith, still)), none_down set earlier before noted (omega (arith, still)))
+all_leave : (steps : List Step) → AllByRecursion (λ (s : Step). IsOfTrial s.given) steps → AllByRecursion (λ (s : Step). LeavesPower s.given) steps
+all_leave [] all = tt
+all_leave (s ∷ steps) (is, before) = (leaves_power s.given is, all_leave steps before)
 
 -- ---- the setting of a run
 
@@ -128,7 +112,7 @@ module _ (run : Run) (number : ℕ) (is : TriesSound run number) (uploads : Uplo
           can_take = is.can_take;
           whole = record { trace = ran.is.trace; honest = ran.is.honest; carries = ran.is.carries };
           follows = follows;
-          stays_up = none_down (setting_of set is.start) (steps_of seen.trace) (uploads.happens (setting_of set is.start) is.start.identity (steps_of seen.trace) follows) ran.is.trace.noted still;
+          stays_up = none_down (setting_of set is.start) (steps_of seen.trace) (all_leave (steps_of seen.trace) (uploads.happens (setting_of set is.start) is.start.identity (steps_of seen.trace) follows)) ran.is.trace.noted still;
         } in
         let upload_done = uploads.completes number set (setting_of set is.start) (steps_of seen.trace) upload in
         let one = subst (λ (list : List EndedSession). IsOneUpload list) (sym ran.is.sessions_are) upload_done.sessions in

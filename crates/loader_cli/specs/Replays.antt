@@ -37,13 +37,14 @@ use Rattle.replay_rules.specs.FaultFree.{NothingInjected}
 use Rattle.finish_ends.specs.Scripts.{most_of_lines}
 use Rattle.session_completion.specs.FinishedRuns.{IsComplete}
 use Rattle.completion_reports.specs.Reports.{AllReportsAreTrue}
-use Rattle.run_promises.specs.Promises.{CanBeTold, ChangesByGoodLoads, IsLeftToLastFinish, TellsTrue}
+use Rattle.run_promises.specs.Promises.{ChangesByGoodLoads, IsLeftToLastFinish, TellsTrue}
 use Rattle.upload_replay.specs.declared.outcome.Drive.{Drive}
 use Rattle.upload_replay.specs.Drives.{IsLoadersRun, IsRun, NeverBoots}
 use Rattle.upload_replay.specs.Endings.{HeldNone, HoldsNone, HoldsSome, StaysAsItWas}
 use Rattle.replay_turns.specs.Orders.{IsInOrder}
 use Rattle.replay_turns.specs.Powers.{RoseBy, disk_stops}
 use Rattle.upload_replay.specs.Armings.{armed_after, armings_after}
+use Rattle.upload_replay.specs.Lives.{LivesThrough}
 use Rattle.upload_replay.specs.Moments.{HoldsAllAlong, LeavesGood}
 use Rattle.upload_replay.specs.Texts.{report, wire}
 use Rattle.loader_cli.specs.Commands.{CommandView}
@@ -80,18 +81,18 @@ pub record IsScriptRun (set : SetView) (script : List Line) (start : StandingVie
   pub is : IsRun (setting_of set start) (link_of script) ended (steps_of run.trace) run.sessions run.standing
   pub good : ChangesByGoodLoads (setting_of set start) (steps_of run.trace)
   pub reports : AllReportsAreTrue (setting_of set start) (steps_of run.trace)
-  pub tells : CanBeTold (media_of set) → NothingInjected (steps_of run.trace) → TellsTrue (setting_of set start) (steps_of run.trace) run.sessions run.standing
+  pub tells : NothingInjected (steps_of run.trace) → TellsTrue (setting_of set start) (steps_of run.trace) run.sessions run.standing
   pub bounded : length (steps_of run.trace) ≤ most_of_lines 0 script + 1
   pub ordered : IsInOrder run.trace
 
 -- Each image that a power loss might have left since holds what was active at its moment; where it is known what stands then, a
 -- power loss may take nothing but work of an installation, as at first; and a fault-free run that was left to the script's last
--- `finish` is complete.
+-- `finish` is complete, where the disk failed no more often than the trace says that it stopped before that.
 pub record HoldsScriptRun (set : SetView) (script : List Line) (start : StandingView) (old new : DiskState) (run : RunSeen) : Type 0 where
   pub moments : HoldsAllAlong (setting_of set start) (steps_of run.trace) run.standing old new
   pub rests : is_some run.standing ≡ true → LosesOnlyWork new
-  pub completes : CanBeTold (media_of set) → (left : IsLeftToLastFinish (setting_of set start) script (steps_of run.trace)) (last : StandingView) → run.standing ≡ Some last
-      → IsComplete (setting_of set start) left.before left.free (steps_of run.trace) last
+  pub completes : (left : IsLeftToLastFinish (setting_of set start) script (steps_of run.trace)) → ¬ RoseBy (disk_stops left.before + 1) old.faults new.faults
+      → (last : StandingView) → run.standing ≡ Some last → IsComplete (setting_of set start) left.before left.free (steps_of run.trace) last
 
 -- On a disk that tells its content, and of which a power loss could take only work of an installation at first, it is a run of
 -- this script on this media set, which its disk holds moment by moment. Where no boot came, it is such a run also where a power
@@ -117,10 +118,12 @@ pub record CountsPower (steps : List Step) (old new : DiskState) : Type 0 where
   pub armed : new.armed ≡ armed_after (happenings_of steps) old.armed
 
 -- What is promised of each run that comes to its end, whatever its disk tells, and whatever a power loss could have left of it
--- at first: how often it failed and was armed; what the loader did, and its sessions; and the order of the trace's lines.
+-- at first: how often it failed and was armed; what the loader did, and its sessions; what the target did in each of its lives;
+-- and the order of the trace's lines.
 pub record IsAnyRun (set : SetView) (old new : DiskState) (run : RunSeen) : Type 0 where
   pub counts : CountsPower (steps_of run.trace) old new
   pub loader : IsLoadersRun (media_of set) (steps_of run.trace) run.sessions
+  pub lives : LivesThrough (media_of set) permits (steps_of run.trace)
   pub ordered : IsInOrder run.trace
 
 abbrev pub IsCompleted : EndedSession → Type 0

@@ -21,7 +21,9 @@ use link_net::{Script, ScriptLink};
 use load_base::{Bytes, Host, NoMemory};
 use loader_machine::{Outcome, Session};
 use media_check::MediaSet;
+use run_promises::can_be_told;
 use run_promises::laws::what_a_disk_holds_can_be_listed;
+use session_completion::laws::a_last_finish_is_left;
 use std::alloc::Global;
 use upload_replay::{Drive, DriveFault, drive, report_text, wire_text};
 
@@ -86,8 +88,10 @@ pub(crate) fn run_script<'w, K: Power>(
     ensures memory { OnErr result (RunsOut (K.state disk.old) (K.state disk.new)
         ⊎ HoldsSome (K.state disk.old)) }
 {
-    // For the proof: does nothing.
+    // For the proof: these change nothing.
     what_a_disk_holds_can_be_listed();
+    a_last_finish_is_left();
+    can_be_told(set);
     let mut link = ScriptLink::new(alloc, script);
     let interlock = Interlock::new(PermitsAll);
     match drive(alloc, &mut link, disk, set, &interlock) {

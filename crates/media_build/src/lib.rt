@@ -36,6 +36,7 @@ pub use fault::RecipeFault;
 pub use generated::generated_bytes;
 pub use keywords::Keyword;
 pub use making::make;
+pub use media_check::{Built, Placed};
 pub use recipe::Recipe;
 pub use statements::{FileLine, LoadLine, RecipeLine, Statement, UserData};
 pub use writing::write;

@@ -1,13 +1,16 @@
 -- What is found under a name, and as it is seen.
-use Rattle.std.proofs.Common.{◌≡◌, ℕ, zero, suc, List, [], ◌∷◌, Option, Some, refl, sym, ap, ◌∙◌}
+use Rattle.std.proofs.Common.{◌≡◌, ℕ, zero, suc, ◌≤◌, Bool, true, false, cond, List, [], ◌∷◌, length, Option, Some, refl, sym, ap, subst, ◌∙◌}
+use Rattle.std.specs.List.{AllByRecursion}
 use Rattle.std.specs.Prelude.{map, option_map, slice_get, slice_index_or}
 use Rattle.std.specs.Map.{lookup, values_of}
 use Rattle.std.proofs.lemmas.Map.Made.{lookup-map_values}
 use Rattle.crc_fields.specs.CheckSums.{crc16_of}
 use Rattle.load_base.specs.Bytes.{same_bytes}
+use Rattle.load_base.specs.Host.{longest_file}
 use Rattle.load_base.specs.Listed.{Listed}
-use Rattle.media_check.specs.Kept.{bytes_view, contents}
-use Rattle.media_check.specs.Sets.{file_view, files_view}
+use Rattle.field_grammar.specs.Grammar.{IsBytes}
+use Rattle.media_check.specs.Kept.{bytes_view, contents, IsBytesFile, IsShortFile}
+use Rattle.media_check.specs.Sets.{bytes_found, file_view, files_view}
 use Rattle.media_check.specs.declared.set.KeptFile.{KeptFile}
 
 pub found_as_seen : (files : List (List ℕ × KeptFile)) (name : List ℕ) (found : Option KeptFile) → found ≡ lookup (same_bytes name) files
@@ -32,3 +35,25 @@ sums_as_seen (file ∷ files) = ap (λ (l : List ℕ). kept_sum file.1 ∷ l) (s
 -- bytes that are known to be these
 pub seen_bytes : (bytes known : Option (Listed ℕ)) → bytes ≡ known → bytes_view known ≡ bytes_view bytes
 seen_bytes bytes known is = ap bytes_view (sym is)
+
+-- ---- files that are bytes
+
+abbrev IsBytesNotLong : List ℕ → Type 0
+IsBytesNotLong bytes = IsBytes bytes × (length bytes ≤ longest_file)
+
+of_file : (file : Option (List ℕ)) (bytes : List ℕ) → IsBytes (contents file) → length (contents file) ≤ longest_file → file ≡ Some bytes → IsBytesNotLong bytes
+of_file file bytes are short is = subst (λ (f : Option (List ℕ)). IsBytesNotLong (contents f)) is (are, short)
+
+-- what is found is this file, or one after it
+this_or_later : (file : KeptFile) (files : List (List ℕ × KeptFile)) (name bytes : List ℕ) (is_this : Bool) → IsBytesFile file → IsShortFile file
+    → (bytes_found (lookup (same_bytes name) (files_view files)) ≡ Some bytes → IsBytesNotLong bytes)
+    → bytes_found (cond is_this (Some (file_view file)) (lookup (same_bytes name) (files_view files))) ≡ Some bytes → IsBytesNotLong bytes
+this_or_later file files name bytes true are short later e = of_file (bytes_view file.bytes) bytes are short e
+this_or_later file files name bytes false are short later e = later e
+
+-- where all that is kept is bytes, and short, so is what is found under a name
+pub found_are_bytes : (files : List (List ℕ × KeptFile)) → AllByRecursion IsBytesFile (values_of files) → AllByRecursion IsShortFile (values_of files) → (name bytes : List ℕ)
+    → bytes_found (lookup (same_bytes name) (files_view files)) ≡ Some bytes → IsBytesNotLong bytes
+found_are_bytes [] all short name bytes e = absurd cc
+found_are_bytes (file ∷ files) (one, all) (this, short) name bytes e =
+    this_or_later file.1 files name bytes (same_bytes name file.0) one this (found_are_bytes files all short name bytes) e

@@ -1,9 +1,10 @@
 -- A media set as a value: the lists of its members as they were found, and the listed files (docs/FORMATS.md, "Media sets").
-use Rattle.std.specs.Prelude.{ℕ, ◌-◌, List, [], map, Option, Some, None, Result, Ok, Err}
+use Rattle.std.specs.Prelude.{◌≡◌, ℕ, ◌-◌, ◌≤◌, List, [], length, map, Option, Some, None, Result, Ok, Err}
 use Rattle.std.specs.List.{range_with_len}
 use Rattle.std.specs.Map.{lookup}
 use Rattle.load_base.specs.Bytes.{same_bytes}
-use Rattle.field_grammar.specs.Grammar.{Grammar}
+use Rattle.load_base.specs.Host.{longest_file}
+use Rattle.field_grammar.specs.Grammar.{Grammar, IsBytes}
 use Rattle.field_grammar.specs.Answers.{answer}
 use Rattle.media_lists.specs.Files.{FilesListView, files_list, files_list_view, IsFilesList}
 use Rattle.media_lists.specs.Loads.{LoadsListView, loads_list, loads_list_view}
@@ -52,6 +53,10 @@ bytes_found (Some file) = file.bytes
 -- the bytes of the file of this name; None where no such file is listed, and where it is absent
 abbrev pub bytes_of : SetView → List ℕ → Option (List ℕ)
 bytes_of set name = bytes_found (find set name)
+
+-- each file that is there is bytes, and at most 16,777,215 of them
+abbrev pub AreFilesBytes : SetView → Type 0
+AreFilesBytes set = (name bytes : List ℕ) → bytes_of set name ≡ Some bytes → IsBytes bytes × (length bytes ≤ longest_file)
 
 -- ---- what media tell
 

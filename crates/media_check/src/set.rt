@@ -2,7 +2,8 @@
 ghost use Rattle.std.specs.Prelude.{◌≡◌, ◌≤◌, length, option_map, IfSome, All};
 ghost use Rattle.std.specs.HashMap.{values};
 ghost use Rattle.load_base.specs.Host.{longest_file};
-ghost use Rattle.media_check.specs.Kept.{IsShortFile};
+ghost use Rattle.field_grammar.specs.Grammar.{IsBytes};
+ghost use Rattle.media_check.specs.Kept.{IsBytesFile, IsShortFile};
 
 use crate::found::Found;
 use indexmap::IndexMap;
@@ -41,7 +42,7 @@ pub struct MediaSet {
 impl MediaSet {
     ghost use Rattle.media_lists.specs.Files.{files_list_view};
     ghost use Rattle.media_lists.specs.Loads.{loads_list_view};
-    ghost use Rattle.media_check.specs.Sets.{set_view, list_of, bytes_of};
+    ghost use Rattle.media_check.specs.Sets.{set_view, list_of, bytes_of, AreFilesBytes};
 
     /// Member 1's `LOADS.LUM`; `None` exactly where it is absent or refused.
     pub fn loads(&self) -> Option<&LoadsList>
@@ -80,4 +81,28 @@ impl MediaSet {
             None => None,
         }
     }
+
+    /// Each file that is there is bytes, and not too long: of all names, where [`MediaSet::file`]
+    /// says it of one. It changes nothing, takes no memory, and looks at each file once.
+    pub fn files_are_bytes(&self)
+        ensures { AreFilesBytes (set_view self.now) }
+    {
+        for file in self.files.values() {
+            is_bytes(file);
+        }
+    }
 }
+
+// For the proof: does nothing.
+fn is_bytes(file: &KeptFile)
+    ensures { IsBytesFile file.now }
+{
+    if let Some(bytes) = &file.bytes {
+        are_bytes(bytes.as_slice());
+    }
+}
+
+// For the proof: does nothing.
+fn are_bytes(bytes: &[u8])
+    ensures { IsBytes bytes.now }
+{}

@@ -36,6 +36,12 @@ AllDue set (s ∷ earlier) = (s.posts ≡ due set earlier s.given s.notes) × Al
 
 -- ---- what is noted of the target
 
+-- the happening is no loss of power, and no boot
+abbrev pub LeavesPower : HappeningView → Type 0
+LeavesPower (Power_cut calls pick) = ⊥
+LeavesPower Booted = ⊥
+LeavesPower h = ⊤
+
 abbrev pub is_up : TargetState → Bool
 is_up (Is_up r) = true
 is_up (Is_down active interrupted) = false

@@ -47,21 +47,21 @@ target_is_live joins set [] = tt
 target_is_live joins set (s ∷ earlier) =
     noted_live s.notes (target_at set earlier) _ (reached_live joins set (event_for sides.Target (posted_in earlier) s.given) (target_at set earlier) (target_is_live joins set earlier))
 
-loader_more : (set : Setting) (log : List Event) (e : Option Event) → loader_next set (loader_view (loader_reading set.media log)) e ≡ loader_view (loader_reading set.media (logged e log))
+loader_more : (set : Setting) (log : List Event) (e : Option Event) → loader_next set.media (loader_view (loader_reading set.media log)) e ≡ loader_view (loader_reading set.media (logged e log))
 loader_more set log None = refl
 loader_more set log (Some e) = loaders_follow set.media log e
 
-loader_due_is : (set : Setting) (steps : List Step) (e : Option Event) → loader_says set (loader_view (loader_at set steps)) e ≡ due_of_loader set (loader_at set steps) e
+loader_due_is : (set : Setting) (steps : List Step) (e : Option Event) → loader_says set.media (loader_view (loader_at set steps)) e ≡ due_of_loader set (loader_at set steps) e
 loader_due_is set steps None = refl
 loader_due_is set steps (Some e) = refl
 
-target_more : SumsJoin → (set : Setting) (state : TargetState) (e : Option Event) → HasLive state → target_next set (kept_by set state) e ≡ kept_by set (reached set e state)
+target_more : SumsJoin → (set : Setting) (state : TargetState) (e : Option Event) → HasLive state → target_next set.accepts (kept_by set state) e ≡ kept_by set (reached set e state)
 target_more joins set (Is_up r) None live = refl
 target_more joins set (Is_up r) (Some e) live = ap (λ (v : TargetView). Some v) (target_follows joins set.accepts r e live).0
 target_more joins set (Is_down active interrupted) None live = refl
 target_more joins set (Is_down active interrupted) (Some e) live = refl
 
-target_due_is : (set : Setting) (state : TargetState) (e : Option Event) → target_says set (kept_by set state) e ≡ due_of_target set state e
+target_due_is : (set : Setting) (state : TargetState) (e : Option Event) → target_says set.accepts (kept_by set state) e ≡ due_of_target set state e
 target_due_is set (Is_up r) None = refl
 target_due_is set (Is_up r) (Some e) = refl
 target_due_is set (Is_down active interrupted) None = refl
@@ -75,16 +75,16 @@ pub step_keeps_tie : SumsJoin → StepKeepsTie
 step_keeps_tie joins set steps loader loader_then target target_then posted s tied reacts =
     let to_loader = event_for sides.Loader (posted_in steps) s.given in
     let to_target = event_for sides.Target (posted_in steps) s.given in
-    let said : loader_says set loader to_loader ≡ due_of_loader set (loader_at set steps) to_loader = rw tied.loader_is (loader_due_is set steps to_loader) in
-    let answered : target_says set target to_target ≡ due_of_target set (target_at set steps) to_target = rw tied.target_is (target_due_is set (target_at set steps) to_target) in
-    let moved : target_next set target to_target ≡ kept_by set (reached set to_target (target_at set steps)) = rw tied.target_is (target_more joins set (target_at set steps) to_target (target_is_live joins set steps)) in
+    let said : loader_says set.media loader to_loader ≡ due_of_loader set (loader_at set steps) to_loader = rw tied.loader_is (loader_due_is set steps to_loader) in
+    let answered : target_says set.accepts target to_target ≡ due_of_target set (target_at set steps) to_target = rw tied.target_is (target_due_is set (target_at set steps) to_target) in
+    let moved : target_next set.accepts target to_target ≡ kept_by set (reached set to_target (target_at set steps)) = rw tied.target_is (target_more joins set (target_at set steps) to_target (target_is_live joins set steps)) in
     record {
       loader_is = reacts.loader_does ∙ rw tied.loader_is (loader_more set (loader_log steps) to_loader);
-      target_is = reacts.target_does ∙ kept_noted set s.notes (target_at set steps) (reached set to_target (target_at set steps)) (target_next set target to_target) moved;
+      target_is = reacts.target_does ∙ kept_noted set s.notes (target_at set steps) (reached set to_target (target_at set steps)) (target_next set.accepts target to_target) moved;
       posted_is = ap (λ (posts : List DatagramView). posts ++ s.posts) tied.posted_is;
       due = (
         reacts.both_post
-            ∙ (ap (λ (posts : List DatagramView). posts ++ cond (goes_down s.notes) [] (target_says set target to_target)) said
+            ∙ (ap (λ (posts : List DatagramView). posts ++ cond (goes_down s.notes) [] (target_says set.accepts target to_target)) said
             ∙ ap (λ (posts : List DatagramView). due_of_loader set (loader_at set steps) to_loader ++ cond (goes_down s.notes) [] posts) answered),
         tied.due,
       );

@@ -70,13 +70,13 @@ module _ {S R : Type 0} (may_say : R → LoadHeader → Bool → Type 0) (set : 
   took_adds state begins = adds_in state (begun state begins)
 
   -- and answers
-  holds_in : (y : S) → result ≡ Ok y → Some after.view ≡ target_next set (Some t.view) e → (state : TargetState) → BeginsStep may_say set state (Some t) old → HoldsRun set (reached set e state) (Some after) new
+  holds_in : (y : S) → result ≡ Ok y → Some after.view ≡ target_next set.accepts (Some t.view) e → (state : TargetState) → BeginsStep may_say set state (Some t) old → HoldsRun set (reached set e state) (Some after) new
   holds_in y ok next (Is_up r) begins =
       let keep = rw ok at (keeps (contents_of set.accepts r) (has set e r t after old new result begins.follow begins.holds goes)) in
       up_holds set e r t after old new begins.follow begins.holds goes next keep.holds keep.alone
   holds_in y ok next (Is_down active interrupted) begins = absurd (let wrong : Some t.view ≡ None = begins.holds.kept in cc)
 
-  pub took_steps : {T : Type 0} (E : Type 0) (y : S) (x : T) (notes : T → List Note) → result ≡ Ok y → Some after.view ≡ target_next set (Some t.view) e → notes x ≡ [] → (state : TargetState) → BeginsStep may_say set state slot old
+  pub took_steps : {T : Type 0} (E : Type 0) (y : S) (x : T) (notes : T → List Note) → result ≡ Ok y → Some after.view ≡ target_next set.accepts (Some t.view) e → notes x ≡ [] → (state : TargetState) → BeginsStep may_say set state slot old
       → StepsOn {E = E} set e state (Some after) notes old new (Ok x)
   took_steps E y x notes ok next none state begins = record {
     adds = took_adds state begins;
@@ -100,7 +100,7 @@ module _ {S R : Type 0} (may_say : R → LoadHeader → Bool → Type 0) (set : 
   pub unmade_steps : {T E : Type 0} (after : Option (machine.TargetState R)) (notes : T → List Note) (fault : E) (state : TargetState) → BeginsStep may_say set state slot old → StepsOn {T = T} set e state after notes old new (Err fault)
   unmade_steps after notes fault state begins = record { adds = took_adds state begins; holds = tt; boots = tt }
 
-pub next_of : {R : Type 0} (set : Setting) (e : Option Event) (before after : machine.TargetState R) (posts : List DatagramView) → TargetTakes set.accepts e before after posts → Some after.view ≡ target_next set (Some before.view) e
+pub next_of : {R : Type 0} (set : Setting) (e : Option Event) (before after : machine.TargetState R) (posts : List DatagramView) → TargetTakes set.accepts e before after posts → Some after.view ≡ target_next set.accepts (Some before.view) e
 next_of set None before after posts takes = ap (λ t. Some t.view) takes.0
 next_of set (Some e) before after posts takes = ap (λ v. Some v) takes.keeps
 

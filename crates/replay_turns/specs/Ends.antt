@@ -15,7 +15,7 @@ use Rattle.replay_rules.specs.Due.{MayBeNoted}
 use Rattle.target_machine.specs.Decisions as machine
 use Rattle.replay_turns.specs.Powers.{RoseBy, stops_in}
 use Rattle.replay_turns.specs.StepsOnDisks.{BeginsStep, BootIsTold, HoldsRun}
-use Rattle.replay_turns.specs.Targets.{IsNoBoot, TargetTurns}
+use Rattle.replay_turns.specs.Targets.{IsNoBoot, TargetLives, TargetTurns}
 use Rattle.replay_turns.specs.Turns.{LoaderTakes, RuleFollows, RunsWhileUp, target_kept}
 
 -- Both ends took what happened, and it is recorded as the newest step, with the loader's datagrams before the target's: what
@@ -33,9 +33,11 @@ pub record HasStepped {R : Type 0} (h : HappeningView) (posts : List DatagramVie
   pub stops : RoseBy (stops_in h notes) old.faults new.faults
   pub running : RunsWhileUp target_then new
 
--- And what the target did, where what it keeps is known; with what its disk holds then, where the disk held it before.
+-- And what the target did, whatever is known of its disk; by what its log says, where that is known; with what its disk holds
+-- then, where the disk held it before.
 pub record StepsAsSaid {R : Type 0} (may_say : R → LoadHeader → Bool → Type 0) (set : Setting) (state : TargetState) (h : HappeningView) (posts : List DatagramView) (steps steps_then : List Step) (loader loader_then : LoaderState) (target target_then : Option (machine.TargetState R)) (old new : DiskState) : Type 0 where
   pub stepped : HasStepped h posts steps steps_then loader loader_then target target_then old new
+  pub lives : TargetLives set.accepts (event_for sides.Target (posted_in steps) h) (target_kept target) (target_kept target_then) stepped.target_posts stepped.notes
   pub turns : IsNoBoot h ⊎ BeginsStep may_say set state target old
       → TargetTurns set (event_for sides.Target (posted_in steps) h) state (target_kept target) (target_kept target_then) stepped.target_posts stepped.notes
   pub holds : BeginsStep may_say set state target old

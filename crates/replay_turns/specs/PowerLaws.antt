@@ -3,8 +3,8 @@ use Rattle.std.proofs.Common.{◌≡◌, ℕ, ◌+◌, ◌≤◌, List, [], ◌�
 use Rattle.disk_model.specs.State.{DiskState, KeepsPower}
 use Rattle.exchange_trace.specs.Happenings.{HappeningView, Booted, Delivered, Ended, Info_started, Injected, Lost, Power_cut, Size_told, Ticked, Upload_started}
 use Rattle.exchange_trace.specs.Steps.{Note}
-use Rattle.replay_rules.specs.Due.{MayBeNoted, MayGoDown}
-use Rattle.replay_turns.specs.Powers.{ArmsBy, LeavesPower, RoseBy, stops_in, stops_noted}
+use Rattle.replay_rules.specs.Due.{LeavesPower, MayBeNoted, MayGoDown}
+use Rattle.replay_turns.specs.Powers.{ArmsBy, RoseBy, stops_in, stops_noted}
 
 -- ---- counts
 

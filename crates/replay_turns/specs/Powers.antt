@@ -1,9 +1,9 @@
 -- What a run does to the power of the target's disk, and how often the disk stops (docs/EXCHANGE.md, "Runs").
-use Rattle.std.specs.Prelude.{◌≡◌, ℕ, zero, ◌+◌, ◌-◌, ◌^◌, ◌≤◌, min, List, [], ◌∷◌, ◌++◌, Bool, true, false, if◌then◌else◌, ⊤}
+use Rattle.std.specs.Prelude.{◌≡◌, ℕ, zero, ◌+◌, ◌-◌, ◌^◌, ◌≤◌, min, List, [], ◌∷◌, ◌++◌, Bool, true, false, if◌then◌else◌}
 use Rattle.disk_layout.specs.declared.fault.RecoverFault.TheVariants.{DiskFailed}
 use Rattle.disk_model.specs.Arming.{next_count}
 use Rattle.disk_model.specs.State.{DiskState}
-use Rattle.exchange_trace.specs.Happenings.{HappeningView, Booted, Power_cut}
+use Rattle.exchange_trace.specs.Happenings.{HappeningView, Power_cut}
 use Rattle.exchange_trace.specs.Steps.{Note, Step, Boot_refused, Went_down}
 
 -- ---- how often the disk stops
@@ -33,12 +33,6 @@ disk_stops [] = 0
 disk_stops (s ∷ earlier) = stops_in s.given s.notes + disk_stops earlier
 
 -- ---- losses of power that were armed
-
--- the happening is no loss of power, and no boot
-abbrev pub LeavesPower : HappeningView → Type 0
-LeavesPower (Power_cut calls pick) = ⊥
-LeavesPower Booted = ⊥
-LeavesPower h = ⊤
 
 -- how often a loss was armed, if it was so often before
 abbrev pub armings_with : HappeningView → ℕ → ℕ

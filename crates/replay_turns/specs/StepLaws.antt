@@ -281,18 +281,18 @@ module _ {T R : Type 0} (set : Setting) (e : Option Event) (r : TargetReading) (
     }
 
 -- where it answers
-view_then : (set : Setting) (e : Option Event) (r : TargetReading) → FollowsItsLog set r → target_next set (Some (target_view set.accepts r)) e ≡ Some (target_view set.accepts (reading_then set r e))
+view_then : (set : Setting) (e : Option Event) (r : TargetReading) → FollowsItsLog set r → target_next set.accepts (Some (target_view set.accepts r)) e ≡ Some (target_view set.accepts (reading_then set r e))
 view_then set None r follow = refl
 view_then set (Some e) r follow = ap (λ (v : TargetView). Some v) (sym (follow.view e))
 
 pub up_holds : {R : Type 0} (set : Setting) (e : Option Event) (r : TargetReading) (t after : machine.TargetState R) (old new : DiskState) → ContentsFollowAt set (Is_up r) → HoldsRun set (Is_up r) (Some t) old
-    → TimeGoesOn old new → Some after.view ≡ target_next set (Some t.view) e → HoldsContents after.store new (contents_then set.accepts t.view e (contents_of set.accepts r))
+    → TimeGoesOn old new → Some after.view ≡ target_next set.accepts (Some t.view) e → HoldsContents after.store new (contents_then set.accepts t.view e (contents_of set.accepts r))
     → ((left : Image) → new.now left → HoldsConfig left (contents_then set.accepts t.view e (contents_of set.accepts r)).active) → HoldsRun set (reached set e (Is_up r)) (Some after) new
 up_holds {R} set e r t after old new follow holds goes next contents alone =
     let view : t.view ≡ target_view set.accepts r = let same = holds.kept in cc in
     let is : contents_then set.accepts t.view e (contents_of set.accepts r) ≡ contents_of set.accepts (reading_then set r e) =
     ap (λ (v : TargetView). contents_then set.accepts v e (contents_of set.accepts r)) view ∙ contents_are set e r follow in
-    let kept : Some after.view ≡ Some (target_view set.accepts (reading_then set r e)) = next ∙ (ap (λ (v : TargetView). target_next set (Some v) e) view ∙ view_then set e r follow) in
+    let kept : Some after.view ≡ Some (target_view set.accepts (reading_then set r e)) = next ∙ (ap (λ (v : TargetView). target_next set.accepts (Some v) e) view ∙ view_then set e r follow) in
     subst (λ (state : TargetState). HoldsRun set state (Some after) new) (sym (reached_is set e r)) (record {
       kept = kept;
       tells = goes.tells ∙ holds.tells;

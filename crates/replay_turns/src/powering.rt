@@ -9,7 +9,7 @@ ghost use Rattle.exchange_trace.specs.Happenings.{Power_cut};
 ghost use Rattle.load_header.specs.Header.{HeaderView};
 ghost use Rattle.replay_rules.specs.BothEnds.{Is_down, Setting, TargetState, noted};
 ghost use Rattle.replay_rules.specs.Due.{IsBooted, MayBeNoted};
-ghost use Rattle.replay_turns.specs.Targets.{TargetTurns};
+ghost use Rattle.replay_turns.specs.Targets.{ComesOutOfBoot, TargetLives, TargetTurns};
 ghost use Rattle.replay_turns.specs.StepsOnDisks.{BeginsStep, HasBooted, HoldsRun, Reboots, StepsOn};
 ghost use Rattle.replay_turns.specs.Powers.{ArmsBy, RoseBy, stops_in, stops_noted};
 ghost use Rattle.replay_turns.specs.Turns.{RuleFollows, RunsOut, RunsWhileUp, notes_of};
@@ -46,6 +46,8 @@ pub(crate) fn cut_power<K: Power, R: Rule>(
     requires { RunsWhileUp slot.old (K.state disk.old) }
     ensures turns { (set : Setting) (state : TargetState) → TargetTurns set None state
         (target_kept slot.old) (target_kept slot.new) [] (notes_of result) }
+    ensures lives { (accepts : HeaderView → Bool) → TargetLives accepts None
+        (target_kept slot.old) (target_kept slot.new) [] (notes_of result) }
     ensures noted { (first_port : ℕ) → MayBeNoted (is_some slot.old) first_port
         (Power_cut calls pick) (notes_of result) }
     ensures rule { (accepts : HeaderView → Bool) → RuleFollows R.may_say accepts slot.old
@@ -79,6 +81,8 @@ pub(crate) fn boot_again<'i, K: Power, R: Rule>(
     first_port: u32,
 ) -> Result<PowerNote, NoMemory>
     ensures noted { IfOk result (λ note. IsBooted first_port (notes_of (Some note))) }
+    ensures boots { IfOk result (λ note. ComesOutOfBoot (target_kept slot.new)
+        (notes_of (Some note))) }
     ensures rule { (accepts : HeaderView → Bool) → Follows R.may_say interlock.now accepts
         → OnOk result (RuleFollows R.may_say accepts slot.new) }
     ensures running { OnOk result (RunsWhileUp slot.new (K.state disk.new)) }
@@ -111,6 +115,8 @@ fn come_up<'i, K: Power, R: Rule>(
     requires down { slot.old ≡ None }
     requires running { IsRunning (K.state disk.old) }
     ensures noted { IfOk result (λ note. IsBooted first_port (notes_of (Some note))) }
+    ensures boots { IfOk result (λ note. ComesOutOfBoot (target_kept slot.new)
+        (notes_of (Some note))) }
     ensures rule { (accepts : HeaderView → Bool) → Follows R.may_say interlock.now accepts
         → OnOk result (RuleFollows R.may_say accepts slot.new) }
     ensures running { OnOk result (RunsWhileUp slot.new (K.state disk.new)) }

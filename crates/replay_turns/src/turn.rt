@@ -9,11 +9,11 @@ ghost use Rattle.exchange_trace.specs.Posts.{first_port_after, posted_in};
 ghost use Rattle.load_header.specs.Header.{HeaderView};
 ghost use Rattle.load_intake.specs.Stores.{Writes};
 ghost use Rattle.replay_rules.specs.BothEnds.{Setting, TargetState};
-ghost use Rattle.replay_rules.specs.Due.{MayBeNoted};
-ghost use Rattle.replay_turns.specs.Powers.{ArmsBy, LeavesPower, RoseBy, stops_in};
+ghost use Rattle.replay_rules.specs.Due.{LeavesPower, MayBeNoted};
+ghost use Rattle.replay_turns.specs.Powers.{ArmsBy, RoseBy, stops_in};
 ghost use Rattle.replay_turns.specs.StepsOnDisks.{BeginsStep, HasContents, Reboots, StepsOn};
 ghost use Rattle.replay_turns.specs.StepsOnDisks.{contents_then};
-ghost use Rattle.replay_turns.specs.Targets.{IsNoBoot, TargetSpeaks, TargetTurns};
+ghost use Rattle.replay_turns.specs.Targets.{IsNoBoot, TargetLives, TargetSpeaks, TargetTurns};
 ghost use Rattle.replay_turns.specs.Turns.{RuleFollows, RunsOut, RunsWhileUp, TargetTakes};
 ghost use Rattle.replay_turns.specs.Turns.{notes_of, target_kept};
 ghost use Rattle.session_rules.specs.Contents.{TargetContents, contents_after};
@@ -55,6 +55,11 @@ pub(crate) fn target_turn<'i, K: Power, R: Rule>(
         ⊎ BeginsStep R.may_say set state slot.old (K.state disk.old)
         → IfOk result (λ reply. TargetTurns set
         (event_for sides.Target (posted_in recording.now) (happening_view happening.now)) state
+        (target_kept slot.old) (target_kept slot.new) (posts_view reply.posts)
+        (notes_of reply.note)) }
+    ensures lives { (accepts : HeaderView → Bool) → RuleFollows R.may_say accepts slot.old
+        → IfOk result (λ reply. TargetLives accepts
+        (event_for sides.Target (posted_in recording.now) (happening_view happening.now))
         (target_kept slot.old) (target_kept slot.new) (posts_view reply.posts)
         (notes_of reply.note)) }
     ensures silent { IfOk result (λ reply. ¬ TargetSpeaks (happening_view happening.now)
@@ -116,6 +121,11 @@ fn reach_target<K: Disk, R: Rule>(
     ensures turns { (set : Setting) (state : TargetState)
         → RuleFollows R.may_say set.accepts slot.old → IfOk result (λ reply. TargetTurns set
         (event_for sides.Target (posted_in recording.now) (happening_view happening.now)) state
+        (target_kept slot.old) (target_kept slot.new) (posts_view reply.posts)
+        (notes_of reply.note)) }
+    ensures lives { (accepts : HeaderView → Bool) → RuleFollows R.may_say accepts slot.old
+        → IfOk result (λ reply. TargetLives accepts
+        (event_for sides.Target (posted_in recording.now) (happening_view happening.now))
         (target_kept slot.old) (target_kept slot.new) (posts_view reply.posts)
         (notes_of reply.note)) }
     ensures silent { IfOk result (λ reply. ¬ TargetSpeaks (happening_view happening.now)

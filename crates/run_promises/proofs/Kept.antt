@@ -132,14 +132,14 @@ served_bytes media can loads are = by (files_in loads) are
 -- a fault-free run that was left to its last `finish`
 completes_free : FinishCompletes → (set : Setting) (steps : List Step) (standing : Option StandingView) → IsWholeRun set steps → AcceptsPermitted set → CanBeTold set.media
     → (named : (kind : FileKind) → IsName (file_name set.start.identity.hw set.start.identity.pos kind)) → (script : List Line) → Follows set script steps → CompletesAtFinish set script steps standing
-completes_free complete set steps standing is accepts can named script follows left last stands active =
+completes_free complete set steps standing is accepts can named script follows left up last stands active =
     subst (λ (list : List Step). IsComplete set left.before left.free list last) (sym left.split)
     (complete set script left.before left.more left.free last accepts can.lengths (record { entries = can.entries; own_files = named; bytes = served_bytes set.media can left.free.loads left.free.served.media }) left.margin (record {
       trace = subst (λ (list : List Step). IsTrace set list) left.split is.trace;
       carries = subst (λ (list : List Step). AllCarryBytes list) left.split is.carries;
       follows = subst (λ (list : List Step). Follows set script list) left.split follows;
       left = left.left;
-      stays_up = left.stays_up;
+      stays_up = up;
     }) (subst (λ (list : List Step). last ≡ active_by (target_at set list) (Some last)) left.split active))
 
 pub kept : EndedLaws → ReportsAreTrue → ChangesAreNew → InstallsAreGood → ActiveIsFirstOrGood → InstallsAreOfMedia → CompletedListsActive → WhatFitsNamesItsFiles → WhatIsActiveCanBeListed → CompletedStays → TracesAreBounded → FinishCompletes → RunsKeepPromises

@@ -2,23 +2,22 @@
 use Rattle.std.proofs.Common.{◌≡◌, ◌↔◌, inl, inr, ℕ, ◌≤◌, Bool, true, false, cond, List, [], ◌∷◌, map, length, Option, Some, None, Result, Ok, Err, refl, subst, arith}
 use Rattle.std.specs.List.{AllByRecursion}
 use Rattle.std.specs.Map.{lookup}
-use Rattle.std.proofs.lemmas.List.Elements.{recursion_from_All}
 use Rattle.load_base.specs.Bytes.{same_bytes}
-use Rattle.load_base.specs.Host.{Files, longest_file}
+use Rattle.load_base.specs.Host.{longest_file}
 use Rattle.field_grammar.specs.Answers.{answer}
 use Rattle.field_grammar.specs.ExactLaws.{answer-fault, answer-spelled, spelled_at_start}
 use Rattle.field_grammar.specs.Grammar.{IsBytes, IsDecided, Spelled}
 use Rattle.load_protocol_files.specs.declared.lur.Wanted.{Wanted}
 use Rattle.load_protocol_files.specs.Lur.{WantedFits}
-use Rattle.media_lists.specs.Loads.{IsListedLoad, IsLoadsList, LoadEntryView, LoadsListView, LoadsSpells, loads_list}
+use Rattle.media_lists.specs.Loads.{IsListedLoad, IsLoadsList, LoadEntryView, LoadsListView, LoadsSpells, load_entry_view, loads_list, loads_list_view}
 use Rattle.media_lists.specs.declared.fault.ListFault.{ListFault}
 use Rattle.media_lists.specs.declared.lists.ListedFile.{ListedFile}
-use Rattle.media_check.specs.HostNames.{host_media, listed_name}
-use Rattle.media_check.specs.Kept.{contents}
-use Rattle.media_check.specs.Openings.{IsShort}
-use Rattle.media_check.specs.Sets.{Media, bytes_found, entries_of, file_in, found_as, found_in, list_of, lists_in}
-use Rattle.loader_machine.specs.Machine.{loads_in, wanted_entry}
-use Rattle.run_promises.specs.TellableSets.{AllAreBytes, IsTellableFile, ReadSetsCanBeTold, SetsCanBeTold}
+use Rattle.media_lists.specs.declared.lists.LoadEntry.{LoadEntry}
+use Rattle.media_lists.specs.declared.lists.LoadsList.{LoadsList}
+use Rattle.media_check.specs.Sets.{AreFilesBytes, Media, SetView, bytes_found, entries_of, file_in, found_as, found_in, list_of, lists_in}
+use Rattle.loader_machine.specs.Machine.{loads_in, media_of, wanted_entry}
+use Rattle.run_promises.specs.Promises.{CanBeTold}
+use Rattle.run_promises.specs.TellableSets.{IsTellableFile, IsTellableLoad, SetsCanBeTold}
 
 -- the laws of the format of LOADS.LUM
 pub record ListLaws : Type 0 where
@@ -86,22 +85,16 @@ set_is_told laws media are = record {
   bytes = λ name bytes is. (found_is_tellable media (entries_of (lists_in media 1).files) are.files name bytes is).0;
 }
 
--- ---- in a folder
+-- ---- a set in memory
 
-short_bytes : (file : Option (List ℕ)) (bytes : List ℕ) → length (contents file) ≤ longest_file → file ≡ Some bytes → length bytes ≤ longest_file
-short_bytes file bytes short is = subst (λ (f : Option (List ℕ)). length (contents f) ≤ longest_file) is short
+loads_are_told : (entries : List LoadEntry) → AllByRecursion IsTellableLoad entries → AllFit (map wanted_entry (map load_entry_view entries))
+loads_are_told [] all = tt
+loads_are_told (entry ∷ entries) (one, all) = (one, loads_are_told entries all)
 
-listed_are_tellable : (folder : List ℕ) (told : Files) → AllAreBytes told → (entries : List ListedFile) → AllByRecursion (IsShort told) (map (listed_name folder) entries)
-    → AllByRecursion (IsTellableFile (host_media told folder)) entries
-listed_are_tellable folder told are [] short = tt
-listed_are_tellable folder told are (entry ∷ entries) (one, short) = (
-  λ bytes is. (are (listed_name folder entry) bytes is, short_bytes (told (listed_name folder entry)) bytes one is),
-  listed_are_tellable folder told are entries short,
-)
-
-pub read_set_is_told : ListLaws → ReadSetsCanBeTold
-read_set_is_told laws folder told are can = set_is_told laws (host_media told folder) (record {
-  loads = λ bytes is. are _ bytes is;
-  files = listed_are_tellable folder told are (entries_of (lists_in (host_media told folder) 1).files)
-      (recursion_from_All (IsShort told) (map (listed_name folder) (entries_of (lists_in (host_media told folder) 1).files)) can.listed);
-})
+pub set_in_memory_is_told : (set : SetView) (list : LoadsList) → Some (loads_list_view list) ≡ list_of set.first.loads → AllByRecursion IsTellableLoad list.loads.items → AreFilesBytes set
+    → CanBeTold (media_of set)
+set_in_memory_is_told set list is all are = record {
+  entries = subst (λ (found : Option LoadsListView). AllFit (loads_in found)) is (loads_are_told list.loads.items all);
+  lengths = λ name bytes told. let short = (are name bytes told).1 in omega (arith, short);
+  bytes = λ name bytes told. (are name bytes told).0;
+}

@@ -133,8 +133,7 @@ pub record TellsTrue (set : Setting) (steps : List Step) (sessions : List EndedS
 
 -- ---- what completes
 
--- The run was left to a last `finish` of this script after the steps `before`, which are fault-free and within the margin, and
--- the target doesn't go down in the steps of the `finish`.
+-- The run was left to a last `finish` of this script after the steps `before`, which are fault-free and within the margin.
 pub record IsLeftToLastFinish (set : Setting) (script : List Line) (steps : List Step) : Type 0 where
   pub before : List Step
   pub more : List Step
@@ -142,12 +141,11 @@ pub record IsLeftToLastFinish (set : Setting) (script : List Line) (steps : List
   pub free : IsFaultFree set before
   pub margin : IsWithinMargin set before
   pub left : FinishIsLeft set script before
-  pub stays_up : NoneGoesDown more
 
--- such a run, at whose end this was recovered, is complete
+-- such a run, in whose `finish` the target doesn't go down, and at whose end this was recovered, is complete
 abbrev pub CompletesAtFinish : Setting → List Line → List Step → Option StandingView → Type 0
 CompletesAtFinish set script steps standing =
-    (left : IsLeftToLastFinish set script steps) (last : StandingView) → standing ≡ Some last → last ≡ active_by (target_at set steps) (Some last)
+    (left : IsLeftToLastFinish set script steps) → NoneGoesDown left.more → (last : StandingView) → standing ≡ Some last → last ≡ active_by (target_at set steps) (Some last)
     → IsComplete set left.before left.free steps last
 
 -- ---- all of it

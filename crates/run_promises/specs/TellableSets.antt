@@ -2,13 +2,14 @@
 -- docs/EXCHANGE.md, "Operations").
 use Rattle.std.specs.Prelude.{◌≡◌, ℕ, ◌≤◌, List, length, Some}
 use Rattle.std.specs.List.{AllByRecursion}
-use Rattle.load_base.specs.Host.{Files, longest_file}
+use Rattle.load_base.specs.Host.{longest_file}
 use Rattle.field_grammar.specs.Grammar.{IsBytes}
+use Rattle.load_protocol_files.specs.Lur.{WantedFits}
+use Rattle.media_lists.specs.Loads.{load_entry_view}
 use Rattle.media_lists.specs.declared.lists.ListedFile.{ListedFile}
-use Rattle.media_check.specs.HostNames.{further_reading, host_media}
-use Rattle.media_check.specs.Openings.{CanRead}
+use Rattle.media_lists.specs.declared.lists.LoadEntry.{LoadEntry}
 use Rattle.media_check.specs.Sets.{Media, entries_of, lists_in, set_in}
-use Rattle.loader_machine.specs.Machine.{media_of}
+use Rattle.loader_machine.specs.Machine.{media_of, wanted_entry}
 use Rattle.run_promises.specs.Promises.{CanBeTold}
 
 -- what the media have of a listed file, if it is there, is bytes, and at most 16,777,215 of them
@@ -25,11 +26,6 @@ pub record AreTellable (media : Media) : Type 0 where
 abbrev pub SetsCanBeTold : Type 0
 SetsCanBeTold = (media : Media) → AreTellable media → CanBeTold (media_of (set_in media))
 
--- each file of a host is bytes
-abbrev pub AllAreBytes : Files → Type 0
-AllAreBytes told = (name bytes : List ℕ) → told name ≡ Some bytes → IsBytes bytes
-
--- So can the set of a folder of a host whose files are bytes, where what member 1's lists name can be read.
-abbrev pub ReadSetsCanBeTold : Type 0
-ReadSetsCanBeTold = (folder : List ℕ) (told : Files) → AllAreBytes told → CanRead told (further_reading folder (lists_in (host_media told folder) 1))
-    → CanBeTold (media_of (set_in (host_media told folder)))
+-- An entry of the list of loads has a name and a part number.
+abbrev pub IsTellableLoad : LoadEntry → Type 0
+IsTellableLoad entry = WantedFits (wanted_entry (load_entry_view entry))

@@ -2,7 +2,7 @@
 ghost use Rattle.run_promises.specs.Listing.{WhatFitsCanBeListed, WhatFitsNamesItsFiles};
 ghost use Rattle.run_promises.specs.Listing.{WhatIsActiveCanBeListed, WhatIsHeldFits};
 ghost use Rattle.run_promises.specs.Promises.{RunsKeepPromises};
-ghost use Rattle.run_promises.specs.TellableSets.{ReadSetsCanBeTold, SetsCanBeTold};
+ghost use Rattle.run_promises.specs.TellableSets.{SetsCanBeTold};
 
 use completion_reports::laws::what_a_target_reports_is_installed;
 use crc_fields::check_sum_laws;
@@ -42,12 +42,10 @@ pub fn what_is_active_can_be_listed()
 
 /// A media set that was read can be told, where it was read of files that are bytes: each entry of
 /// its list of loads has a name and a part number, and each of its files is bytes, no more than a
-/// request can tell the length of.
+/// request can tell the length of. It says so of media, before a set of them is in memory;
+/// [`crate::can_be_told`] says it of one that is.
 pub fn a_set_that_is_read_can_be_told()
-    // Whatever the media: a folder of a host, or lists and files in memory.
-    ensures media { SetsCanBeTold }
-    // A folder of a host that tells its files. An opening reads no file that is too long.
-    ensures folder { ReadSetsCanBeTold }
+    ensures { SetsCanBeTold }
 {
     loads_list_laws();
 }

@@ -34,17 +34,17 @@ target_then set v (Some e) = target_after set.accepts v e
 
 -- the world after what came to either end
 abbrev pub stepped : Setting → World → Option Event → Option Event → World
-stepped set w one two = record { loader = loader_next set w.loader one; target = target_then set w.target two; posts = w.posts ++ (loader_says set w.loader one ++ target_says set (Some w.target) two) }
+stepped set w one two = record { loader = loader_next set.media w.loader one; target = target_then set w.target two; posts = w.posts ++ (loader_says set.media w.loader one ++ target_says set.accepts (Some w.target) two) }
 
-then_is : (set : Setting) (v : TargetView) (e : Option Event) → target_next set (Some v) e ≡ Some (target_then set v e)
+then_is : (set : Setting) (v : TargetView) (e : Option Event) → target_next set.accepts (Some v) e ≡ Some (target_then set v e)
 then_is set v None = refl
 then_is set v (Some e) = refl
 
-loader_due_so : (set : Setting) (steps : List Step) (e : Option Event) → due_of_loader set (loader_at set steps) e ≡ loader_says set (loader_view (loader_at set steps)) e
+loader_due_so : (set : Setting) (steps : List Step) (e : Option Event) → due_of_loader set (loader_at set steps) e ≡ loader_says set.media (loader_view (loader_at set steps)) e
 loader_due_so set steps None = refl
 loader_due_so set steps (Some e) = refl
 
-target_due_so : (set : Setting) (state : TargetState) (v : TargetView) (e : Option Event) → Some v ≡ kept_by set state → due_of_target set state e ≡ target_says set (Some v) e
+target_due_so : (set : Setting) (state : TargetState) (v : TargetView) (e : Option Event) → Some v ≡ kept_by set state → due_of_target set state e ≡ target_says set.accepts (Some v) e
 target_due_so set (Is_up r) v None is = refl
 target_due_so set (Is_up r) v (Some e) is = ap (λ (x : TargetView). target_posts set.accepts x e) (some_same (sym is))
   where
@@ -58,21 +58,21 @@ pub step_tied : StepKeepsTie → (set : Setting) (steps : List Step) (before : L
 step_tied keeps set steps before w s tied quiet due =
     let one = event_for sides.Loader (posted_in steps) s.given in
     let two = event_for sides.Target (posted_in steps) s.given in
-    let says = loader_says set w.loader one ++ target_says set (Some w.target) two in
+    let says = loader_says set.media w.loader one ++ target_says set.accepts (Some w.target) two in
     let posts : s.posts ≡ says = posts_so in
-    let after = keeps set steps w.loader (loader_next set w.loader one) (Some w.target) (Some (target_then set w.target two)) (before ++ w.posts) s tied
+    let after = keeps set steps w.loader (loader_next set.media w.loader one) (Some w.target) (Some (target_then set w.target two)) (before ++ w.posts) s tied
     (record { loader_does = refl; target_does = target_so; both_post = both_so }) in
-    subst (λ (ds : List DatagramView). IsTied set (s ∷ steps) (loader_next set w.loader one) (Some (target_then set w.target two)) ds)
+    subst (λ (ds : List DatagramView). IsTied set (s ∷ steps) (loader_next set.media w.loader one) (Some (target_then set w.target two)) ds)
     (append_assoc before w.posts s.posts ∙ ap (λ (ds : List DatagramView). before ++ (w.posts ++ ds)) posts) after
   where
-    posts_so : s.posts ≡ loader_says set w.loader (event_for sides.Loader (posted_in steps) s.given) ++ target_says set (Some w.target) (event_for sides.Target (posted_in steps) s.given)
+    posts_so : s.posts ≡ loader_says set.media w.loader (event_for sides.Loader (posted_in steps) s.given) ++ target_says set.accepts (Some w.target) (event_for sides.Target (posted_in steps) s.given)
     posts_so = due.0 ∙ rw (quiet, loader_due_so set steps (event_for sides.Loader (posted_in steps) s.given), sym tied.loader_is, target_due_so set (target_at set steps) w.target (event_for sides.Target (posted_in steps) s.given) tied.target_is) refl
 
-    both_so : s.posts ≡ loader_says set w.loader (event_for sides.Loader (posted_in steps) s.given) ++ (cond (Rattle.replay_rules.specs.Due.goes_down s.notes) [] (target_says set (Some w.target) (event_for sides.Target (posted_in steps) s.given)))
+    both_so : s.posts ≡ loader_says set.media w.loader (event_for sides.Loader (posted_in steps) s.given) ++ (cond (Rattle.replay_rules.specs.Due.goes_down s.notes) [] (target_says set.accepts (Some w.target) (event_for sides.Target (posted_in steps) s.given)))
     both_so = rw quiet posts_so
 
     target_so : Some (target_then set w.target (event_for sides.Target (posted_in steps) s.given))
-        ≡ Rattle.replay_rules.specs.Ties.kept_after set s.notes (target_at set steps) (Rattle.replay_rules.specs.BothEnds.reached set (event_for sides.Target (posted_in steps) s.given) (target_at set steps)) (target_next set (Some w.target) (event_for sides.Target (posted_in steps) s.given))
+        ≡ Rattle.replay_rules.specs.Ties.kept_after set s.notes (target_at set steps) (Rattle.replay_rules.specs.BothEnds.reached set (event_for sides.Target (posted_in steps) s.given) (target_at set steps)) (target_next set.accepts (Some w.target) (event_for sides.Target (posted_in steps) s.given))
     target_so = rw quiet (sym (then_is set w.target (event_for sides.Target (posted_in steps) s.given)))
 
 -- ---- what a step is to a world

@@ -10,14 +10,16 @@ use Rattle.exchange_trace.specs.Lines.{Finish, Line}
 use Rattle.exchange_trace.specs.Posts.{numbered, undelivered}
 use Rattle.exchange_trace.specs.Steps.{Step}
 use Rattle.replay_rules.specs.BothEnds.{Setting}
+use Rattle.replay_rules.specs.Due.{LeavesPower}
 use Rattle.replay_rules.specs.FaultFree.{IsNoInjection, IsNoStart}
 use Rattle.replay_rules.specs.Runs.{Follows, plan_at, scene_at}
-use Rattle.session_completion.specs.FinishedRuns.{AllGiveNothing, FinishIsLeft}
+use Rattle.session_completion.specs.FinishedRuns.{AllGiveNothing, FinishIsLeft, FinishLeavesPower}
 
--- nothing is injected, and no session is started
+-- nothing is injected, no session is started, and power is neither lost nor switched
 pub record IsQuietly (h : HappeningView) : Type 0 where
   pub injects : IsNoInjection h
   pub starts : IsNoStart h
+  pub power : LeavesPower h
 
 -- `finish` is being followed, or the script is over
 abbrev IsLast : Rest → List Line → Type 0
@@ -37,15 +39,15 @@ delivery_quiet s n = by (numbered s.posted n)
   where
     by : (o : Option DatagramView) → IfQuiet (option_map (λ (d : DatagramView). Delivered (other d.side) n) o)
     by None = tt
-    by (Some d) = record { injects = tt; starts = tt }
+    by (Some d) = record { injects = tt; starts = tt; power = tt }
 
 least_quiet : (s : Scene) (ns : List ℕ) → IfQuiet (delivery_of_first s ns)
 least_quiet s [] = tt
 least_quiet s (n ∷ ns) = delivery_quiet s n
 
 tick_last : (o : Option Side) → IsLastTurn (or_else (finishing_tick [] o) (turn Ended Nothing_left []))
-tick_last None = (record { injects = tt; starts = tt }, tt)
-tick_last (Some side) = (record { injects = tt; starts = tt }, tt)
+tick_last None = (record { injects = tt; starts = tt; power = tt }, tt)
+tick_last (Some side) = (record { injects = tt; starts = tt; power = tt }, tt)
 
 finishing_last : (s : Scene) (first : Side) (o : Option HappeningView) → IfQuiet o → IsLastTurn (or_else (finishing s first [] o) (turn Ended Nothing_left []))
 finishing_last s first None h = tick_last (ticked_side s first)
@@ -57,7 +59,7 @@ finish_turn s first = finishing_last s first (least_delivery s) (least_quiet s (
 last_turn : (s : Scene) (rest : Rest) (lines : List Line) → IsLast rest lines → IsLastTurn (next_turn s (record { rest = rest; lines = lines }))
 last_turn s (Finishing first) [] h = finish_turn s first
 last_turn s (Finishing first) (line ∷ lines) h = absurd h
-last_turn s Nothing_left [] h = (record { injects = tt; starts = tt }, tt)
+last_turn s Nothing_left [] h = (record { injects = tt; starts = tt; power = tt }, tt)
 last_turn s Nothing_left (line ∷ lines) h = absurd h
 last_turn s (Deliveries k) lines h = absurd h
 
@@ -82,3 +84,10 @@ module _ (set : Setting) (script : List Line) (steps : List Step) (left : Finish
   pub all_quietly : (more : List Step) → Follows set script (more ++ steps) → AllByRecursion (λ (s : Step). IsQuietly s.given) more
   all_quietly [] follows = tt
   all_quietly (s ∷ more) follows = (subst (λ (h : HappeningView). IsQuietly h) (sym follows.0) (turn_is_last more).0, all_quietly more follows.1)
+
+pub power_is_left : FinishLeavesPower
+power_is_left set script steps more left follows = by more (all_quietly set script steps left more follows)
+  where
+    by : (more : List Step) → AllByRecursion (λ (s : Step). IsQuietly s.given) more → AllByRecursion (λ (s : Step). LeavesPower s.given) more
+    by [] quietly = tt
+    by (s ∷ more) (quietly, before) = (quietly.power, by more before)

@@ -1,5 +1,6 @@
 -- A fault-free run that is left to a script's `finish` completes (docs/EXCHANGE.md, "A fault-free run completes").
 use Rattle.std.specs.Prelude.{◌≡◌, List, [], ◌∷◌, ◌++◌, true, Option, Some, None, ⊤}
+use Rattle.std.specs.List.{AllByRecursion}
 use Rattle.accept_rules.specs.Permissions.{Permits}
 use Rattle.disk_layout.specs.Holds.{StandingView}
 use Rattle.load_header.specs.Header.{HeaderView}
@@ -9,7 +10,7 @@ use Rattle.exchange_trace.specs.Steps.{Step}
 use Rattle.session_rules.specs.declared.outcome.SessionKind.TheVariants.{Upload}
 use Rattle.replay_rules.specs.BothEnds.{Setting, loader_at, target_at}
 use Rattle.replay_rules.specs.Changes.{AllCarryBytes}
-use Rattle.replay_rules.specs.Due.{is_up}
+use Rattle.replay_rules.specs.Due.{LeavesPower, is_up}
 use Rattle.replay_rules.specs.FaultFree.{IsFaultFree}
 use Rattle.replay_rules.specs.Histories.{active_by}
 use Rattle.replay_rules.specs.MediaTraces.{LengthsAreTold}
@@ -46,6 +47,11 @@ pub record ReachesFinish (set : Setting) (script : List Line) (steps : List Step
 -- Each run that ended of a script whose last line is `finish` comes to where that is left.
 abbrev pub LastFinishIsReached : Type 0
 LastFinishIsReached = (set : Setting) (lines : List Line) (steps : List Step) → EndsOnce steps → Follows set (lines ++ Finish ∷ []) steps → ReachesFinish set (lines ++ Finish ∷ []) steps
+
+-- From there on power is neither lost nor switched.
+abbrev pub FinishLeavesPower : Type 0
+FinishLeavesPower = (set : Setting) (script : List Line) (steps more : List Step) → FinishIsLeft set script steps → Follows set script (more ++ steps)
+    → AllByRecursion (λ (s : Step). LeavesPower s.given) more
 
 -- ---- and is followed
 

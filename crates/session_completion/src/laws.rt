@@ -4,7 +4,7 @@ ghost use Rattle.session_completion.specs.FaultFreeRuns.{FaultFreeGivesNoneUp, F
 ghost use Rattle.session_completion.specs.FaultFreeRuns.{FaultFreeRunsLead, QuietIsIdle};
 ghost use Rattle.session_completion.specs.Finish.{FinishEnds};
 ghost use Rattle.session_completion.specs.FinishedRuns.{FinishAloneIsLeft, FinishCompletes};
-ghost use Rattle.session_completion.specs.FinishedRuns.{LastFinishIsReached};
+ghost use Rattle.session_completion.specs.FinishedRuns.{FinishLeavesPower, LastFinishIsReached};
 ghost use Rattle.session_completion.specs.GoodRequests.{GoodLoadsLeadOn, RequestsAreRead};
 ghost use Rattle.session_completion.specs.GoodUploads.{GoodUploadsComplete};
 ghost use Rattle.session_completion.specs.Laws.{AllComeOut, FewAreAhead, LastIsDone};
@@ -112,6 +112,8 @@ pub fn a_last_finish_is_left()
     ensures alone { FinishAloneIsLeft }
     // Whatever stands before it in the script, and whatever happens.
     ensures reached { LastFinishIsReached }
+    // Then power is neither lost nor switched, so that only its disk brings a target down.
+    ensures power { FinishLeavesPower }
 {}
 
 /// So a fault-free run completes that is left to a script's last `finish`: what a `finish` gives is

@@ -4,6 +4,7 @@ pub mod Driven
 pub mod Ended
 pub mod Held
 pub mod History
+pub mod Living
 pub mod NoOlder
 pub mod Posted
 pub mod Resting

@@ -29,7 +29,7 @@ use Rattle.replay_turns.specs.StepLaws.{gone_keeps_none}
 use Rattle.replay_turns.specs.Targets.{TargetTurns}
 use Rattle.replay_turns.specs.Turns.{LoaderTakes, target_kept}
 use Rattle.upload_replay.specs.Drivers.{DriverState, GoesOn, IsLinked, IsTiedTo, RunGoesOn, StepsUnit}
-use Rattle.upload_replay.specs.Drives.{LoaderGoesOn, has_session, is_end, loader_moved, loader_sends}
+use Rattle.upload_replay.specs.Drives.{LoaderGoesOn, has_session, is_end}
 use Rattle.upload_replay.specs.Turns.{link_with}
 
 -- ---- what a side keeps tells whether it waits, and is up
@@ -56,7 +56,7 @@ up_is set (Is_down active interrupted) = refl
 -- ---- the target
 
 pub target_reacts : (set : Setting) (e : Option Event) (state : TargetState) (before after : Option TargetView) (posts : List DatagramView) (notes : List Note)
-    → TargetTurns set e state before after posts notes → after ≡ kept_after set notes state (reached set e state) (target_next set before e)
+    → TargetTurns set e state before after posts notes → after ≡ kept_after set notes state (reached set e state) (target_next set.accepts before e)
 target_reacts set e state before after posts [] turns = turns.0
 target_reacts set e state before after posts (Went_down ∷ []) turns = turns.0 ∙ sym (gone_keeps_none set state (reached set e state))
 target_reacts set e state before after posts (Boot_refused fault ∷ []) turns = turns.0 ∙ sym (gone_keeps_none set state (reached set e state))
@@ -65,12 +65,12 @@ target_reacts set e state before after posts (Went_down ∷ note ∷ notes) turn
 target_reacts set e state before after posts (Boot_refused fault ∷ note ∷ notes) turns = absurd turns
 target_reacts set e state before after posts (Came_up first_port sequence ∷ note ∷ notes) turns = absurd turns
 
-target_silent : (set : Setting) (before : Option TargetView) (e : Option Event) → e ≡ None → target_says set before e ≡ []
+target_silent : (set : Setting) (before : Option TargetView) (e : Option Event) → e ≡ None → target_says set.accepts before e ≡ []
 target_silent set None e none = refl
 target_silent set (Some v) e none = rw none refl
 
 pub target_posts : (set : Setting) (e : Option Event) (state : TargetState) (before after : Option TargetView) (posts : List DatagramView) (notes : List Note)
-    → TargetTurns set e state before after posts notes → posts ≡ cond (goes_down notes) [] (target_says set before e)
+    → TargetTurns set e state before after posts notes → posts ≡ cond (goes_down notes) [] (target_says set.accepts before e)
 target_posts set e state before after posts [] turns = turns.1
 target_posts set e state before after posts (Went_down ∷ []) turns = turns.1
 target_posts set e state before after posts (Boot_refused fault ∷ []) turns = turns.1 ∙ sym (target_silent set before e turns.2)
@@ -82,7 +82,7 @@ target_posts set e state before after posts (Came_up first_port sequence ∷ not
 -- ---- the loader
 
 loader_turns : (set : Setting) (e : Option Event) (before after : LoaderState) (sent : List DatagramView) → set.media ≡ media_of before.set → LoaderTakes e before after sent
-    → (after.view ≡ loader_next set before.view e) × (sent ≡ loader_says set before.view e) × (after.set ≡ before.set)
+    → (after.view ≡ loader_next set.media before.view e) × (sent ≡ loader_says set.media before.view e) × (after.set ≡ before.set)
 loader_turns set None before after sent media takes = (ap (λ (l : LoaderState). l.view) takes.0, takes.1, ap (λ (l : LoaderState). l.set) takes.0)
 loader_turns set (Some e) before after sent media takes = (rw media takes.keeps, rw media takes.posts, takes.set)
 
@@ -95,11 +95,11 @@ same_media None before after sent takes = ap (λ (l : LoaderState). l.set) takes
 same_media (Some e) before after sent takes = takes.set
 
 pub loader_turned : (e : Option Event) (before after : LoaderState) (sent : List DatagramView) → LoaderTakes e before after sent
-    → (after.view ≡ loader_moved (media_of before.set) before.view e) × (sent ≡ loader_sends (media_of before.set) before.view e)
+    → (after.view ≡ loader_next (media_of before.set) before.view e) × (sent ≡ loader_says (media_of before.set) before.view e)
 loader_turned None before after sent takes = (ap (λ (l : LoaderState). l.view) takes.0, takes.1)
 loader_turned (Some e) before after sent takes = (takes.keeps, takes.posts)
 
-moved_on : LoaderFollows → (media : Media) (log : List Event) (e : Option Event) → loader_moved media (loader_view (loader_reading media log)) e ≡ loader_view (loader_reading media (logged e log))
+moved_on : LoaderFollows → (media : Media) (log : List Event) (e : Option Event) → loader_next media (loader_view (loader_reading media log)) e ≡ loader_view (loader_reading media (logged e log))
 moved_on follows media log None = refl
 moved_on follows media log (Some e) = follows media log e
 
@@ -130,7 +130,7 @@ module _ (set : Setting) (steps : List Step) (s : Step) (loader loader_then : Lo
         target_does = target_reacts set (event_for sides.Target (posted_in steps) s.given) (target_at set steps) target target_then target_sent s.notes turns;
         both_post = both
             ∙ (ap (λ (posts : List DatagramView). posts ++ target_sent) does.1
-            ∙ ap (λ (posts : List DatagramView). loader_says set loader.view (event_for sides.Loader (posted_in steps) s.given) ++ posts)
+            ∙ ap (λ (posts : List DatagramView). loader_says set.media loader.view (event_for sides.Loader (posted_in steps) s.given) ++ posts)
             (target_posts set (event_for sides.Target (posted_in steps) s.given) (target_at set steps) target target_then target_sent s.notes turns));
       }
 
@@ -147,8 +147,8 @@ loader_on follows media steps s before after up loader_sent target_sent is takes
     let e = event_for sides.Loader (posted_in steps) s.given in
     let does = rw (sym is) at (loader_turned e before after loader_sent takes) in
     record {
-      kept = does.0 ∙ (ap (λ (v : LoaderView). loader_moved media v e) on.kept ∙ moved_on follows media (loader_log steps) e);
-      due = ((target_sent, both ∙ (ap (λ (posts : List DatagramView). posts ++ target_sent) does.1 ∙ ap (λ (v : LoaderView). loader_sends media v e ++ target_sent) on.kept)), on.due);
+      kept = does.0 ∙ (ap (λ (v : LoaderView). loader_next media v e) on.kept ∙ moved_on follows media (loader_log steps) e);
+      due = ((target_sent, both ∙ (ap (λ (posts : List DatagramView). posts ++ target_sent) does.1 ∙ ap (λ (v : LoaderView). loader_says media v e ++ target_sent) on.kept)), on.due);
       noted = ((up, noted), on.noted);
       honest = (honest, on.honest);
     }

@@ -9,12 +9,12 @@ use Rattle.media_check.specs.Sets.{SetView}
 use Rattle.exchange_trace.specs.declared.trace.Side.TheVariants as sides
 use Rattle.exchange_trace.specs.Happenings.{DatagramView, HappeningView, Ended}
 use Rattle.exchange_trace.specs.Lines.{Line}
-use Rattle.exchange_trace.specs.Logs.{Event, event_for, loader_log}
+use Rattle.exchange_trace.specs.Logs.{event_for, loader_log}
 use Rattle.exchange_trace.specs.Posts.{AllHonest, first_port_after, happenings_of, posted_in}
 use Rattle.exchange_trace.specs.Steps.{Step}
 use Rattle.link_net.specs.Followed.{HasFollowed}
 use Rattle.link_net.specs.Links.{LinkState}
-use Rattle.session_rules.specs.Loader.{EndedSession, LoaderView, loader_after, loader_posts}
+use Rattle.session_rules.specs.Loader.{EndedSession, LoaderView}
 use Rattle.session_rules.specs.LoaderLog.{loader_reading, loader_view}
 use Rattle.session_rules.specs.MediaFiles.{Media}
 use Rattle.session_rules.specs.Target.{TargetView}
@@ -23,6 +23,7 @@ use Rattle.replay_rules.specs.BothEnds.{Setting, loader_at, waiting}
 use Rattle.replay_rules.specs.Changes.{AllCarryBytes}
 use Rattle.replay_rules.specs.Due.{MayBeNoted}
 use Rattle.replay_rules.specs.Promises.{EndsOnce, IsTrace}
+use Rattle.replay_rules.specs.Ties.{loader_says}
 use Rattle.run_promises.specs.Promises.{KeepsPromises}
 use Rattle.replay_turns.specs.Targets.{IsNoBoot}
 
@@ -39,14 +40,6 @@ is_end h = false
 
 -- ---- what needs no disk
 
-abbrev pub loader_moved : Media → LoaderView → Option Event → LoaderView
-loader_moved media v None = v
-loader_moved media v (Some e) = loader_after media v e
-
-abbrev pub loader_sends : Media → LoaderView → Option Event → List DatagramView
-loader_sends media v None = []
-loader_sends media v (Some e) = loader_posts media v e
-
 -- what the loader's log says that it keeps
 abbrev pub loader_by : Media → List Step → LoaderView
 loader_by media steps = loader_view (loader_reading media (loader_log steps))
@@ -55,7 +48,7 @@ loader_by media steps = loader_view (loader_reading media (loader_log steps))
 abbrev pub AllLoaderDue : Media → List Step → Type 0
 AllLoaderDue media [] = ⊤
 AllLoaderDue media (s ∷ earlier) =
-    ((target_posts : List DatagramView) × (s.posts ≡ loader_sends media (loader_by media earlier) (event_for sides.Loader (posted_in earlier) s.given) ++ target_posts))
+    ((target_posts : List DatagramView) × (s.posts ≡ loader_says media (loader_by media earlier) (event_for sides.Loader (posted_in earlier) s.given) ++ target_posts))
     × AllLoaderDue media earlier
 
 -- In each step only that was noted of the target which may be of one that is up, or of one that is down: at a boot a refusal,

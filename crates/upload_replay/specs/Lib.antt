@@ -4,6 +4,7 @@ pub mod Drives
 pub mod Endings
 pub mod Faults
 pub mod Leaves
+pub mod Lives
 pub mod Moments
 pub mod OrderLaws
 pub mod Orders

@@ -1,11 +1,13 @@
 //! A whole run.
-ghost use Rattle.std.specs.Prelude.{◌≡◌, ◌⊎◌, ℕ, [], List, Some, map, option_map};
+ghost use Rattle.std.specs.Prelude.{◌≡◌, ◌⊎◌, ℕ, [], Bool, List, Some, map, option_map};
 ghost use Rattle.std.specs.Prelude.{true, is_some, IfOk};
+ghost use Rattle.accept_rules.specs.Interlocks.{Follows};
 ghost use Rattle.bank_store.specs.DiskWrites.{IsRunning};
 ghost use Rattle.bank_store.specs.Fits.{LosesOnlyWork};
 ghost use Rattle.disk_layout.specs.Holds.{standing_view};
 ghost use Rattle.disk_model.specs.Image.{Image};
 ghost use Rattle.exchange_trace.specs.Steps.{steps_of};
+ghost use Rattle.load_header.specs.Header.{HeaderView};
 ghost use Rattle.loader_machine.specs.Machine.{media_of, session_view};
 ghost use Rattle.media_check.specs.Sets.{set_view};
 ghost use Rattle.replay_rules.specs.BothEnds.{Setting};
@@ -13,6 +15,7 @@ ghost use Rattle.upload_replay.specs.Armings.{ArmsAsGiven};
 ghost use Rattle.upload_replay.specs.Drives.{IsRun, IsSet, NeverBoots};
 ghost use Rattle.upload_replay.specs.Endings.{EndsRun, IsRefused};
 ghost use Rattle.upload_replay.specs.Leaves.{LeavesHistory};
+ghost use Rattle.upload_replay.specs.Lives.{LivesThrough};
 ghost use Rattle.run_promises.specs.Promises.{AcceptsPermitted};
 ghost use Rattle.upload_replay.specs.Moments.{HoldsAllAlong, LeavesGood};
 
@@ -41,6 +44,10 @@ pub fn drive<L: Link, K: Power, R: Rule>(
     // With Ok.
     ensures ended { IfOk result (λ drive. EndsRun (media_of (set_view media.now))
         (L.state link.old) (L.state link.new) drive (K.state disk.old) (K.state disk.new)) }
+    // Both ends posted what was due, in each of the target's lives.
+    ensures lives { (accepts : HeaderView → Bool) → Follows R.may_say interlock.now accepts
+        → IfOk result (λ drive. LivesThrough (media_of (set_view media.now)) accepts
+        (steps_of drive.trace.items)) }
     // The same on a disk that tells its content.
     ensures run { (set : Setting) (image : Image) → IsSet R.may_say set interlock.now
         (set_view media.now) image → (K.state disk.old).reads ≡ Some image → IfOk result

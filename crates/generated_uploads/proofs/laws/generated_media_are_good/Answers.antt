@@ -14,4 +14,4 @@ returns c =
       size = c.header_laws.ensures.length;
       before_load_crc = c.header_laws.ensures.before_load_crc;
     } in
-    media_are_good lists headers c.a_set_that_is_read_can_be_told.ensures.media
+    media_are_good lists headers c.a_set_that_is_read_can_be_told.ensures

@@ -9,7 +9,7 @@ use Rattle.bank_store.specs.Fits.{LosesOnlyWork}
 use Rattle.disk_layout.specs.Holds.{HoldsConfig, StandingView}
 use Rattle.upload_replay.specs.Drives.{IsRun, NeverBoots}
 use Rattle.upload_replay.specs.declared.outcome.DriveFault.TheVariants.{Disk, Link}
-use Rattle.loader_cli.specs.Replays.{IsAnyRun, IsScriptRun, RunsScript, RunsTo, run_seen, setting_of}
+use Rattle.loader_cli.specs.Replays.{CountsPower, IsAnyRun, IsScriptRun, RunsScript, RunsTo, run_seen, setting_of}
 use Rattle.loader_cli.specs.Replays.RunsTo.{disk_failed}
 use Rattle.loader_cli.specs.Texts.{no_configuration}
 use Rattle.loader_cli.proofs.Left.{accepts_permitted, run_leaves}
@@ -23,19 +23,22 @@ returns-in-Ok-clause-runs g c =
     let old = g.K.Disk.state c.args.disk.now in
     let new = g.K.Disk.state c.drive.new.disk in
     let is : (start : StandingView) (image : Image) → old.reads ≡ Some image → HoldsConfig image start → NeverBoots (steps_of run.trace.items) ⊎ LosesOnlyWork old → IsScriptRun set c.args.script start (run_seen run)
-    = λ start image told holds all. script_run set c.args.script start (run_seen run) c.drive.new.link (c.what_a_disk_holds_can_be_listed.ensures.fits image start holds) c.in-Ok.ensures.ended.ordered
+    = λ start image told holds all. script_run set c.args.script start (run_seen run) c.drive.new.link c.can_be_told.ensures (c.what_a_disk_holds_can_be_listed.ensures.fits image start holds) c.in-Ok.ensures.ended.ordered
     (subst (λ (began : LinkState). IsRun (setting_of set start) began c.drive.new.link (steps_of run.trace.items) (run_seen run).sessions (run_seen run).standing) c.new-link.ensures
     (c.in-Ok.ensures.run (setting_of set start) image (record { media = refl; accepts = λ fields answer said. said.says ∙ ap permits said.same; start = holds }) told all)) in
+    let began : c.new-link.result.given ≡ [] = ap (λ (l : LinkState). l.given) c.new-link.ensures in
+    let counts : CountsPower (steps_of run.trace.items) old new
+    = counts_power (steps_of run.trace.items) run.standing old new _ _ began c.in-Ok.ensures.ended.stops c.in-Ok.ensures.ended.told.given c.drive.ensures.arms in
     let runs : RunsScript set c.args.script old new (run_seen run) = λ start image told holds. (
       is start image told holds,
-      λ loses. held_run set c.args.script start old new (run_seen run) (c.what_a_disk_holds_can_be_listed.ensures.fits image start holds) (is start image told holds (inr loses))
+      λ loses. held_run set c.args.script start old new (run_seen run) c.a_last_finish_is_left.ensures.power c.can_be_told.ensures (c.what_a_disk_holds_can_be_listed.ensures.fits image start holds) (is start image told holds (inr loses)) counts.stops
           (c.in-Ok.ensures.moments (setting_of set start) image (record { media = refl; accepts = λ fields answer said. said.says ∙ ap permits said.same; start = holds }) told loses)
           (some_standing run.standing _ (c.in-Ok.ensures.rests (setting_of set start) image (record { media = refl; accepts = λ fields answer said. said.says ∙ ap permits said.same; start = holds }) told loses)),
     ) in
-    let began : c.new-link.result.given ≡ [] = ap (λ (l : LinkState). l.given) c.new-link.ensures in
     let any : IsAnyRun set old new (run_seen run) = record {
-      counts = counts_power (steps_of run.trace.items) run.standing old new _ _ began c.in-Ok.ensures.ended.stops c.in-Ok.ensures.ended.told.given c.drive.ensures.arms;
+      counts = counts;
       loader = c.in-Ok.ensures.ended.loader;
+      lives = c.in-Ok.ensures.lives permits (λ fields answer said. said.says ∙ ap permits said.same);
       ordered = c.in-Ok.ensures.ended.ordered;
     } in
     ran_to c.args.telling set c.args.script old new run _ _ c.in-Ok.ensures.ended.stood runs c.in-Ok.ensures.ended.standing c.in-Ok.ensures.ended.stops any c.in_ok-answer-in-Ok.ensures

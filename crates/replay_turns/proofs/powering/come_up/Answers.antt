@@ -1,4 +1,4 @@
-use Rattle.std.proofs.Common.{sym, subst}
+use Rattle.std.proofs.Common.{Some, ap, sym, subst}
 use Rattle.accept_rules.specs.Interlocks.{Follows}
 use Rattle.replay_rules.specs.BothEnds.{Is_down}
 use Rattle.replay_turns.specs.StepsOnDisks.{HoldsRun}
@@ -9,6 +9,10 @@ use Rattle.replay_turns.proofs.powering.come_up.Goals as goal
 
 pub returns-in-Ok-clause-rule : goal.returns-in-Ok-clause-rule
 returns-in-Ok-clause-rule g c = λ accepts follows. rw c.replace.ensures.after (subst (λ rule. Follows g.R.Rule.may_say rule accepts) (sym c.in-Ok.ensures.comes_up.rule_is) follows)
+
+pub returns-in-Ok-clause-boots : goal.returns-in-Ok-clause-boots
+returns-in-Ok-clause-boots g c =
+    rw c.replace.ensures.after (record { found = c.in-Ok.target.view.active; is = ap (λ v. Some v) c.in-Ok.ensures.comes_up.view_is; numbered = sym c.sequence-sequence.ensures })
 
 pub returns-in-Ok-clause-holds : goal.returns-in-Ok-clause-holds
 returns-in-Ok-clause-holds g c = λ set active interrupted settled holds.

@@ -6,7 +6,7 @@ use Rattle.exchange_trace.specs.Posts.{posted_in}
 use Rattle.transfer_end.specs.Calls.{posts_view}
 use Rattle.replay_turns.specs.Turns.{RuleFollows}
 use Rattle.replay_turns.specs.PowerLaws.{leaves_arms}
-use Rattle.replay_turns.proofs.Taking.{took, took_rule}
+use Rattle.replay_turns.proofs.Taking.{took, took_alive, took_rule}
 use Rattle.replay_turns.proofs.Stepping.{down_steps, next_of, took_steps, unmade_steps}
 use Rattle.replay_turns.proofs.turn.reach_target.Goals as goal
 
@@ -16,6 +16,13 @@ returns-in-Ok-clause-turns g c =
     let slot : c.args.slot.now ≡ Some c.in-Some.target = c.in-Some.is in
     took set (event_for sides.Target (posted_in c.args.recording.now) (happening_view c.args.happening.now)) state c.args.slot.now c.in-Some.target c.target_takes.new.target
     (posts_view c.in-Ok.posts) slot (c.in-Ok.ensures.takes set.accepts (subst (λ o. RuleFollows g.R.Rule.may_say set.accepts o) slot follows))
+
+pub returns-in-Ok-clause-lives : goal.returns-in-Ok-clause-lives
+returns-in-Ok-clause-lives g c =
+    λ accepts follows.
+    let slot : c.args.slot.now ≡ Some c.in-Some.target = c.in-Some.is in
+    took_alive accepts (event_for sides.Target (posted_in c.args.recording.now) (happening_view c.args.happening.now)) c.args.slot.now c.in-Some.target c.target_takes.new.target
+    (posts_view c.in-Ok.posts) slot (c.in-Ok.ensures.takes accepts (subst (λ o. RuleFollows g.R.Rule.may_say accepts o) slot follows))
 
 pub returns-in-Ok-clause-rule : goal.returns-in-Ok-clause-rule
 returns-in-Ok-clause-rule g c =

@@ -7,6 +7,9 @@ use Rattle.replay_turns.proofs.turn.target_turn.Goals as goal
 pub returns-in-Power-clause-turns : goal.returns-in-Power-clause-turns
 returns-in-Power-clause-turns g c = λ set state follows no_boot. rw (c.in-Power.is, c.none.ensures) (c.cut_power.ensures.turns set state)
 
+pub returns-in-Power-clause-lives : goal.returns-in-Power-clause-lives
+returns-in-Power-clause-lives g c = λ accepts follows. rw (c.in-Power.is, c.none.ensures) (c.cut_power.ensures.lives accepts)
+
 pub returns-in-Power-clause-noted : goal.returns-in-Power-clause-noted
 returns-in-Power-clause-noted g c = rw c.in-Power.is (c.cut_power.ensures.noted (first_port_after c.args.recording.now))
 

@@ -1,9 +1,11 @@
-use Rattle.std.proofs.Common.{◌∷◌, true, inl, inr, refl, ap}
+use Rattle.std.proofs.Common.{◌∷◌, true, inl, inr, refl, ap, subst}
 use Rattle.std.specs.Prelude.{is_some}
 use Rattle.std.proofs.lemmas.Result.{IfOk-weaker}
-use Rattle.loader_machine.specs.Machine.{LoaderState}
-use Rattle.media_check.specs.Sets.{set_view}
+use Rattle.exchange_trace.specs.Steps.{steps_of}
+use Rattle.loader_machine.specs.Machine.{LoaderState, media_of}
+use Rattle.media_check.specs.Sets.{SetView, set_view}
 use Rattle.upload_replay.specs.Drivers.{IsTiedTo, RunGoesOn}
+use Rattle.upload_replay.specs.Lives.{LivesThrough}
 use Rattle.upload_replay.proofs.Begins.{starts_on}
 use Rattle.upload_replay.proofs.Counted.{arms_none, arms_on}
 use Rattle.upload_replay.proofs.Driven.{later, run_ended, runs_started, under_way_first, unit_is_run}
@@ -64,6 +66,15 @@ returns-in-Ok-run_to_end-clause-ended g c =
     (λ drive both. run_ended driver drive both.0.ended (set_view c.args.media.now) link (g.L.Link.state c.run_to_end.new.link) old last (g.K.Disk.state c.end.new.disk) c.in-Ok.ensures.stood c.in-Ok-run_to_end.ensures.ready.goes_on under_way
     c.in-Ok-run_to_end.ensures.ready.posted both.0 both.1 c.end.ensures.leaves.faults)
     (both_ok c.end.result _ _ c.end.ensures.ended (c.end.ensures.unknown old.faults under_way.stops))
+
+pub returns-in-Ok-run_to_end-clause-lives : goal.returns-in-Ok-run_to_end-clause-lives
+returns-in-Ok-run_to_end-clause-lives g c = λ accepts follows.
+    let link = g.L.Link.state c.args.link.now in
+    let old = g.K.Disk.state c.args.disk.now in
+    let under_way = c.in-Ok-run_to_end.ensures.under_way link old.faults (set_view c.args.media.now)
+    (under_way_first link (set_view c.args.media.now) c.in-Ok.driver old (g.K.Disk.state c.boot.new.disk) c.in-Ok.ensures.begins.nothing (ap (λ (l : LoaderState). l.set) c.in-Ok.ensures.begins.loader_is) c.boot.ensures.reads.faults) in
+    IfOk-weaker c.end.result _ _ (λ drive lives. subst (λ (set : SetView). LivesThrough (media_of set) accepts (steps_of drive.trace.items)) under_way.media_is lives)
+    (c.end.ensures.lives accepts (c.in-Ok-run_to_end.ensures.lives accepts (c.in-Ok.ensures.lives accepts follows)))
 
 pub returns-in-Ok-run_to_end-clause-run : goal.returns-in-Ok-run_to_end-clause-run
 returns-in-Ok-run_to_end-clause-run g c = λ set image is told.

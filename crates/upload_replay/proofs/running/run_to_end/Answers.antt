@@ -15,6 +15,9 @@ returns-in-Err-clause-leaves g c = λ set began since stands runs.
 pub returns-then-ended-clause-under_way : goal.returns-then-ended-clause-under_way
 returns-then-ended-clause-under_way g c = λ began faults media was. rw (sym c.if-ended.true) (c.in-Ok.ensures.under_way began faults media (c.turns.invariant.under_way began faults media was))
 
+pub returns-then-ended-clause-lives : goal.returns-then-ended-clause-lives
+returns-then-ended-clause-lives g c = λ accepts lives. c.in-Ok.ensures.lives accepts (c.turns.invariant.lives accepts lives)
+
 pub returns-then-ended-clause-stands : goal.returns-then-ended-clause-stands
 returns-then-ended-clause-stands g c = λ set stands. c.in-Ok.ensures.stands set (c.turns.invariant.stands set stands)
 
@@ -39,6 +42,7 @@ pub turns-preserved : goal.turns-preserved
 turns-preserved g c = record {
   ready = c.in-Ok.ensures.ready;
   under_way = λ began faults media was. rw (sym c.if-ended.false) (c.in-Ok.ensures.under_way began faults media (c.turns.invariant.under_way began faults media was));
+  lives = λ accepts lives. c.in-Ok.ensures.lives accepts (c.turns.invariant.lives accepts lives);
   stands = λ set stands. c.in-Ok.ensures.stands set (c.turns.invariant.stands set stands);
   goes_on = λ set began stands before all. rw (sym c.if-ended.false) (c.in-Ok.ensures.goes_on set began (c.turns.invariant.stands set stands) (c.turns.invariant.goes_on set began stands before) all);
   held = λ set began since stands runs. rw (sym c.if-ended.false) (c.in-Ok.ensures.held set began since (c.turns.invariant.stands set stands) (c.turns.invariant.held set began since stands runs));

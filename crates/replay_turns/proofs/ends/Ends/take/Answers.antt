@@ -31,6 +31,7 @@ returns-in-Ok-record-clause-said g c =
     λ set state follows.
     record {
       stepped = returns-in-Ok-record-clause-stepped g c;
+      lives = c.in-Ok.ensures.lives set.accepts follows;
       turns = λ may. c.in-Ok.ensures.turns set state follows may;
       holds = λ begins. let steps = c.in-Ok.ensures.steps set state begins in (steps.holds, steps.boots);
     }

@@ -3,6 +3,7 @@ use Rattle.accept_rules.specs.Interlocks.{Follows}
 use Rattle.loader_machine.specs.Machine.{LoaderState, media_of}
 use Rattle.upload_replay.proofs.Begins.{begins_tied, comes_up_with, nothing_yet}
 use Rattle.upload_replay.proofs.Ended.{first_refusal}
+use Rattle.upload_replay.proofs.Living.{born}
 use Rattle.upload_replay.proofs.Throughout.{begins_held}
 use Rattle.upload_replay.proofs.driver.Driver.boot.Goals as goal
 
@@ -24,6 +25,13 @@ returns-in-Ok-clause-stands g c = λ set image is told. record {
   media = is.media ∙ ap (λ (l : LoaderState). media_of l.set) (sym c.new-in-Ok.ensures);
   accepts = is.accepts;
   up = subst (λ rule. Follows g.R.Rule.may_say rule set.accepts) (sym c.in-Ok.ensures.comes_up.rule_is) is.accepts;
+}
+
+pub returns-in-Ok-clause-lives : goal.returns-in-Ok-clause-lives
+returns-in-Ok-clause-lives g c = λ accepts follows. record {
+  follows = follows;
+  up = subst (λ rule. Follows g.R.Rule.may_say rule accepts) (sym c.in-Ok.ensures.comes_up.rule_is) follows;
+  lived = born accepts c.args.interlock.now (media_of c.new-in-Ok.result.set) c.new.result c.in-Ok.target (g.K.Disk.state c.args.disk.now) c.new.ensures c.in-Ok.ensures.comes_up;
 }
 
 pub returns-in-Ok-clause-tied : goal.returns-in-Ok-clause-tied

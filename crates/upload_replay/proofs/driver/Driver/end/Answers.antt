@@ -2,11 +2,13 @@ use Rattle.std.proofs.Common.{◌≡◌, inr, ◌∷◌, List, refl, sym, ap, su
 use Rattle.std.specs.Prelude.{is_some, map, option_map}
 use Rattle.disk_layout.specs.Holds.{standing_view}
 use Rattle.exchange_trace.specs.Steps.{Step, steps_of}
-use Rattle.loader_machine.specs.Machine.{session_view}
+use Rattle.loader_machine.specs.Machine.{media_of, session_view}
+use Rattle.replay_turns.specs.Turns.{target_kept}
 use Rattle.upload_replay.specs.Drivers.{end_step}
 use Rattle.upload_replay.specs.Moments.{HoldsThroughout}
 use Rattle.upload_replay.proofs.Begins.{unit_run}
 use Rattle.upload_replay.proofs.Ended.{end_fault, stays}
+use Rattle.upload_replay.proofs.Living.{lived_to_end}
 use Rattle.upload_replay.proofs.Resting.{rests_on}
 use Rattle.upload_replay.proofs.Throughout.{held_to_end, no_change, settled_if, throughout}
 use Rattle.upload_replay.proofs.driver.Driver.end.Goals as goal
@@ -23,6 +25,12 @@ returns-in-Err-clause-refused g c = inr (stays (g.K.Disk.state c.args.disk.now))
 
 pub returns-in-Err-standing_at_end-clause-refused : goal.returns-in-Err-standing_at_end-clause-refused
 returns-in-Err-standing_at_end-clause-refused g c = end_fault c.in-Err-standing_at_end.fault (g.K.Disk.state c.args.disk.now) (g.K.Disk.state c.standing_at_end.new.disk) c.in-Err-standing_at_end.ensures.refused
+
+pub returns-in-Ok-standing_at_end-clause-lives : goal.returns-in-Ok-standing_at_end-clause-lives
+returns-in-Ok-standing_at_end-clause-lives g c =
+    λ accepts lives.
+    let steps : steps_of c.into_trace.result.items ≡ end_step ∷ c.args.self.steps = c.into_trace.ensures.steps ∙ (c.in-Ok.ensures.given ∙ ap (λ (list : List Step). end_step ∷ list) (ap (λ d. d.steps) c.self.view_is)) in
+    lived_to_end (media_of c.args.self.loader.set) accepts (steps_of c.into_trace.result.items) c.args.self.steps (target_kept c.args.self.target) steps lives.lived
 
 pub returns-in-Ok-standing_at_end-clause-run : goal.returns-in-Ok-standing_at_end-clause-run
 returns-in-Ok-standing_at_end-clause-run g c =

@@ -1,15 +1,16 @@
-use Rattle.std.proofs.Common.{◌∷◌, List, inl, inr, refl, sym, ap, subst, ◌∙◌}
+use Rattle.std.proofs.Common.{◌∷◌, List, None, inl, inr, refl, sym, ap, subst, ◌∙◌}
 use Rattle.std.proofs.lemmas.Result.{IfOk-weaker}
 use Rattle.exchange_trace.specs.Happenings.{happening_view}
 use Rattle.exchange_trace.specs.Steps.{Step}
 use Rattle.loader_machine.specs.Machine.{media_of}
-use Rattle.replay_rules.specs.BothEnds.{target_at}
+use Rattle.replay_rules.specs.BothEnds.{Is_down, target_at}
 use Rattle.transfer_end.specs.Calls.{posts_view}
 use Rattle.replay_turns.specs.StepsOnDisks.{BeginsStep}
 use Rattle.replay_turns.specs.Turns.{target_kept}
 use Rattle.upload_replay.specs.Drives.{NeverBoots}
 use Rattle.upload_replay.specs.Moments.{HeldSoFar}
 use Rattle.upload_replay.proofs.Held.{held_on}
+use Rattle.upload_replay.proofs.Living.{lived_on, some_setting}
 use Rattle.upload_replay.proofs.Turning.{both_ok, has_stepped, set_stays, tied_on}
 use Rattle.upload_replay.proofs.driver.Driver.step.Goals as goal
 
@@ -22,6 +23,22 @@ returns-clause-stepped g c =
     (happening_view c.args.happening) (posts_view posts) moved c.both_ends_follow_their_logs.ensures.loader (ap (λ i. i.now) c.take.ensures.interlock) refl c.requires.no_end (rw (sym c.self.view_is) at c.requires.honest)
     (rw (sym c.self.view_is) at c.requires.goes_on))
     c.take.ensures.stepped)
+
+pub returns-clause-lives : goal.returns-clause-lives
+returns-clause-lives g c =
+    λ accepts was.
+    let lives = rw (sym c.self.view_is) at was in
+    let set = some_setting (media_of c.self.inside.ends.loader.set) accepts c.self.inside.identity in
+    IfOk-weaker c.take.result _ _
+    (λ posts both. record {
+      follows = rw c.take.ensures.interlock lives.follows;
+      up = both.1;
+      lived = lived_on g.R.Rule.may_say set (Is_down set.start None)
+          (record { rule = c.self.inside.ends.interlock.now; identity = c.self.inside.identity; steps = c.self.inside.ends.recording; loader = c.self.inside.ends.loader; target = c.self.inside.ends.target })
+          (record { rule = c.take.new.self.interlock.now; identity = c.self.inside.identity; steps = c.take.new.self.recording; loader = c.take.new.self.loader; target = c.take.new.self.target }) (happening_view c.args.happening) (posts_view posts)
+          (g.K.Disk.state c.args.disk.now) (g.K.Disk.state c.take.new.disk) both.0 (rw (sym c.self.view_is) at c.requires.goes_on) lives.lived;
+    })
+    (both_ok c.take.result _ _ (c.take.ensures.said set (Is_down set.start None) lives.up) (c.take.ensures.rule accepts lives.follows lives.up))
 
 pub returns-clause-stands : goal.returns-clause-stands
 returns-clause-stands g c =
