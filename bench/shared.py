@@ -184,10 +184,10 @@ def short(text):
 
 
 def manifest_of(loads):
-    """A manifest of loads, each the names and lengths of its files."""
-    parts = [struct.pack(">H", len(loads))]
+    """A manifest of loads of type 1, each the names and lengths of its files, in layout 2."""
+    parts = [struct.pack(">HH", 0xA002, len(loads))]
     for files in loads:
-        parts.append(b"ABC41-0000-0001" + struct.pack(">H", len(files)))
+        parts.append(b"ABC41-0000-0001" + struct.pack(">HH", 1, len(files)))
         parts += [short(name) + struct.pack(">I", size) for name, size in files]
     return b"".join(parts)
 

@@ -19,6 +19,7 @@ use Rattle.disk_layout.specs.Manifest.{LoadEntry, LoadFits, manifest}
 use Rattle.disk_layout.specs.ManifestSpelling.{manifest_spelling}
 use Rattle.disk_layout.specs.Contents.{HeaderIsFirst}
 use Rattle.disk_layout.specs.Holds.{manifest_at, manifest_of, HoldsConfig}
+use Rattle.disk_layout.specs.declared.manifest.Layout.TheVariants as layouts
 use Rattle.disk_layout.specs.declared.identity.Identity.{Identity}
 use Rattle.bank_store.specs.Formatting.{formatted, IsShut, GatesTorn, IsLaidOut}
 use Rattle.bank_store.proofs.Images.{apart}
@@ -41,20 +42,20 @@ unfolding number_at
 number_same before after n offset beyond same = ap (λ (l : List ℕ). big_number n l) (apart before after slot_a 1 offset n same (inr beyond))
 
 -- the manifest of a configuration without loads
-no_loads : Spelled manifest (0 ∷ 0 ∷ []) []
+no_loads : Spelled manifest (160 ∷ 2 ∷ 0 ∷ 0 ∷ []) []
 unfolding number_bytes
-no_loads = (manifest_spelling (0 ∷ 0 ∷ []) []).1 (record { count = omega arith; each = All-nil (λ (l : LoadEntry). LoadFits l) }, refl)
+no_loads = (manifest_spelling (160 ∷ 2 ∷ 0 ∷ 0 ∷ []) []).1 (layouts.Two, record { count = omega arith; each = All-nil (λ (l : LoadEntry). LoadFits layouts.Two l) }, refl)
 
 opened_stands : (before after : Image) (id : Identity) → IsBankSize id.bank → IsLaidOut id before → SameOutside slot_a 1 before after → IsOpen after slot_a → HoldsConfig after (formatted id)
 opened_stands before after id size laid same gate =
     let sequence : sequence_of after slot_a ≡ 1 = number_same before after 4 (slot_a + 16) (omega arith) same ∙ laid.sequence in
     let bank : bank_of after slot_a ≡ 0 = same (slot_a + 20) (inr (omega arith)) ∙ laid.bank in
     let offset : manifest_offset_of after slot_a ≡ 0 = number_same before after 4 (slot_a + 21) (omega arith) same ∙ laid.offset in
-    let long : manifest_length_of after slot_a ≡ 2 = number_same before after 4 (slot_a + 25) (omega arith) same ∙ laid.length in
+    let long : manifest_length_of after slot_a ≡ 4 = number_same before after 4 (slot_a + 25) (omega arith) same ∙ laid.length in
     let shut : ¬ IsOpen after slot_b = λ opened. laid.shut.b (sym (same slot_b (inr (omega arith))) ∙ opened) in
     let at : manifest_at after id slot_a ≡ bank_at id.bank 0 = ap₂ (λ (b : ℕ) (p : ℕ). bank_at id.bank b + p) bank offset ∙ omega arith in
-    let bytes : manifest_of after id slot_a ≡ 0 ∷ 0 ∷ [] =
-    ap₂ (λ (p : ℕ) (n : ℕ). range after p n) at long ∙ apart before after slot_a 1 (bank_at id.bank 0) 2 same (inr (omega arith)) ∙ laid.manifest in
+    let bytes : manifest_of after id slot_a ≡ 160 ∷ 2 ∷ 0 ∷ 0 ∷ [] =
+    ap₂ (λ (p : ℕ) (n : ℕ). range after p n) at long ∙ apart before after slot_a 1 (bank_at id.bank 0) 4 same (inr (omega arith)) ∙ laid.manifest in
     record {
       slot = slot_a;
       by = record {

@@ -1,5 +1,5 @@
 -- What a store holds of what was given, as more is given.
-use Rattle.std.proofs.Common.{◌≡◌, ◌≢◌, inl, ℕ, ◌+◌, ◌-◌, ◌<◌, ◌≤◌, List, [], ◌∷◌, ◌++◌, length, map, refl, sym, ◌∙◌, ap, ap₂, subst, arith, append_assoc, length-append}
+use Rattle.std.proofs.Common.{◌≡◌, ◌≢◌, inl, ℕ, ◌+◌, ◌-◌, ◌<◌, ◌≤◌, Some, List, [], ◌∷◌, ◌++◌, length, map, refl, sym, ◌∙◌, ap, ap₂, subst, arith, append_assoc, length-append}
 use Rattle.std.specs.List.{All, concat, flat_map}
 use Rattle.std.proofs.lemmas.Grind.{flat_map-append}
 use Rattle.std.proofs.lemmas.List.{append-nil, map-append, nil_from_length}
@@ -14,7 +14,8 @@ use Rattle.disk_model.specs.Image.{Image, range, overlay}
 use Rattle.disk_model.specs.RangeLaws.{length_range}
 use Rattle.disk_model.specs.OverlayLaws.{range_beside_overlay, range_of_overlay}
 use Rattle.disk_layout.specs.Offsets.{most_loads, most_files}
-use Rattle.disk_layout.specs.Manifest.{file_entry_fields}
+use Rattle.disk_layout.specs.Manifest.{file_entry_fields, type_fields}
+use Rattle.disk_layout.specs.declared.manifest.Layout.TheVariants as layouts
 use Rattle.disk_layout.specs.Contents.{file_entry_of, bytes_of}
 use Rattle.disk_layout.specs.RangeLaws.{ranges_joined}
 use Rattle.bank_store.specs.Store.{IsFilling, work_at, SameActive}
@@ -38,34 +39,35 @@ fields_more loads load =
     ap concat (flat_map-append given_fields loads (load ∷ [])) ∙ concat-append (flat_map given_fields loads) (flat_map given_fields (load ∷ []))
     ∙ ap (λ (l : List (List ℕ)). concat (flat_map given_fields loads) ++ concat l) (append-nil (given_fields load))
 
-new_fields : (part : List ℕ) (announced : ℕ) → concat (given_fields (record { part = part; announced = announced; files = [] })) ≡ part ++ number_bytes 2 announced
-new_fields part announced = ap (λ (l : List ℕ). part ++ l) (append-nil (number_bytes 2 announced))
+new_fields : (part : List ℕ) (type_id announced : ℕ) → concat (given_fields (record { part = part; type_id = Some type_id; announced = announced; files = [] })) ≡ part ++ (number_bytes 2 type_id ++ number_bytes 2 announced)
+new_fields part type_id announced = ap (λ (l : List ℕ). part ++ (number_bytes 2 type_id ++ l)) (append-nil (number_bytes 2 announced))
 
 misses_more : (loads : List GivenLoad) (load : GivenLoad) (missing : ℕ) → Misses 0 loads → length load.files + missing ≡ load.announced → Misses missing (loads ++ load ∷ [])
 misses_more [] load missing was is = is
 misses_more (first ∷ []) load missing was is = (omega (arith, was), is)
 misses_more (first ∷ next ∷ loads) load missing was is = (was.0, misses_more (next ∷ loads) load missing was.1 is)
 
-bytes_with_load : (part : List ℕ) (announced : ℕ) (g : Given) → bytes_given (with_load part announced g) ≡ bytes_given g
-bytes_with_load part announced g =
-    ap (λ (l : List FileView). bytes_of l ++ g.bytes) (flat_map-append files_of g.loads (record { part = part; announced = announced; files = [] } ∷ []) ∙ append-nil (flat_map files_of g.loads))
+bytes_with_load : (part : List ℕ) (type_id announced : ℕ) (g : Given) → bytes_given (with_load part type_id announced g) ≡ bytes_given g
+bytes_with_load part type_id announced g =
+    ap (λ (l : List FileView). bytes_of l ++ g.bytes) (flat_map-append files_of g.loads (record { part = part; type_id = Some type_id; announced = announced; files = [] } ∷ []) ∙ append-nil (flat_map files_of g.loads))
 
-pub given_load : (old new : Store) (image : Image) (part : List ℕ) (files : ℕ) (progress : Filling) (g : Given) → SameActive old new → IsFilling old progress → progress.missing ≡ 0 → progress.loads < most_loads
-    → IsFilling new (record { loads = progress.loads + 1; missing = files; end = progress.end; start = progress.start }) → new.body.items ≡ (old.body.items ++ part) ++ number_bytes 2 files
-    → IsPartText part → 1 ≤ files → files ≤ most_files → HasGiven old image g → HasGiven new image (with_load part files g)
-given_load old new image part files progress g rules filling none few stage body is_part some most was =
+pub given_load : (old new : Store) (image : Image) (part : List ℕ) (type_id files : ℕ) (progress : Filling) (g : Given) → SameActive old new → IsFilling old progress → progress.missing ≡ 0 → progress.loads < most_loads
+    → IsFilling new (record { loads = progress.loads + 1; missing = files; end = progress.end; start = progress.start }) → new.body.items ≡ ((old.body.items ++ part) ++ number_bytes 2 type_id) ++ number_bytes 2 files
+    → IsPartText part → type_id < 65536 → 1 ≤ files → files ≤ most_files → HasGiven old image g → HasGiven new image (with_load part type_id files g)
+given_load old new image part type_id files progress g rules filling none few stage body is_part small some most was =
     let same : was.progress ≡ progress = same_filling was.progress progress (sym was.stage ∙ filling) in
-    let load : GivenLoad = record { part = part; announced = files; files = [] } in
-    let bytes = bytes_with_load part files g in
+    let load : GivenLoad = record { part = part; type_id = Some type_id; announced = files; files = [] } in
+    let bytes = bytes_with_load part type_id files g in
     record {
       progress = record { loads = progress.loads + 1; missing = files; end = progress.end; start = progress.start };
       stage = stage;
       loads = length-append g.loads (load ∷ []) ∙ ap (λ (n : ℕ). n + 1) (was.loads ∙ ap (λ (f : Filling). f.loads) same);
       few = omega (arith, few);
       missing = misses_more g.loads load files (subst (λ (n : ℕ). Misses n g.loads) (ap (λ (f : Filling). f.missing) same ∙ none) was.missing) (omega arith);
-      each = All-push (λ (l : GivenLoad). IsLoad l) g.loads load was.each (record { part = is_part; some = some; few = most; files = All-nil (λ (f : FileView). IsFile f) });
-      body = body ∙ append_assoc old.body.items part (number_bytes 2 files) ∙ ap (λ (l : List ℕ). l ++ (part ++ number_bytes 2 files)) was.body
-          ∙ sym (fields_more g.loads load ∙ ap (λ (l : List ℕ). concat (flat_map given_fields g.loads) ++ l) (new_fields part files));
+      each = All-push (λ (l : GivenLoad). IsLoad l) g.loads load was.each (record { part = is_part; type_id = (type_id, refl, small); some = some; few = most; files = All-nil (λ (f : FileView). IsFile f) });
+      body = body ∙ append_assoc (old.body.items ++ part) (number_bytes 2 type_id) (number_bytes 2 files) ∙ append_assoc old.body.items part (number_bytes 2 type_id ++ number_bytes 2 files)
+          ∙ ap (λ (l : List ℕ). l ++ (part ++ (number_bytes 2 type_id ++ number_bytes 2 files))) was.body
+          ∙ sym (fields_more g.loads load ∙ ap (λ (l : List ℕ). concat (flat_map given_fields g.loads) ++ l) (new_fields part type_id files));
       end = ap length bytes ∙ was.end ∙ ap (λ (f : Filling). f.end) same;
       start = ap (λ (f : Filling). f.start + length g.bytes) (sym same) ∙ was.start ∙ ap (λ (f : Filling). f.end) same;
       written = ap (λ (n : ℕ). range image n progress.end) (work_carried old new rules) ∙ ap (λ (f : Filling). range image (work_at old) f.end) (sym same) ∙ was.written ∙ sym bytes;
@@ -91,11 +93,13 @@ module _ (file : FileView) where
   files_last (load ∷ next ∷ loads) some =
       ap (λ (l : List FileView). load.files ++ l) (files_last (next ∷ loads) (λ e. cc)) ∙ sym (append_assoc load.files (flat_map files_of (next ∷ loads)) (file ∷ []))
 
-  one_more_file : (load : GivenLoad) → given_fields (record { part = load.part; announced = load.announced; files = load.files ++ file ∷ [] }) ≡ given_fields load ++ file_entry_fields (file_entry_of file)
+  one_more_file : (load : GivenLoad) → given_fields (record { part = load.part; type_id = load.type_id; announced = load.announced; files = load.files ++ file ∷ [] }) ≡ given_fields load ++ file_entry_fields (file_entry_of file)
   one_more_file load =
       let entries : flat_map file_entry_fields (map file_entry_of (load.files ++ file ∷ [])) ≡ flat_map file_entry_fields (map file_entry_of load.files) ++ file_entry_fields (file_entry_of file) =
       ap (flat_map file_entry_fields) (map-append file_entry_of load.files (file ∷ [])) ∙ flat_map-append file_entry_fields (map file_entry_of load.files) (file_entry_of file ∷ []) in
-      ap (λ (l : List (List ℕ)). load.part ∷ number_bytes 2 load.announced ∷ l) entries
+      let said : List (List ℕ) = type_fields layouts.Two load.type_id in
+      ap (λ (l : List (List ℕ)). load.part ∷ (said ++ number_bytes 2 load.announced ∷ l)) entries
+      ∙ ap (λ (l : List (List ℕ)). load.part ∷ l) (sym (append_assoc said (number_bytes 2 load.announced ∷ flat_map file_entry_fields (map file_entry_of load.files)) (file_entry_fields (file_entry_of file))))
 
   fields_last : (loads : List GivenLoad) → loads ≢ [] → concat (flat_map given_fields (file_to_last file loads)) ≡ concat (flat_map given_fields loads) ++ concat (file_entry_fields (file_entry_of file))
   fields_last loads some = ap concat (by_loads loads some) ∙ concat-append (flat_map given_fields loads) (file_entry_fields (file_entry_of file))
@@ -112,8 +116,8 @@ module _ (file : FileView) where
   loads_last fits [] each = each
   loads_last fits (load ∷ []) each =
       let is : IsLoad load = All-head (λ (l : GivenLoad). IsLoad l) load [] each in
-      All-cons (λ (l : GivenLoad). IsLoad l) (record { part = load.part; announced = load.announced; files = load.files ++ file ∷ [] }) []
-      (record { part = is.part; some = is.some; few = is.few; files = All-push (λ (f : FileView). IsFile f) load.files file is.files fits }) (All-nil (λ (l : GivenLoad). IsLoad l))
+      All-cons (λ (l : GivenLoad). IsLoad l) (record { part = load.part; type_id = load.type_id; announced = load.announced; files = load.files ++ file ∷ [] }) []
+      (record { part = is.part; type_id = is.type_id; some = is.some; few = is.few; files = All-push (λ (f : FileView). IsFile f) load.files file is.files fits }) (All-nil (λ (l : GivenLoad). IsLoad l))
   loads_last fits (load ∷ next ∷ loads) each =
       All-cons (λ (l : GivenLoad). IsLoad l) load (file_to_last file (next ∷ loads)) (All-head (λ (l : GivenLoad). IsLoad l) load (next ∷ loads) each)
       (loads_last fits (next ∷ loads) (All-tail (λ (l : GivenLoad). IsLoad l) load (next ∷ loads) each))

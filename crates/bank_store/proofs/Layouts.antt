@@ -13,11 +13,11 @@ use Rattle.bank_store.proofs.Gates.{other_offset}
 use Rattle.bank_store.proofs.Images.{written, apart}
 
 abbrev no_loads : List ℕ
-no_loads = 0 ∷ 0 ∷ []
+no_loads = 160 ∷ 2 ∷ 0 ∷ 0 ∷ []
 
--- sequence 1, bank 0, and a manifest of 2 bytes at its start
+-- sequence 1, bank 0, and a manifest of 4 bytes at its start
 abbrev first_slot : List ℕ
-first_slot = 0 ∷ 0 ∷ 0 ∷ 1 ∷ 0 ∷ 0 ∷ 0 ∷ 0 ∷ 0 ∷ 0 ∷ 0 ∷ 0 ∷ 2 ∷ []
+first_slot = 0 ∷ 0 ∷ 0 ∷ 1 ∷ 0 ∷ 0 ∷ 0 ∷ 0 ∷ 0 ∷ 0 ∷ 0 ∷ 0 ∷ 4 ∷ []
 
 -- the image with the manifest, slot A's body and these bytes at its start
 abbrev pub laid : Image → List ℕ → Image
@@ -32,12 +32,12 @@ pub number_is : (image : Image) (n offset : ℕ) (bytes : List ℕ) → range im
 unfolding number_at
 number_is image n offset bytes is = ap (λ (l : List ℕ). big_number n l) is
 
-manifest_is : (image : Image) (prefix : List ℕ) → length prefix ≤ longest_identity → range (laid image prefix) 8192 2 ≡ no_loads
+manifest_is : (image : Image) (prefix : List ℕ) → length prefix ≤ longest_identity → range (laid image prefix) 8192 4 ≡ no_loads
 manifest_is image prefix short =
     let one : Image = overlay image 8192 no_loads in
     let two : Image = overlay one 4112 first_slot in
-    apart two (laid image prefix) 0 (length prefix) 8192 2 (overlay_outside two 0 prefix) (inr (omega (arith, short)))
-    ∙ apart one two 4112 13 8192 2 (overlay_outside one 4112 first_slot) (inr (omega arith)) ∙ written image 8192 no_loads
+    apart two (laid image prefix) 0 (length prefix) 8192 4 (overlay_outside two 0 prefix) (inr (omega (arith, short)))
+    ∙ apart one two 4112 13 8192 4 (overlay_outside one 4112 first_slot) (inr (omega arith)) ∙ written image 8192 no_loads
 
 -- a gate stays as it was
 gate_is : (image : Image) (prefix : List ℕ) (slot : ℕ) → length prefix ≤ longest_identity → (slot ≡ slot_a) ⊎ (slot ≡ slot_b) → laid image prefix slot ≡ image slot
@@ -71,8 +71,8 @@ is_laid_out image id shut short read =
       sequence = number_is whole 4 4112 (0 ∷ 0 ∷ 0 ∷ 1 ∷ []) (part_is whole 4112 13 0 4 first_slot body (omega arith));
       bank = byte_is whole body;
       offset = number_is whole 4 4117 (0 ∷ 0 ∷ 0 ∷ 0 ∷ []) (part_is whole 4112 13 5 4 first_slot body (omega arith));
-      length = number_is whole 4 4121 (0 ∷ 0 ∷ 0 ∷ 2 ∷ []) (part_is whole 4112 13 9 4 first_slot body (omega arith));
-      manifest = ap (λ (p : ℕ). range whole p 2) (omega arith) ∙ manifest_is image prefix short;
+      length = number_is whole 4 4121 (0 ∷ 0 ∷ 0 ∷ 4 ∷ []) (part_is whole 4112 13 9 4 first_slot body (omega arith));
+      manifest = ap (λ (p : ℕ). range whole p 4) (omega arith) ∙ manifest_is image prefix short;
     }
   where
     byte_is : (i : Image) → range i 4112 13 ≡ first_slot → i 4116 ≡ 0
@@ -89,7 +89,7 @@ rest_stays id before shut offset same is =
     let two : Image = overlay one 4112 first_slot in
     let three : Image = overlay two 0 (identity_text id) in
     let body : (offset < 4112) ⊎ (4112 + 13 ≤ offset) = elim is.body [ inl early ↦ inl (omega (arith, early)) | inr late ↦ inr (omega (arith, late)) ] in
-    let manifest : (offset < 8192) ⊎ (8192 + 2 ≤ offset) = elim is.manifest [ inl early ↦ inl early | inr late ↦ inr (omega (arith, late)) ] in
+    let manifest : (offset < 8192) ⊎ (8192 + 4 ≤ offset) = elim is.manifest [ inl early ↦ inl early | inr late ↦ inr (omega (arith, late)) ] in
     beside three slot_a 1 offset (0xA5 ∷ []) refl (other_offset slot_a offset is.a)
     ∙ beside two 0 (length (identity_text id)) offset (identity_text id) refl (inr (omega (arith, is.identity)))
-    ∙ beside one 4112 13 offset first_slot refl body ∙ beside shut 8192 2 offset no_loads refl manifest ∙ same offset is.a is.b
+    ∙ beside one 4112 13 offset first_slot refl body ∙ beside shut 8192 4 offset no_loads refl manifest ∙ same offset is.a is.b

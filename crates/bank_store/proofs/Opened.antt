@@ -9,7 +9,7 @@ use Rattle.field_grammar.specs.NumberLaws.{length_number_bytes}
 use Rattle.disk_model.specs.Image.{Image, range, overlay}
 use Rattle.disk_model.specs.RangeLaws.{same_range}
 use Rattle.disk_model.specs.OverlayLaws.{overlay_inside, overlay_outside, overlay_joined, range_of_overlay, range_beside_overlay}
-use Rattle.disk_layout.specs.Offsets.{slot_b, bank_at, number_at, longest_manifest}
+use Rattle.disk_layout.specs.Offsets.{slot_b, bank_at, layout_mark, number_at, longest_manifest}
 use Rattle.disk_layout.specs.Slots.{IsOpen, IsSlot, IsActiveSlot, sequence_of, bank_of, manifest_offset_of, manifest_length_of}
 use Rattle.disk_layout.specs.SlotLaws.{offset_is_slot, number_below}
 use Rattle.disk_layout.specs.SlotBodyLaws.{body_length, says_sequence, says_bank, says_offset, says_length}
@@ -19,9 +19,10 @@ use Rattle.disk_layout.specs.ManifestSpelling.{manifest_spelling}
 use Rattle.disk_layout.specs.Contents.{entries_of, bytes_of}
 use Rattle.disk_layout.specs.Holds.{StandingView, HoldsBy, manifest_at, manifest_of}
 use Rattle.disk_layout.specs.Slots.{other_slot}
+use Rattle.disk_layout.specs.declared.manifest.Layout.TheVariants as layouts
 use Rattle.bank_store.specs.Bounds.{IsFillingInRange}
 use Rattle.disk_layout.specs.Slots.{other_bank}
-use Rattle.bank_store.specs.Store.{active_slot, active_bank, active_sequence, IsFilling, work_at, manifest_length, slot_body, with_manifest, with_slot}
+use Rattle.bank_store.specs.Store.{active_slot, active_bank, active_sequence, IsFilling, work_at, head_bytes, manifest_length, slot_body, with_manifest, with_slot}
 use Rattle.bank_store.specs.Given.{Given, GivenLoad, HasGiven, IsWhole, Misses, bytes_given, configured, loads_of, load_of}
 use Rattle.bank_store.specs.Fits.{HoldsFor}
 use Rattle.bank_store.specs.declared.store.Store.{Store}
@@ -39,6 +40,9 @@ other_is_slot slot (inr e) = inl (omega (arith, e))
 
 other_bank_less : (bank : ℕ) → bank < 2 → other_bank bank < 2
 other_bank_less bank less = omega (arith, less)
+
+pub head_length : (loads : ℕ) → length (head_bytes loads) ≡ 4
+head_length loads = omega (arith, length-append (number_bytes 2 layout_mark) (number_bytes 2 loads), length_number_bytes 2 layout_mark, length_number_bytes 2 loads)
 
 -- the manifest, the other slot's body and its gate, laid over an image
 abbrev pub opened : Store → Filling → Image → Image
@@ -62,19 +66,19 @@ module _ (store : Store) (progress : Filling) (image : Image) (lies : Lies store
   other = other_slot (active_slot store)
 
   abbrev text : List ℕ
-  text = number_bytes 2 progress.loads ++ store.body.items
+  text = head_bytes progress.loads ++ store.body.items
 
   abbrev body : List ℕ
   body = slot_body store progress.end (manifest_length store)
 
   text_length : length text ≡ manifest_length store
-  text_length = omega (arith, length-append (number_bytes 2 progress.loads) store.body.items, length_number_bytes 2 progress.loads)
+  text_length = omega (arith, length-append (head_bytes progress.loads) store.body.items, head_length progress.loads)
 
   body_size : length body ≡ 13
   body_size = slot_body_length store progress.end (manifest_length store)
 
   joined : with_manifest store progress image ≡ overlay image (work + progress.end) text
-  joined = overlay_joined image (work + progress.end) (work + progress.end + 2) (number_bytes 2 progress.loads) store.body.items (omega (arith, length_number_bytes 2 progress.loads))
+  joined = overlay_joined image (work + progress.end) (work + progress.end + 4) (head_bytes progress.loads) store.body.items (omega (arith, head_length progress.loads))
 
   -- after the slots nothing but the manifest
   far_off : (at n : ℕ) → 8192 ≤ at → range (opened store progress image) at n ≡ range (overlay image (work + progress.end) text) at n
@@ -227,7 +231,7 @@ module _ (store : Store) (progress : Filling) (image : Image) (s : StandingView)
   manifest_offset =
       ap₂ (λ (b : ℕ) (p : ℕ). bank_at s.identity.bank b + p) bank_is offset_is ∙ ap (λ (n : ℕ). bank_at n (other_bank (active_bank store)) + progress.end) was.size
 
-  manifest_is : manifest_of now s.identity other_offset ≡ concat (manifest_fields (entries_of (map load_of g.loads)))
+  manifest_is : manifest_of now s.identity other_offset ≡ concat (manifest_fields layouts.Two (entries_of (map load_of g.loads)))
   manifest_is =
       ap₂ (λ (p : ℕ) (n : ℕ). range now p n) manifest_offset length_is ∙ manifest_there store progress image lies
       ∙ manifest_bytes g.loads progress.loads store.body.items whole (has.loads ∙ ap (λ (f : Filling). f.loads) same_far) has.body
@@ -249,7 +253,7 @@ module _ (store : Store) (progress : Filling) (image : Image) (s : StandingView)
       bank = ap other_bank was.bank ∙ sym bank_is;
       sequence = ap (λ (n : ℕ). n + 1) was.sequence ∙ sym new_sequence;
       manifest = (manifest_spelling (manifest_of now s.identity other_offset) (entries_of (map load_of g.loads))).1
-          (given_fit g.loads (omega (arith, has.loads, has.few)) has.each whole, manifest_is);
+          (layouts.Two, given_fit g.loads (omega (arith, has.loads, has.few)) has.each whole, manifest_is);
       lengths = same_total g.loads ∙ ap length (sym given) ∙ ends ∙ sym offset_is;
     };
     headers = headers_first g.loads;

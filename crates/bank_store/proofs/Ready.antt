@@ -1,12 +1,10 @@
 -- What sealing leaves.
 use Rattle.std.proofs.Common.{◌≡◌, ℕ, ◌+◌, ◌≤◌, [], ◌∷◌, length, false, sym, ap₂, ◌∙◌, subst, arith}
-use Rattle.field_grammar.specs.Fields.{number_bytes}
-use Rattle.field_grammar.specs.NumberLaws.{length_number_bytes}
 use Rattle.disk_model.specs.Image.{Image, overlay}
 use Rattle.disk_layout.specs.Holds.{StandingView, HoldsBy}
 use Rattle.disk_layout.specs.Slots.{other_slot, manifest_offset_of, manifest_length_of}
 use Rattle.disk_layout.specs.declared.active.ManifestRange.{ManifestRange}
-use Rattle.bank_store.specs.Store.{active_slot, IsFilling, IsSealedAt, with_gate_open, SameActive, work_at, manifest_length, with_manifest, with_slot}
+use Rattle.bank_store.specs.Store.{active_slot, IsFilling, IsSealedAt, with_gate_open, SameActive, work_at, head_bytes, manifest_length, with_manifest, with_slot}
 use Rattle.bank_store.specs.Given.{Given, HasGiven, configured, loads_of}
 use Rattle.bank_store.specs.Fits.{HoldsFor, SameButForWork, IsReady, HoldsAt, HasWork}
 use Rattle.bank_store.specs.declared.store.Store.{Store}
@@ -14,7 +12,7 @@ use Rattle.bank_store.specs.declared.stage.Stage.{Stage}
 use Rattle.bank_store.specs.declared.stage.Filling.{Filling}
 use Rattle.bank_store.proofs.Carried.{same_slot, stands_carried}
 use Rattle.bank_store.proofs.Near.{near_on, near_stands}
-use Rattle.bank_store.proofs.Opened.{slot_body_length, opened_stands, offset_is, length_is}
+use Rattle.bank_store.proofs.Opened.{head_length, slot_body_length, opened_stands, offset_is, length_is}
 use Rattle.bank_store.proofs.Working.{bank_is_work, slot_is_work, near_overlay}
 
 -- the image as it is sealed
@@ -24,14 +22,14 @@ sealed_image store progress image = with_slot store progress.end (manifest_lengt
 pub near_sealed : (store : Store) (progress : Filling) (image : Image) → store.other_is_open ≡ false → progress.end + manifest_length store ≤ store.size → SameButForWork store image (sealed_image store progress image)
 near_sealed store progress image shut fits =
     let at = work_at store + progress.end in
-    let first : Image = overlay image at (number_bytes 2 progress.loads) in
+    let first : Image = overlay image at (head_bytes progress.loads) in
     let second : Image = with_manifest store progress image in
-    let count : length (number_bytes 2 progress.loads) ≡ 2 = length_number_bytes 2 progress.loads in
+    let count : length (head_bytes progress.loads) ≡ 4 = head_length progress.loads in
     let slot = slot_body_length store progress.end (manifest_length store) in
     near_on store image second (sealed_image store progress image)
     (near_on store image first second
-    (near_overlay store image at (number_bytes 2 progress.loads) (bank_is_work store at _ (omega arith) (omega (arith, count, fits))))
-    (near_overlay store first (at + 2) store.body.items (bank_is_work store (at + 2) _ (omega arith) (omega (arith, fits)))))
+    (near_overlay store image at (head_bytes progress.loads) (bank_is_work store at _ (omega arith) (omega (arith, count, fits))))
+    (near_overlay store first (at + 4) store.body.items (bank_is_work store (at + 4) _ (omega arith) (omega (arith, fits)))))
     (near_overlay store second (other_slot (active_slot store) + 16) _ (slot_is_work store (other_slot (active_slot store) + 16) _ shut (omega arith) (omega (arith, slot))))
 
 pub stands_sealed : (old new : Store) (progress : Filling) (image now : Image) (s : StandingView) → SameActive old new → new.other_is_open ≡ old.other_is_open → old.other_is_open ≡ false

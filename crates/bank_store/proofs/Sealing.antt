@@ -1,5 +1,5 @@
 -- What was given, as a manifest says it.
-use Rattle.std.proofs.Common.{◌≡◌, ℕ, ◌+◌, ◌≤◌, List, [], ◌∷◌, ◌++◌, length, map, refl, sym, ◌∙◌, ap, ap₂, arith, length-append}
+use Rattle.std.proofs.Common.{◌≡◌, ℕ, ◌+◌, ◌≤◌, List, [], ◌∷◌, ◌++◌, length, map, refl, sym, ◌∙◌, ap, ap₂, arith, append_assoc, length-append}
 use Rattle.std.specs.List.{All, concat, flat_map}
 use Rattle.std.proofs.lemmas.Grind.{flat_map-append}
 use Rattle.std.proofs.lemmas.List.{length-map}
@@ -8,10 +8,12 @@ use Rattle.std.proofs.lemmas.List.Folds.{flat_map-map}
 use Rattle.std.proofs.lemmas.List.Elements.{All-nil, All-cons, All-head, All-tail}
 use Rattle.load_base.specs.Config.{FileView, LoadView}
 use Rattle.field_grammar.specs.Fields.{number_bytes}
-use Rattle.disk_layout.specs.Offsets.{most_loads}
-use Rattle.disk_layout.specs.Manifest.{LoadEntry, file_entry_fields, load_entry_fields, manifest_fields, FileFits, LoadFits, ManifestFits, total_length, entries_length}
+use Rattle.disk_layout.specs.Offsets.{layout_mark, most_loads}
+use Rattle.disk_layout.specs.Manifest.{LoadEntry, file_entry_fields, load_entry_fields, manifest_fields, FileFits, LoadFits, ManifestFits, total_length, type_fields, entries_length}
 use Rattle.disk_layout.specs.Contents.{file_entry_of, entry_of, entries_of, bytes_of, contents_of_loads, HeaderIsFirst}
+use Rattle.disk_layout.specs.declared.manifest.Layout.TheVariants as layouts
 use Rattle.disk_layout.specs.declared.manifest.ManifestFile.{ManifestFile}
+use Rattle.bank_store.specs.Store.{head_bytes}
 use Rattle.bank_store.specs.Given.{GivenLoad, IsWhole, Misses, IsFile, IsLoad, load_of, given_fields}
 
 -- each load has all its files
@@ -47,29 +49,29 @@ files_fit (file ∷ files) each =
     All-cons (λ (f : ManifestFile). FileFits f) (file_entry_of file) (map file_entry_of files) (record { name = is.name; length = is.short })
     (files_fit files (All-tail (λ (f : FileView). IsFile f) file files each))
 
-load_fits : (load : GivenLoad) → IsLoad load → IsWhole load → LoadFits (entry load)
+load_fits : (load : GivenLoad) → IsLoad load → IsWhole load → LoadFits layouts.Two (entry load)
 load_fits load is whole =
     let size : length (map file_entry_of load.files) ≡ load.announced = length-map load.files file_entry_of ∙ whole in
-    record { part = is.part; some = omega (arith, size, is.some); count = omega (arith, size, is.few); files = files_fit load.files is.files }
+    record { part = is.part; type_id = is.type_id; some = omega (arith, size, is.some); count = omega (arith, size, is.few); files = files_fit load.files is.files }
 
-each_fits : (loads : List GivenLoad) → All (λ (l : GivenLoad). IsLoad l) loads → All (λ (l : GivenLoad). IsWhole l) loads → All (λ (l : LoadEntry). LoadFits l) (entries_of (map load_of loads))
-each_fits [] each whole = All-nil (λ (l : LoadEntry). LoadFits l)
+each_fits : (loads : List GivenLoad) → All (λ (l : GivenLoad). IsLoad l) loads → All (λ (l : GivenLoad). IsWhole l) loads → All (λ (l : LoadEntry). LoadFits layouts.Two l) (entries_of (map load_of loads))
+each_fits [] each whole = All-nil (λ (l : LoadEntry). LoadFits layouts.Two l)
 each_fits (load ∷ loads) each whole =
-    All-cons (λ (l : LoadEntry). LoadFits l) (entry load) (entries_of (map load_of loads))
+    All-cons (λ (l : LoadEntry). LoadFits layouts.Two l) (entry load) (entries_of (map load_of loads))
     (load_fits load (All-head (λ (l : GivenLoad). IsLoad l) load loads each) (All-head (λ (l : GivenLoad). IsWhole l) load loads whole))
     (each_fits loads (All-tail (λ (l : GivenLoad). IsLoad l) load loads each) (All-tail (λ (l : GivenLoad). IsWhole l) load loads whole))
 
 entries_size : (loads : List GivenLoad) → length (entries_of (map load_of loads)) ≡ length loads
 entries_size loads = length-map (map load_of loads) entry_of ∙ length-map loads load_of
 
-pub given_fit : (loads : List GivenLoad) → length loads ≤ most_loads → All (λ (l : GivenLoad). IsLoad l) loads → All (λ (l : GivenLoad). IsWhole l) loads → ManifestFits (entries_of (map load_of loads))
+pub given_fit : (loads : List GivenLoad) → length loads ≤ most_loads → All (λ (l : GivenLoad). IsLoad l) loads → All (λ (l : GivenLoad). IsWhole l) loads → ManifestFits layouts.Two (entries_of (map load_of loads))
 given_fit loads few each whole = record { count = omega (arith, few, entries_size loads); each = each_fits loads each whole }
 
-same_load_fields : (load : GivenLoad) → IsWhole load → load_entry_fields (entry load) ≡ given_fields load
+same_load_fields : (load : GivenLoad) → IsWhole load → load_entry_fields layouts.Two (entry load) ≡ given_fields load
 same_load_fields load whole =
-    ap (λ (n : ℕ). load.part ∷ number_bytes 2 n ∷ flat_map file_entry_fields (map file_entry_of load.files)) (length-map load.files file_entry_of ∙ whole)
+    ap (λ (n : ℕ). load.part ∷ (type_fields layouts.Two load.type_id ++ number_bytes 2 n ∷ flat_map file_entry_fields (map file_entry_of load.files))) (length-map load.files file_entry_of ∙ whole)
 
-same_fields : (loads : List GivenLoad) → All (λ (l : GivenLoad). IsWhole l) loads → flat_map load_entry_fields (entries_of (map load_of loads)) ≡ flat_map given_fields loads
+same_fields : (loads : List GivenLoad) → All (λ (l : GivenLoad). IsWhole l) loads → flat_map (load_entry_fields layouts.Two) (entries_of (map load_of loads)) ≡ flat_map given_fields loads
 same_fields [] whole = refl
 same_fields (load ∷ loads) whole =
     ap₂ (λ (a : List (List ℕ)) (b : List (List ℕ)). a ++ b) (same_load_fields load (All-head (λ (l : GivenLoad). IsWhole l) load loads whole))
@@ -77,9 +79,10 @@ same_fields (load ∷ loads) whole =
 
 -- the manifest's bytes
 pub manifest_bytes : (loads : List GivenLoad) (count : ℕ) (body : List ℕ) → All (λ (l : GivenLoad). IsWhole l) loads → length loads ≡ count → body ≡ concat (flat_map given_fields loads)
-    → number_bytes 2 count ++ body ≡ concat (manifest_fields (entries_of (map load_of loads)))
+    → head_bytes count ++ body ≡ concat (manifest_fields layouts.Two (entries_of (map load_of loads)))
 manifest_bytes loads count body whole counts is =
-    ap₂ (λ (n : ℕ) (l : List ℕ). number_bytes 2 n ++ l) (sym counts ∙ sym (entries_size loads)) (is ∙ sym (ap concat (same_fields loads whole)))
+    append_assoc (number_bytes 2 layout_mark) (number_bytes 2 count) body
+    ∙ ap₂ (λ (n : ℕ) (l : List ℕ). number_bytes 2 layout_mark ++ (number_bytes 2 n ++ l)) (sym counts ∙ sym (entries_size loads)) (is ∙ sym (ap concat (same_fields loads whole)))
 
 pub headers_first : (loads : List GivenLoad) → All (λ (l : LoadView). HeaderIsFirst l) (map load_of loads)
 headers_first [] = All-nil (λ (l : LoadView). HeaderIsFirst l)

@@ -9,10 +9,10 @@ use Rattle.bank_store.specs.declared.stage.Stage.{Stage}
 use Rattle.bank_store.specs.declared.stage.Stage.TheVariants as stages
 use Rattle.bank_store.specs.declared.stage.Filling.{Filling}
 
--- the most bytes that a load takes in a manifest: its part number, the number of its files, and for each its name and
--- its length
+-- the most bytes that a load takes in a manifest: its part number, its type id, the number of its files, and for each its
+-- name and its length
 abbrev pub longest_load : ℕ
-longest_load = 17681
+longest_load = 17683
 
 -- The bank has room for the bytes that came, and what its manifest may take is enough for the files that are still to
 -- come of the last load. Where none is, no file is in progress.

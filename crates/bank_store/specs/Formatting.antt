@@ -58,8 +58,8 @@ pub record IsLaidOut (id : Identity) (image : Image) : Type 0 where
   pub sequence : sequence_of image slot_a ≡ 1
   pub bank : bank_of image slot_a ≡ 0
   pub offset : manifest_offset_of image slot_a ≡ 0
-  pub length : manifest_length_of image slot_a ≡ 2
-  pub manifest : range image (bank_at id.bank 0) 2 ≡ 0 ∷ 0 ∷ []
+  pub length : manifest_length_of image slot_a ≡ 4
+  pub manifest : range image (bank_at id.bank 0) 4 ≡ 160 ∷ 2 ∷ 0 ∷ 0 ∷ []
 
 -- which slots are open
 abbrev pub AreOpen : Image → OpenSlots → Type 0
@@ -85,11 +85,11 @@ pub record ShutsGates {T : Type 0} (old new : DiskState) (result : Result T Stor
 abbrev pub with_gate : Slot → (byte : ℕ) → Image → Image
 with_gate slot byte image = overlay image (slot_offset slot) (byte ∷ [])
 
--- the image with an empty manifest, slot A's body from its sequence on (sequence 1, bank 0, and a manifest of 2 bytes at
+-- the image with an empty manifest, slot A's body from its sequence on (sequence 1, bank 0, and a manifest of 4 bytes at
 -- its start), and an identity
 abbrev pub laid_out : Identity → Image → Image
 laid_out id image =
-    overlay (overlay (overlay image 8192 (0 ∷ 0 ∷ [])) 4112 (0 ∷ 0 ∷ 0 ∷ 1 ∷ 0 ∷ 0 ∷ 0 ∷ 0 ∷ 0 ∷ 0 ∷ 0 ∷ 0 ∷ 2 ∷ [])) 0 (identity_text id)
+    overlay (overlay (overlay image 8192 (160 ∷ 2 ∷ 0 ∷ 0 ∷ [])) 4112 (0 ∷ 0 ∷ 0 ∷ 1 ∷ 0 ∷ 0 ∷ 0 ∷ 0 ∷ 0 ∷ 0 ∷ 0 ∷ 0 ∷ 4 ∷ [])) 0 (identity_text id)
 
 -- formatting writes nothing at this offset
 pub record IsUntouched (id : Identity) (offset : ℕ) : Type 0 where
@@ -97,7 +97,7 @@ pub record IsUntouched (id : Identity) (offset : ℕ) : Type 0 where
   pub a : ¬ (offset ≡ slot_a)
   pub b : ¬ (offset ≡ slot_b)
   pub body : (offset < slot_a + 16) ⊎ (slot_a + 29 ≤ offset)
-  pub manifest : (offset < 8192) ⊎ (8194 ≤ offset)
+  pub manifest : (offset < 8192) ⊎ (8196 ≤ offset)
 
 -- all else stays
 abbrev pub KeepsRest : Identity → Image → Image → Type 0

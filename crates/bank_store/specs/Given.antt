@@ -1,5 +1,5 @@
 -- What was given to a store of a configuration that is being installed (docs/DISK.md).
-use Rattle.std.specs.Prelude.{◌≡◌, ℕ, ◌+◌, ◌≤◌, List, [], ◌∷◌, ◌++◌, length, map}
+use Rattle.std.specs.Prelude.{◌≡◌, ℕ, ◌+◌, ◌≤◌, Option, Some, List, [], ◌∷◌, ◌++◌, length, map}
 use Rattle.std.specs.List.{All, concat, flat_map}
 use Rattle.load_base.specs.Config.{FileView, LoadView}
 use Rattle.load_base.specs.Host.{longest_file}
@@ -8,7 +8,8 @@ use Rattle.load_base.specs.PartText.{IsPartText}
 use Rattle.field_grammar.specs.Fields.{number_fields}
 use Rattle.disk_model.specs.Image.{Image, range}
 use Rattle.disk_layout.specs.Offsets.{most_loads, most_files}
-use Rattle.disk_layout.specs.Manifest.{file_entry_fields}
+use Rattle.disk_layout.specs.Manifest.{HasTypeOf, file_entry_fields, type_fields}
+use Rattle.disk_layout.specs.declared.manifest.Layout.TheVariants as layouts
 use Rattle.disk_layout.specs.Contents.{file_entry_of, bytes_of, first_name}
 use Rattle.disk_layout.specs.Holds.{StandingView}
 use Rattle.disk_layout.specs.Slots.{other_bank}
@@ -16,9 +17,10 @@ use Rattle.bank_store.specs.Store.{IsFilling, work_at}
 use Rattle.bank_store.specs.declared.store.Store.{Store}
 use Rattle.bank_store.specs.declared.stage.Filling.{Filling}
 
--- a load, with how many files it is to have, and those that have ended
+-- a load with its type id, with how many files it is to have, and those that have ended
 pub record GivenLoad : Type 0 where
   pub part : List ℕ
+  pub type_id : Option ℕ
   pub announced : ℕ
   pub files : List FileView
 
@@ -32,9 +34,9 @@ pub record Given : Type 0 where
 abbrev pub nothing_given : Given
 nothing_given = record { loads = []; bytes = [] }
 
--- a load of this many files begins
-abbrev pub with_load : (part : List ℕ) (announced : ℕ) → Given → Given
-with_load part announced g = record { loads = g.loads ++ record { part = part; announced = announced; files = [] } ∷ []; bytes = g.bytes }
+-- a load of this type and of this many files begins
+abbrev pub with_load : (part : List ℕ) (type_id announced : ℕ) → Given → Given
+with_load part type_id announced g = record { loads = g.loads ++ record { part = part; type_id = Some type_id; announced = announced; files = [] } ∷ []; bytes = g.bytes }
 
 -- more bytes come of the file that ends next
 abbrev pub with_bytes : List ℕ → Given → Given
@@ -43,7 +45,7 @@ with_bytes more g = record { loads = g.loads; bytes = g.bytes ++ more }
 -- the last load has one file more
 abbrev pub file_to_last : FileView → List GivenLoad → List GivenLoad
 file_to_last file [] = []
-file_to_last file (load ∷ []) = record { part = load.part; announced = load.announced; files = load.files ++ file ∷ [] } ∷ []
+file_to_last file (load ∷ []) = record { part = load.part; type_id = load.type_id; announced = load.announced; files = load.files ++ file ∷ [] } ∷ []
 file_to_last file (load ∷ next ∷ loads) = load ∷ file_to_last file (next ∷ loads)
 
 -- a file of this name ends, with the bytes that came
@@ -64,7 +66,7 @@ Misses missing (load ∷ next ∷ loads) = IsWhole load × Misses missing (next 
 
 -- the header of a load is its first file
 abbrev pub load_of : GivenLoad → LoadView
-load_of load = record { part = load.part; header_name = first_name load.files; files = load.files }
+load_of load = record { part = load.part; type_id = load.type_id; header_name = first_name load.files; files = load.files }
 
 -- the bytes of all files that have ended, and of the one that ends next
 abbrev pub bytes_given : Given → List ℕ
@@ -72,7 +74,7 @@ bytes_given g = bytes_of (flat_map (λ (l : GivenLoad). l.files) g.loads) ++ g.b
 
 -- a load as it is written in the manifest, as far as its files have ended
 abbrev pub given_fields : GivenLoad → List (List ℕ)
-given_fields load = (load.part ∷ []) ++ (number_fields 2 load.announced ++ flat_map file_entry_fields (map file_entry_of load.files))
+given_fields load = (load.part ∷ []) ++ (type_fields layouts.Two load.type_id ++ (number_fields 2 load.announced ++ flat_map file_entry_fields (map file_entry_of load.files)))
 
 -- a file that a manifest can name
 pub record IsFile (file : FileView) : Type 0 where
@@ -82,6 +84,7 @@ pub record IsFile (file : FileView) : Type 0 where
 -- a load that a manifest can name
 pub record IsLoad (load : GivenLoad) : Type 0 where
   pub part : IsPartText load.part
+  pub type_id : HasTypeOf layouts.Two load.type_id
   pub some : 1 ≤ load.announced
   pub few : load.announced ≤ most_files
   pub files : All (λ (f : FileView). IsFile f) load.files

@@ -79,7 +79,7 @@ pub record IsShutFor (store : Store) (image : Image) (s : StandingView) : Type 0
 -- An installation begins: nothing is given yet, and the other slot's gate is shut.
 pub record Begins (before after : Store) (old new : DiskState) : Type 0 where
   pub filling : IsFilling after nothing_filled
-  pub manifest : manifest_length after ≡ 2
+  pub manifest : manifest_length after ≡ 4
   pub written : ForSome old.reads (λ image. new.reads ≡ Some (with_gate_shut before image))
   pub given : ForSome new.reads (λ image. HasGiven after image nothing_given)
   pub settled : IsSettled new

@@ -1,9 +1,9 @@
 -- What a store keeps of the disk that it installs on (docs/DISK.md).
-use Rattle.std.specs.Prelude.{◌≡◌, ℕ, ◌+◌, ◌-◌, ◌<◌, ◌≤◌, Bool, true, if◌then◌else◌, List, [], ◌∷◌, length}
+use Rattle.std.specs.Prelude.{◌≡◌, ℕ, ◌+◌, ◌-◌, ◌<◌, ◌≤◌, Bool, true, if◌then◌else◌, List, [], ◌∷◌, ◌++◌, length}
 use Rattle.load_base.specs.Host.{longest_file}
 use Rattle.field_grammar.specs.Fields.{number_bytes}
 use Rattle.disk_model.specs.Image.{Image, overlay}
-use Rattle.disk_layout.specs.Offsets.{bank_at, longest_manifest, most_loads}
+use Rattle.disk_layout.specs.Offsets.{bank_at, layout_mark, longest_manifest, most_loads}
 use Rattle.disk_layout.specs.Slots.{slot_offset, other_slot, bank_number, other_bank, slot_body_bytes}
 use Rattle.disk_layout.specs.declared.active.Active.{Active}
 use Rattle.disk_layout.specs.declared.active.ManifestRange.{ManifestRange}
@@ -124,7 +124,7 @@ spare_of store = store.body.spare
 
 -- how many bytes the manifest has of what was given so far
 abbrev pub manifest_length : Store → ℕ
-manifest_length store = length store.body.items + 2
+manifest_length store = length store.body.items + 4
 
 -- what the other slot says after its gate, from offset 16 on, once the manifest stands there with this many bytes: the next
 -- sequence number, the other bank, and the manifest's offset and length
@@ -140,9 +140,13 @@ with_gate_shut store image = if store.other_is_open then overlay image (other_sl
 abbrev pub with_piece : Store → Filling → List ℕ → Image → Image
 with_piece store progress bytes image = overlay image (work_at store + progress.end) bytes
 
+-- how a manifest begins that is written, which has layout 2: its mark, and the number of the loads
+abbrev pub head_bytes : (loads : ℕ) → List ℕ
+head_bytes loads = number_bytes 2 layout_mark ++ number_bytes 2 loads
+
 -- the image with the manifest after the contents
 abbrev pub with_manifest : Store → Filling → Image → Image
-with_manifest store progress image = overlay (overlay image (work_at store + progress.end) (number_bytes 2 progress.loads)) (work_at store + progress.end + 2) store.body.items
+with_manifest store progress image = overlay (overlay image (work_at store + progress.end) (head_bytes progress.loads)) (work_at store + progress.end + 4) store.body.items
 
 -- the image with the other slot's body
 abbrev pub with_slot : Store → (offset length : ℕ) → Image → Image

@@ -19,12 +19,12 @@ use disk_model::{Disk, DiskFault};
 // A gate that isn't open.
 const SHUT: u8 = 0;
 
-// The manifest of a configuration without loads.
-const NO_LOADS: [u8; 2] = [0, 0];
+// The manifest of a configuration without loads: the mark of its layout, and their number.
+const NO_LOADS: [u8; 4] = [0xA0, 0x02, 0, 0];
 
-// What the first slot says from its sequence on: sequence 1, bank 0, and a manifest of 2 bytes at
+// What the first slot says from its sequence on: sequence 1, bank 0, and a manifest of 4 bytes at
 // its start.
-const FIRST_SLOT: [u8; 13] = [0, 0, 0, 1, 0, 0, 0, 0, 0, 0, 0, 0, 2];
+const FIRST_SLOT: [u8; 13] = [0, 0, 0, 1, 0, 0, 0, 0, 0, 0, 0, 0, 4];
 
 /// Makes a disk hold this target with bank 0, sequence 1 and no loads, whatever it held before.
 ///

@@ -3,6 +3,7 @@
 
 mod fault;
 mod formatting;
+mod head;
 mod laws;
 mod stage;
 mod store;

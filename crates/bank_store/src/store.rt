@@ -15,6 +15,7 @@ ghost use Rattle.disk_layout.specs.Slots.{IsManifestRange};
 ghost use Rattle.bank_store.specs.Bounds.{IsStore};
 
 use crate::fault::StoreFault;
+use crate::head::head_of;
 use crate::stage::{Filling, Stage};
 use disk_layout::numbers::{u8_bytes, u16_bytes, u32_bytes};
 use disk_layout::offsets::{LONGEST_MANIFEST, OPEN, SEQUENCE_IN_SLOT};
@@ -78,7 +79,7 @@ impl Store {
         }
     }
 
-    /// Reserves the memory that an installation takes, the 565,794 bytes of the longest manifest.
+    /// Reserves the memory that an installation takes, the 565,860 bytes of the longest manifest.
     pub fn prepare(&mut self) -> Result<(), StoreFault>
         ensures prepared { OnOk result (IsIdle self.old → IsPrepared self.new) }
         ensures again { IsPrepared self.old → IsOk result }
@@ -148,24 +149,25 @@ impl Store {
         disk.write(self.other(), &[SHUT])
     }
 
-    /// Announces a load of 1 to 256 files, after those before it, which are complete: 31 at most.
-    /// It always answers Ok, and takes no memory.
+    /// Announces a load of this type and of 1 to 256 files, after those before it, which are
+    /// complete: 31 at most. It always answers Ok, and takes no memory.
     #[tactic(auto, using(crate::proofs::Giving::given_load, crate::proofs::Sizes::load_more))]
-    pub fn start_load(&mut self, part: PartText, files: u16) -> Result<(), StoreFault>
+    pub fn start_load(&mut self, part: PartText, type_id: u16, files: u16) -> Result<(), StoreFault>
         requires filling { AwaitsLoad self.old }
         requires files { (1 ≤ files) × (files ≤ most_files) }
         ensures done { IsOk result }
         ensures filling { (progress : Filling) → IsFilling self.old progress
             → IsFilling self.new (load_announced files progress) }
-        ensures manifest { manifest_length self.new ≡ manifest_length self.old + 17 }
+        ensures manifest { manifest_length self.new ≡ manifest_length self.old + 19 }
         ensures given { (image : Image) (g : Given) → HasGiven self.old image g
-            → HasGiven self.new image (with_load part files g) }
+            → HasGiven self.new image (with_load part type_id files g) }
         ensures continues { Continues self.old self.new }
     {
         let Stage::Filling(progress) = self.stage else {
             unreachable!()
         };
         self.body.extend(part.as_slice())?;
+        self.body.extend(&u16_bytes(type_id))?;
         self.body.extend(&u16_bytes(files))?;
         self.stage = Stage::Filling(Filling {
             loads: progress.loads + 1,
@@ -272,7 +274,7 @@ impl Store {
         let Stage::Filling(progress) = self.stage else {
             unreachable!()
         };
-        let length = self.body.len() + 2;
+        let length = self.body.len() + 4;
         let need = u64::from(progress.end) + length as u64;
         if need > u64::from(self.size) {
             return Err(StoreFault::BankFull {
@@ -291,8 +293,8 @@ impl Store {
         Ok(())
     }
 
-    // Writes the manifest after the contents: how many loads there are, and what the body says of
-    // each.
+    // Writes the manifest after the contents, in layout 2: its mark, how many loads there are, and
+    // what the body says of each.
     fn write_manifest<K: Disk>(&self, disk: &mut K, progress: Filling) -> Result<(), DiskFault>
         requires filling { IsFilling self.now progress }
         requires within { progress.end + manifest_length self.now ≤ bank_size_of self.now }
@@ -304,8 +306,8 @@ impl Store {
             (λ image. (K.state disk.new).reads ≡ Some (with_manifest self.now progress image))) }
     {
         let at = self.work() + progress.end;
-        disk.write(at, &u16_bytes(progress.loads))?;
-        disk.write(at + 2, self.body.as_slice())
+        disk.write(at, &head_of(progress.loads))?;
+        disk.write(at + 4, self.body.as_slice())
     }
 
     // Writes the body of the other slot, all but its gate: that its bank is active with the next
@@ -400,7 +402,7 @@ impl Store {
         ensures idle { IsIdle self.new }
         ensures active { SameActive self.old self.new }
         ensures gate { is_other_open self.new ≡ is_other_open self.old }
-        ensures spare { spare_of self.new ≡ spare_of self.old + (manifest_length self.old - 2) }
+        ensures spare { spare_of self.new ≡ spare_of self.old + (manifest_length self.old - 4) }
     {
         self.body.clear();
         self.stage = Stage::Idle;

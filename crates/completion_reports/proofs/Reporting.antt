@@ -3,8 +3,6 @@ use Rattle.std.proofs.Common.{◌≡◌, ◌⊎◌, inl, inr, ℕ, ◌+◌, Bool
 use Rattle.std.specs.Prelude.{bytes_eq}
 use Rattle.std.specs.List.{AllByRecursion}
 use Rattle.load_base.specs.Config.{LoadView}
-use Rattle.load_header.specs.Header.{HeaderView}
-use Rattle.disk_layout.specs.declared.identity.Identity.{Identity}
 use Rattle.disk_layout.specs.Holds.{StandingView}
 use Rattle.tftp_packet.specs.declared.options.Options.{Options}
 use Rattle.tftp_packet.specs.Packets.{Ack, Data, Error, Oack, PacketView, Rrq, Wrq}
@@ -19,6 +17,7 @@ use Rattle.transfer_end.specs.OtherEnds.{MoveHasRole}
 use Rattle.transfer_end.specs.Packets.{belongs, has_port, heard_answer, is_busy, is_fresh, may_repeat, packet_in, transfer_moves}
 use Rattle.transfer_end.specs.Readings.{Reading}
 use Rattle.transfer_end.specs.Transfers.{Reads, Role, ServesRead, ServesWrite, Transfer, Writes, end_answer, end_of}
+use Rattle.accept_rules.specs.Permissions.{Accepts}
 use Rattle.session_rules.specs.declared.outcome.FileKind.{FileKind}
 use Rattle.session_rules.specs.declared.outcome.FileKind.TheVariants as kinds
 use Rattle.session_rules.specs.declared.reason.Reason.{Reason}
@@ -26,11 +25,10 @@ use Rattle.session_rules.specs.BufferLaws.{SumsJoin}
 use Rattle.session_rules.specs.CompletionLaws.{target_tells_installed}
 use Rattle.session_rules.specs.Completions.{InstallsNow, TellsInstalled}
 use Rattle.session_rules.specs.LoaderLog.{newest}
-use Rattle.session_rules.specs.SoundLogLaws.{begins_active}
 use Rattle.session_rules.specs.Target as target
-use Rattle.session_rules.specs.TargetLaws.{FitsChange, after, decision_fits, end_stays, identity_stays, row_of_none}
-use Rattle.session_rules.specs.TargetLog.{TargetReading, TargetSessionLog, row_in, standing_after, standing_in, target_extended, target_reading_changed, target_view, with_done}
-use Rattle.session_rules.specs.TargetRows.{Awaits_lur, Gives_denial, Gives_lci, Gives_lui, Over, Reads_file, RowMove, RowView, UploadEnd, WholeRow, Writes_completion, Writes_lcl, Writes_lcs, Writes_progress, Writes_ready, Writes_stop, first_row, row_move, view_moved, with_bytes}
+use Rattle.session_rules.specs.TargetLaws.{FitsChange, after, decision_fits, end_stays}
+use Rattle.session_rules.specs.TargetLog.{TargetReading, TargetSessionLog, standing_after, standing_in, target_extended, target_reading_changed, target_view, with_done}
+use Rattle.session_rules.specs.TargetRows.{Awaits_lur, Gives_denial, Gives_lci, Gives_lui, Over, Reads_file, RowMove, RowView, UploadEnd, WholeRow, Writes_completion, Writes_lcl, Writes_lcs, Writes_progress, Writes_ready, Writes_stop, row_move, view_moved, with_bytes}
 use Rattle.completion_reports.specs.Reports.{IsReport, WritesReport}
 
 -- ---- where a session ends or begins anew, no report is live
@@ -97,12 +95,12 @@ module _ (v : target.TargetView) (from : ℕ) where
   next_quiet to p more move row (Some role) = quiet_if (has_port v.end) _ _ tt (then_stops to p)
   next_quiet to p more move row None = quiet_if (target.is_over row) _ _ (then_stops to p) tt
 
-  turn_quiet : (accepts : HeaderView → Bool) (s : target.TargetSession) (to : ℕ) (p : PacketView) (more : List ℕ) (error : Option ℕ) → Quiet (target.turn_decision accepts v s (transfer_moves v.end from to p) more error)
+  turn_quiet : (accepts : Accepts) (s : target.TargetSession) (to : ℕ) (p : PacketView) (more : List ℕ) (error : Option ℕ) → Quiet (target.turn_decision accepts v s (transfer_moves v.end from to p) more error)
   turn_quiet accepts s to p more error =
-      let move : RowMove = row_move accepts v.active.identity s.row (record { error = error; arriving = with_bytes s.arriving more }) in
+      let move : RowMove = row_move accepts v.active s.row (record { error = error; arriving = with_bytes s.arriving more }) in
       next_quiet to p more move (view_moved s.row (with_bytes s.arriving more) move) (target.row_request v (view_moved s.row (with_bytes s.arriving more) move))
 
-  answer_quiet : (accepts : HeaderView → Bool) (s : target.TargetSession) (to : ℕ) (p : PacketView) (answer : Answer) → Quiet (target.answer_decision accepts v s (transfer_moves v.end from to p) answer)
+  answer_quiet : (accepts : Accepts) (s : target.TargetSession) (to : ℕ) (p : PacketView) (answer : Answer) → Quiet (target.answer_decision accepts v s (transfer_moves v.end from to p) answer)
   answer_quiet accepts s to p (TakesBlock b) = tt
   answer_quiet accepts s to p (TakesLast b) = turn_quiet accepts s to p b None
   answer_quiet accepts s to p Completes = turn_quiet accepts s to p [] None
@@ -112,15 +110,15 @@ module _ (v : target.TargetView) (from : ℕ) where
   answer_quiet accepts s to p (Grants o) = tt
   answer_quiet accepts s to p Proceeds = tt
 
-  transfer_quiet : (accepts : HeaderView → Bool) (live : Option target.TargetSession) (to : ℕ) (p : PacketView) → Quiet (target.transfer_decision accepts v live from to p)
+  transfer_quiet : (accepts : Accepts) (live : Option target.TargetSession) (to : ℕ) (p : PacketView) → Quiet (target.transfer_decision accepts v live from to p)
   transfer_quiet accepts None to p = tt
   transfer_quiet accepts (Some s) to p = answer_quiet accepts s to p (heard_answer v.end from to p)
 
-  got_quiet : (accepts : HeaderView → Bool) (to : ℕ) (p : Option PacketView) → Quiet (target.got_decision accepts v from to p)
+  got_quiet : (accepts : Accepts) (to : ℕ) (p : Option PacketView) → Quiet (target.got_decision accepts v from to p)
   got_quiet accepts to None = tt
   got_quiet accepts to (Some p) = quiet_if (eqb to 59) _ _ (request_quiet p) (transfer_quiet accepts v.live to p)
 
-target_is_quiet : (accepts : HeaderView → Bool) (v : target.TargetView) (e : Event) → Quiet (target.target_decision accepts v e)
+target_is_quiet : (accepts : Accepts) (v : target.TargetView) (e : Event) → Quiet (target.target_decision accepts v e)
 target_is_quiet accepts v (Gets from to bytes) = got_quiet v from accepts to (packet_in bytes)
 target_is_quiet accepts v Ticks = tick_quiet v v.live
 target_is_quiet accepts v (Learns size) = tt
@@ -190,12 +188,12 @@ module _ (Begins : Type 0) where
 -- ---- the row of a report
 
 -- the session is in the row in which it reports that these loads are installed
-pub record IsCompleted (accepts : HeaderView → Bool) (r : TargetReading) : Type 0 where
+pub record IsCompleted (r : TargetReading) : Type 0 where
   pub session : TargetSessionLog
   pub live : r.live ≡ Some session
   pub upload : UploadEnd
   pub loads : List LoadView
-  pub row : row_in accepts r.active.identity session ≡ Writes_completion upload loads
+  pub row : session.row ≡ Writes_completion upload loads
 
 abbrev pub reading : Reading → Option TargetSessionLog → StandingView → Option Reason → TargetReading
 reading end live active reason = record { end = end; live = live; active = active; reason = reason }
@@ -224,27 +222,24 @@ installing_row active (Writes_progress u) loads e = next_sequence _ active loads
 installing_row active (Writes_stop u) loads e = next_sequence _ active loads e
 installing_row active Over loads e = next_sequence _ active loads e
 
-module _ (accepts : HeaderView → Bool) where
+module _ (accepts : Accepts) where
   -- the row that a session turned to
-  turned_completes : (then : Reading) (active : StandingView) (reason : Option Reason) (session : TargetSessionLog) (loads : List LoadView) → standing_in active (row_in accepts active.identity session) ≡ standing_after active loads
-      → IsCompleted accepts (record { end = then; live = Some session; active = standing_in active (row_in accepts active.identity session); reason = reason })
+  turned_completes : (then : Reading) (active : StandingView) (reason : Option Reason) (session : TargetSessionLog) (loads : List LoadView) → standing_in active session.row ≡ standing_after active loads
+      → IsCompleted (record { end = then; live = Some session; active = standing_in active session.row; reason = reason })
   turned_completes then active reason session loads e =
-      let (upload, brought, row) = installing_row active (row_in accepts active.identity session) loads e in
+      let (upload, brought, row) = installing_row active session.row loads e in
       record {
         session = session;
         live = refl;
         upload = upload;
         loads = brought;
-        row = ap (λ (id : Identity). row_in accepts id session) (identity_stays active (row_in accepts active.identity session)) ∙ row;
+        row = row;
       }
 
-  began : (active : StandingView) (kind : FileKind) → standing_in active (row_in accepts active.identity (record { first = first_row kind active.sequence; done = [] })) ≡ active
-  began active kind = ap (λ (row : WholeRow). standing_in active row) (row_of_none accepts active.identity (first_row kind active.sequence)) ∙ begins_active active kind active.sequence
-
-  changed_completes : (end : Reading) (live : Option TargetSessionLog) (active : StandingView) (reason : Option Reason) (moves : List Move) (change : target.TargetChange) → FitsChange accepts active.identity end live moves change → QuietAt moves change
-      → (IsReport end.live → IsCompleted accepts (reading end live active reason)) → IsReport (after end moves).live
+  changed_completes : (end : Reading) (live : Option TargetSessionLog) (active : StandingView) (reason : Option Reason) (moves : List Move) (change : target.TargetChange) → FitsChange accepts active end live moves change → QuietAt moves change
+      → (IsReport end.live → IsCompleted (reading end live active reason)) → IsReport (after end moves).live
       → (IsReport end.live × ((after end moves).past ≡ end.past)) ⊎ Installs active (target_reading_changed accepts (after end moves) (reading end live active reason) change)
-      → IsCompleted accepts (target_reading_changed accepts (after end moves) (reading end live active reason) change)
+      → IsCompleted (target_reading_changed accepts (after end moves) (reading end live active reason) change)
   changed_completes end live active reason moves (target.Begins kind) fits quiet before h came = absurd (quiet end h)
   changed_completes end live active reason moves (target.Ends why) fits quiet before h came = absurd (quiet end h)
   changed_completes end live active reason moves (target.Turns_without_port move more) fits quiet before h came = absurd (quiet end h)
@@ -253,12 +248,12 @@ module _ (accepts : HeaderView → Bool) where
   changed_completes end live active reason moves (target.Continues more) fits quiet before h (inr (loads, now)) = next_sequence _ active loads now
   changed_completes end None active reason moves (target.Turns move more) fits quiet before h (inl (was, past)) = absurd (none (before was))
     where
-      none : IsCompleted accepts (reading end None active reason) → ⊥
+      none : IsCompleted (reading end None active reason) → ⊥
       none c = let wrong = c.live in cc
   changed_completes end None active reason moves (target.Turns move more) fits quiet before h (inr (loads, now)) = next_sequence _ active loads now
   changed_completes end (Some s) active reason moves (target.Turns move more) (turn, none, role) quiet before h (inl (was, past)) = longer _ turn.ended end.past (sym turn.past ∙ past)
   changed_completes end (Some s) active reason moves (target.Turns move more) fits quiet before h (inr (loads, now)) =
-      turned_completes (after end moves) active _ (with_done s (newest (after end moves).past)) loads now
+      turned_completes (after end moves) active _ (with_done accepts active s (newest (after end moves).past)) loads now
 
   tells : (r : TargetReading) (e : Event) (role : Role) → TellsInstalled accepts r e role → WritesReport role → InstallsNow accepts r e
   tells r e (Writes name o file) h says = h says
@@ -277,17 +272,17 @@ module _ (accepts : HeaderView → Bool) where
   move_tells r e (Asks_size n) h = tt
 
   -- one event more
-  pub step_completes : SumsJoin → (r : TargetReading) (e : Event) → IsLive r.end.live → (IsReport r.end.live → IsCompleted accepts r) → IsReport (target_extended accepts r e).end.live → IsCompleted accepts (target_extended accepts r e)
+  pub step_completes : SumsJoin → (r : TargetReading) (e : Event) → IsLive r.end.live → (IsReport r.end.live → IsCompleted r) → IsReport (target_extended accepts r e).end.live → IsCompleted (target_extended accepts r e)
   step_completes joins r e going before h =
-      let d = target.target_decision accepts (target_view accepts r) e in
+      let d = target.target_decision accepts (target_view r) e in
       let live : IsReport (after r.end d.moves).live = subst (λ (end : Reading). IsReport end.live) (ended d.moves d.change) h in
       let begins = all_mapped (MoveHasRole (TellsInstalled accepts r e)) (MoveHasRole (λ (role : Role). WritesReport role → InstallsNow accepts r e)) (move_tells r e) d.moves (target_tells_installed joins accepts r e going) in
-      changed_completes r.end r.live r.active r.reason d.moves d.change (decision_fits joins accepts r e going) (target_is_quiet accepts (target_view accepts r) e) before live (now (moves_were (InstallsNow accepts r e) r.end d.moves begins live))
+      changed_completes r.end r.live r.active r.reason d.moves d.change (decision_fits joins accepts r e going) (target_is_quiet accepts (target_view r) e) before live (now (moves_were (InstallsNow accepts r e) r.end d.moves begins live))
     where
       ended : (moves : List Move) (change : target.TargetChange) → (target_reading_changed accepts (after r.end moves) r change).end ≡ after r.end moves
       ended moves change = end_stays accepts (after r.end moves) r change
 
-      now : (IsReport r.end.live × ((after r.end (target.target_decision accepts (target_view accepts r) e).moves).past ≡ r.end.past)) ⊎ InstallsNow accepts r e
-          → (IsReport r.end.live × ((after r.end (target.target_decision accepts (target_view accepts r) e).moves).past ≡ r.end.past)) ⊎ Installs r.active (target_extended accepts r e)
+      now : (IsReport r.end.live × ((after r.end (target.target_decision accepts (target_view r) e).moves).past ≡ r.end.past)) ⊎ InstallsNow accepts r e
+          → (IsReport r.end.live × ((after r.end (target.target_decision accepts (target_view r) e).moves).past ≡ r.end.past)) ⊎ Installs r.active (target_extended accepts r e)
       now (inl was) = inl was
       now (inr h) = inr (h.loads, h.next)

@@ -4,8 +4,6 @@ use Rattle.std.specs.Prelude.{◌==◌}
 use Rattle.std.specs.List.{AllZip}
 use Rattle.std.proofs.lemmas.Bool.{eqb-true}
 use Rattle.load_base.specs.Config.{LoadView}
-use Rattle.load_header.specs.Header.{HeaderView}
-use Rattle.disk_layout.specs.declared.identity.Identity.{Identity}
 use Rattle.disk_layout.specs.Holds.{StandingView}
 use Rattle.exchange_trace.specs.declared.trace.Side.TheVariants as sides
 use Rattle.exchange_trace.specs.Happenings.{DatagramView, HappeningView}
@@ -14,6 +12,7 @@ use Rattle.exchange_trace.specs.Posts.{posted_in}
 use Rattle.exchange_trace.specs.Steps.{Boot_refused, Came_up, Note, Step, Went_down}
 use Rattle.transfer_end.specs.Readings.{Reading}
 use Rattle.transfer_end.specs.Transfers.{Transfer}
+use Rattle.accept_rules.specs.Permissions.{Accepts}
 use Rattle.session_rules.specs.declared.reason.Reason.{Reason}
 use Rattle.session_rules.specs.BufferLaws.{SumsJoin}
 use Rattle.session_rules.specs.LoaderLog.{newest}
@@ -21,8 +20,8 @@ use Rattle.session_rules.specs.NewConfigs.{IsWanted}
 use Rattle.session_rules.specs.ReadFileLaws.{session_is}
 use Rattle.session_rules.specs.SoundLogs.{IsNewAt, StaysOrIsNew}
 use Rattle.session_rules.specs.Target as target
-use Rattle.session_rules.specs.TargetLaws.{after, identity_stays, row_of_none}
-use Rattle.session_rules.specs.TargetLog.{TargetReading, TargetSessionLog, row_in, standing_after, standing_in, target_extended, target_reading_changed, target_view, with_done}
+use Rattle.session_rules.specs.TargetLaws.{after}
+use Rattle.session_rules.specs.TargetLog.{TargetReading, TargetSessionLog, new_session, standing_after, standing_in, target_extended, target_reading_changed, target_view, with_done}
 use Rattle.session_rules.specs.TargetRows.{Gives_denial, Gives_lui, UploadEnd, WholeRow, Writes_completion, first_row}
 use Rattle.session_rules.specs.declared.outcome.FileKind.{FileKind}
 use Rattle.session_rules.specs.declared.outcome.FileKind.TheVariants as kinds
@@ -62,16 +61,16 @@ one_noted (Came_up first_port sequence) notes before after =
 one_noted (Boot_refused fault) notes before after = noted_none notes (gone_down before after) (gone_down before after) (gone_none before after)
 
 -- the target is up, and its session is in the row in which it reports that all is installed
-abbrev CompletedAt : Setting → TargetState → Type 0
-CompletedAt set (Is_up r) = IsCompleted set.accepts r
-CompletedAt set (Is_down active interrupted) = ⊥
+abbrev CompletedAt : TargetState → Type 0
+CompletedAt (Is_up r) = IsCompleted r
+CompletedAt (Is_down active interrupted) = ⊥
 
-no_session : (accepts : HeaderView → Bool) (r : TargetReading) → r.live ≡ None → IsCompleted accepts r → ⊥
-no_session accepts r none c = let wrong : None ≡ Some c.session = sym none ∙ c.live in cc
+no_session : (r : TargetReading) → r.live ≡ None → IsCompleted r → ⊥
+no_session r none c = let wrong : None ≡ Some c.session = sym none ∙ c.live in cc
 
-none_completed : (set : Setting) (state : TargetState) → HasNone state → CompletedAt set state → ⊥
-none_completed set (Is_up r) (none, free) c = no_session set.accepts r none c
-none_completed set (Is_down active interrupted) none c = c
+none_completed : (state : TargetState) → HasNone state → CompletedAt state → ⊥
+none_completed (Is_up r) (none, free) c = no_session r none c
+none_completed (Is_down active interrupted) none c = c
 
 none_reports : (state : TargetState) → HasNone state → ReportsCompletion state → ⊥
 none_reports (Is_up r) (none, free) h = subst IsReport free h
@@ -80,17 +79,17 @@ none_reports (Is_down active interrupted) none h = h
 -- ---- a report is written in the row of the report
 
 module _ (joins : SumsJoin) (set : Setting) where
-  reached_completes : (state : TargetState) (e : Option Event) → HasLive state → (ReportsCompletion state → CompletedAt set state) → ReportsCompletion (reached set e state) → CompletedAt set (reached set e state)
+  reached_completes : (state : TargetState) (e : Option Event) → HasLive state → (ReportsCompletion state → CompletedAt state) → ReportsCompletion (reached set e state) → CompletedAt (reached set e state)
   reached_completes (Is_up r) None going before h = before h
   reached_completes (Is_up r) (Some e) going before h = step_completes set.accepts joins r e going before h
   reached_completes (Is_down active interrupted) None going before h = before h
   reached_completes (Is_down active interrupted) (Some e) going before h = before h
 
-  noted_completes : (notes : List Note) (before after : TargetState) → (ReportsCompletion after → CompletedAt set after) → ReportsCompletion (noted notes before after) → CompletedAt set (noted notes before after)
+  noted_completes : (notes : List Note) (before after : TargetState) → (ReportsCompletion after → CompletedAt after) → ReportsCompletion (noted notes before after) → CompletedAt (noted notes before after)
   noted_completes [] before after completes h = completes h
   noted_completes (note ∷ notes) before after completes h = absurd (none_reports (noted (note ∷ notes) before after) (one_noted note notes before after) h)
 
-  reports_completed : (steps : List Step) → ReportsCompletion (target_at set steps) → CompletedAt set (target_at set steps)
+  reports_completed : (steps : List Step) → ReportsCompletion (target_at set steps) → CompletedAt (target_at set steps)
   reports_completed [] h = absurd h
   reports_completed (s ∷ earlier) h =
       noted_completes s.notes (target_at set earlier) (reached set (event_for sides.Target (posted_in earlier) s.given) (target_at set earlier))
@@ -118,31 +117,28 @@ brings_next : (before after : StandingView) (loads : List LoadView) → after �
 brings_next before after loads is =
     ap (λ (b : Bool). cond b None (Some after)) (ap (λ (x : StandingView). before.sequence == x.sequence) is ∙ one_more before.sequence (before.sequence == before.sequence + 1) refl)
 
-abbrev new_session : FileKind → ℕ → TargetSessionLog
-new_session kind sequence = record { first = first_row kind sequence; done = [] }
-
-not_begun : (accepts : HeaderView → Bool) (later : TargetReading) (kind : FileKind) (sequence : ℕ) → IsCompleted accepts later → later.live ≡ Some (new_session kind sequence) → ⊥
-not_begun accepts later kind sequence c live =
+not_begun : (later : TargetReading) (kind : FileKind) (sequence : ℕ) → IsCompleted later → later.live ≡ Some (new_session kind sequence) → ⊥
+not_begun later kind sequence c live =
     let is : new_session kind sequence ≡ c.session = session_is (new_session kind sequence) c.session (sym live ∙ c.live) in
-    no_first_row kind sequence c.upload c.loads (sym (row_of_none accepts later.active.identity (first_row kind sequence)) ∙ (ap (λ (s : TargetSessionLog). row_in accepts later.active.identity s) is ∙ c.row))
+    no_first_row kind sequence c.upload c.loads (ap (λ (s : TargetSessionLog). s.row) is ∙ c.row)
 
 -- how a session comes to that row, or stays in it
-data Completing (accepts : HeaderView → Bool) (before later : TargetReading) : Type 0 where
+data Completing (accepts : Accepts) (before later : TargetReading) : Type 0 where
   stays : later.live ≡ before.live → later.active ≡ before.active → Completing accepts before later
-  turns : (s : TargetSessionLog) → before.live ≡ Some s → later.live ≡ Some (with_done s (newest later.end.past))
-      → later.active ≡ standing_in before.active (row_in accepts before.active.identity (with_done s (newest later.end.past))) → Completing accepts before later
+  turns : (s : TargetSessionLog) → before.live ≡ Some s → later.live ≡ Some (with_done accepts before.active s (newest later.end.past))
+      → later.active ≡ standing_in before.active (with_done accepts before.active s (newest later.end.past)).row → Completing accepts before later
 
-completing : (accepts : HeaderView → Bool) (end then : Reading) (live : Option TargetSessionLog) (active : StandingView) (reason : Option Reason) (change : target.TargetChange)
-    → IsCompleted accepts (target_reading_changed accepts then (reading end live active reason) change)
+completing : (accepts : Accepts) (end then : Reading) (live : Option TargetSessionLog) (active : StandingView) (reason : Option Reason) (change : target.TargetChange)
+    → IsCompleted (target_reading_changed accepts then (reading end live active reason) change)
     → Completing accepts (reading end live active reason) (target_reading_changed accepts then (reading end live active reason) change)
 completing accepts end then live active reason (target.Continues more) c = stays refl refl
 completing accepts end then live active reason (target.Begins kind) c =
-    absurd (not_begun accepts (target_reading_changed accepts then (reading end live active reason) (target.Begins kind)) kind active.sequence c refl)
-completing accepts end then None active reason (target.Turns move more) c = absurd (no_session accepts _ refl c)
+    absurd (not_begun (target_reading_changed accepts then (reading end live active reason) (target.Begins kind)) kind active.sequence c refl)
+completing accepts end then None active reason (target.Turns move more) c = absurd (no_session _ refl c)
 completing accepts end then (Some s) active reason (target.Turns move more) c = turns s refl refl refl
-completing accepts end then None active reason (target.Turns_without_port move more) c = absurd (no_session accepts _ refl c)
-completing accepts end then (Some s) active reason (target.Turns_without_port move more) c = absurd (no_session accepts _ refl c)
-completing accepts end then live active reason (target.Ends why) c = absurd (no_session accepts _ refl c)
+completing accepts end then None active reason (target.Turns_without_port move more) c = absurd (no_session _ refl c)
+completing accepts end then (Some s) active reason (target.Turns_without_port move more) c = absurd (no_session _ refl c)
+completing accepts end then live active reason (target.Ends why) c = absurd (no_session _ refl c)
 
 module _ (set : Setting) (given : HappeningView) (posts : List DatagramView) (earlier : List Step) where
   abbrev quiet_step : Step
@@ -178,11 +174,11 @@ module _ (set : Setting) (given : HappeningView) (posts : List DatagramView) (ea
     state_is = ap (λ (state : TargetState). reached set (event_for sides.Target (posted_in earlier) given) state) up ∙ ap (λ (x : Option Event). reached set x (Is_up r)) comes
 
     -- the step installs
-    installs_now : (s : TargetSessionLog) → r.live ≡ Some s → later.live ≡ Some (with_done s (newest later.end.past)) → later.active.identity ≡ r.active.identity → IsNewAt set.accepts r later → ReportIsTrue set then
-    installs_now s was live same new =
-        let session : TargetSessionLog = with_done s (newest later.end.past) in
-        let sessions : with_done new.session (new.ended ∷ []) ≡ session =
-        ap (λ (x : TargetSessionLog). with_done x (new.ended ∷ [])) (session_is new.session s (sym new.live ∙ was)) ∙ ap (λ (ts : List Transfer). with_done s ts) (sym new.is_newest) in
+    installs_now : (s : TargetSessionLog) → r.live ≡ Some s → later.live ≡ Some (with_done set.accepts r.active s (newest later.end.past)) → IsNewAt set.accepts r later → ReportIsTrue set then
+    installs_now s was live new =
+        let session : TargetSessionLog = with_done set.accepts r.active s (newest later.end.past) in
+        let sessions : with_done set.accepts r.active new.session (new.ended ∷ []) ≡ session =
+        ap (λ (x : TargetSessionLog). with_done set.accepts r.active x (new.ended ∷ [])) (session_is new.session s (sym new.live ∙ was)) ∙ ap (λ (ts : List Transfer). with_done set.accepts r.active s ts) (sym new.is_newest) in
         let loads : new.loads ≡ later.active.loads = ap (λ (x : StandingView). x.loads) (sym new.next) in
         record {
           since = [];
@@ -197,30 +193,28 @@ module _ (set : Setting) (given : HappeningView) (posts : List DatagramView) (ea
           stays_up = (refl, tt);
           installed = subst (λ (state : TargetState). HasSession state session) (sym state_is) live;
           reports = subst (λ (state : TargetState). HasSession state session) (sym state_is) live;
-          completes = ap (λ (id : Identity). row_in set.accepts id session) same ∙ (sym (ap (λ (x : TargetSessionLog). row_in set.accepts r.active.identity x) sessions) ∙ (new.good
-              ∙ ap (λ (x : List LoadView). Writes_completion new.upload x) loads));
+          completes = sym (ap (λ (x : TargetSessionLog). x.row) sessions) ∙ (new.good ∙ ap (λ (x : List LoadView). Writes_completion new.upload x) loads);
           asked = subst (λ (x : List LoadView). AllZip IsWanted new.upload.request x) loads new.new.each;
           only = ap may_be_active state_is;
         }
 
     -- what is active changes where the session comes to the row of the report
-    not_same : (s : TargetSessionLog) → IsCompleted set.accepts later → later.live ≡ Some s → later.active.identity ≡ r.active.identity → later.active ≡ r.active → later.active ≡ standing_in r.active (row_in set.accepts r.active.identity s) → ⊥
-    not_same s c live same was is =
-        let row : row_in set.accepts r.active.identity s ≡ Writes_completion c.upload c.loads =
-        ap (λ (id : Identity). row_in set.accepts id s) (sym same) ∙ (ap (λ (x : TargetSessionLog). row_in set.accepts later.active.identity x) (session_is s c.session (sym live ∙ c.live)) ∙ c.row) in
+    not_same : (s : TargetSessionLog) → IsCompleted later → later.live ≡ Some s → later.active ≡ r.active → later.active ≡ standing_in r.active s.row → ⊥
+    not_same s c live was is =
+        let row : s.row ≡ Writes_completion c.upload c.loads = ap (λ (x : TargetSessionLog). x.row) (session_is s c.session (sym live ∙ c.live)) ∙ c.row in
         next_sequence ⊥ r.active c.loads (sym was ∙ (is ∙ ap (λ (x : WholeRow). standing_in r.active x) row))
 
-    completed_now : (IsCompleted set.accepts r → ReportIsTrue set earlier) → StaysOrIsNew set.accepts r later → IsCompleted set.accepts later → Completing set.accepts r later → ReportIsTrue set then
+    completed_now : (IsCompleted r → ReportIsTrue set earlier) → StaysOrIsNew set.accepts r later → IsCompleted later → Completing set.accepts r later → ReportIsTrue set then
     completed_now before change c (stays live active) =
         still_true r later up state_is live active
-        (before (record { session = c.session; live = sym live ∙ c.live; upload = c.upload; loads = c.loads; row = ap (λ (s : StandingView). row_in set.accepts s.identity c.session) (sym active) ∙ c.row }))
+        (before (record { session = c.session; live = sym live ∙ c.live; upload = c.upload; loads = c.loads; row = c.row }))
     completed_now before (inl same) c (turns s was live is) =
-        absurd (not_same (with_done s (newest later.end.past)) c live (ap (λ (x : StandingView). x.identity) is ∙ identity_stays r.active _) same is)
-    completed_now before (inr new) c (turns s was live is) = installs_now s was live (ap (λ (x : StandingView). x.identity) is ∙ identity_stays r.active _) new
+        absurd (not_same (with_done set.accepts r.active s (newest later.end.past)) c live same is)
+    completed_now before (inr new) c (turns s was live is) = installs_now s was live new
 
 module _ (set : Setting) where
   abbrev TrueWhereCompleted : List Step → TargetState → Type 0
-  TrueWhereCompleted steps state = CompletedAt set state → ReportIsTrue set steps
+  TrueWhereCompleted steps state = CompletedAt state → ReportIsTrue set steps
 
   reached_true : (given : HappeningView) (posts : List DatagramView) (earlier : List Step) (state : TargetState) (e : Option Event) → target_at set earlier ≡ state → event_for sides.Target (posted_in earlier) given ≡ e → TrueWhereCompleted earlier state
       → TargetStaysOrIsNew set state (reached set e state) → TrueWhereCompleted (record { given = given; posts = posts; notes = [] } ∷ earlier) (reached set e state)
@@ -229,7 +223,7 @@ module _ (set : Setting) where
       ap (λ (state : TargetState). reached set (event_for sides.Target (posted_in earlier) given) state) up ∙ ap (λ (x : Option Event). reached set x (Is_up r)) comes in
       still_true set given posts earlier r r up is refl refl (before c)
   reached_true given posts earlier (Is_up r) (Some e) up comes before change c =
-      let d = target.target_decision set.accepts (target_view set.accepts r) e in
+      let d = target.target_decision set.accepts (target_view r) e in
       completed_now set given posts earlier r e up comes before change c (completing set.accepts r.end (after r.end d.moves) r.live r.active r.reason d.change c)
   reached_true given posts earlier (Is_down active interrupted) None up comes before change c = absurd c
   reached_true given posts earlier (Is_down active interrupted) (Some e) up comes before change c = absurd c
@@ -237,10 +231,10 @@ module _ (set : Setting) where
   step_true : (given : HappeningView) (posts : List DatagramView) (notes : List Note) (earlier : List Step) → TrueWhereCompleted earlier (target_at set earlier) → AllStayOrAreNew set (record { given = given; posts = posts; notes = notes } ∷ earlier)
       → TrueWhereCompleted (record { given = given; posts = posts; notes = notes } ∷ earlier) (target_at set (record { given = given; posts = posts; notes = notes } ∷ earlier))
   step_true given posts [] earlier before change c = reached_true given posts earlier (target_at set earlier) (event_for sides.Target (posted_in earlier) given) refl refl before change.0 c
-  step_true given posts (note ∷ notes) earlier before change c = absurd (none_completed set _ (one_noted note notes (target_at set earlier) (reached set (event_for sides.Target (posted_in earlier) given) (target_at set earlier))) c)
+  step_true given posts (note ∷ notes) earlier before change c = absurd (none_completed _ (one_noted note notes (target_at set earlier) (reached set (event_for sides.Target (posted_in earlier) given) (target_at set earlier))) c)
 
   completed_true : (steps : List Step) → AllStayOrAreNew set steps → TrueWhereCompleted steps (target_at set steps)
-  completed_true [] change c = absurd (no_session set.accepts _ refl c)
+  completed_true [] change c = absurd (no_session _ refl c)
   completed_true (s ∷ earlier) change c = step_true s.given s.posts s.notes earlier (completed_true earlier change.1) change c
 
   all_true : SumsJoin → (steps : List Step) → AllStayOrAreNew set steps → AllReportsAreTrue set steps

@@ -1,14 +1,13 @@
 -- What a target reports as installed (docs/EXCHANGE.md, "Upload"; docs/POWER.md).
-use Rattle.std.specs.Prelude.{◌≡◌, List, [], ◌∷◌, ◌++◌, true, Option, Some, None, ⊤}
+use Rattle.std.specs.Prelude.{◌≡◌, List, [], ◌∷◌, ◌++◌, Option, Some, None, ⊤}
 use Rattle.std.specs.List.{AllByRecursion, AllZip}
-use Rattle.load_header.specs.Header.{HeaderView}
 use Rattle.disk_layout.specs.Holds.{StandingView}
 use Rattle.exchange_trace.specs.Steps.{Step}
-use Rattle.accept_rules.specs.Permissions.{Permits}
+use Rattle.accept_rules.specs.Permissions.{AcceptsPermitted}
 use Rattle.transfer_end.specs.Transfers.{Role, Transfer, Writes}
 use Rattle.session_rules.specs.Completions.{SaysCompleted}
 use Rattle.session_rules.specs.NewConfigs.{IsWanted}
-use Rattle.session_rules.specs.TargetLog.{TargetSessionLog, row_in}
+use Rattle.session_rules.specs.TargetLog.{TargetSessionLog}
 use Rattle.session_rules.specs.TargetRows.{UploadEnd, Writes_completion}
 use Rattle.replay_rules.specs.BothEnds.{Is_down, Is_up, Setting, TargetState, target_at}
 use Rattle.replay_rules.specs.Changes.{AllCarryBytes}
@@ -52,7 +51,7 @@ pub record ReportIsTrue (set : Setting) (steps : List Step) : Type 0 where
   pub stays_up : AllByRecursion (λ (s : Step). s.notes ≡ []) (since ++ install ∷ [])
   pub installed : HasSession (target_at set (install ∷ before)) session
   pub reports : HasSession (target_at set steps) session
-  pub completes : row_in set.accepts new.identity session ≡ Writes_completion upload new.loads
+  pub completes : session.row ≡ Writes_completion upload new.loads
   pub asked : AllZip IsWanted upload.request new.loads
   pub only : may_be_active (target_at set steps) ≡ new ∷ []
 
@@ -64,4 +63,4 @@ AllReportsAreTrue set (s ∷ earlier) = (ReportsCompletion (target_at set (s ∷
 -- Whatever is delivered, lost, repeated, reordered, delayed or injected in a run, and wherever power fails, under each
 -- interlock that accepts only what may be.
 abbrev pub ReportsAreTrue : Type 0
-ReportsAreTrue = (set : Setting) (steps : List Step) → ((h : HeaderView) → set.accepts h ≡ true → Permits h) → AllCarryBytes steps → AllReportsAreTrue set steps
+ReportsAreTrue = (set : Setting) (steps : List Step) → AcceptsPermitted set.accepts → AllCarryBytes steps → AllReportsAreTrue set steps

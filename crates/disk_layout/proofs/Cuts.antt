@@ -1,5 +1,5 @@
 -- The files of a configuration, cut out of the bytes of all of them.
-use Rattle.std.proofs.Common.{◌≡◌, ℕ, ◌+◌, ◌≤◌, List, [], ◌∷◌, ◌++◌, length, take, drop, map, refl, sym, ap, ap₂, ◌∙◌, arith, append_assoc, length-append, length-take, length-drop}
+use Rattle.std.proofs.Common.{◌≡◌, ℕ, ◌+◌, ◌≤◌, Option, List, [], ◌∷◌, ◌++◌, length, take, drop, map, refl, sym, ap, ap₂, ◌∙◌, arith, append_assoc, length-append, length-take, length-drop}
 use Rattle.std.specs.List.{flat_map}
 use Rattle.std.proofs.Math.Seq.{take-add, take-length}
 use Rattle.std.proofs.lemmas.List.{take_at, drop_at}
@@ -20,7 +20,7 @@ cut_files (f ∷ fs) bytes = record { name = f.name; bytes = take f.length bytes
 -- ---- loads
 
 abbrev cut_load : LoadEntry → List ℕ → LoadView
-cut_load load bytes = record { part = load.part; header_name = first_name (cut_files load.files bytes); files = cut_files load.files bytes }
+cut_load load bytes = record { part = load.part; type_id = load.type_id; header_name = first_name (cut_files load.files bytes); files = cut_files load.files bytes }
 
 abbrev pub cut : List LoadEntry → List ℕ → List LoadView
 cut [] bytes = []
@@ -66,10 +66,10 @@ cut_files_bytes (f ∷ fs) bytes enough =
     ∙ ap (λ (l : List ℕ). take f.length bytes ++ l) rest ∙ sym (ap (λ (n : ℕ). take n bytes) both ∙ take-add f.length (entries_length fs) bytes)
 
 entry_of_cut : (l : LoadEntry) (bytes : List ℕ) → entries_length l.files ≤ length bytes → entry_of (cut_load l bytes) ≡ l
-entry_of_cut l bytes enough = ap (λ (fs : List ManifestFile). make l.part fs) (cut_files_entries l.files bytes enough)
+entry_of_cut l bytes enough = ap (λ (fs : List ManifestFile). make l.part l.type_id fs) (cut_files_entries l.files bytes enough)
   where
-    make : List ℕ → List ManifestFile → LoadEntry
-    make part files = record { part = part; files = files }
+    make : List ℕ → Option ℕ → List ManifestFile → LoadEntry
+    make part type_id files = record { part = part; type_id = type_id; files = files }
 
 pub cut_entries : (ls : List LoadEntry) (bytes : List ℕ) → total_length ls ≤ length bytes → entries_of (cut ls bytes) ≡ ls
 cut_entries [] bytes enough = refl
@@ -125,10 +125,10 @@ files_again (f ∷ fs) rest =
 load_again : (l : LoadView) (rest : List ℕ) → HeaderIsFirst l → cut_load (entry_of l) (bytes_of l.files ++ rest) ≡ l
 load_again l rest header =
     let files = files_again l.files rest in
-    ap₂ (λ (h : List ℕ) (fs : List FileView). make l.part h fs) (ap (λ (fs : List FileView). first_name fs) files ∙ sym header) files
+    ap₂ (λ (h : List ℕ) (fs : List FileView). make l.part l.type_id h fs) (ap (λ (fs : List FileView). first_name fs) files ∙ sym header) files
   where
-    make : List ℕ → List ℕ → List FileView → LoadView
-    make part header files = record { part = part; header_name = header; files = files }
+    make : List ℕ → Option ℕ → List ℕ → List FileView → LoadView
+    make part type_id header files = record { part = part; type_id = type_id; header_name = header; files = files }
 
 pub again : (loads : List LoadView) → HeadersAreFirst loads → cut (entries_of loads) (contents_of_loads loads) ≡ loads
 again [] headers = refl

@@ -5,7 +5,8 @@ use Rattle.field_grammar.specs.Cursor.{Cursor, start}
 use Rattle.field_grammar.specs.Grammar.{Grammar, read, times, ended, ◌then◌}
 use Rattle.field_grammar.specs.Answers.{answer, Decodes}
 use Rattle.field_grammar.specs.StepLaws.{then_ok}
-use Rattle.disk_layout.specs.Manifest.{LoadEntry, load_count, load_entry, loads_from, manifest, with_these}
+use Rattle.disk_layout.specs.Manifest.{Head, LoadEntry, manifest_head, load_entry, loads_from, manifest, with_these}
+use Rattle.disk_layout.specs.declared.manifest.Layout.{Layout}
 use Rattle.disk_layout.specs.declared.manifest.ManifestFault.{ManifestFault}
 use Rattle.disk_layout.specs.declared.manifest.ManifestFault.TheVariants.{Wrong, Memory}
 
@@ -19,15 +20,15 @@ instead r s fault then_so (inr is) = inr (then_so is)
 
 -- ---- the count
 
-pub begun : (bytes : List ℕ) (count : ℕ) (c d : Cursor) → c ≡ start bytes → read load_count c ≡ Ok (count, d) → loads_from count d ≡ answer manifest bytes
+pub begun : (bytes : List ℕ) (head : Head) (c d : Cursor) → c ≡ start bytes → read manifest_head c ≡ Ok (head, d) → loads_from head.layout head.loads d ≡ answer manifest bytes
 unfolding manifest
-begun bytes count c d at here = let first : read load_count (start bytes) ≡ Ok (count, d) = rw (← at) here in rw first refl
+begun bytes head c d at here = let first : read manifest_head (start bytes) ≡ Ok (head, d) = rw (← at) here in rw first refl
 
-not_begun : (bytes : List ℕ) (fault : ManifestFault) → read load_count (start bytes) ≡ Err fault → answer manifest bytes ≡ Err fault
+not_begun : (bytes : List ℕ) (fault : ManifestFault) → read manifest_head (start bytes) ≡ Err fault → answer manifest bytes ≡ Err fault
 unfolding manifest
 not_begun bytes fault here = rw here refl
 
-pub begin_refused : (bytes : List ℕ) (c : Cursor) (fault : ManifestFault) → c ≡ start bytes → ¬ (fault ≡ Memory) → Refused (read load_count c) fault → answer manifest bytes ≡ Err fault
+pub begin_refused : (bytes : List ℕ) (c : Cursor) (fault : ManifestFault) → c ≡ start bytes → ¬ (fault ≡ Memory) → Refused (read manifest_head c) fault → answer manifest bytes ≡ Err fault
 begin_refused bytes c fault at other (inl wants) = absurd (other wants)
 begin_refused bytes c fault at other (inr is) = not_begun bytes fault (rw (← at) is)
 
@@ -54,41 +55,41 @@ put_first : (r : Result (List LoadEntry × Cursor) ManifestFault) (x : LoadEntry
 put_first (Ok y) x = ends (read (ended Wrong) y.1) x y.0
 put_first (Err f) x = refl
 
-one_load : (n : ℕ) (c d : Cursor) (x : LoadEntry) → read load_entry c ≡ Ok (x, d) → loads_from (suc n) c ≡ with_these (x ∷ []) (loads_from n d)
+one_load : (layout : Layout) (n : ℕ) (c d : Cursor) (x : LoadEntry) → read (load_entry layout) c ≡ Ok (x, d) → loads_from layout (suc n) c ≡ with_these (x ∷ []) (loads_from layout n d)
 unfolding times
-one_load n c d x here = rw here (put_first (read (times n load_entry) d) x)
+one_load layout n c d x here = rw here (put_first (read (times n (load_entry layout)) d) x)
 
-no_load : (n : ℕ) (c : Cursor) (fault : ManifestFault) → read load_entry c ≡ Err fault → loads_from (suc n) c ≡ Err fault
+no_load : (layout : Layout) (n : ℕ) (c : Cursor) (fault : ManifestFault) → read (load_entry layout) c ≡ Err fault → loads_from layout (suc n) c ≡ Err fault
 unfolding times
-no_load n c fault here = rw here refl
+no_load layout n c fault here = rw here refl
 
-pub first_is : (n m : ℕ) (c d : Cursor) (x : LoadEntry) → n ≡ suc m → read load_entry c ≡ Ok (x, d) → loads_from n c ≡ with_these (x ∷ []) (loads_from m d)
-first_is n m c d x more here = rw more (one_load m c d x here)
+pub first_is : (layout : Layout) (n m : ℕ) (c d : Cursor) (x : LoadEntry) → n ≡ suc m → read (load_entry layout) c ≡ Ok (x, d) → loads_from layout n c ≡ with_these (x ∷ []) (loads_from layout m d)
+first_is layout n m c d x more here = rw more (one_load layout m c d x here)
 
-pub load_refused : (n m : ℕ) (c : Cursor) (fault : ManifestFault) → n ≡ suc m → Refused (read load_entry c) fault → Refused (loads_from n c) fault
-load_refused n m c fault more refused = instead (read load_entry c) (loads_from n c) fault (λ is. rw more (no_load m c fault is)) refused
+pub load_refused : (layout : Layout) (n m : ℕ) (c : Cursor) (fault : ManifestFault) → n ≡ suc m → Refused (read (load_entry layout) c) fault → Refused (loads_from layout n c) fault
+load_refused layout n m c fault more refused = instead (read (load_entry layout) c) (loads_from layout n c) fault (λ is. rw more (no_load layout m c fault is)) refused
 
 -- ---- the end
 
-at_end : (c d : Cursor) (u : Unit {0}) → read (ended Wrong) c ≡ Ok (u, d) → loads_from 0 c ≡ Ok []
+at_end : (layout : Layout) (c d : Cursor) (u : Unit {0}) → read (ended Wrong) c ≡ Ok (u, d) → loads_from layout 0 c ≡ Ok []
 unfolding times
-at_end c d u here = rw here refl
+at_end layout c d u here = rw here refl
 
-not_at_end : (c : Cursor) (fault : ManifestFault) → read (ended Wrong) c ≡ Err fault → loads_from 0 c ≡ Err fault
+not_at_end : (layout : Layout) (c : Cursor) (fault : ManifestFault) → read (ended Wrong) c ≡ Err fault → loads_from layout 0 c ≡ Err fault
 unfolding times
-not_at_end c fault here = rw here refl
+not_at_end layout c fault here = rw here refl
 
 abbrev Ends : Cursor → Result (Unit {0}) ManifestFault → Cursor → Type 0
 Ends c result d = Decodes Memory (λ (u : Unit {0}). u) (ended Wrong) c result d
 
-pub end_is : (n : ℕ) (c d : Cursor) (result : Result (Unit {0}) ManifestFault) → n ≡ 0 → Ends c result d → OnOk result (loads_from n c ≡ Ok [])
-end_is n c d (Ok u) none here = rw none (at_end c d u here)
-end_is n c d (Err fault) none here = tt
+pub end_is : (layout : Layout) (n : ℕ) (c d : Cursor) (result : Result (Unit {0}) ManifestFault) → n ≡ 0 → Ends c result d → OnOk result (loads_from layout n c ≡ Ok [])
+end_is layout n c d (Ok u) none here = rw none (at_end layout c d u here)
+end_is layout n c d (Err fault) none here = tt
 
-pub end_refused : (n : ℕ) (c d : Cursor) (result : Result (Unit {0}) ManifestFault) → n ≡ 0 → Ends c result d → ¬ IsErrOf result Memory → IfErr result (λ fault. loads_from n c ≡ Err fault)
-end_refused n c d (Ok u) none here other = tt
-end_refused n c d (Err fault) none (inl wants) other = absurd (other (ap (λ (f : ManifestFault). Err f) wants))
-end_refused n c d (Err fault) none (inr is) other = rw none (not_at_end c fault is)
+pub end_refused : (layout : Layout) (n : ℕ) (c d : Cursor) (result : Result (Unit {0}) ManifestFault) → n ≡ 0 → Ends c result d → ¬ IsErrOf result Memory → IfErr result (λ fault. loads_from layout n c ≡ Err fault)
+end_refused layout n c d (Ok u) none here other = tt
+end_refused layout n c d (Err fault) none (inl wants) other = absurd (other (ap (λ (f : ManifestFault). Err f) wants))
+end_refused layout n c d (Err fault) none (inr is) other = rw none (not_at_end layout c fault is)
 
 -- ---- how many
 
@@ -107,10 +108,10 @@ as_many {A} g (suc n) c x e =
     let (ys, more, is) = then_ok (read (times n g) y.1) (λ (ys : List A × Cursor). Ok (y.0 ∷ ys.0, ys.1)) x others in
     ap length (same_first x (y.0 ∷ ys.0, ys.1) (Ok (y.0 ∷ ys.0, ys.1)) is refl) ∙ ap suc (as_many g n y.1 ys more)
 
-pub counted : (n : ℕ) (c : Cursor) (loads : List LoadEntry) → loads_from n c ≡ Ok loads → length loads ≡ n
-counted n c loads e =
-    let (x, all, is) = then_ok (then_end (read (times n load_entry) c)) (λ (z : List LoadEntry × Cursor). Ok z.0) loads e in
-    let (y, some, rest) = then_ok (read (times n load_entry) c) (λ (y : List LoadEntry × Cursor). ended_with y.0 (read (ended Wrong) y.1)) x all in
+pub counted : (layout : Layout) (n : ℕ) (c : Cursor) (loads : List LoadEntry) → loads_from layout n c ≡ Ok loads → length loads ≡ n
+counted layout n c loads e =
+    let (x, all, is) = then_ok (then_end (read (times n (load_entry layout)) c)) (λ (z : List LoadEntry × Cursor). Ok z.0) loads e in
+    let (y, some, rest) = then_ok (read (times n (load_entry layout)) c) (λ (y : List LoadEntry × Cursor). ended_with y.0 (read (ended Wrong) y.1)) x all in
     let (u, end, whole) = then_ok (read (ended Wrong) y.1) (λ (u : Unit {0} × Cursor). Ok (y.0, u.1)) x rest in
     let last : loads ≡ x.0 = cc in
-    ap length (last ∙ same_first x (y.0, u.1) (Ok (y.0, u.1)) whole refl) ∙ as_many load_entry n c y some
+    ap length (last ∙ same_first x (y.0, u.1) (Ok (y.0, u.1)) whole refl) ∙ as_many (load_entry layout) n c y some

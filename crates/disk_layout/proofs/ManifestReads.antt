@@ -3,7 +3,7 @@ use Rattle.std.proofs.Common.{◌≡◌, ℕ, ◌≤◌, List, length, Result, O
 use Rattle.std.specs.Prelude.{IfErr}
 use Rattle.field_grammar.specs.Grammar.{IsBytes, Spelled}
 use Rattle.field_grammar.specs.Answers.{answer, Gives}
-use Rattle.disk_layout.specs.Manifest.{ManifestFits, manifest, manifest_view}
+use Rattle.disk_layout.specs.Manifest.{FitsALayout, manifest, manifest_view}
 use Rattle.disk_layout.specs.ManifestLaws.{manifest_found, manifest_faulty, fault_has_offset}
 use Rattle.disk_layout.specs.ManifestSpelling.{manifest_spelling}
 use Rattle.disk_layout.specs.declared.manifest.Manifest.{Manifest}
@@ -19,8 +19,8 @@ pub is_spelled : (bytes : List ℕ) (result : Result Manifest ManifestFault) →
 is_spelled bytes (Ok m) fit gives = manifest_found bytes (manifest_view m) fit gives
 is_spelled bytes (Err fault) fit gives = tt
 
-pub is_fitting : (bytes : List ℕ) (result : Result Manifest ManifestFault) → IsBytes bytes → GivesManifest bytes result → IfOk result (λ m. ManifestFits (manifest_view m))
-is_fitting bytes (Ok m) fit gives = ((manifest_spelling bytes (manifest_view m)).0 (manifest_found bytes (manifest_view m) fit gives)).0
+pub is_fitting : (bytes : List ℕ) (result : Result Manifest ManifestFault) → IsBytes bytes → GivesManifest bytes result → IfOk result (λ m. FitsALayout (manifest_view m))
+is_fitting bytes (Ok m) fit gives = let text = (manifest_spelling bytes (manifest_view m)).0 (manifest_found bytes (manifest_view m) fit gives) in record { layout = text.0; fits = text.1 }
 is_fitting bytes (Err fault) fit gives = tt
 
 wrong_or_memory : (offset : ℕ) → Wrong offset ≡ Memory → ⊥

@@ -11,7 +11,7 @@ file_entry_of file = record { name = file.name; length = length file.bytes }
 
 -- a load by its part number, and the names and lengths of its files
 abbrev pub entry_of : LoadView → LoadEntry
-entry_of load = record { part = load.part; files = map file_entry_of load.files }
+entry_of load = record { part = load.part; type_id = load.type_id; files = map file_entry_of load.files }
 
 abbrev pub entries_of : List LoadView → List LoadEntry
 entries_of loads = map entry_of loads

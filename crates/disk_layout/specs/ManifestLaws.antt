@@ -1,18 +1,20 @@
 -- Bytes are one manifest, or fail at one offset.
-use Rattle.std.proofs.Common.{◌≡◌, ◌≢◌, ℕ, zero, suc, ◌+◌, ◌≤◌, List, [], ◌∷◌, ◌++◌, length, Bool, Ok, Err, inl, inr, sym, ap, ◌∙◌, arith, length-append}
+use Rattle.std.proofs.Common.{◌≡◌, ◌≢◌, ℕ, zero, suc, ◌+◌, ◌≤◌, List, [], ◌∷◌, ◌++◌, length, Bool, true, false, Some, None, Ok, Err, inl, inr, sym, ap, ◌∙◌, arith, length-append}
 use Rattle.std.specs.List.{concat}
 use Rattle.std.proofs.lemmas.List.Folds.{concat-append}
-use Rattle.std.specs.Prelude.{nat_le, ◌&&◌, is_none}
+use Rattle.std.specs.Prelude.{nat_le, ◌==◌, ◌&&◌, ◌||◌, is_none}
 use Rattle.load_base.specs.Host.{longest_file}
 use Rattle.load_base.specs.Verdicts.{name_fault_of, part_text_fault_of}
 use Rattle.field_grammar.specs.Fields.{number, raw, short}
-use Rattle.field_grammar.specs.Grammar.{Grammar, give, seq, pair, mapped, times, Stops, Spelled, Fault, IsBytes, IsDecided, EndsTheBytes, ended}
+use Rattle.field_grammar.specs.Grammar.{Grammar, give, choose, seq, pair, mapped, times, Stops, Spelled, Fault, IsBytes, IsDecided, EndsTheBytes, ended}
 use Rattle.field_grammar.specs.Answers.{answer}
 use Rattle.field_grammar.specs.declared.fault.FieldFault.{FieldFault}
 use Rattle.field_grammar.specs.ExactLaws.{ends_at_end, ends_last, ends_before, answer_is_spelled, answer_is_fault, spelled_whole, decided}
-use Rattle.disk_layout.specs.Offsets.{most_loads, most_files}
+use Rattle.disk_layout.specs.Offsets.{most_loads, most_files, layout_mark}
 use Rattle.disk_layout.specs.Fields.{sound}
-use Rattle.disk_layout.specs.Manifest.{LoadEntry, manifest, counted_loads, counted_files, to_load, to_file, load_count, load_entry, file_entry, file_count, file_name, file_length, part}
+use Rattle.disk_layout.specs.Manifest.{LoadEntry, manifest, counted_loads, counted_files, to_load, to_file, first_number, load_count, manifest_head, head_after, in_layout, load_entry, type_number, type_of_load, file_entry, file_count, file_name, file_length, part}
+use Rattle.disk_layout.specs.declared.manifest.Layout.{Layout}
+use Rattle.disk_layout.specs.declared.manifest.Layout.TheVariants as layouts
 use Rattle.disk_layout.specs.declared.manifest.ManifestFault.{ManifestFault}
 use Rattle.disk_layout.specs.declared.manifest.ManifestFault.TheVariants.{Wrong, Memory}
 
@@ -82,17 +84,34 @@ offsets_file =
     offsets_mapped to_file (pair file_name file_length)
     (offsets_pair file_name file_length (offsets_sound short (λ text. is_none (name_fault_of text))) (offsets_sound (number 4) (λ n. nat_le n longest_file)))
 
-offsets_load : HasOffsets load_entry
+offsets_choose : {A : Type 0} (b : Bool) (g h : Grammar ManifestFault A) → HasOffsets g → HasOffsets h → HasOffsets (choose b g h)
+offsets_choose true g h one two = record { each = λ before fields rest fault stops. one.each before fields rest fault stops }
+offsets_choose false g h one two = record { each = λ before fields rest fault stops. two.each before fields rest fault stops }
+
+offsets_type : (layout : Layout) → HasOffsets (type_of_load layout)
+unfolding type_number
+offsets_type layouts.One = offsets_give None
+offsets_type layouts.Two = offsets_mapped (λ n. Some n) type_number (offsets_sound (number 2) (λ n. true))
+
+offsets_load : (layout : Layout) → HasOffsets (load_entry layout)
 unfolding load_entry part file_count
-offsets_load =
-    offsets_mapped to_load (pair part counted_files)
-    (offsets_pair part counted_files (offsets_sound (raw 15) (λ text. is_none (part_text_fault_of text)))
-    (offsets_seq file_count _ (offsets_sound (number 2) (λ n. nat_le 1 n && nat_le n most_files)) (λ count. offsets_times count file_entry offsets_file)))
+offsets_load layout =
+    offsets_mapped to_load (pair part (pair (type_of_load layout) counted_files))
+    (offsets_pair part (pair (type_of_load layout) counted_files) (offsets_sound (raw 15) (λ text. is_none (part_text_fault_of text)))
+    (offsets_pair (type_of_load layout) counted_files (offsets_type layout)
+    (offsets_seq file_count _ (offsets_sound (number 2) (λ n. nat_le 1 n && nat_le n most_files)) (λ count. offsets_times count file_entry offsets_file))))
+
+offsets_head : HasOffsets manifest_head
+unfolding manifest_head first_number load_count
+offsets_head =
+    offsets_seq first_number head_after (offsets_sound (number 2) (λ n. n == layout_mark || nat_le n most_loads))
+    (λ first. offsets_choose (first == layout_mark) (mapped (in_layout layouts.Two) load_count) (give (in_layout layouts.One first))
+    (offsets_mapped (in_layout layouts.Two) load_count (offsets_sound (number 2) (λ n. nat_le n most_loads))) (offsets_give (in_layout layouts.One first)))
 
 offsets_manifest : HasOffsets manifest
-unfolding manifest load_count
+unfolding manifest
 offsets_manifest =
-    offsets_seq counted_loads _ (offsets_seq load_count _ (offsets_sound (number 2) (λ n. nat_le n most_loads)) (λ count. offsets_times count load_entry offsets_load))
+    offsets_seq counted_loads _ (offsets_seq manifest_head _ offsets_head (λ head. offsets_times head.loads (load_entry head.layout) (offsets_load head.layout)))
     (λ loads. offsets_seq (ended Wrong) _ offsets_ended (λ u. offsets_give loads))
 
 -- a fault of a manifest has an offset within the bytes

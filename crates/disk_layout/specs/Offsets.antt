@@ -25,9 +25,13 @@ is_bank_size size = nat_le 4096 size && nat_le size 67108864
 abbrev pub IsBankSize : ℕ → Type 0
 IsBankSize size = (4096 ≤ size) × (size ≤ 67108864)
 
--- the most bytes that a manifest may have: 32 loads of 256 files with names of 64 bytes
+-- the most bytes that a manifest may have: 32 loads of 256 files with names of 64 bytes, in layout 2
 abbrev pub longest_manifest : ℕ
-longest_manifest = 565794
+longest_manifest = 565860
+
+-- the mark with which a manifest of layout 2 begins, in two bytes
+abbrev pub layout_mark : ℕ
+layout_mark = 0xA002
 
 -- the most loads of a manifest, and the most files of a load
 abbrev pub most_loads : ℕ

@@ -1,15 +1,15 @@
 //! Laws of the configuration that a disk holds.
 ghost use Rattle.std.specs.Prelude.{◌≡◌, ◌⊎◌, ◌↔◌, ◌<◌, ◌≤◌, ◌+◌, ◌^◌, ℕ, List, length};
-ghost use Rattle.std.specs.List.{concat};
 ghost use Rattle.disk_model.specs.Image.{Image, IsOfBytes, range};
 ghost use Rattle.field_grammar.specs.Grammar.{IsBytes, IsDecided, Spelled, Fault};
 ghost use Rattle.disk_layout.specs.Offsets.{IsBankSize, longest_identity, longest_manifest};
 ghost use Rattle.disk_layout.specs.Offsets.{most_loads, most_files, slot_a, slot_b, bank_at};
-ghost use Rattle.disk_layout.specs.Offsets.{number_at};
+ghost use Rattle.disk_layout.specs.Offsets.{layout_mark, number_at};
 ghost use Rattle.disk_layout.specs.Identity.{IsIdentity, identity_text, HasIdentity};
 ghost use Rattle.disk_layout.specs.Slots.{IsOpen, HasBody, sequence_of, bank_of};
 ghost use Rattle.disk_layout.specs.Slots.{manifest_offset_of, manifest_length_of};
-ghost use Rattle.disk_layout.specs.Manifest.{LoadEntry, ManifestFits, manifest, manifest_fields};
+ghost use Rattle.disk_layout.specs.Manifest.{LoadEntry, manifest};
+ghost use Rattle.disk_layout.specs.ManifestSpelling.{IsManifestText};
 ghost use Rattle.disk_layout.specs.Holds.{StandingView, Outline, outline_of, HasOutline, HoldsBy};
 ghost use Rattle.disk_layout.specs.Holds.{HoldsConfig, HasDiskFault};
 ghost use Rattle.disk_layout.specs.declared.active.ManifestRange.{ManifestRange};
@@ -19,9 +19,9 @@ ghost use Rattle.disk_layout.specs.declared.manifest.ManifestFault.{ManifestFaul
 ghost use Rattle.disk_layout.specs.declared.manifest.ManifestFault.TheVariants.{Wrong};
 
 use crate::offsets::{
-    BANK_IN_SLOT, BANKS, LARGEST_BANK, LENGTH_IN_SLOT, LONGEST_IDENTITY, LONGEST_MANIFEST,
-    MANIFEST_OFFSET_IN_SLOT, MOST_FILES, MOST_LOADS, OPEN, SEQUENCE_IN_SLOT, SLOT_A, SLOT_B,
-    SLOT_LENGTH, SMALLEST_BANK,
+    BANK_IN_SLOT, BANKS, LARGEST_BANK, LAYOUT_MARK, LENGTH_IN_SLOT, LONGEST_IDENTITY,
+    LONGEST_MANIFEST, MANIFEST_OFFSET_IN_SLOT, MOST_FILES, MOST_LOADS, OPEN, SEQUENCE_IN_SLOT,
+    SLOT_A, SLOT_B, SLOT_LENGTH, SMALLEST_BANK,
 };
 use crc_fields::check_sum_laws;
 
@@ -70,13 +70,13 @@ pub fn an_outline_is_filled()
 {}
 
 /// Bytes are one manifest, or fail at one of their offsets or at their end, and never because it is
-/// out of memory. Loads have one manifest. The lemmas of `specs/ManifestLaws.antt` and
-/// `specs/ManifestSpelling.antt` say the same to proofs.
+/// out of memory. Loads have one manifest in each layout that can say them: the empty list has two,
+/// any other one. The lemmas of `specs/ManifestLaws.antt` and `specs/ManifestSpelling.antt` say the
+/// same to proofs.
 pub fn a_manifest_is_decided()
     ensures decided { (bytes : List ℕ) → IsBytes bytes → IsDecided manifest bytes }
     ensures spelling { (bytes : List ℕ) (loads : List LoadEntry)
-        → Spelled manifest bytes loads
-        ↔ (ManifestFits loads × (bytes ≡ concat (manifest_fields loads))) }
+        → Spelled manifest bytes loads ↔ IsManifestText bytes loads }
     ensures an_offset { (bytes : List ℕ) (fault : ManifestFault) → Fault manifest bytes fault
         → (offset : ℕ) × (fault ≡ Wrong offset) × (offset ≤ length bytes) }
 {}
@@ -99,5 +99,6 @@ pub fn constants_are_those_of_the_layout()
     ensures banks { (size : ℕ) → bank_at size 0 ≡ BANKS }
     ensures second_bank { (size : ℕ) → bank_at size 1 ≡ BANKS + size }
     ensures manifest { LONGEST_MANIFEST ≡ longest_manifest }
+    ensures mark { LAYOUT_MARK ≡ layout_mark }
     ensures counts { (MOST_LOADS ≡ most_loads) × (MOST_FILES ≡ most_files) }
 {}

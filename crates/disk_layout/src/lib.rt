@@ -21,6 +21,6 @@ pub use laws::{
     a_manifest_is_decided, a_slot_is_read_again, an_identity_is_read_again,
     an_image_holds_one_configuration, an_outline_is_filled, constants_are_those_of_the_layout,
 };
-pub use manifest::{Manifest, ManifestFault, ManifestFile, ManifestLoad, ManifestReader};
+pub use manifest::{Layout, Manifest, ManifestFault, ManifestFile, ManifestLoad, ManifestReader};
 pub use slot::SlotFields;
 pub use standing::Standing;

@@ -36,8 +36,11 @@ pub const OPEN: u8 = 0xA5;
 /// Where bank 0 begins; bank 1 begins after it.
 pub const BANKS: u32 = 8192;
 
-/// The most bytes of a manifest: 32 loads of 256 files with names of 64 bytes.
-pub const LONGEST_MANIFEST: u32 = 565_794;
+/// The most bytes of a manifest: 32 loads of 256 files with names of 64 bytes, in layout 2.
+pub const LONGEST_MANIFEST: u32 = 565_860;
+
+/// The mark with which a manifest of layout 2 begins, in two bytes. It is no number of loads.
+pub const LAYOUT_MARK: u16 = 0xA002;
 
 /// The most loads of a manifest.
 pub const MOST_LOADS: u16 = 32;

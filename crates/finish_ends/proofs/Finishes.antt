@@ -41,32 +41,32 @@ kept_left None = 0
 kept_left (Some v) = target_left v
 
 abbrev pub left_after : Setting → List Step → ℕ
-left_after set steps = loader_left (loader_view (loader_at set steps)) + kept_left (kept_by set (target_at set steps)) + undelivered_weight steps
+left_after set steps = loader_left (loader_view (loader_at set steps)) + kept_left (kept_by (target_at set steps)) + undelivered_weight steps
 
 -- ---- the target at what reaches it
 
 module _ (joins : SumsJoin) (set : Setting) where
-  target_any : (state : TargetState) (notes : List Note) (e : Event) (w : ℕ) → MayGoDown (is_up state) notes → HasLive state → 0 < w + kept_left (kept_by set state)
-      → ((r : TargetReading) → state ≡ Is_up r → total (target_posts set.accepts (target_view set.accepts r) e) + target_left (target_after set.accepts (target_view set.accepts r) e) < w + target_left (target_view set.accepts r))
-      → total (cond (goes_down notes) [] (due_of_target set state (Some e))) + kept_left (kept_by set (noted notes state (reached set (Some e) state))) < w + kept_left (kept_by set state)
+  target_any : (state : TargetState) (notes : List Note) (e : Event) (w : ℕ) → MayGoDown (is_up state) notes → HasLive state → 0 < w + kept_left (kept_by state)
+      → ((r : TargetReading) → state ≡ Is_up r → total (target_posts set.accepts (target_view r) e) + target_left (target_after set.accepts (target_view r) e) < w + target_left (target_view r))
+      → total (cond (goes_down notes) [] (due_of_target set state (Some e))) + kept_left (kept_by (noted notes state (reached set (Some e) state))) < w + kept_left (kept_by state)
   target_any (Is_up r) notes e w (inl none) live some falls =
-      subst (λ (ns : List Note). total (cond (goes_down ns) [] (due_of_target set (Is_up r) (Some e))) + kept_left (kept_by set (noted ns (Is_up r) (reached set (Some e) (Is_up r)))) < w + kept_left (kept_by set (Is_up r))) (sym none)
-      (subst (λ (v : TargetView). total (target_posts set.accepts (target_view set.accepts r) e) + target_left v < w + target_left (target_view set.accepts r)) (target_follows joins set.accepts r e live).0 (falls r refl))
+      subst (λ (ns : List Note). total (cond (goes_down ns) [] (due_of_target set (Is_up r) (Some e))) + kept_left (kept_by (noted ns (Is_up r) (reached set (Some e) (Is_up r)))) < w + kept_left (kept_by (Is_up r))) (sym none)
+      (subst (λ (v : TargetView). total (target_posts set.accepts (target_view r) e) + target_left v < w + target_left (target_view r)) (target_follows joins set.accepts r e live).0 (falls r refl))
   target_any (Is_up r) notes e w (inr down) live some falls =
-      subst (λ (ns : List Note). total (cond (goes_down ns) [] (due_of_target set (Is_up r) (Some e))) + kept_left (kept_by set (noted ns (Is_up r) (reached set (Some e) (Is_up r)))) < w + kept_left (kept_by set (Is_up r))) (sym down)
+      subst (λ (ns : List Note). total (cond (goes_down ns) [] (due_of_target set (Is_up r) (Some e))) + kept_left (kept_by (noted ns (Is_up r) (reached set (Some e) (Is_up r)))) < w + kept_left (kept_by (Is_up r))) (sym down)
       some
   target_any (Is_down active interrupted) notes e w none live some falls =
-      subst (λ (ns : List Note). total (cond (goes_down ns) [] (due_of_target set (Is_down active interrupted) (Some e))) + kept_left (kept_by set (noted ns (Is_down active interrupted) (reached set (Some e) (Is_down active interrupted)))) < w + kept_left (kept_by set (Is_down active interrupted))) (sym none)
+      subst (λ (ns : List Note). total (cond (goes_down ns) [] (due_of_target set (Is_down active interrupted) (Some e))) + kept_left (kept_by (noted ns (Is_down active interrupted) (reached set (Some e) (Is_down active interrupted)))) < w + kept_left (kept_by (Is_down active interrupted))) (sym none)
       some
 
 target_none : (set : Setting) (state : TargetState) (notes : List Note) → MayGoDown (is_up state) notes
-    → total (cond (goes_down notes) [] (due_of_target set state None)) + kept_left (kept_by set (noted notes state (reached set None state))) ≤ kept_left (kept_by set state)
+    → total (cond (goes_down notes) [] (due_of_target set state None)) + kept_left (kept_by (noted notes state (reached set None state))) ≤ kept_left (kept_by state)
 target_none set (Is_up r) notes (inl none) =
-    subst (λ (ns : List Note). total (cond (goes_down ns) [] (due_of_target set (Is_up r) None)) + kept_left (kept_by set (noted ns (Is_up r) (reached set None (Is_up r)))) ≤ kept_left (kept_by set (Is_up r))) (sym none) (omega arith)
+    subst (λ (ns : List Note). total (cond (goes_down ns) [] (due_of_target set (Is_up r) None)) + kept_left (kept_by (noted ns (Is_up r) (reached set None (Is_up r)))) ≤ kept_left (kept_by (Is_up r))) (sym none) (omega arith)
 target_none set (Is_up r) notes (inr down) =
-    subst (λ (ns : List Note). total (cond (goes_down ns) [] (due_of_target set (Is_up r) None)) + kept_left (kept_by set (noted ns (Is_up r) (reached set None (Is_up r)))) ≤ kept_left (kept_by set (Is_up r))) (sym down) (omega arith)
+    subst (λ (ns : List Note). total (cond (goes_down ns) [] (due_of_target set (Is_up r) None)) + kept_left (kept_by (noted ns (Is_up r) (reached set None (Is_up r)))) ≤ kept_left (kept_by (Is_up r))) (sym down) (omega arith)
 target_none set (Is_down active interrupted) notes none =
-    subst (λ (ns : List Note). total (cond (goes_down ns) [] (due_of_target set (Is_down active interrupted) None)) + kept_left (kept_by set (noted ns (Is_down active interrupted) (reached set None (Is_down active interrupted)))) ≤ kept_left (kept_by set (Is_down active interrupted))) (sym none) (omega arith)
+    subst (λ (ns : List Note). total (cond (goes_down ns) [] (due_of_target set (Is_down active interrupted) None)) + kept_left (kept_by (noted ns (Is_down active interrupted) (reached set None (Is_down active interrupted)))) ≤ kept_left (kept_by (Is_down active interrupted))) (sym none) (omega arith)
 
 -- ---- who waits
 
@@ -74,9 +74,9 @@ loader_so : (end : Reading) (live : Option SessionLog) → is_some (loader_sessi
 loader_so end None = refl
 loader_so end (Some s) = refl
 
-target_so : (set : Setting) (r : TargetReading) (live : Option TargetSessionLog) → is_some (target_session set.accepts r live) ≡ is_some live
-target_so set r None = refl
-target_so set r (Some s) = refl
+target_so : (r : TargetReading) (live : Option TargetSessionLog) → is_some (target_session r.end live) ≡ is_some live
+target_so r None = refl
+target_so r (Some s) = refl
 
 waits_some : (b : Bool) (retries n : ℕ) → b ≡ true → 0 < 0 + (n + ticks_left b retries)
 waits_some true retries n e = omega arith
@@ -88,8 +88,8 @@ module _ (joins : SumsJoin) (set : Setting) (base : List Step) (notes : List Not
   abbrev Less : (to_loader to_target : Option Event) → (w : ℕ) → Type 0
   Less to_loader to_target w =
       total (due_of_loader set (loader_at set base) to_loader) + loader_left (loader_view (loader_reading set.media (logged to_loader (loader_log base))))
-      + (total (cond (goes_down notes) [] (due_of_target set (target_at set base) to_target)) + kept_left (kept_by set (noted notes (target_at set base) (reached set to_target (target_at set base)))))
-      < w + (loader_left (loader_view (loader_at set base)) + kept_left (kept_by set (target_at set base)))
+      + (total (cond (goes_down notes) [] (due_of_target set (target_at set base) to_target)) + kept_left (kept_by (noted notes (target_at set base) (reached set to_target (target_at set base)))))
+      < w + (loader_left (loader_view (loader_at set base)) + kept_left (kept_by (target_at set base)))
 
   loader_alone : (e : Event) (w : ℕ)
       → total (loader_posts set.media (loader_view (loader_at set base)) e) + loader_left (loader_after set.media (loader_view (loader_at set base)) e) < w + loader_left (loader_view (loader_at set base))
@@ -99,8 +99,8 @@ module _ (joins : SumsJoin) (set : Setting) (base : List Step) (notes : List Not
       let same = target_none set (target_at set base) notes may in
       omega (arith, now, same)
 
-  target_alone : (e : Event) (w : ℕ) → 0 < w + kept_left (kept_by set (target_at set base))
-      → ((r : TargetReading) → target_at set base ≡ Is_up r → total (target_posts set.accepts (target_view set.accepts r) e) + target_left (target_after set.accepts (target_view set.accepts r) e) < w + target_left (target_view set.accepts r))
+  target_alone : (e : Event) (w : ℕ) → 0 < w + kept_left (kept_by (target_at set base))
+      → ((r : TargetReading) → target_at set base ≡ Is_up r → total (target_posts set.accepts (target_view r) e) + target_left (target_after set.accepts (target_view r) e) < w + target_left (target_view r))
       → Less None (Some e) w
   target_alone e w some falls =
       let now = target_any joins set (target_at set base) notes e w may (target_is_live joins set base) some falls in
@@ -112,16 +112,16 @@ module _ (joins : SumsJoin) (set : Setting) (base : List Step) (notes : List Not
       subst (λ (x : Option DatagramView). Less (gets x) None (weight d)) (sym names) (loader_alone (Gets d.from d.to d.bytes) (weight d) (loader_gets (loader_view (loader_at set base)) set.media d.from d.to d.bytes fit))
   delivered_so n d fit names sides.Loader =
       subst (λ (x : Option DatagramView). Less None (gets x) (weight d)) (sym names)
-      (target_alone (Gets d.from d.to d.bytes) (weight d) (let some = some_weight (packet_in d.bytes) in omega (arith, some)) (λ r e. target_gets (target_view set.accepts r) set.accepts d.from d.to d.bytes fit))
+      (target_alone (Gets d.from d.to d.bytes) (weight d) (let some = some_weight (packet_in d.bytes) in omega (arith, some)) (λ r e. target_gets (target_view r) set.accepts d.from d.to d.bytes fit))
 
   ticked_so : (side : Side) → waiting set side base ≡ true → Less (event_for sides.Loader (posted_in base) (Ticked side)) (event_for sides.Target (posted_in base) (Ticked side)) 0
   ticked_so sides.Loader waits = loader_alone Ticks 0 (loader_ticks (loader_view (loader_at set base)) set.media (loader_so (loader_at set base).end (loader_at set base).live ∙ waits))
   ticked_so sides.Target waits =
       target_alone Ticks 0 (some (target_at set base) waits)
-      (λ r e. target_ticks (target_view set.accepts r) set.accepts (target_so set r r.live ∙ subst (λ (state : TargetState). waits_in state ≡ true) e waits))
+      (λ r e. target_ticks (target_view r) set.accepts (target_so r r.live ∙ subst (λ (state : TargetState). waits_in state ≡ true) e waits))
     where
-      some : (state : TargetState) → waits_in state ≡ true → 0 < 0 + kept_left (kept_by set state)
-      some (Is_up r) e = waits_some (is_some (target_view set.accepts r).live) (target_view set.accepts r).end.retries (energy_of (target_view set.accepts r).end) (target_so set r r.live ∙ e)
+      some : (state : TargetState) → waits_in state ≡ true → 0 < 0 + kept_left (kept_by state)
+      some (Is_up r) e = waits_some (is_some (target_view r).live) (target_view r).end.retries (energy_of (target_view r).end) (target_so r r.live ∙ e)
       some (Is_down active interrupted) e = absurd cc
 
 -- ---- one step
@@ -143,8 +143,8 @@ step_falls joins set base s due_now noted_now carry gives = by s.given refl give
     joined h w e may less queued =
         let loader_now : loader_left (loader_view (loader_at set (s ∷ base))) ≡ loader_left (loader_view (loader_reading set.media (logged (event_for sides.Loader (posted_in base) h) (loader_log base))))
         = ap (λ (x : HappeningView). loader_left (loader_view (loader_reading set.media (logged (event_for sides.Loader (posted_in base) x) (loader_log base))))) e in
-        let target_now : kept_left (kept_by set (target_at set (s ∷ base))) ≡ kept_left (kept_by set (noted s.notes (target_at set base) (reached set (event_for sides.Target (posted_in base) h) (target_at set base))))
-        = ap (λ (x : HappeningView). kept_left (kept_by set (noted s.notes (target_at set base) (reached set (event_for sides.Target (posted_in base) x) (target_at set base))))) e in
+        let target_now : kept_left (kept_by (target_at set (s ∷ base))) ≡ kept_left (kept_by (noted s.notes (target_at set base) (reached set (event_for sides.Target (posted_in base) h) (target_at set base))))
+        = ap (λ (x : HappeningView). kept_left (kept_by (noted s.notes (target_at set base) (reached set (event_for sides.Target (posted_in base) x) (target_at set base))))) e in
         let sides_now = less may in
         let posts = posted_now h e in
         omega (arith, loader_now, target_now, sides_now, posts, queued)
@@ -189,7 +189,7 @@ most_kept (Some v) = most_left v.end (is_some v.live)
 pub most_left_after : (set : Setting) (steps : List Step) → left_after set steps ≤ most_of_finish + undelivered_weight steps
 most_left_after set steps =
     let one = most_left (loader_view (loader_at set steps)).end (is_some (loader_view (loader_at set steps)).live) in
-    let two = most_kept (kept_by set (target_at set steps)) in
+    let two = most_kept (kept_by (target_at set steps)) in
     omega (arith, one, two)
 
 ends_by : SumsJoin → (set : Setting) (steps more : List Step) → AllDue set (more ++ steps) → AllNoted set (more ++ steps) → AllCarryBytes (more ++ steps) → AllOfFinish set more steps → length more + left_after set (more ++ steps) ≤ left_after set steps

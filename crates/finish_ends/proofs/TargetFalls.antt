@@ -2,7 +2,6 @@
 use Rattle.std.proofs.Common.{◌≡◌, ℕ, ◌+◌, ◌<◌, Bool, true, false, cond, eqb, List, [], ◌∷◌, ◌++◌, Option, Some, None, refl, subst, sym, ◌∙◌, arith}
 use Rattle.std.specs.Prelude.{bytes_eq, is_some}
 use Rattle.field_grammar.specs.Grammar.{IsBytes}
-use Rattle.load_header.specs.Header.{HeaderView}
 use Rattle.exchange_trace.specs.declared.trace.Side.TheVariants as sides
 use Rattle.exchange_trace.specs.Logs.{Gets, Ticks}
 use Rattle.tftp_packet.specs.declared.options.Options.{Options}
@@ -13,6 +12,7 @@ use Rattle.transfer_end.specs.Packets.{has_port, heard_answer, is_busy, is_fresh
 use Rattle.transfer_end.specs.PlacedLaws.{heard_moves_port}
 use Rattle.transfer_end.specs.Transfers.{Role, ServesRead, ServesWrite}
 use Rattle.transfer_end.specs.Views.{EndView}
+use Rattle.accept_rules.specs.Permissions.{Accepts}
 use Rattle.session_rules.specs.declared.outcome.FileKind.{FileKind}
 use Rattle.session_rules.specs.declared.outcome.FileKind.TheVariants as kinds
 use Rattle.session_rules.specs.declared.reason.Reason.TheVariants as reasons
@@ -103,13 +103,13 @@ module _ (v : TargetView) where
           (heard_falls w v.end (views_after sides.Target v.end (transfer_moves v.end from to p)) (is_some v.live) (is_some (session_turned view_turned (views_after sides.Target v.end (transfer_moves v.end from to p)) v v.live move more).live)
           (all_posts sides.Target v.end (transfer_moves v.end from to p)) some (also_live (views_after sides.Target v.end (transfer_moves v.end from to p)) v v.live move more) heard)
 
-      turn_falls : (accepts : HeaderView → Bool) (s : TargetSession) (more : List ℕ) (error : Option ℕ) → TargetFalls w (turn_decision accepts v s (transfer_moves v.end from to p) more error)
+      turn_falls : (accepts : Accepts) (s : TargetSession) (more : List ℕ) (error : Option ℕ) → TargetFalls w (turn_decision accepts v s (transfer_moves v.end from to p) more error)
       turn_falls accepts s more error =
           let arriving : Arriving = with_bytes s.arriving more in
-          let move : RowMove = row_move accepts v.active.identity s.row (record { error = error; arriving = arriving }) in
+          let move : RowMove = row_move accepts v.active s.row (record { error = error; arriving = arriving }) in
           next_falls more move (view_moved s.row arriving move) (row_request v (view_moved s.row arriving move))
 
-      answer_falls : (accepts : HeaderView → Bool) (s : TargetSession) (answer : Answer) → TargetFalls w (answer_decision accepts v s (transfer_moves v.end from to p) answer)
+      answer_falls : (accepts : Accepts) (s : TargetSession) (answer : Answer) → TargetFalls w (answer_decision accepts v s (transfer_moves v.end from to p) answer)
       answer_falls accepts s (TakesBlock payload) = heard_goes payload
       answer_falls accepts s (TakesLast payload) = turn_falls accepts s payload None
       answer_falls accepts s Completes = turn_falls accepts s [] None
@@ -119,7 +119,7 @@ module _ (v : TargetView) where
       answer_falls accepts s (Grants o) = heard_goes []
       answer_falls accepts s Proceeds = heard_goes []
 
-      transfer_falls : (accepts : HeaderView → Bool) (live : Option TargetSession) → TargetFalls w (transfer_decision accepts v live from to p)
+      transfer_falls : (accepts : Accepts) (live : Option TargetSession) → TargetFalls w (transfer_decision accepts v live from to p)
       transfer_falls accepts None = heard_goes []
       transfer_falls accepts (Some s) = answer_falls accepts s (heard_answer v.end from to p)
 
@@ -140,7 +140,7 @@ module _ (v : TargetView) where
   request_falls from (Error code m) n = nothing_falls 1 (omega arith)
   request_falls from (Oack o) n = nothing_falls 2 (omega arith)
 
-  got_falls : (accepts : HeaderView → Bool) (from to : ℕ) (p : Option PacketView) → ((q : PacketView) → p ≡ Some q → IsNumbered q) → TargetFalls (weight_of p) (got_decision accepts v from to p)
+  got_falls : (accepts : Accepts) (from to : ℕ) (p : Option PacketView) → ((q : PacketView) → p ≡ Some q → IsNumbered q) → TargetFalls (weight_of p) (got_decision accepts v from to p)
   got_falls accepts from to None n = nothing_falls 2 (omega arith)
   got_falls accepts from to (Some p) n = falls_if (weight_of (Some p)) (eqb to 59) _ _ (λ e. request_falls from p (n p refl)) (transfer_falls from p (n p refl) to accepts v.live)
 
@@ -169,7 +169,7 @@ module _ (v : TargetView) where
       (sym (target_end (views_after sides.Target v.end d.moves) v d.change)) falls
 
   -- a datagram comes
-  pub target_gets : (accepts : HeaderView → Bool) (from to : ℕ) (bytes : List ℕ) → IsBytes bytes
+  pub target_gets : (accepts : Accepts) (from to : ℕ) (bytes : List ℕ) → IsBytes bytes
       → total (target_posts accepts v (Gets from to bytes)) + target_left (target_after accepts v (Gets from to bytes)) < weight_of (packet_in bytes) + target_left v
   target_gets accepts from to bytes fit =
       as_view (weight_of (packet_in bytes)) (target_decision accepts v (Gets from to bytes)) (got_falls v accepts from to (packet_in bytes) (λ q e. read_numbered bytes q fit e))
@@ -188,5 +188,5 @@ module _ (v : TargetView) where
   tick_falls waits (Some s) e = falls_if v 0 (may_repeat v.end) _ _ (λ may. repeats waits may) (gives_up waits)
 
   -- it is ticked
-  pub target_ticks : (accepts : HeaderView → Bool) → is_some v.live ≡ true → total (target_posts accepts v Ticks) + target_left (target_after accepts v Ticks) < 0 + target_left v
+  pub target_ticks : (accepts : Accepts) → is_some v.live ≡ true → total (target_posts accepts v Ticks) + target_left (target_after accepts v Ticks) < 0 + target_left v
   target_ticks accepts waits = as_view 0 (target_decision accepts v Ticks) (tick_falls waits v.live waits)

@@ -1,5 +1,5 @@
 -- The header of the generated set's load has the lengths and sums of what is served.
-use Rattle.std.proofs.Common.{◌≡◌, ℕ, ◌-◌, ◌<◌, ◌≤◌, ◌^◌, List, [], ◌∷◌, ◌++◌, length, take, refl, sym, ap, ◌∙◌, arith}
+use Rattle.std.proofs.Common.{◌≡◌, ℕ, ◌-◌, ◌<◌, ◌≤◌, ◌^◌, Some, List, [], ◌∷◌, ◌++◌, length, take, refl, sym, ap, ◌∙◌, arith}
 use Rattle.std.specs.Prelude.{codes}
 use Rattle.crc_fields.specs.CheckSums.{crc32_of}
 use Rattle.crc_fields.specs.WidthLaws.{crc16_fits, crc32_fits}
@@ -31,6 +31,7 @@ pub record HeaderLaws : Type 0 where
 abbrev pub load_with : (file : List ℕ) → LoadView
 load_with file = record {
   part = generated_part;
+  type_id = Some 1;
   header_name = codes "MAKE.LUH";
   files =
       record { name = codes "MAKE.LUH"; bytes = header_bytes (header_of (always file) generated_load_view) }
@@ -107,6 +108,7 @@ module _ (file : List ℕ) (short : length file ≤ 16777215) where
       files = record { name = codes "MAKE.BIN"; bytes = file } ∷ [];
       spelled = (whole_fits, refl);
       part = refl;
+      type_id = refl;
       suits = rw hardware refl;
       accepted = (omega arith, omega arith);
       permitted = λ none. absurd (omega (arith, none));

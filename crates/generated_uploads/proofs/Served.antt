@@ -35,8 +35,9 @@ use Rattle.generated_uploads.proofs.Words.{generated_bytes, generated_size}
 -- a load of two files, of these lengths
 need_is : (header file : ℕ) → need_of (record {
   part = generated_part;
+  type_id = Some 1;
   files = record { name = codes "MAKE.LUH"; length = header } ∷ record { name = codes "MAKE.BIN"; length = file } ∷ [];
-} ∷ []) ≡ header + file + 45
+} ∷ []) ≡ header + file + 49
 unfolding need_of number_bytes
 need_is header file = omega arith
 
@@ -122,7 +123,7 @@ module _ (file : List ℕ) (built : Built) (made : built_view built ≡ recipe_s
         files = subst (λ (lists : MemberView). AllByRecursion (IsTellableFile (built_media built)) (listed_in lists.files)) (sym (both_found laws file built made)) entries_told;
       })
 
-      need : need_of (entries_of (load_with file ∷ [])) ≡ 4194471
+      need : need_of (entries_of (load_with file ∷ [])) ≡ 4194475
       need = omega (arith, need_is (length header) (length file), header_length file short headers, size)
 
       abbrev whole_media : Media
@@ -136,7 +137,7 @@ module _ (file : List ℕ) (built : Built) (made : built_view built ≡ recipe_s
             on_media = subst (λ (m : Media). wanted_of m.loads (generated_part ∷ []) ≡ Ok generated_request) same on_media;
             files = subst (λ (f : List ℕ). AreOfMedia whole_media (load_with f ∷ [])) is (subst (λ (m : Media). AreOfMedia m (load_with file ∷ [])) same are_of_media);
             good = λ id hardware. subst (λ (f : List ℕ). IsGoodLoad Grants id (load_with f)) is (load_is_good file short headers id hardware);
-            need = subst (λ (f : List ℕ). need_of (entries_of (load_with f ∷ [])) ≡ 4194471) is need;
+            need = subst (λ (f : List ℕ). need_of (entries_of (load_with f ∷ [])) ≡ 4194475) is need;
           }
 
 pub media_are_good : ListLaws → HeaderLaws → SetsCanBeTold → GeneratedMediaAreGood

@@ -32,6 +32,7 @@ good_for A B id load so is = record {
   files = is.files;
   spelled = is.spelled;
   part = is.part;
+  type_id = is.type_id;
   suits = is.suits;
   accepted = so is.header is.accepted;
   permitted = is.permitted;

@@ -1,5 +1,5 @@
 -- The generated set as a loader serves it (docs/FORMATS.md, "Generated set"; docs/EXCHANGE.md, "Upload").
-use Rattle.std.specs.Prelude.{◌≡◌, ℕ, List, [], ◌∷◌, codes, Ok}
+use Rattle.std.specs.Prelude.{◌≡◌, ℕ, Some, List, [], ◌∷◌, codes, Ok}
 use Rattle.load_base.specs.Config.{LoadView}
 use Rattle.load_protocol_files.specs.declared.lur.Wanted.{Wanted}
 use Rattle.disk_layout.specs.Contents.{entries_of}
@@ -32,6 +32,7 @@ generated_part = codes "ABC41-0000-0001"
 abbrev pub uploaded_load : (number : ℕ) → LoadView
 uploaded_load number = record {
   part = generated_part;
+  type_id = Some 1;
   header_name = codes "MAKE.LUH";
   files =
       record { name = codes "MAKE.LUH"; bytes = header_bytes (header_of (generated_sources number) generated_load_view) }
@@ -45,13 +46,13 @@ generated_request = record { header = codes "MAKE.LUH"; part = generated_part } 
 
 -- What a loader serves of the generated set: its part is on the media, whose files are those of the load; the load is good for
 -- each target of hardware HW1, whatever its position, and of a type that every interlock accepts; and with its manifest it
--- takes 4,194,471 bytes of a bank.
+-- takes 4,194,475 bytes of a bank.
 pub record AreGoodMedia (number : ℕ) (media : Media) : Type 0 where
   pub told : CanBeTold media
   pub on_media : wanted_of media.loads (generated_part ∷ []) ≡ Ok generated_request
   pub files : AreOfMedia media (uploaded_load number ∷ [])
   pub good : (id : Identity) → id.hw ≡ codes "HW1" → IsGoodLoad Grants id (uploaded_load number)
-  pub need : need_of (entries_of (uploaded_load number ∷ [])) ≡ 4194471
+  pub need : need_of (entries_of (uploaded_load number ∷ [])) ≡ 4194475
 
 -- So it is of each number.
 abbrev pub GeneratedMediaAreGood : Type 0

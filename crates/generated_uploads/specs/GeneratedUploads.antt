@@ -7,7 +7,7 @@ use Rattle.disk_layout.specs.declared.identity.Identity.{Identity}
 use Rattle.exchange_trace.specs.Happenings.{Delivered, Ended, HappeningView, Ticked, Upload_started}
 use Rattle.exchange_trace.specs.Lines.{Finish, Line, Upload}
 use Rattle.exchange_trace.specs.Steps.{Step}
-use Rattle.accept_rules.specs.Permissions.{Grants}
+use Rattle.accept_rules.specs.Permissions.{AcceptsPermitted, Grants}
 use Rattle.media_check.specs.Sets.{SetView}
 use Rattle.loader_machine.specs.Machine.{all_sessions, media_of}
 use Rattle.session_rules.specs.Loader.{EndedSession}
@@ -19,7 +19,7 @@ use Rattle.replay_rules.specs.Histories.{active_by}
 use Rattle.replay_rules.specs.Promises.{NoneGoesDown}
 use Rattle.replay_rules.specs.Runs.{Follows}
 use Rattle.run_promises.specs.Listing.{StandingFits}
-use Rattle.run_promises.specs.Promises.{AcceptsPermitted, IsWholeRun}
+use Rattle.run_promises.specs.Promises.{IsWholeRun}
 use Rattle.generated_uploads.specs.GeneratedMedia.{IsGeneratedSet, uploaded_load, generated_part}
 
 -- the lines `upload HW POS ABC41-0000-0001`, for this target, and `finish`
@@ -30,7 +30,7 @@ trial_script id = Upload id.hw id.pos (generated_part ∷ []) ∷ Finish ∷ []
 -- number isn't the last.
 pub record CanTakeGeneratedSet (s : StandingView) : Type 0 where
   pub hardware : s.identity.hw ≡ codes "HW1"
-  pub bank : 4194471 ≤ s.identity.bank
+  pub bank : 4194475 ≤ s.identity.bank
   pub sequence : s.sequence < 4294967295
 
 -- what happens in a run of this script: the upload is started, datagrams are delivered, sides are ticked, and the end
@@ -50,7 +50,7 @@ OnlyTrialHappens = (set : Setting) (id : Identity) (steps : List Step) → Follo
 pub record IsGeneratedUpload (number : ℕ) (shown : SetView) (set : Setting) (steps : List Step) : Type 0 where
   pub is_set : IsGeneratedSet number shown
   pub media : set.media ≡ media_of shown
-  pub permitted : AcceptsPermitted set
+  pub permitted : AcceptsPermitted set.accepts
   pub granted : (h : HeaderView) → Grants h → set.accepts h ≡ true
   pub fits : StandingFits set.start
   pub can_take : CanTakeGeneratedSet set.start

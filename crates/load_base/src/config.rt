@@ -15,6 +15,9 @@ pub struct StoredFile {
 pub struct Load {
     /// Its part number.
     pub part: PartText,
+    /// The type id of its header; none where its manifest is of layout 1, which doesn't say it
+    /// (docs/DISK.md).
+    pub type_id: Option<u16>,
     /// The name of its header, the first of `files`.
     pub header_name: Name,
     /// Its header, its data files and then its support files.

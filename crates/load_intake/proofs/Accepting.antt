@@ -1,17 +1,17 @@
 -- What a file that is accepted brings, with all contents.
-use Rattle.std.proofs.Common.{◌≡◌, ℕ, ◌+◌, ◌<◌, List, [], ◌∷◌, ◌++◌, length, take, Bool, false, Option, Some, None, Result, Ok, refl, sym, ap, subst, ◌∙◌, arith, length-append}
+use Rattle.std.proofs.Common.{◌≡◌, ℕ, ◌+◌, ◌<◌, List, [], ◌∷◌, ◌++◌, length, take, false, Option, Some, None, Result, Ok, refl, sym, ap, subst, ◌∙◌, arith, length-append}
 use Rattle.std.specs.Prelude.{slice_get}
 use Rattle.std.proofs.lemmas.Bool.{ltb-false}
 use Rattle.std.proofs.lemmas.List.{length-map, take_all}
 use Rattle.disk_model.specs.State.{DiskState}
 use Rattle.disk_layout.specs.Contents.{HeadersAreFirst, file_entry_of}
-use Rattle.disk_layout.specs.Holds.{StandingView}
-use Rattle.disk_layout.specs.declared.identity.Identity.{Identity}
+use Rattle.disk_layout.specs.Holds.{Outline, StandingView}
 use Rattle.crc_fields.specs.CheckSums.{crc32_of}
 use Rattle.load_header.specs.declared.header.FileEntry.{FileEntry}
 use Rattle.load_header.specs.Header.{HeaderView, header}
 use Rattle.load_protocol_files.specs.declared.lur.Wanted.{Wanted}
 use Rattle.field_grammar.specs.Answers.{answer}
+use Rattle.accept_rules.specs.Permissions.{Accepts}
 use Rattle.bank_store.specs.declared.store.Store.{Store}
 use Rattle.bank_store.specs.Given.{with_bytes, with_file, with_load}
 use Rattle.session_rules.specs.declared.reason.Reason.{Reason}
@@ -28,12 +28,12 @@ use Rattle.load_intake.proofs.Moving.{file_open, given_file, given_header, heade
 
 -- ---- data and support files
 
-module _ (accepts : HeaderView → Bool) (id : Identity) (w : WholeView) (l : OpenLoadView) (s : Sums) (e : FileEntry) where
+module _ (accepts : Accepts) (active : Outline) (w : WholeView) (l : OpenLoadView) (s : Sums) (e : FileEntry) where
   abbrev view : UploadView
   view = upload_of w (Some l)
 
   abbrev pub move : RowMove
-  move = done_move accepts id (Reads_file view) (Kept_sums s)
+  move = done_move accepts active (Reads_file view) (Kept_sums s)
 
   abbrev verdict : Next → Option Reason
   verdict next = or_else (file_reason (next_number l) e s) (load_reason l.header next s.load_crc)
@@ -73,7 +73,7 @@ module _ (accepts : HeaderView → Bool) (id : Identity) (w : WholeView) (l : Op
 
 -- ---- headers
 
-module _ (accepts : HeaderView → Bool) (id : Identity) (w : WholeView) (wanted : Wanted) (h : HeaderView) (bytes : List ℕ) where
+module _ (accepts : Accepts) (active : Outline) (w : WholeView) (wanted : Wanted) (h : HeaderView) (bytes : List ℕ) where
   abbrev unopened : UploadView
   unopened = upload_of w None
 
@@ -81,34 +81,34 @@ module _ (accepts : HeaderView → Bool) (id : Identity) (w : WholeView) (wanted
   planned = need_of (w.loads ++ planned_load wanted h (length bytes) ∷ [])
 
   abbrev header_verdict : (need : ℕ) → Next → (crc : ℕ) → Option Reason
-  header_verdict need next crc = or_else (refused_for accepts id wanted h need) (load_reason h next crc)
+  header_verdict need next crc = or_else (refused_for accepts active.identity wanted h need) (load_reason h next crc)
 
   -- no test fails
   pub header_judged : (need : ℕ) (next : Next) (crc : ℕ) → need ≡ planned → next ≡ next_with unopened h 0 → crc ≡ crc32_of (covered_header bytes) → None ≡ header_verdict need next crc
-      → judge_spelled_header accepts id unopened wanted (whole_buffer bytes) h ≡ Accepts_header h next
+      → judge_spelled_header accepts active unopened wanted (whole_buffer bytes) h ≡ Accepts_header h next
   header_judged need next crc n x c found =
       let same : header_verdict need next crc ≡ header_verdict planned (next_with unopened h 0) (crc32_of (covered_header bytes)) = rw (n, x, c) refl in
       let here : header_verdict planned (next_with unopened h 0) (crc32_of (covered_header bytes)) ≡ None = sym same ∙ sym found in
       rw (here, x) refl
 
   pub header_brings : {T : Type 0} (u : Upload) (next : Next) (old : DiskState) (after : Store) (new : DiskState) (st : StandingView) (r : Result T Down) → unopened ≡ upload_view u → slice_get w.request (length w.loads) ≡ Some wanted
-      → judge_spelled_header accepts id unopened wanted (whole_buffer bytes) h ≡ Accepts_header h next → next ≡ next_with unopened h 0 → HeadersAreFirst u.loads
-      → GoesTo next old after new st (with_file wanted.header (with_bytes bytes (with_load wanted.part (length (files_of h) + 1) (given_of u bytes)))) r
-      → BringsRow old after new st (whole_header_row accepts id u h bytes) r
+      → judge_spelled_header accepts active unopened wanted (whole_buffer bytes) h ≡ Accepts_header h next → next ≡ next_with unopened h 0 → HeadersAreFirst u.loads
+      → GoesTo next old after new st (with_file wanted.header (with_bytes bytes (with_load wanted.part h.type_id (length (files_of h) + 1) (given_of u bytes)))) r
+      → BringsRow old after new st (whole_header_row accepts active u h bytes) r
   header_brings {T} u next old after new st r seen asked judged comes headers goes = by_current u.current refl
     where
-      by_current : (current : Option OpenLoad) → u.current ≡ current → BringsRow old after new st (whole_header_row accepts id u h bytes) r
+      by_current : (current : Option OpenLoad) → u.current ≡ current → BringsRow old after new st (whole_header_row accepts active u h bytes) r
       by_current (Some one) some = absurd (let wrong : None ≡ Some (open_load_view one) = ap (λ (v : UploadView). v.current) seen ∙ ap current_view some in cc)
       by_current None none =
           let opened : u ≡ record { request = u.request; loads = u.loads; current = None; reports = u.reports } = ap (λ (c : Option OpenLoad). record { request = u.request; loads = u.loads; current = c; reports = u.reports }) none in
           let l = header_open wanted h bytes in
           let found : next_wanted unopened ≡ Some wanted = asked in
           let whole = whole_in unopened h l 0 next comes refl refl (omega arith) in
-          let given : with_file wanted.header (with_bytes bytes (with_load wanted.part (length (files_of h) + 1) (given_of u bytes))) ≡ given_of (with_open u l) [] =
-          ap (λ (x : Upload). with_file wanted.header (with_bytes bytes (with_load wanted.part (length (files_of h) + 1) (given_of x bytes)))) opened ∙ given_header u.request u.loads u.reports wanted h bytes bytes in
+          let given : with_file wanted.header (with_bytes bytes (with_load wanted.part h.type_id (length (files_of h) + 1) (given_of u bytes))) ≡ given_of (with_open u l) [] =
+          ap (λ (x : Upload). with_file wanted.header (with_bytes bytes (with_load wanted.part h.type_id (length (files_of h) + 1) (given_of x bytes)))) opened ∙ given_header u.request u.loads u.reports wanted h bytes bytes in
           let brought = next_brings u l next old after new st _ r headers whole given goes in
-          subst (λ (v : UploadView). BringsRow old after new st (whole_judged accepts id u v h bytes (next_wanted v)) r) seen
-          (subst (λ (o : Option Wanted). BringsRow old after new st (whole_judged accepts id u unopened h bytes o) r) (sym found)
+          subst (λ (v : UploadView). BringsRow old after new st (whole_judged accepts active u v h bytes (next_wanted v)) r) seen
+          (subst (λ (o : Option Wanted). BringsRow old after new st (whole_judged accepts active u unopened h bytes o) r) (sym found)
           (subst (λ (j : Judgement). BringsRow old after new st (row_judged u bytes j) r) (sym judged)
           (subst (λ (v : UploadView). BringsRow old after new st (row_judged_at v) r) seen (subst (λ (o : Option Wanted). BringsRow old after new st (placed_at o) r) (sym found) brought))))
         where
@@ -119,11 +119,11 @@ module _ (accepts : HeaderView → Bool) (id : Identity) (w : WholeView) (wanted
           row_judged_at v = placed_at (next_wanted v)
 
   -- a test fails
-  pub header_stops : (u : Upload) (e : UploadEnd) → unopened ≡ upload_view u → slice_get w.request (length w.loads) ≡ Some wanted → Writes_stop e ≡ header_row accepts id w h bytes → (x : UploadEnd) × (whole_header_row accepts id u h bytes ≡ Writes_stop x)
+  pub header_stops : (u : Upload) (e : UploadEnd) → unopened ≡ upload_view u → slice_get w.request (length w.loads) ≡ Some wanted → Writes_stop e ≡ header_row accepts active w h bytes → (x : UploadEnd) × (whole_header_row accepts active u h bytes ≡ Writes_stop x)
   header_stops u e seen asked is =
-      let stop : Writes_stop e ≡ view_judged unopened (Kept_bytes (whole_buffer bytes)) (judge_spelled_header accepts id unopened wanted (whole_buffer bytes) h) = rw asked at is in
-      let (x, there) = judged_stops u unopened bytes (Kept_bytes (whole_buffer bytes)) (judge_spelled_header accepts id unopened wanted (whole_buffer bytes) h) e stop in
-      (x, subst (λ (v : UploadView). whole_judged accepts id u v h bytes (next_wanted v) ≡ Writes_stop x) seen (rw asked there))
+      let stop : Writes_stop e ≡ view_judged unopened (Kept_bytes (whole_buffer bytes)) (judge_spelled_header accepts active unopened wanted (whole_buffer bytes) h) = rw asked at is in
+      let (x, there) = judged_stops u unopened bytes (Kept_bytes (whole_buffer bytes)) (judge_spelled_header accepts active unopened wanted (whole_buffer bytes) h) e stop in
+      (x, subst (λ (v : UploadView). whole_judged accepts active u v h bytes (next_wanted v) ≡ Writes_stop x) seen (rw asked there))
 
 -- ---- all that may come of a header's bytes
 
@@ -134,13 +134,13 @@ buffer_is b arrived is short =
     ap (λ (x : Buffer). x.prefix) same ∙ take_all buffer_size arrived (omega (arith, ltb-false buffer_size b.count short, ap (λ (x : Buffer). x.count) same))
 
 -- a header that is read
-pub read_brings : {T : Type 0} (accepts : HeaderView → Bool) (id : Identity) (w : WholeView) (b : Buffer) (h : HeaderView) (wanted : Wanted) (u : Upload) (arrived : List ℕ) (old : DiskState) (after : Store) (new : DiskState) (st : StandingView) (r : Result T Down)
+pub read_brings : {T : Type 0} (accepts : Accepts) (active : Outline) (w : WholeView) (b : Buffer) (h : HeaderView) (wanted : Wanted) (u : Upload) (arrived : List ℕ) (old : DiskState) (after : Store) (new : DiskState) (st : StandingView) (r : Result T Down)
     → upload_of w None ≡ upload_view u → slice_get w.request (length w.loads) ≡ Some wanted → is_too_long b ≡ false → answer header b.prefix ≡ Ok h → b ≡ whole_buffer b.prefix → b.prefix ≡ arrived
-    → BringsRow old after new st (whole_header_row accepts id u h b.prefix) r → BringsRow old after new st (row_moved (Reads_file u) arrived (done_move accepts id (Reads_file (upload_of w None)) (Kept_bytes b))) r
+    → BringsRow old after new st (whole_header_row accepts active u h b.prefix) r → BringsRow old after new st (row_moved (Reads_file u) arrived (done_move accepts active (Reads_file (upload_of w None)) (Kept_bytes b))) r
 unfolding judge_header
-read_brings {T} accepts id w b h wanted u arrived old after new st r seen asked short is whole same brings =
-    let here : BringsRow old after new st (whole_judged accepts id u (upload_of w None) h b.prefix (Some wanted)) r =
-    subst (λ (o : Option Wanted). BringsRow old after new st (whole_judged accepts id u (upload_of w None) h b.prefix o) r) asked
-    (subst (λ (v : UploadView). BringsRow old after new st (whole_judged accepts id u v h b.prefix (next_wanted v)) r) (sym seen) brings) in
-    let P : List ℕ → Buffer → Type 0 = λ bytes x. BringsRow old after new st (row_judged u bytes (judge_spelled_header accepts id (upload_of w None) wanted x h)) r in
+read_brings {T} accepts active w b h wanted u arrived old after new st r seen asked short is whole same brings =
+    let here : BringsRow old after new st (whole_judged accepts active u (upload_of w None) h b.prefix (Some wanted)) r =
+    subst (λ (o : Option Wanted). BringsRow old after new st (whole_judged accepts active u (upload_of w None) h b.prefix o) r) asked
+    (subst (λ (v : UploadView). BringsRow old after new st (whole_judged accepts active u v h b.prefix (next_wanted v)) r) (sym seen) brings) in
+    let P : List ℕ → Buffer → Type 0 = λ bytes x. BringsRow old after new st (row_judged u bytes (judge_spelled_header accepts active (upload_of w None) wanted x h)) r in
     rw (asked, short, is) (subst (λ (bytes : List ℕ). P bytes b) same (subst (P b.prefix) (sym whole) here))

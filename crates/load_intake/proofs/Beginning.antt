@@ -4,7 +4,6 @@ use Rattle.bank_store.specs.declared.store.Store.{Store}
 use Rattle.disk_model.specs.State.{DiskState}
 use Rattle.disk_layout.specs.declared.manifest.ManifestLoad.{ManifestLoad}
 use Rattle.disk_layout.specs.Manifest.{entry_view}
-use Rattle.field_grammar.specs.SectionLaws.{size_number}
 use Rattle.load_protocol_files.specs.declared.lur.Wanted.{Wanted}
 use Rattle.session_rules.specs.Buffers.{Buffer}
 use Rattle.session_rules.specs.Uploads.{need_of}
@@ -12,16 +11,17 @@ use Rattle.load_intake.specs.declared.place.Place.TheVariants as places
 use Rattle.load_intake.specs.Kept.{IsIntake, intake_of}
 use Rattle.load_intake.specs.States.{WholeView}
 use Rattle.load_intake.specs.Stores.{StoreGoesOn, Has, StaysInStep}
+use Rattle.load_intake.proofs.Sizes.{head_size}
 
--- no loads need the two bytes that count them
-need_none : 2 ≡ need_of []
+-- no loads need the four bytes with which a manifest begins
+need_none : 4 ≡ need_of []
 unfolding need_of
-need_none = omega (arith, size_number 2 0)
+need_none = omega (arith, head_size 0)
 
 abbrev new_whole : List Wanted → List ManifestLoad → WholeView
-new_whole request loads = record { request = request; loads = map entry_view loads; need = 2 }
+new_whole request loads = record { request = request; loads = map entry_view loads; need = 4 }
 
-pub new_intake : (request : List Wanted) (loads : List ManifestLoad) (b : Buffer) → loads ≡ [] → 1 ≤ length request → length request ≤ 32 → IsIntake (intake_of (new_whole request loads) (places.Header b)) 2
+pub new_intake : (request : List Wanted) (loads : List ManifestLoad) (b : Buffer) → loads ≡ [] → 1 ≤ length request → length request ≤ 32 → IsIntake (intake_of (new_whole request loads) (places.Header b)) 4
 new_intake request loads b none some few = rw none (record { few = few; left = omega (arith, some); need = need_none; next = tt; holds = omega arith })
 
 pub begins_in_step : (request : List Wanted) (loads : List ManifestLoad) (b : Buffer) (before store : Store) (d e : DiskState) → loads ≡ [] → Has store [] 0 0 → StoreGoesOn before store d e

@@ -1,5 +1,5 @@
 -- A header is whole.
-use Rattle.std.proofs.Common.{◌≡◌, ◌≢◌, ℕ, ◌+◌, ◌-◌, ◌<◌, ◌≤◌, min, List, [], ◌∷◌, ◌++◌, length, get_or, Option, Some, None, Ok, Err, Bool, true, false, ◌⊎◌, inl, inr, refl, sym, ap, subst, ◌∙◌, arith, append-nil}
+use Rattle.std.proofs.Common.{◌≡◌, ◌≢◌, ℕ, ◌+◌, ◌-◌, ◌<◌, ◌≤◌, min, List, [], ◌∷◌, ◌++◌, length, get_or, Option, Some, None, Ok, Err, true, false, ◌⊎◌, inl, inr, refl, sym, ap, subst, ◌∙◌, arith, append-nil}
 use Rattle.std.specs.Prelude.{slice_get}
 use Rattle.std.proofs.lemmas.Bool.{lt-ltb, le-ltb}
 use Rattle.std.proofs.lemmas.Option.{slice_get-get_or}
@@ -8,6 +8,7 @@ use Rattle.field_grammar.specs.ExactLaws.{answer-spelled, answer-fault, spelled_
 use Rattle.field_grammar.specs.Grammar.{Spelled, Fault}
 use Rattle.load_header.specs.declared.fault.HeaderFault.{HeaderFault}
 use Rattle.load_header.specs.declared.fault.HeaderFault.TheVariants.{TooLong}
+use Rattle.accept_rules.specs.Permissions.{Accepts}
 use Rattle.session_rules.specs.declared.reason.Reason.TheVariants.{HeaderRefused}
 use Rattle.crc_fields.specs.CheckSums.{crc32_of}
 use Rattle.bank_store.specs.declared.store.Store.{Store}
@@ -18,6 +19,7 @@ use Rattle.load_protocol_files.specs.declared.lur.Wanted.{Wanted}
 use Rattle.part_number.specs.VerdictLaws.{part_size}
 use Rattle.disk_layout.specs.declared.identity.Identity.{Identity}
 use Rattle.disk_layout.specs.Manifest.{total_length}
+use Rattle.disk_layout.specs.Holds.{Outline}
 use Rattle.session_rules.specs.declared.reason.Reason.{Reason}
 use Rattle.session_rules.specs.Buffers.{Buffer, is_too_long}
 use Rattle.session_rules.specs.TargetRows.{Kept_bytes, Reads_file, RowView, Writes_stop, done_move, placed_view, stopped_upload, view_judged, view_moved}
@@ -57,11 +59,11 @@ header_accepted w new b wanted h size crc need l id i is passes needs made there
 
 pub has_header : (w new : WholeView) (b : Buffer) (wanted : Wanted) (h : HeaderView) (size crc need : ℕ) (l : OpenLoadView) (id : Identity) (old store : Store) → IsIntake (intake_at w None (Kept_bytes b)) w.need → IsHeader h
     → Passes id wanted h need → need ≡ w.need + load_need wanted h size → new ≡ needing w need → l ≡ header_there wanted h size crc → id.bank ≡ bank_size_of old → bank_size_of store ≡ bank_size_of old
-    → Has store (w.loads ++ header_alone wanted size ∷ []) (length (files_of h)) 0 → HasAccepted new l store
+    → Has store (w.loads ++ header_alone wanted h.type_id size ∷ []) (length (files_of h)) 0 → HasAccepted new l store
 has_header w new b wanted h size crc need l id old store i is passes needs made there bank same has =
     let all : length (files_of h) ≡ length (files_of h) - 0 = omega arith in
     rw (made, there) (record {
-      has = subst (λ (n : ℕ). Has store (w.loads ++ header_alone wanted size ∷ []) n 0) all has;
+      has = subst (λ (n : ℕ). Has store (w.loads ++ header_alone wanted h.type_id size ∷ []) n 0) all has;
       fits = omega (arith, need_is w b wanted h size i is, needs, passes.fits, bank, same);
     })
 
@@ -79,9 +81,13 @@ fails_first first later reason is = rw (sym is) refl
 pub passes_first : (first later found : Option Reason) → None ≡ first → found ≡ later → found ≡ or_else first later
 passes_first first later found none is = rw (sym none) is
 
+-- what the identity that is lent says of a header is said beside what is active of that identity
+pub refused_by : (accepts : Accepts) (active : Outline) (id : Identity) (wanted : Wanted) (h : HeaderView) (need : ℕ) (found : Option Reason) → active.identity ≡ id → found ≡ refused_for accepts id wanted h need → found ≡ refused_for accepts active.identity wanted h need
+refused_by accepts active id wanted h need found same is = is ∙ ap (λ (x : Identity). refused_for accepts x wanted h need) (sym same)
+
 -- ---- the row after it
 
-module _ (accepts : HeaderView → Bool) (id : Identity) (w : WholeView) (wanted : Wanted) (h : HeaderView) (bytes : List ℕ) where
+module _ (accepts : Accepts) (active : Outline) (w : WholeView) (wanted : Wanted) (h : HeaderView) (bytes : List ℕ) where
   abbrev u : UploadView
   u = upload_of w None
 
@@ -89,19 +95,19 @@ module _ (accepts : HeaderView → Bool) (id : Identity) (w : WholeView) (wanted
   planned_need = need_of (w.loads ++ planned_load wanted h (length bytes) ∷ [])
 
   abbrev verdict : (need : ℕ) → Next → (crc : ℕ) → Option Reason
-  verdict need next crc = or_else (refused_for accepts id wanted h need) (load_reason h next crc)
+  verdict need next crc = or_else (refused_for accepts active.identity wanted h need) (load_reason h next crc)
 
   same_verdict : (need : ℕ) (next : Next) (crc : ℕ) → need ≡ planned_need → next ≡ next_with u h 0 → crc ≡ crc32_of (covered_header bytes) → verdict need next crc ≡ verdict planned_need (next_with u h 0) (crc32_of (covered_header bytes))
   same_verdict need next crc n x c = rw (n, x, c) refl
 
   pub header_stopped : (need : ℕ) (next : Next) (crc : ℕ) (reason : Reason) (arrived : ℕ) → slice_get w.request (length w.loads) ≡ Some wanted → need ≡ planned_need → next ≡ next_with u h 0 → crc ≡ crc32_of (covered_header bytes)
-      → Some reason ≡ verdict need next crc → arrived ≡ arrived_at (length w.loads) next → Writes_stop (stopped_upload w.request arrived (length w.loads + 1) reason) ≡ header_row accepts id w h bytes
+      → Some reason ≡ verdict need next crc → arrived ≡ arrived_at (length w.loads) next → Writes_stop (stopped_upload w.request arrived (length w.loads + 1) reason) ≡ header_row accepts active w h bytes
   header_stopped need next crc reason arrived asked n x c found many =
       let here : verdict planned_need (next_with u h 0) (crc32_of (covered_header bytes)) ≡ Some reason = sym (same_verdict need next crc n x c) ∙ sym found in
       rw (asked, here, many, arrived_is w None h 0 next x) refl
 
   pub header_placed : (need : ℕ) (next : Next) (crc : ℕ) (new : WholeView) (l : OpenLoadView) → slice_get w.request (length w.loads) ≡ Some wanted → need ≡ planned_need → next ≡ next_with u h 0 → crc ≡ crc32_of (covered_header bytes)
-      → None ≡ verdict need next crc → new ≡ needing w need → l ≡ header_there wanted h (length bytes) crc → placed_view (upload_of new None) l next ≡ header_row accepts id w h bytes
+      → None ≡ verdict need next crc → new ≡ needing w need → l ≡ header_there wanted h (length bytes) crc → placed_view (upload_of new None) l next ≡ header_row accepts active w h bytes
   header_placed need next crc new l asked n x c found made there =
       let here : verdict planned_need (next_with u h 0) (crc32_of (covered_header bytes)) ≡ None = sym (same_verdict need next crc n x c) ∙ sym found in
       rw (asked, here, made, there, x, c, asked) refl
@@ -118,8 +124,8 @@ pub asked_is : (w : WholeView) (b : Buffer) → IsIntake (intake_at w None (Kept
 unfolding asked_of
 asked_is w b i = slice_get-get_or w.request (length w.loads) no_wanted i.left
 
-abbrev pub header_moved : (accepts : HeaderView → Bool) → Identity → WholeView → Buffer → RowView
-header_moved accepts id w b = view_moved (Reads_file (upload_of w None)) (Kept_bytes b) (done_move accepts id (Reads_file (upload_of w None)) (Kept_bytes b))
+abbrev pub header_moved : Accepts → (active : Outline) → WholeView → Buffer → RowView
+header_moved accepts active w b = view_moved (Reads_file (upload_of w None)) (Kept_bytes b) (done_move accepts active (Reads_file (upload_of w None)) (Kept_bytes b))
 
 abbrev stopped_for : WholeView → HeaderFault → RowView
 stopped_for w fault = Writes_stop (stopped_upload w.request (length w.loads) (length w.loads + 1) (HeaderRefused fault))
@@ -138,20 +144,20 @@ buffer_whole b filled all =
     buffer_of : List ℕ → ℕ → Buffer
     buffer_of bytes n = record { prefix = bytes; count = n }
 
-pub too_long_row : (accepts : HeaderView → Bool) (id : Identity) (w : WholeView) (b : Buffer) → IsIntake (intake_at w None (Kept_bytes b)) w.need → is_too_long b ≡ true → stopped_for w TooLong ≡ header_moved accepts id w b
+pub too_long_row : (accepts : Accepts) (active : Outline) (w : WholeView) (b : Buffer) → IsIntake (intake_at w None (Kept_bytes b)) w.need → is_too_long b ≡ true → stopped_for w TooLong ≡ header_moved accepts active w b
 unfolding judge_header
-too_long_row accepts id w b i long = rw (asked_is w b i, long) refl
+too_long_row accepts active w b i long = rw (asked_is w b i, long) refl
 
-pub refused_row : (accepts : HeaderView → Bool) (id : Identity) (w : WholeView) (b : Buffer) (fault : HeaderFault) → IsIntake (intake_at w None (Kept_bytes b)) w.need → is_too_long b ≡ false → answer header b.prefix ≡ Err fault
-    → stopped_for w fault ≡ header_moved accepts id w b
+pub refused_row : (accepts : Accepts) (active : Outline) (w : WholeView) (b : Buffer) (fault : HeaderFault) → IsIntake (intake_at w None (Kept_bytes b)) w.need → is_too_long b ≡ false → answer header b.prefix ≡ Err fault
+    → stopped_for w fault ≡ header_moved accepts active w b
 unfolding judge_header
-refused_row accepts id w b fault i long is = rw (asked_is w b i, long, is) refl
+refused_row accepts active w b fault i long is = rw (asked_is w b i, long, is) refl
 
-pub read_row : (accepts : HeaderView → Bool) (id : Identity) (w : WholeView) (b : Buffer) (h : HeaderView) → IsIntake (intake_at w None (Kept_bytes b)) w.need → is_too_long b ≡ false → answer header b.prefix ≡ Ok h → b ≡ whole_buffer b.prefix
-    → header_row accepts id w h b.prefix ≡ header_moved accepts id w b
+pub read_row : (accepts : Accepts) (active : Outline) (w : WholeView) (b : Buffer) (h : HeaderView) → IsIntake (intake_at w None (Kept_bytes b)) w.need → is_too_long b ≡ false → answer header b.prefix ≡ Ok h → b ≡ whole_buffer b.prefix
+    → header_row accepts active w h b.prefix ≡ header_moved accepts active w b
 unfolding judge_header
-read_row accepts id w b h i long is whole =
-    let P : Buffer → Type 0 = λ x. view_judged (upload_of w None) (Kept_bytes x) (judge_spelled_header accepts id (upload_of w None) (asked_of w) x h) ≡ view_judged (upload_of w None) (Kept_bytes b) (judge_spelled_header accepts id (upload_of w None) (asked_of w) b h) in
+read_row accepts active w b h i long is whole =
+    let P : Buffer → Type 0 = λ x. view_judged (upload_of w None) (Kept_bytes x) (judge_spelled_header accepts active (upload_of w None) (asked_of w) x h) ≡ view_judged (upload_of w None) (Kept_bytes b) (judge_spelled_header accepts active (upload_of w None) (asked_of w) b h) in
     rw (asked_is w b i, long, is) (subst P whole refl)
 
 -- ---- reading a header

@@ -64,7 +64,7 @@ brings_nothing after disk s row e = record { adds = adds_nothing disk _ _; ok = 
 abbrev pub with_open : Upload → OpenLoad → Upload
 with_open u l = record { request = u.request; loads = u.loads; current = Some l; reports = u.reports }
 
-file_to_end : (loads : List GivenLoad) (l : GivenLoad) (file : FileView) → file_to_last file (loads ++ l ∷ []) ≡ loads ++ record { part = l.part; announced = l.announced; files = l.files ++ file ∷ [] } ∷ []
+file_to_end : (loads : List GivenLoad) (l : GivenLoad) (file : FileView) → file_to_last file (loads ++ l ∷ []) ≡ loads ++ record { part = l.part; type_id = l.type_id; announced = l.announced; files = l.files ++ file ∷ [] } ∷ []
 file_to_end [] l file = refl
 file_to_end (x ∷ []) l file = refl
 file_to_end (x ∷ y ∷ loads) l file = ap (λ (ls : List GivenLoad). x ∷ ls) (file_to_end (y ∷ loads) l file)
@@ -81,12 +81,12 @@ abbrev pub file_open : OpenLoad → (name bytes : List ℕ) → OpenLoad
 file_open l name bytes = record { wanted = l.wanted; header = l.header; bytes = l.bytes; files = l.files ++ record { name = name; bytes = bytes } ∷ [] }
 
 pub given_header : (request : List Wanted) (loads : List LoadView) (reports : ℕ) (wanted : Wanted) (h : HeaderView) (bytes arrived : List ℕ)
-    → with_file wanted.header (with_bytes bytes (with_load wanted.part (length (files_of h) + 1) (given_of (record { request = request; loads = loads; current = None; reports = reports }) arrived)))
+    → with_file wanted.header (with_bytes bytes (with_load wanted.part h.type_id (length (files_of h) + 1) (given_of (record { request = request; loads = loads; current = None; reports = reports }) arrived)))
     ≡ given_of (record { request = request; loads = loads; current = Some (header_open wanted h bytes); reports = reports }) []
 given_header request loads reports wanted h bytes arrived =
     let l = header_open wanted h bytes in
     ap (λ (ls : List GivenLoad). given ls []) (
-    file_to_end (map given_load loads ++ []) (record { part = wanted.part; announced = length (files_of h) + 1; files = [] }) (record { name = wanted.header; bytes = bytes })
+    file_to_end (map given_load loads ++ []) (record { part = wanted.part; type_id = Some h.type_id; announced = length (files_of h) + 1; files = [] }) (record { name = wanted.header; bytes = bytes })
     ∙ ap (λ (ls : List GivenLoad). ls ++ given_open l ∷ []) (append-nil (map given_load loads))
     )
     ∙ ap (λ (bytes : List ℕ). given (map given_load loads ++ given_open l ∷ []) bytes) (sym (take-nil (said_length (next_entry (open_load_view l)))))
@@ -97,7 +97,7 @@ given_file request loads l reports name bytes whole =
     let one = file_open l name bytes in
     ap (λ (ls : List GivenLoad). given ls []) (
     file_to_end (map given_load loads) (given_open l) (record { name = name; bytes = take (said_length (next_entry (open_load_view l))) bytes })
-    ∙ ap (λ (b : List ℕ). map given_load loads ++ record { part = l.wanted.part; announced = length (files_of l.header) + 1; files = (record { name = l.wanted.header; bytes = l.bytes } ∷ l.files) ++ record { name = name; bytes = b } ∷ [] } ∷ []) whole
+    ∙ ap (λ (b : List ℕ). map given_load loads ++ record { part = l.wanted.part; type_id = Some l.header.type_id; announced = length (files_of l.header) + 1; files = (record { name = l.wanted.header; bytes = l.bytes } ∷ l.files) ++ record { name = name; bytes = b } ∷ [] } ∷ []) whole
     )
     ∙ ap (λ (b : List ℕ). given (map given_load loads ++ given_open one ∷ []) b) (sym (take-nil (said_length (next_entry (open_load_view one)))))
 
@@ -117,7 +117,7 @@ whole_in u h l n next is same count within = rw is (by_more (nat_lt n (length (f
     by_more false false e = omega (arith, ltb-false n (length (files_of h)) e, within, count, ap (λ (x : HeaderView). length (files_of x)) same)
 
 abbrev announcing : OpenLoad → ℕ → GivenLoad
-announcing l n = record { part = l.wanted.part; announced = n; files = record { name = l.wanted.header; bytes = l.bytes } ∷ l.files }
+announcing l n = record { part = l.wanted.part; type_id = Some l.header.type_id; announced = n; files = record { name = l.wanted.header; bytes = l.bytes } ∷ l.files }
 
 given_whole : (l : OpenLoad) → length l.files ≡ length (files_of l.header) → given_open l ≡ given_load (load_of l)
 given_whole l all =
@@ -134,7 +134,7 @@ given_between u l all =
     )
 
 abbrev named : LoadView → List ℕ → LoadView
-named load name = record { part = load.part; header_name = name; files = load.files }
+named load name = record { part = load.part; type_id = load.type_id; header_name = name; files = load.files }
 
 loads_given : (loads : List LoadView) → HeadersAreFirst loads → map Given.load_of (map given_load loads) ≡ loads
 loads_given [] all = refl

@@ -1,5 +1,5 @@
 -- A file was accepted, and an intake goes on or the loads are installed.
-use Rattle.std.proofs.Common.{◌≡◌, ℕ, ◌-◌, ◌≤◌, List, [], ◌∷◌, ◌++◌, length, None, sym, ap, subst, ◌∙◌, arith, append-nil}
+use Rattle.std.proofs.Common.{◌≡◌, ℕ, ◌-◌, ◌≤◌, List, [], ◌∷◌, ◌++◌, length, Some, None, sym, ap, subst, ◌∙◌, arith, append-nil}
 use Rattle.std.proofs.lemmas.List.{length-map, take_all}
 use Rattle.bank_store.specs.declared.store.Store.{Store}
 use Rattle.bank_store.specs.Store.{IsBetweenLoads, bank_size_of, manifest_length}
@@ -21,7 +21,7 @@ files_planned w l a all = a.planned ∙ take_all (length l.files) (named_files l
 pub whole_is_planned : (w : WholeView) (l : OpenLoadView) → IsAccepted w l → length l.files ≡ length (files_of l.header) → load_entry_of l ≡ planned_load l.wanted l.header l.size
 whole_is_planned w l a all =
     let first : ManifestFile = record { name = l.wanted.header; length = l.size } in
-    let parts : List ℕ → List ManifestFile → LoadEntry = λ part files. record { part = part; files = first ∷ files } in
+    let parts : List ℕ → List ManifestFile → LoadEntry = λ part files. record { part = part; type_id = Some l.header.type_id; files = first ∷ files } in
     ap (λ (files : List ManifestFile). parts l.wanted.part files) (files_planned w l a all) ∙ ap (λ (part : List ℕ). parts part (named_files l.header)) (sym a.part)
 
 none_left : (w : WholeView) (l : OpenLoadView) (store : Store) → length l.files ≡ length (files_of l.header) → HasAccepted w l store → Has store (w.loads ++ load_entry_of l ∷ []) 0 0

@@ -2,7 +2,8 @@
 use Rattle.std.proofs.Common.{◌≡◌, ℕ, ◌+◌, length, Bool, true, false, nat_lt, Option, Some, None, refl, sym, ap, ◌∙◌, if◌then◌else◌}
 use Rattle.load_header.specs.declared.header.FileEntry.{FileEntry}
 use Rattle.load_header.specs.Header.{HeaderView}
-use Rattle.disk_layout.specs.declared.identity.Identity.{Identity}
+use Rattle.disk_layout.specs.Holds.{Outline}
+use Rattle.accept_rules.specs.Permissions.{Accepts}
 use Rattle.session_rules.specs.declared.reason.Reason.{Reason}
 use Rattle.session_rules.specs.Buffers.{Sums}
 use Rattle.session_rules.specs.TargetRows.{Kept_sums, Reads_file, RowView, Writes_stop, done_move, placed_view, stopped_upload, view_moved}
@@ -23,12 +24,12 @@ arrived_is w current h n next e =
 
 -- ---- data and support files
 
-module _ (accepts : HeaderView → Bool) (id : Identity) (w : WholeView) (l : OpenLoadView) (s : Sums) (e : FileEntry) where
+module _ (accepts : Accepts) (active : Outline) (w : WholeView) (l : OpenLoadView) (s : Sums) (e : FileEntry) where
   abbrev pub u : UploadView
   u = upload_of w (Some l)
 
   abbrev pub moved : RowView
-  moved = view_moved (Reads_file u) (Kept_sums s) (done_move accepts id (Reads_file u) (Kept_sums s))
+  moved = view_moved (Reads_file u) (Kept_sums s) (done_move accepts active (Reads_file u) (Kept_sums s))
 
   abbrev verdict : Next → Option Reason
   verdict next = or_else (file_reason (next_number l) e s) (load_reason l.header next s.load_crc)

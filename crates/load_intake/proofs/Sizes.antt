@@ -11,7 +11,9 @@ use Rattle.load_header.specs.declared.header.FileEntry.{FileEntry}
 use Rattle.load_header.specs.Header.{HeaderView}
 use Rattle.load_protocol_files.specs.declared.lur.Wanted.{Wanted}
 use Rattle.disk_layout.specs.declared.manifest.ManifestFile.{ManifestFile}
-use Rattle.disk_layout.specs.Manifest.{LoadEntry, file_entry_fields, load_entry_fields, manifest_fields, entries_length, total_length}
+use Rattle.disk_layout.specs.Manifest.{LoadEntry, file_entry_fields, head_fields, load_entry_fields, manifest_fields, type_fields, entries_length, total_length}
+use Rattle.disk_layout.specs.declared.manifest.Layout.TheVariants as layouts
+use Rattle.disk_layout.specs.Offsets.{layout_mark}
 use Rattle.session_rules.specs.Uploads.{files_of, need_of, planned_load}
 use Rattle.load_intake.specs.Kept.{named_file}
 use Rattle.load_intake.specs.Needs.{entries_need, entry_need, load_need}
@@ -53,25 +55,31 @@ pub files_first : (f : ManifestFile) (files : List ManifestFile) → spelled_len
 files_first f files =
     omega (arith, ap (λ (l : List (List ℕ)). spelled_length l) (flat_map-cons file_entry_fields f files), size_more (file_entry_fields f) (files_fields files), file_size f)
 
-pub entry_size : (l : LoadEntry) → spelled_length (load_entry_fields l) ≡ length l.part + 2 + spelled_length (files_fields l.files)
+pub entry_size : (l : LoadEntry) → spelled_length (load_entry_fields layouts.Two l) ≡ length l.part + spelled_length (type_fields layouts.Two l.type_id) + 2 + spelled_length (files_fields l.files)
 entry_size l =
     omega (
       arith,
-      size_more (l.part ∷ []) (number_fields 2 (length l.files) ++ files_fields l.files),
+      size_more (l.part ∷ []) (type_fields layouts.Two l.type_id ++ (number_fields 2 (length l.files) ++ files_fields l.files)),
+      size_more (type_fields layouts.Two l.type_id) (number_fields 2 (length l.files) ++ files_fields l.files),
       size_more (number_fields 2 (length l.files)) (files_fields l.files),
       size_number 2 (length l.files),
       ap (λ (x : List ℕ). length x) (append-nil l.part),
     )
 
-pub manifest_more : (loads : List LoadEntry) (l : LoadEntry) → spelled_length (manifest_fields (loads ++ l ∷ [])) ≡ spelled_length (manifest_fields loads) + spelled_length (load_entry_fields l)
+-- the mark of the layout, and the number of the loads
+pub head_size : (loads : ℕ) → spelled_length (head_fields layouts.Two loads) ≡ 4
+head_size loads = omega (arith, size_more (number_fields 2 layout_mark) (number_fields 2 loads), size_number 2 layout_mark, size_number 2 loads)
+
+pub manifest_more : (loads : List LoadEntry) (l : LoadEntry)
+    → spelled_length (manifest_fields layouts.Two (loads ++ l ∷ [])) ≡ spelled_length (manifest_fields layouts.Two loads) + spelled_length (load_entry_fields layouts.Two l)
 manifest_more loads l =
     omega (
       arith,
-      size_more (number_fields 2 (length (loads ++ l ∷ []))) (flat_map load_entry_fields (loads ++ l ∷ [])),
-      size_more (number_fields 2 (length loads)) (flat_map load_entry_fields loads),
-      size_number 2 (length loads),
-      size_number 2 (length (loads ++ l ∷ [])),
-      one_more load_entry_fields loads l,
+      size_more (head_fields layouts.Two (length (loads ++ l ∷ []))) (flat_map (load_entry_fields layouts.Two) (loads ++ l ∷ [])),
+      size_more (head_fields layouts.Two (length loads)) (flat_map (load_entry_fields layouts.Two) loads),
+      head_size (length loads),
+      head_size (length (loads ++ l ∷ [])),
+      one_more (load_entry_fields layouts.Two) loads l,
     )
 
 -- ---- what is planned
@@ -91,6 +99,7 @@ need_planned loads w h size part =
       total_more loads (planned_load w h size),
       manifest_more loads (planned_load w h size),
       entry_size (planned_load w h size),
+      size_number 2 h.type_id,
       size_first first (map named_file (files_of h)),
       files_first first (map named_file (files_of h)),
       entries_needed (files_of h),
@@ -100,6 +109,6 @@ pub total_within : (loads : List LoadEntry) → total_length loads ≤ need_of l
 unfolding need_of
 total_within loads = omega arith
 
-pub need_is : (loads : List LoadEntry) → need_of loads ≡ total_length loads + spelled_length (manifest_fields loads)
+pub need_is : (loads : List LoadEntry) → need_of loads ≡ total_length loads + spelled_length (manifest_fields layouts.Two loads)
 unfolding need_of
 need_is loads = refl

@@ -1,5 +1,5 @@
 -- What the store has after each of its calls.
-use Rattle.std.proofs.Common.{◌≡◌, ℕ, ◌+◌, ◌<◌, ◌≤◌, List, [], ◌∷◌, ◌++◌, length, refl, sym, ap, subst, ◌∙◌, arith, length-append}
+use Rattle.std.proofs.Common.{◌≡◌, ℕ, ◌+◌, ◌<◌, ◌≤◌, Some, List, [], ◌∷◌, ◌++◌, length, refl, sym, ap, subst, ◌∙◌, arith, length-append}
 use Rattle.bank_store.specs.declared.fault.StoreFault.{StoreFault}
 use Rattle.bank_store.specs.declared.fault.StoreFault.TheVariants.{BankFull, SequenceSpent, DiskFailed, Memory}
 use Rattle.bank_store.specs.declared.stage.Filling.{Filling}
@@ -11,7 +11,7 @@ use Rattle.load_base.specs.Host.{longest_file}
 use Rattle.field_grammar.specs.SectionLaws.{size_number}
 use Rattle.load_protocol_files.specs.declared.lur.Wanted.{Wanted}
 use Rattle.load_intake.specs.Stores.{Has, HasRoomFor, header_alone, with_entry}
-use Rattle.load_intake.proofs.Sizes.{entry_size, files_more, manifest_more, size_more_files, total_more}
+use Rattle.load_intake.proofs.Sizes.{entry_size, files_more, head_size, manifest_more, size_more_files, total_more}
 
 -- ---- refusals
 
@@ -29,13 +29,13 @@ within store n room need have p =
 
 -- ---- what the store has
 
-pub begun_has : (store : Store) → IsFilling store nothing_filled → manifest_length store ≡ 2 → Has store [] 0 0
-begun_has store filling manifest = record { progress = nothing_filled; filling = filling; loads = refl; missing = refl; start = refl; end = refl; manifest = manifest ∙ sym (size_number 2 0) }
+pub begun_has : (store : Store) → IsFilling store nothing_filled → manifest_length store ≡ 4 → Has store [] 0 0
+begun_has store filling manifest = record { progress = nothing_filled; filling = filling; loads = refl; missing = refl; start = refl; end = refl; manifest = manifest ∙ sym (head_size 0) }
 
-pub load_begun : (old new : Store) (part : List ℕ) (files : ℕ) (loads : List LoadEntry) → ((p : Filling) → IsFilling old p → IsFilling new (load_announced files p)) → manifest_length new ≡ manifest_length old + 17 → length part ≡ 15
-    → Has old loads 0 0 → Has new (loads ++ record { part = part; files = [] } ∷ []) files 0
-load_begun old new part files loads filling manifest size h =
-    let l : LoadEntry = record { part = part; files = [] } in
+pub load_begun : (old new : Store) (part : List ℕ) (type_id files : ℕ) (loads : List LoadEntry) → ((p : Filling) → IsFilling old p → IsFilling new (load_announced files p)) → manifest_length new ≡ manifest_length old + 19 → length part ≡ 15
+    → Has old loads 0 0 → Has new (loads ++ record { part = part; type_id = Some type_id; files = [] } ∷ []) files 0
+load_begun old new part type_id files loads filling manifest size h =
+    let l : LoadEntry = record { part = part; type_id = Some type_id; files = [] } in
     record {
       progress = load_announced files h.progress;
       filling = filling h.progress h.filling;
@@ -43,7 +43,7 @@ load_begun old new part files loads filling manifest size h =
       missing = refl;
       start = omega (arith, h.start, total_more loads l);
       end = h.end;
-      manifest = omega (arith, manifest, h.manifest, size, manifest_more loads l, entry_size l);
+      manifest = omega (arith, manifest, h.manifest, size, manifest_more loads l, entry_size l, size_number 2 type_id);
     }
 
 pub appended : (old new : Store) (n : ℕ) (loads : List LoadEntry) (missing taken : ℕ) → ((p : Filling) → IsFilling old p → IsFilling new (bytes_appended n p)) → manifest_length new ≡ manifest_length old
@@ -106,9 +106,9 @@ room store loads missing taken n h fits p filling =
     omega (arith, same_end h.progress p same, h.end, h.start, fits)
 
 -- a header was written and ended
-pub header_there : (store : Store) (loads : List LoadEntry) (w : Wanted) (part : List ℕ) (n left files : ℕ) → part ≡ w.part → left ≡ files → Has store (loads ++ with_entry (record { part = part; files = [] }) w.header (0 + n) ∷ []) left 0
-    → Has store (loads ++ header_alone w n ∷ []) files 0
-header_there store loads w part n left files same few h =
-    let P : List ℕ → ℕ → ℕ → Type 0 = λ p size left. Has store (loads ++ record { part = p; files = record { name = w.header; length = size } ∷ [] } ∷ []) left 0 in
+pub header_there : (store : Store) (loads : List LoadEntry) (w : Wanted) (part : List ℕ) (type_id n left files : ℕ) → part ≡ w.part → left ≡ files → Has store (loads ++ with_entry (record { part = part; type_id = Some type_id; files = [] }) w.header (0 + n) ∷ []) left 0
+    → Has store (loads ++ header_alone w type_id n ∷ []) files 0
+header_there store loads w part type_id n left files same few h =
+    let P : List ℕ → ℕ → ℕ → Type 0 = λ p size left. Has store (loads ++ record { part = p; type_id = Some type_id; files = record { name = w.header; length = size } ∷ [] } ∷ []) left 0 in
     let zero : 0 + n ≡ n = omega arith in
     subst (λ (x : ℕ). P w.part n x) few (subst (λ (x : ℕ). P w.part x left) zero (subst (λ (x : List ℕ). P x (0 + n) left) same h))

@@ -19,11 +19,11 @@ use Rattle.load_intake.specs.States.{IntakeState}
 
 -- of a load that is whole
 abbrev pub given_load : LoadView → GivenLoad
-given_load load = record { part = load.part; announced = length load.files; files = load.files }
+given_load load = record { part = load.part; type_id = load.type_id; announced = length load.files; files = load.files }
 
 -- of one that isn't: its header and its files so far, of as many as the header names
 abbrev pub given_open : OpenLoad → GivenLoad
-given_open l = record { part = l.wanted.part; announced = length (files_of l.header) + 1; files = record { name = l.wanted.header; bytes = l.bytes } ∷ l.files }
+given_open l = record { part = l.wanted.part; type_id = Some l.header.type_id; announced = length (files_of l.header) + 1; files = record { name = l.wanted.header; bytes = l.bytes } ∷ l.files }
 
 abbrev pub given_current : Option OpenLoad → List GivenLoad
 given_current None = []

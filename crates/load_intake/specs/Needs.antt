@@ -17,6 +17,7 @@ entry_need entry = file_need entry.name entry.length
 abbrev pub entries_need : List FileEntry → ℕ
 entries_need entries = sum_by entry_need entries
 
--- a load with this header, of this many bytes: 15 bytes of its part number, two for the number of its files, and these
+-- a load with this header, of this many bytes: 15 bytes of its part number, two for its type id, two for the number of its
+-- files, and these
 abbrev pub load_need : Wanted → HeaderView → (size : ℕ) → ℕ
-load_need wanted h size = 17 + file_need wanted.header size + entries_need (files_of h)
+load_need wanted h size = 19 + file_need wanted.header size + entries_need (files_of h)

@@ -1,10 +1,11 @@
 -- How an intake and the store that it fills go together (docs/EXCHANGE.md, "Upload"; docs/DISK.md).
-use Rattle.std.specs.Prelude.{◌≡◌, ◌⊎◌, ℕ, ◌+◌, ◌-◌, ◌≤◌, ⊤, List, [], ◌∷◌, ◌++◌, length, Result, OnOk, IsErrOf, false}
+use Rattle.std.specs.Prelude.{◌≡◌, ◌⊎◌, ℕ, ◌+◌, ◌-◌, ◌≤◌, ⊤, Some, List, [], ◌∷◌, ◌++◌, length, Result, OnOk, IsErrOf, false}
 use Rattle.std.specs.List.{concat}
 use Rattle.disk_model.specs.State.{DiskState, KeepsCounts}
 use Rattle.disk_layout.specs.DiskReads.{HasDiskCause, IsOutOfMemory}
 use Rattle.disk_layout.specs.Slots.{other_bank, other_slot}
 use Rattle.disk_layout.specs.Manifest.{LoadEntry, total_length, manifest_fields}
+use Rattle.disk_layout.specs.declared.manifest.Layout.TheVariants as layouts
 use Rattle.bank_store.specs.declared.fault.StoreFault.{StoreFault}
 use Rattle.bank_store.specs.declared.fault.StoreFault.TheVariants.{DiskFailed}
 use Rattle.bank_store.specs.declared.store.Store.{Store}
@@ -32,15 +33,15 @@ pub record Has (store : Store) (given : List LoadEntry) (left taken : ℕ) : Typ
   pub missing : progress.missing ≡ left
   pub start : progress.start ≡ total_length given
   pub end : progress.end ≡ progress.start + taken
-  pub manifest : manifest_length store ≡ length (concat (manifest_fields given))
+  pub manifest : manifest_length store ≡ length (concat (manifest_fields layouts.Two given))
 
--- a load of which nothing but its header is there yet, which has this many bytes
-abbrev pub header_alone : Wanted → (size : ℕ) → LoadEntry
-header_alone wanted size = record { part = wanted.part; files = record { name = wanted.header; length = size } ∷ [] }
+-- a load of this type of which nothing but its header is there yet, which has this many bytes
+abbrev pub header_alone : Wanted → (type_id size : ℕ) → LoadEntry
+header_alone wanted type_id size = record { part = wanted.part; type_id = Some type_id; files = record { name = wanted.header; length = size } ∷ [] }
 
 -- and one with a file more
 abbrev pub with_entry : LoadEntry → (name : List ℕ) (size : ℕ) → LoadEntry
-with_entry load name size = record { part = load.part; files = load.files ++ record { name = name; length = size } ∷ [] }
+with_entry load name size = record { part = load.part; type_id = load.type_id; files = load.files ++ record { name = name; length = size } ∷ [] }
 
 -- this many bytes more fit the bank
 abbrev pub HasRoomFor : ℕ → Store → Type 0

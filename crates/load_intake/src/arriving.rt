@@ -1,16 +1,16 @@
 //! What a file comes to that arrived whole.
-ghost use Rattle.std.specs.Prelude.{◌≡◌, ◌+◌, ◌<◌, ◌≤◌, [], ℕ, Bool, List as Items, None, Some};
+ghost use Rattle.std.specs.Prelude.{◌≡◌, ◌+◌, ◌<◌, ◌≤◌, [], ℕ, List as Items, None, Some};
 ghost use Rattle.std.specs.Prelude.{IfOk, length};
 ghost use Rattle.crc_fields.specs.CheckSums.{crc32_of};
 ghost use Rattle.accept_rules.specs.Interlocks.{Follows};
+ghost use Rattle.accept_rules.specs.Permissions.{Accepts};
 ghost use Rattle.bank_store.specs.DiskWrites.{IsRunning};
 ghost use Rattle.bank_store.specs.Given.{Given, configured, loads_of};
 ghost use Rattle.bank_store.specs.Keeps.{Continues};
 ghost use Rattle.bank_store.specs.Store.{IsIdle, IsPrepared, bank_size_of};
 ghost use Rattle.bank_store.specs.declared.store.Store.{Store as StoreState};
-ghost use Rattle.disk_layout.specs.declared.identity.Identity.{Identity as IdentityState};
-ghost use Rattle.disk_layout.specs.Holds.{StandingView};
-ghost use Rattle.load_header.specs.Header.{HeaderView, header_view};
+ghost use Rattle.disk_layout.specs.Holds.{Outline, StandingView};
+ghost use Rattle.load_header.specs.Header.{header_view};
 ghost use Rattle.load_header.specs.HeaderFields.{HeaderSpells};
 ghost use Rattle.session_rules.specs.Buffers.{empty_buffer};
 ghost use Rattle.session_rules.specs.TargetRows.{Kept_bytes, Kept_sums, Over, Reads_file};
@@ -60,19 +60,21 @@ pub(crate) fn header_arrived<K: Disk, R: Rule>(
     requires arrived { Arrived (intake_at whole None (Kept_bytes buffer)) whole.need store.old
         (K.state disk.old) }
     requires bank { identity.now.bank ≡ bank_size_of store.old }
-    ensures row { (accepts : HeaderView → Bool) → Follows R.may_say interlock.now accepts
+    ensures row { (accepts : Accepts) → Follows R.may_say interlock.now accepts
+        → (active : Outline) → active.identity ≡ identity.now
         → IfOk result (λ finished. row_seen finished ≡ view_moved
         (Reads_file (upload_of whole None)) (Kept_bytes buffer)
-        (done_move accepts identity.now (Reads_file (upload_of whole None))
+        (done_move accepts active (Reads_file (upload_of whole None))
         (Kept_bytes buffer))) }
     ensures ends { IfOk result (λ finished. Ends finished store.old store.new
         (K.state disk.old) (K.state disk.new)) }
-    ensures brings { (accepts : HeaderView → Bool) → Follows R.may_say interlock.now accepts
+    ensures brings { (accepts : Accepts) → Follows R.may_say interlock.now accepts
+        → (active : Outline) → active.identity ≡ identity.now
         → (s : StandingView) (u : Upload) (arrived : Items ℕ)
         → IsOf (intake_at whole None (Kept_bytes buffer)) u arrived
         → InstallsRow store.old (K.state disk.old) s (Reads_file u) arrived
         → BringsRow (K.state disk.old) store.new (K.state disk.new) s
-        (row_moved (Reads_file u) arrived (done_move accepts identity.now
+        (row_moved (Reads_file u) arrived (done_move accepts active
         (Reads_file (upload_of whole None)) (Kept_bytes buffer))) result }
     ensures size { bank_size_of store.new ≡ bank_size_of store.old }
     ensures writes { Writes (K.state disk.old) (K.state disk.new) result }
@@ -124,16 +126,18 @@ fn header_read<K: Disk, R: Rule>(
     requires bank { identity.now.bank ≡ bank_size_of store.old }
     requires spelled { HeaderSpells (header_view header) buffer.prefix }
     requires short { (4 ≤ length buffer.prefix) × (length buffer.prefix ≤ 65536) }
-    ensures row { (accepts : HeaderView → Bool) → Follows R.may_say interlock.now accepts
-        → IfOk result (λ finished. row_seen finished ≡ header_row accepts identity.now whole
+    ensures row { (accepts : Accepts) → Follows R.may_say interlock.now accepts
+        → (active : Outline) → active.identity ≡ identity.now
+        → IfOk result (λ finished. row_seen finished ≡ header_row accepts active whole
         (header_view header) buffer.prefix) }
     ensures ends { IfOk result (λ finished. Ends finished store.old store.new
         (K.state disk.old) (K.state disk.new)) }
-    ensures brings { (accepts : HeaderView → Bool) → Follows R.may_say interlock.now accepts
+    ensures brings { (accepts : Accepts) → Follows R.may_say interlock.now accepts
+        → (active : Outline) → active.identity ≡ identity.now
         → (s : StandingView) (u : Upload) → upload_of whole None ≡ upload_view u
         → InstallsRow store.old (K.state disk.old) s (Reads_file u) buffer.prefix
         → BringsRow (K.state disk.old) store.new (K.state disk.new) s
-        (whole_header_row accepts identity.now u (header_view header) buffer.prefix) result }
+        (whole_header_row accepts active u (header_view header) buffer.prefix) result }
     ensures size { bank_size_of store.new ≡ bank_size_of store.old }
     ensures writes { Writes (K.state disk.old) (K.state disk.new) result }
 {
@@ -188,17 +192,17 @@ pub(crate) fn file_arrived<K: Disk>(
 ) -> Result<Finished, Down>
     requires arrived { Arrived (intake_at whole (Some load) (Kept_sums sums)) whole.need store.old
         (K.state disk.old) }
-    ensures row { (accepts : HeaderView → Bool) (id : IdentityState) → IfOk result (λ finished.
+    ensures row { (accepts : Accepts) (active : Outline) → IfOk result (λ finished.
         row_seen finished ≡ view_moved (Reads_file (upload_of whole (Some load))) (Kept_sums sums)
-        (done_move accepts id (Reads_file (upload_of whole (Some load))) (Kept_sums sums))) }
+        (done_move accepts active (Reads_file (upload_of whole (Some load))) (Kept_sums sums))) }
     ensures ends { IfOk result (λ finished. Ends finished store.old store.new
         (K.state disk.old) (K.state disk.new)) }
-    ensures brings { (accepts : HeaderView → Bool) (id : IdentityState) (s : StandingView)
+    ensures brings { (accepts : Accepts) (active : Outline) (s : StandingView)
         (u : Upload) (arrived : Items ℕ)
         → IsOf (intake_at whole (Some load) (Kept_sums sums)) u arrived
         → InstallsRow store.old (K.state disk.old) s (Reads_file u) arrived
         → BringsRow (K.state disk.old) store.new (K.state disk.new) s
-        (row_moved (Reads_file u) arrived (done_move accepts id
+        (row_moved (Reads_file u) arrived (done_move accepts active
         (Reads_file (upload_of whole (Some load))) (Kept_sums sums))) result }
     ensures size { bank_size_of store.new ≡ bank_size_of store.old }
     ensures writes { Writes (K.state disk.old) (K.state disk.new) result }

@@ -1,11 +1,11 @@
 //! An upload at its target.
-ghost use Rattle.std.specs.Prelude.{◌≡◌, ◌+◌, ◌<◌, ◌≤◌, ◌++◌, [], ℕ, Bool, List as Items};
+ghost use Rattle.std.specs.Prelude.{◌≡◌, ◌+◌, ◌<◌, ◌≤◌, ◌++◌, [], ℕ, List as Items};
 ghost use Rattle.std.specs.Prelude.{length, IfOk, OnOk};
-ghost use Rattle.load_header.specs.Header.{HeaderView};
+ghost use Rattle.accept_rules.specs.Permissions.{Accepts};
 ghost use Rattle.bank_store.specs.DiskWrites.{IsRunning};
 ghost use Rattle.bank_store.specs.Store.{IsPrepared, IsSpent, bank_size_of};
 ghost use Rattle.accept_rules.specs.Interlocks.{Follows};
-ghost use Rattle.disk_layout.specs.Holds.{StandingView};
+ghost use Rattle.disk_layout.specs.Holds.{Outline, StandingView};
 ghost use Rattle.session_rules.specs.Uploads.{Upload, next_name};
 ghost use Rattle.bank_store.specs.Fits.{InstallsBeside};
 ghost use Rattle.bank_store.specs.Keeps.{Continues};
@@ -91,7 +91,8 @@ impl Intake {
                 alloc,
                 request,
                 loads: List::new(alloc),
-                need: 2,
+                // The manifest of no loads: the mark of its layout, and their number.
+                need: 4,
             },
             place: Place::Header(buffer),
         })
@@ -174,18 +175,20 @@ impl Intake {
         requires bank { identity.now.bank ≡ bank_size_of store.old }
         requires running { IsRunning (K.state disk.old) }
         // With Ok.
-        ensures row { (accepts : HeaderView → Bool) → Follows R.may_say interlock.now accepts
+        ensures row { (accepts : Accepts) → Follows R.may_say interlock.now accepts
+            → (active : Outline) → active.identity ≡ identity.now
             → IfOk result (λ finished. row_seen finished ≡ view_moved (Reads_file self.upload)
-            self.arriving (done_move accepts identity.now (Reads_file self.upload) self.arriving)) }
+            self.arriving (done_move accepts active (Reads_file self.upload) self.arriving)) }
         ensures ends { IfOk result (λ finished. Ends finished store.old store.new
             (K.state disk.old) (K.state disk.new)) }
         // Where the disk has what arrived, it has with Ok what comes of it: the files so far, or
         // the new configuration alone. Until then the old one is left, or in the last call either.
-        ensures brings { (accepts : HeaderView → Bool) → Follows R.may_say interlock.now accepts
+        ensures brings { (accepts : Accepts) → Follows R.may_say interlock.now accepts
+            → (active : Outline) → active.identity ≡ identity.now
             → (s : StandingView) (u : Upload) (arrived : Items ℕ) → IsOf self u arrived
             → InstallsRow store.old (K.state disk.old) s (Reads_file u) arrived
             → BringsRow (K.state disk.old) store.new (K.state disk.new) s
-            (row_moved (Reads_file u) arrived (done_move accepts identity.now
+            (row_moved (Reads_file u) arrived (done_move accepts active
             (Reads_file self.upload) self.arriving)) result }
         // Whatever it answers.
         ensures size { bank_size_of store.new ≡ bank_size_of store.old }

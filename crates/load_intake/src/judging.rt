@@ -1,9 +1,10 @@
 //! What the tests say of a file that arrived.
-ghost use Rattle.std.specs.Prelude.{◌≡◌, ◌+◌, ◌*◌, ◌^◌, ◌≤◌, ◌<◌, length, Bool, None, Some, bytes_eq, slice_get};
+ghost use Rattle.std.specs.Prelude.{◌≡◌, ◌+◌, ◌*◌, ◌^◌, ◌≤◌, ◌<◌, length, None, Some, bytes_eq, slice_get};
 ghost use Rattle.std.specs.List.{list_any};
 ghost use Rattle.accept_rules.specs.Interlocks.{Follows};
-ghost use Rattle.load_header.specs.Header.{HeaderView, hardware_at_view, header_view};
+ghost use Rattle.load_header.specs.Header.{hardware_at_view, header_view};
 ghost use Rattle.load_header.specs.HeaderFields.{IsHeader};
+ghost use Rattle.accept_rules.specs.Permissions.{Accepts};
 ghost use Rattle.session_rules.specs.Uploads.{file_reason as file_fault, files_of};
 ghost use Rattle.session_rules.specs.Uploads.{is_at as is_at_of, is_for as is_for_of};
 ghost use Rattle.session_rules.specs.Uploads.{load_reason as load_fault};
@@ -29,7 +30,7 @@ pub(crate) fn header_reason<R: Rule>(
     header: &LoadHeader,
     need: u64,
 ) -> Option<Reason>
-    ensures is { (accepts : HeaderView → Bool) → Follows R.may_say interlock.now accepts → result
+    ensures is { (accepts : Accepts) → Follows R.may_say interlock.now accepts → result
         ≡ refused_for accepts identity.now wanted.now (header_view header.now) need }
     ensures passed { result ≡ None → Passes identity.now wanted.now (header_view header.now) need }
 {
@@ -91,7 +92,7 @@ pub(crate) fn load_need(wanted: &Wanted, header: &LoadHeader, size: u32) -> u64
 {
     let data = entries_need(header.data_files.as_slice());
     let support = entries_need(header.support_files.as_slice());
-    17 + file_need(&wanted.header, size) + data + support
+    19 + file_need(&wanted.header, size) + data + support
 }
 
 fn entries_need(entries: &[FileEntry]) -> u64

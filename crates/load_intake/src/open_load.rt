@@ -82,6 +82,7 @@ impl OpenLoad {
         }
         Ok(ManifestLoad {
             part: self.wanted.part.text(),
+            type_id: Some(self.header.type_id),
             files,
         })
     }

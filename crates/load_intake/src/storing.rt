@@ -1,5 +1,5 @@
 //! What an intake has its store do.
-ghost use Rattle.std.specs.Prelude.{◌≡◌, ℕ, ◌+◌, ◌<◌, ◌≤◌, [], ◌∷◌, ◌++◌, length, List, OnOk};
+ghost use Rattle.std.specs.Prelude.{◌≡◌, ℕ, ◌+◌, ◌<◌, ◌≤◌, [], ◌∷◌, ◌++◌, length, List, Some, OnOk};
 ghost use Rattle.bank_store.specs.DiskWrites.{IsFailure, IsRunning};
 ghost use Rattle.bank_store.specs.Keeps.{Continues};
 ghost use Rattle.bank_store.specs.Store.{AwaitsEnd, AwaitsFile, AwaitsLoad, IsBetweenLoads};
@@ -78,18 +78,19 @@ pub(crate) fn append<K: Disk>(store: &mut Store, disk: &mut K, bytes: &[u8]) -> 
     }
 }
 
-/// A load of this many files begins.
-fn start_load(store: &mut Store, part: PartText, files: u16)
+/// A load of this type and of this many files begins.
+fn start_load(store: &mut Store, part: PartText, type_id: u16, files: u16)
     requires awaits { AwaitsLoad store.old }
     requires files { (1 ≤ files) × (files ≤ 256) }
     requires size { length part ≡ 15 }
     ensures has { (loads : List LoadEntry) → Has store.old loads 0 0
-        → Has store.new (loads ++ record { part = part; files = [] } ∷ []) files 0 }
+        → Has store.new
+        (loads ++ record { part = part; type_id = Some type_id; files = [] } ∷ []) files 0 }
     ensures given { (image : Image) (g : Given) → HasGiven store.old image g
-        → HasGiven store.new image (with_load part files g) }
+        → HasGiven store.new image (with_load part type_id files g) }
     ensures continues { Continues store.old store.new }
 {
-    match store.start_load(part, files) {
+    match store.start_load(part, type_id, files) {
         Ok(()) => {}
         Err(_) => unreachable!(),
     }
@@ -128,11 +129,12 @@ pub(crate) fn write_header<K: Disk>(
     requires part { length wanted.now.part ≡ 15 }
     requires running { IsRunning (K.state disk.old) }
     ensures has { OnOk result (Has store.new
-        (whole.now.loads ++ header_alone wanted.now (length bytes.now) ∷ [])
+        (whole.now.loads ++ header_alone wanted.now header.now.type_id (length bytes.now) ∷ [])
         (length (files_of (header_view header.now))) 0) }
     ensures gives { (s : StandingView) (g : Given) → IsGiven store.old (K.state disk.old) s g
         → Gives (K.state disk.old) store.new (K.state disk.new) s
-        (with_file wanted.now.header (with_bytes bytes.now (with_load wanted.now.part
+        (with_file wanted.now.header (with_bytes bytes.now
+        (with_load wanted.now.part header.now.type_id
         (length (files_of (header_view header.now)) + 1) g))) result }
     ensures goes_on { OnOk result (StoreGoesOn store.old store.new (K.state disk.old)
         (K.state disk.new)) }
@@ -140,7 +142,7 @@ pub(crate) fn write_header<K: Disk>(
     ensures writes { Writes (K.state disk.old) (K.state disk.new) result }
 {
     let files = header.data_files.len() + header.support_files.len();
-    start_load(store, wanted.part.text(), files as u16 + 1);
+    start_load(store, wanted.part.text(), header.type_id, files as u16 + 1);
     append(store, disk, bytes)?;
     end_file(store, wanted.header);
     Ok(())

@@ -6,15 +6,14 @@ use Rattle.disk_model.specs.MomentLaws.{leaves_more, read_goes_on, started}
 use Rattle.disk_model.specs.State.{DiskState, OnlyReads}
 use Rattle.bank_store.specs.Fits.{LosesOnlyWork}
 use Rattle.disk_layout.specs.Holds.{HoldsConfig, StandingView}
-use Rattle.accept_rules.specs.Permissions.{Permits, permits}
-use Rattle.load_header.specs.Header.{HeaderView}
+use Rattle.accept_rules.specs.Permissions.{AcceptsPermitted, permits}
 use Rattle.media_check.specs.Sets.{SetView}
 use Rattle.run_promises.specs.Promises.{HoldsFirstOrGood}
 use Rattle.upload_replay.specs.Moments.{LeavesGood}
 use Rattle.loader_cli.specs.Replays.{LeavesFirstOrGood, setting_of}
 
 -- the rule of a target accepts only what it may
-pub accepts_permitted : (h : HeaderView) → permits h ≡ true → Permits h
+pub accepts_permitted : AcceptsPermitted permits
 accepts_permitted h is zero = absurd (let wrong : false ≡ true = ap (λ (n : ℕ). not (n == 0)) (sym zero) ∙ is in cc)
 
 module _ (disk : DiskState) (only : (t u : ℕ) (left : Image) → disk.clock ≤ t → disk.between t u left → disk.now left)

@@ -1,6 +1,6 @@
 -- Which loads a unit accepts that takes one type of its maker's own.
-use Rattle.std.specs.Prelude.{ℕ, Bool, not, ◌&&◌, ◌||◌, ◌==◌, ltb}
-use Rattle.load_header.specs.Header.{HeaderView}
+use Rattle.std.specs.Prelude.{ℕ, not, ◌&&◌, ◌||◌, ◌==◌, ltb}
+use Rattle.accept_rules.specs.Permissions.{Accepts}
 
-abbrev pub accepts : (own : ℕ) → HeaderView → Bool
+abbrev pub accepts : (own : ℕ) → Accepts
 accepts own h = not (h.type_id == 0) && (ltb h.type_id 0x8000 || h.type_id == own)

@@ -66,16 +66,16 @@ first_named : (files : List FileView) (entries : List ManifestFile) (f : Manifes
 first_named [] entries f are some is = absurd (omega (arith, ap length are, some))
 first_named (file ∷ files) entries f are some is = ap (λ (g : ManifestFile). g.name) (is ∙ ap (λ (l : List ManifestFile). get_or l 0 f) (sym are))
 
-made : List ℕ → List ManifestFile → LoadEntry
-made part files = record { part = part; files = files }
+made : List ℕ → Option ℕ → List ManifestFile → LoadEntry
+made part type_id files = record { part = part; type_id = type_id; files = files }
 
 -- a load by its line and those of its files
 pub one_load : (reads : Option Image) (at : ℕ) (e : ManifestLoad) (f : ManifestFile) (before middle after : List ℕ) → f ≡ get_or e.files.items 0 f → HasFiles (entry_view e)
     → middle ≡ before ++ load_line_of e.part f.name (length e.files.items) → ListsFiles reads at e.files.items middle after → ListsLoad reads at (entry_view e) before after
 unfolding load_lines load_line made
 one_load reads at e f before middle after is some line files = record {
-  load = record { part = e.part; header_name = f.name; files = files.files };
-  entry_is = ap (made e.part) files.entries_are;
+  load = record { part = e.part; type_id = e.type_id; header_name = f.name; files = files.files };
+  entry_is = ap (made e.part e.type_id) files.entries_are;
   header = first_named files.files e.files.items f files.entries_are some is;
   contents = files.contents;
   text =

@@ -8,7 +8,7 @@ use Rattle.field_grammar.specs.Grammar.{IsBytes, Spelled}
 use Rattle.field_grammar.specs.Answers.{answer}
 use Rattle.field_grammar.specs.StepLaws.{then_ok}
 use Rattle.disk_model.specs.Image.{Image}
-use Rattle.disk_layout.specs.Manifest.{LoadEntry, LoadFits, ManifestFits, RefusesManifestBytes, left_in, manifest, entries_length, total_length, with_these}
+use Rattle.disk_layout.specs.Manifest.{FitsALayout, LoadEntry, LoadFits, RefusesManifestBytes, left_in, manifest, entries_length, total_length, with_these}
 use Rattle.disk_layout.specs.ManifestLaws.{manifest_found, manifest_faulty, fault_has_offset}
 use Rattle.disk_layout.specs.ManifestSpelling.{manifest_spelling}
 use Rattle.disk_layout.specs.declared.manifest.ManifestFault.{ManifestFault}
@@ -69,8 +69,8 @@ pub within_all : (seen : List LoadEntry) (e : LoadEntry) (rest all : List LoadEn
 within_all seen e rest all are =
     omega (arith, ap total_length are, total_joined seen (e ∷ rest), total_joined (e ∷ []) rest, total_of_one e)
 
-pub each_has_files : (loads : List LoadEntry) → ManifestFits loads → All (λ (x : LoadEntry). HasFiles x) loads
-each_has_files loads fits = All-weaker (λ (x : LoadEntry). LoadFits x) (λ (x : LoadEntry). HasFiles x) (λ x fit. fit.some) loads fits.each
+pub each_has_files : (loads : List LoadEntry) → FitsALayout loads → All (λ (x : LoadEntry). HasFiles x) loads
+each_has_files loads fits = All-weaker (λ (x : LoadEntry). LoadFits fits.layout x) (λ (x : LoadEntry). HasFiles x) (λ x fit. fit.some) loads fits.fits.each
 
 -- ---- the space that is left
 
@@ -124,7 +124,7 @@ tells bytes space fit has = record {
   loads = has.loads;
   read = has.read;
   spelled = spells bytes has.loads fit has.read;
-  fits = ((manifest_spelling bytes has.loads).0 (spells bytes has.loads fit has.read)).0;
+  fits = let (layout, fits, is) = (manifest_spelling bytes has.loads).0 (spells bytes has.loads fit has.read) in record { layout = layout; fits = fits };
   lengths = omega (arith, has.left_after.some);
 }
 

@@ -6,7 +6,7 @@ use Rattle.field_grammar.specs.Answers.{answer}
 use Rattle.field_grammar.specs.Grammar.{IsBytes, Spelled}
 use Rattle.disk_layout.specs.Offsets.{IsBankSize}
 use Rattle.disk_layout.specs.Slots.{IsManifestRange}
-use Rattle.disk_layout.specs.Manifest.{LoadEntry, ManifestFits, manifest, total_length}
+use Rattle.disk_layout.specs.Manifest.{FitsALayout, LoadEntry, manifest, total_length}
 use Rattle.disk_layout.specs.declared.active.Active.{Active}
 use Rattle.disk_layout.specs.declared.identity.Identity.{Identity}
 use Rattle.disk_layout.specs.declared.manifest.ManifestFault.{ManifestFault}
@@ -30,7 +30,7 @@ pub record TellsLoads (bytes : List ℕ) (contents : ℕ) : Type 0 where
   pub loads : List LoadEntry
   pub read : answer manifest bytes ≡ Ok loads
   pub spelled : Spelled manifest bytes loads
-  pub fits : ManifestFits loads
+  pub fits : FitsALayout loads
   pub lengths : total_length loads ≡ contents
 
 -- The bytes tell the loads of the outline that the image has by the active slot.

@@ -3,7 +3,7 @@ use Rattle.std.specs.Prelude.{◌≡◌, ◌≤◌, List, Bool}
 use Rattle.disk_model.specs.Image.{Image}
 use Rattle.disk_layout.specs.Offsets.{IsBankSize}
 use Rattle.disk_layout.specs.Slots.{slot_offset, bank_number, manifest_offset_of, manifest_length_of, IsManifestRange}
-use Rattle.disk_layout.specs.Manifest.{LoadEntry, ManifestFits, manifest_view, total_length}
+use Rattle.disk_layout.specs.Manifest.{FitsALayout, LoadEntry, manifest_view, total_length}
 use Rattle.disk_layout.specs.Holds.{Outline, HasOutline}
 use Rattle.disk_layout.specs.declared.active.Active.{Active}
 use Rattle.disk_layout.specs.declared.identity.Identity.{Identity}
@@ -34,7 +34,7 @@ FindsActive image id m active other_is_open = FindsOutline image id (manifest_vi
 pub record IsFoundInRange (id : Identity) (m : Manifest) (active : Active) : Type 0 where
   pub size : IsBankSize id.bank
   pub range : IsManifestRange id.bank active.manifest
-  pub manifest : ManifestFits (manifest_view m)
+  pub manifest : FitsALayout (manifest_view m)
   pub within : total_length (manifest_view m) ≤ id.bank
 
 abbrev pub outline_of_survey : Surveyed → Outline

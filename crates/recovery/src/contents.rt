@@ -67,6 +67,7 @@ fn load_on<K: Disk>(
     let (files, end) = files_on(alloc, disk, at, entry.files.as_slice())?;
     let load = Load {
         part: entry.part,
+        type_id: entry.type_id,
         header_name: entry.files.as_slice()[0].name,
         files,
     };

@@ -49,7 +49,7 @@ loader_grows_over set (s ∷ since) steps =
 target_grows : (set : Setting) (state : TargetState) (e : Option Event) (former : List Transfer) → TargetHas state former → GrowsTo (transfers_of state ++ former) (transfers_of (reached set e state) ++ former)
 target_grows set (Is_up r) None former has = grows_none (all_of r.end former)
 target_grows set (Is_up r) (Some e) former (last, ports) =
-    let d = target_decision set.accepts (target_view set.accepts r) e in
+    let d = target_decision set.accepts (target_view r) e in
     subst (λ (x : Reading). GrowsTo (all_of r.end former) (all_of x former)) (sym (target_end_stays set.accepts (readings_after sides.Target r.end d.moves) r d.change)) (moves_grow sides.Target former r.end d.moves ports)
 target_grows set (Is_down active interrupted) None former has = grows_none former
 target_grows set (Is_down active interrupted) (Some e) former has = grows_none former

@@ -10,7 +10,6 @@ use Rattle.field_grammar.specs.ExactLaws.{answer-spelled, spelled_at_start}
 use Rattle.field_grammar.specs.Fields.{number_bytes}
 use Rattle.field_grammar.specs.Grammar.{Spelled}
 use Rattle.load_base.specs.Config.{LoadView}
-use Rattle.load_header.specs.Header.{HeaderView}
 use Rattle.load_protocol_files.specs.declared.fault.FileFault.{FileFault}
 use Rattle.load_protocol_files.specs.declared.lur.Wanted.{Wanted}
 use Rattle.load_protocol_files.specs.Files.{file_fields}
@@ -23,7 +22,7 @@ use Rattle.exchange_trace.specs.Happenings.{Booted, DatagramView, Delivered, End
 use Rattle.exchange_trace.specs.Logs.{Down, Event, Learns, Life, Starts_upload, Ticks, Up, event_for, gets, logged, loader_log, target_life}
 use Rattle.exchange_trace.specs.Posts.{numbered, posted_in}
 use Rattle.exchange_trace.specs.Steps.{Boot_refused, Came_up, Note, Step, Went_down}
-use Rattle.accept_rules.specs.Permissions.{Permits}
+use Rattle.accept_rules.specs.Permissions.{AcceptsPermitted}
 use Rattle.transfer_end.specs.Moves.{past_with}
 use Rattle.transfer_end.specs.OtherEndLaws.{all_at, among_either, among_left, among_right}
 use Rattle.transfer_end.specs.OtherEnds.{Among, AnswersRequest, ComesFromEnd, MovesStayFair, TellsLength, file_sent, is_asking, of_end, of_none}
@@ -229,20 +228,20 @@ module _ (reads : RequestsAreRead) (set : Setting) (s : Step) (earlier : List St
 
 -- ---- what the target was asked for, at each moment
 
-abbrev pub TargetHas : Setting → TargetState → Type 0
-TargetHas set (Is_up r) = SessionHasRequest set.accepts r
-TargetHas set (Is_down active interrupted) = Unit {0}
+abbrev pub TargetHas : TargetState → Type 0
+TargetHas (Is_up r) = SessionHasRequest r
+TargetHas (Is_down active interrupted) = Unit {0}
 
-gone_has : (set : Setting) (before after : TargetState) → TargetHas set (gone_down before after)
+gone_has : (set : Setting) (before after : TargetState) → TargetHas (gone_down before after)
 gone_has set (Is_up r) (Is_up s) = tt
 gone_has set (Is_up r) (Is_down active interrupted) = tt
 gone_has set (Is_down active interrupted) after = tt
 
-come_has : (set : Setting) (first_port sequence : ℕ) (state : TargetState) → TargetHas set state → TargetHas set (come_up first_port sequence state)
+come_has : (set : Setting) (first_port sequence : ℕ) (state : TargetState) → TargetHas state → TargetHas (come_up first_port sequence state)
 come_has set first_port sequence (Is_up r) h = h
 come_has set first_port sequence (Is_down active interrupted) h = tt
 
-noted_has : (set : Setting) (notes : List Note) (before after : TargetState) → TargetHas set after → TargetHas set (noted notes before after)
+noted_has : (set : Setting) (notes : List Note) (before after : TargetState) → TargetHas after → TargetHas (noted notes before after)
 noted_has set [] before after h = h
 noted_has set (Went_down ∷ notes) before after h = noted_has set notes (gone_down before after) (gone_down before after) (gone_has set before after)
 noted_has set (Came_up first_port sequence ∷ notes) before after h =
@@ -253,8 +252,8 @@ abbrev pub NewHas : Setting → TargetState → Option Event → Type 0
 NewHas set (Is_up r) (Some e) = InstallsRequest set.accepts r (target_extended set.accepts r e)
 NewHas set state e = Unit {0}
 
-module _ (joins : SumsJoin) (spells : HeadersAreSpelled) (payloads : PayloadsAreBytes) (requests : RequestsAreSpelled) (set : Setting) (permits : (h : HeaderView) → set.accepts h ≡ true → Permits h) where
-  reached_has : (life : Life) (state : TargetState) (e : Option Event) → BringsBytes e → TargetTakes life state → HasLive state → TargetIsSound set life state → TargetHas set state → TargetHas set (reached set e state) × NewHas set state e
+module _ (joins : SumsJoin) (spells : HeadersAreSpelled) (payloads : PayloadsAreBytes) (requests : RequestsAreSpelled) (set : Setting) (permits : AcceptsPermitted set.accepts) where
+  reached_has : (life : Life) (state : TargetState) (e : Option Event) → BringsBytes e → TargetTakes life state → HasLive state → TargetIsSound set life state → TargetHas state → TargetHas (reached set e state) × NewHas set state e
   reached_has (Up first_port log) (Is_up r) None now takes live sound h = (h, tt)
   reached_has (Up first_port log) (Is_up r) (Some e) now (packets, blocks, last) live (fit, sound) h = target_step_requests requests set.accepts joins payloads log r e (now, fit) packets live sound h
   reached_has (Up first_port log) (Is_down active interrupted) e now takes live sound h = absurd takes
@@ -262,13 +261,13 @@ module _ (joins : SumsJoin) (spells : HeadersAreSpelled) (payloads : PayloadsAre
   reached_has Down (Is_down active interrupted) None now takes live sound h = (tt, tt)
   reached_has Down (Is_down active interrupted) (Some e) now takes live sound h = (tt, tt)
 
-  pub step_has : (s : Step) (earlier : List Step) → AllCarryBytes (s ∷ earlier) → TargetHas set (target_at set earlier)
-      → TargetHas set (reached set (event_for sides.Target (posted_in earlier) s.given) (target_at set earlier)) × NewHas set (target_at set earlier) (event_for sides.Target (posted_in earlier) s.given)
+  pub step_has : (s : Step) (earlier : List Step) → AllCarryBytes (s ∷ earlier) → TargetHas (target_at set earlier)
+      → TargetHas (reached set (event_for sides.Target (posted_in earlier) s.given) (target_at set earlier)) × NewHas set (target_at set earlier) (event_for sides.Target (posted_in earlier) s.given)
   step_has s earlier ((posts, given), all) h =
       reached_has (target_life earlier) (target_at set earlier) (event_for sides.Target (posted_in earlier) s.given) (event_bytes (posted_in earlier) s.given (posted_bytes earlier all) given) (target_takes set earlier) (target_is_live joins set earlier)
       (target_sound joins spells payloads set permits earlier all) h
 
-  pub target_has : (steps : List Step) → AllCarryBytes steps → TargetHas set (target_at set steps)
+  pub target_has : (steps : List Step) → AllCarryBytes steps → TargetHas (target_at set steps)
   target_has [] all = tt
   target_has (s ∷ earlier) (now, all) = noted_has set s.notes (target_at set earlier) _ (step_has s earlier (now, all) (target_has earlier all)).0
 
@@ -293,7 +292,7 @@ module _ (reads : RequestsAreRead) (set : Setting) (s : Step) (earlier : List St
   step_asked (Is_down active interrupted) None up comes change has = none_brought earlier active active refl
   step_asked (Is_down active interrupted) (Some e) up comes change has = none_brought earlier active active refl
 
-all_asked : SumsJoin → HeadersAreSpelled → PayloadsAreBytes → RequestsAreSpelled → RequestsAreRead → (set : Setting) → ((h : HeaderView) → set.accepts h ≡ true → Permits h) → EntriesFit set.media → (steps : List Step) → AllCarryBytes steps → AllStayOrAreNew set steps
+all_asked : SumsJoin → HeadersAreSpelled → PayloadsAreBytes → RequestsAreSpelled → RequestsAreRead → (set : Setting) → AcceptsPermitted set.accepts → EntriesFit set.media → (steps : List Step) → AllCarryBytes steps → AllStayOrAreNew set steps
     → AllArriveAsSent set steps → AllBroughtAreAsked set steps
 all_asked joins spells payloads requests reads set permits entries [] bytes stay sent = tt
 all_asked joins spells payloads requests reads set permits entries (s ∷ earlier) bytes (change, stay) (now, sent) = (

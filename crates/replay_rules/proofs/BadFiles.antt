@@ -45,8 +45,7 @@ use Rattle.session_rules.specs.Reports.{accepting_lui, denying_lui, lci_file, lc
 use Rattle.session_rules.specs.FileNames.{file_name}
 use Rattle.session_rules.specs.TargetRows as Rows
 use Rattle.session_rules.specs.TargetRows.{RowView}
-use Rattle.accept_rules.specs.Permissions.{Permits}
-use Rattle.load_header.specs.Header.{HeaderView}
+use Rattle.accept_rules.specs.Permissions.{AcceptsPermitted}
 use Rattle.session_rules.specs.ReadFileLaws.{RequestsAreSpelled}
 use Rattle.session_rules.specs.SoundnessLaws.{HeadersAreSpelled}
 use Rattle.session_rules.specs.SoundLogLaws.{PayloadsAreBytes}
@@ -283,7 +282,7 @@ in_time set steps (ServesWrite name o) h = tt
 
 -- ---- no session ends so
 
-module _ (joins : SumsJoin) (moves : MovesStayFair) (spells : HeadersAreSpelled) (payloads : PayloadsAreBytes) (requests : RequestsAreSpelled) (arrives : WhatArrivesWasSent) (laws : FileLaws) (set : Setting) (permits : (h : HeaderView) → set.accepts h ≡ true → Permits h)
+module _ (joins : SumsJoin) (moves : MovesStayFair) (spells : HeadersAreSpelled) (payloads : PayloadsAreBytes) (requests : RequestsAreSpelled) (arrives : WhatArrivesWasSent) (laws : FileLaws) (set : Setting) (permits : AcceptsPermitted set.accepts)
     (hw : BeginsWell set.start.identity.hw) (named : OwnFilesAreNamed set) (bank : IsLittle set.start.identity.bank) (few : HasFewLoads set.start) (lengths : LengthsAreTold set.media) where
   given_bytes : (earlier : List Step) (role : Role) (bytes file : List ℕ) → is_asking role ≡ false → file_sent role ≡ Some file → IsToldCause set earlier role → (TellsLength role → bytes ≡ file) → IsGiven bytes
   given_bytes earlier (ServesRead name o f) bytes file serves sent told whole =

@@ -2,7 +2,6 @@
 use Rattle.std.proofs.Common.{◌≡◌, inl, inr, ℕ, Bool, true, false, cond, eqb, List, [], ◌∷◌, ◌++◌, Option, Some, None, refl, sym, ap, subst, ◌∙◌}
 use Rattle.std.specs.Prelude.{bytes_eq}
 use Rattle.std.specs.List.{AllByRecursion}
-use Rattle.load_header.specs.Header.{HeaderView}
 use Rattle.tftp_packet.specs.declared.options.Options.{Options}
 use Rattle.tftp_packet.specs.Packets.{Ack, Data, Error, Oack, PacketView, Rrq, Wrq}
 use Rattle.tftp_link.specs.Answers.{Again, Answer, Completes, Dropped, Fails, Grants, Proceeds, TakesBlock, TakesLast}
@@ -19,6 +18,7 @@ use Rattle.transfer_end.specs.Packets.{belongs, has_port, heard_answer, is_busy,
 use Rattle.transfer_end.specs.Readings.{Reading}
 use Rattle.transfer_end.specs.Transfers.{Role, Transfer, end_answer, end_of}
 use Rattle.transfer_end.specs.Views.{EndView}
+use Rattle.accept_rules.specs.Permissions.{Accepts}
 use Rattle.session_rules.specs.declared.outcome.FileKind.{FileKind}
 use Rattle.session_rules.specs.declared.outcome.FileKind.TheVariants as kinds
 use Rattle.session_rules.specs.Target as target
@@ -206,12 +206,12 @@ module _ (v : target.TargetView) (from : ℕ) where
   next_lasts to p more move row (Some role) = lasts_if (has_port v.end) _ _ (then_lasts to p (Asks role)) (then_lasts to p Stops)
   next_lasts to p more move row None = lasts_if (target.is_over row) _ _ (then_lasts to p Stops) (heard_lasts to p)
 
-  turn_lasts : (accepts : HeaderView → Bool) (s : target.TargetSession) (to : ℕ) (p : PacketView) (more : List ℕ) (error : Option ℕ) → Lasts (target.turn_decision accepts v s (transfer_moves v.end from to p) more error)
+  turn_lasts : (accepts : Accepts) (s : target.TargetSession) (to : ℕ) (p : PacketView) (more : List ℕ) (error : Option ℕ) → Lasts (target.turn_decision accepts v s (transfer_moves v.end from to p) more error)
   turn_lasts accepts s to p more error =
-      let move : RowMove = row_move accepts v.active.identity s.row (record { error = error; arriving = with_bytes s.arriving more }) in
+      let move : RowMove = row_move accepts v.active s.row (record { error = error; arriving = with_bytes s.arriving more }) in
       next_lasts to p more move (view_moved s.row (with_bytes s.arriving more) move) (target.row_request v (view_moved s.row (with_bytes s.arriving more) move))
 
-  answer_lasts : (accepts : HeaderView → Bool) (s : target.TargetSession) (to : ℕ) (p : PacketView) (answer : Answer) → Lasts (target.answer_decision accepts v s (transfer_moves v.end from to p) answer)
+  answer_lasts : (accepts : Accepts) (s : target.TargetSession) (to : ℕ) (p : PacketView) (answer : Answer) → Lasts (target.answer_decision accepts v s (transfer_moves v.end from to p) answer)
   answer_lasts accepts s to p (TakesBlock b) = heard_lasts to p
   answer_lasts accepts s to p (TakesLast b) = turn_lasts accepts s to p b None
   answer_lasts accepts s to p Completes = turn_lasts accepts s to p [] None
@@ -221,11 +221,11 @@ module _ (v : target.TargetView) (from : ℕ) where
   answer_lasts accepts s to p (Grants o) = heard_lasts to p
   answer_lasts accepts s to p Proceeds = heard_lasts to p
 
-  transfer_lasts : (accepts : HeaderView → Bool) (live : Option target.TargetSession) (to : ℕ) (p : PacketView) → Lasts (target.transfer_decision accepts v live from to p)
+  transfer_lasts : (accepts : Accepts) (live : Option target.TargetSession) (to : ℕ) (p : PacketView) → Lasts (target.transfer_decision accepts v live from to p)
   transfer_lasts accepts None to p = heard_lasts to p
   transfer_lasts accepts (Some s) to p = answer_lasts accepts s to p (heard_answer v.end from to p)
 
-  got_lasts : (accepts : HeaderView → Bool) (to : ℕ) (p : Option PacketView) → Lasts (target.got_decision accepts v from to p)
+  got_lasts : (accepts : Accepts) (to : ℕ) (p : Option PacketView) → Lasts (target.got_decision accepts v from to p)
   got_lasts accepts to None = tt
   got_lasts accepts to (Some p) = lasts_if (eqb to 59) _ _ (request_lasts p) (transfer_lasts accepts v.live to p)
 
@@ -233,7 +233,7 @@ tick_lasts : (v : EndView) (live : Option target.TargetSession) → Lasts (targe
 tick_lasts v None = tt
 tick_lasts v (Some s) = lasts_if (may_repeat v) _ _ tt tt
 
-target_begins_last : (accepts : HeaderView → Bool) (v : target.TargetView) (e : Event) → Lasts (target.target_decision accepts v e)
+target_begins_last : (accepts : Accepts) (v : target.TargetView) (e : Event) → Lasts (target.target_decision accepts v e)
 target_begins_last accepts v (Gets from to bytes) = got_lasts v from accepts to (packet_in bytes)
 target_begins_last accepts v Ticks = tick_lasts v.end v.live
 target_begins_last accepts v (Learns size) = tt
@@ -254,7 +254,7 @@ newest_then set given posts steps r e t up comes live =
 module _ (set : Setting) (Over : List Step → Role → List Transfer → Type 0) (Fact : List Step → Type 0) (before : (s : Step) (steps : List Step) → Fact (s ∷ steps) → Fact steps)
     (still : (s : Step) (steps : List Step) (role : Role) (earlier : List Transfer) → Over steps role earlier → Over (s ∷ steps) role earlier)
     (begins : (given : HappeningView) (posts : List DatagramView) (steps : List Step) (r : TargetReading) (e : Event) → target_at set steps ≡ Is_up r → event_for sides.Target (posted_in steps) given ≡ Some e → Fact (record { given = given; posts = posts; notes = [] } ∷ steps)
-    → AllByRecursion (MoveHasRole (NewOver (Over (record { given = given; posts = posts; notes = [] } ∷ steps)) (former_at set steps) (target_extended set.accepts r e).end)) (target.target_decision set.accepts (target_view set.accepts r) e).moves) where
+    → AllByRecursion (MoveHasRole (NewOver (Over (record { given = given; posts = posts; notes = [] } ∷ steps)) (former_at set steps) (target_extended set.accepts r e).end)) (target.target_decision set.accepts (target_view r) e).moves) where
   stays_over : (s : Step) (steps : List Step) (ts : List Transfer) → AllOver (Over steps) ts → AllOver (Over (s ∷ steps)) ts
   stays_over s steps ts all = over_mapped (Over steps) (Over (s ∷ steps)) (still s steps) ts all
 
@@ -262,11 +262,11 @@ module _ (set : Setting) (Over : List Step → Role → List Transfer → Type 0
       → AllOver (Over steps) (all_of r.end (former_at set steps)) → AllOver (Over (record { given = given; posts = posts; notes = [] } ∷ steps)) (all_of (target_extended set.accepts r e).end (former_at set steps))
   up_over given posts steps r e up comes fact all =
       let s : Step = record { given = given; posts = posts; notes = [] } in
-      let d = target.target_decision set.accepts (target_view set.accepts r) e in
+      let d = target.target_decision set.accepts (target_view r) e in
       let is : (target_extended set.accepts r e).end ≡ readings_after sides.Target r.end d.moves = end_stays set.accepts (readings_after sides.Target r.end d.moves) r d.change in
       subst (λ (x : Reading). AllOver (Over (s ∷ steps)) (all_of x (former_at set steps))) (sym is)
       (moves_over (Over (s ∷ steps)) sides.Target (former_at set steps) r.end d.moves
-      (last_over (Over (s ∷ steps)) sides.Target (former_at set steps) r.end d.moves (target_begins_last set.accepts (target_view set.accepts r) e)
+      (last_over (Over (s ∷ steps)) sides.Target (former_at set steps) r.end d.moves (target_begins_last set.accepts (target_view r) e)
       (subst (λ (x : Reading). AllByRecursion (MoveHasRole (NewOver (Over (s ∷ steps)) (former_at set steps) x)) d.moves) is (begins given posts steps r e up comes fact)))
       (stays_over s steps (all_of r.end (former_at set steps)) all))
 

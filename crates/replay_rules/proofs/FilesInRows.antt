@@ -1,8 +1,6 @@
 -- Which file a target writes in which row, and that its session is in that row then.
-use Rattle.std.proofs.Common.{◌≡◌, ℕ, Bool, true, false, List, [], ◌∷◌, length, Option, Some, None, refl, sym, ap, subst, ◌∙◌}
+use Rattle.std.proofs.Common.{◌≡◌, ℕ, true, false, List, [], ◌∷◌, length, Option, Some, None, refl, sym, ap, subst, ◌∙◌}
 use Rattle.std.specs.List.{AllByRecursion}
-use Rattle.load_header.specs.Header.{HeaderView}
-use Rattle.disk_layout.specs.declared.identity.Identity.{Identity}
 use Rattle.tftp_packet.specs.declared.options.Options.{Options}
 use Rattle.exchange_trace.specs.Logs.{Event, Gets, Learns, Starts_info, Starts_upload, Ticks}
 use Rattle.transfer_end.specs.Laws.{IsLive}
@@ -11,6 +9,7 @@ use Rattle.transfer_end.specs.OtherEnds.{MoveFits, MoveHasRole, MovesFit, Serves
 use Rattle.transfer_end.specs.Readings.{Reading}
 use Rattle.transfer_end.specs.Transfers.{Role, Writes, arriving_in}
 use Rattle.transfer_end.specs.Views.{TransferView}
+use Rattle.accept_rules.specs.Permissions.{Accepts}
 use Rattle.session_rules.specs.declared.outcome.FileKind.{FileKind}
 use Rattle.session_rules.specs.declared.outcome.FileKind.TheVariants as kinds
 use Rattle.session_rules.specs.BufferLaws.{SumsJoin}
@@ -20,8 +19,8 @@ use Rattle.session_rules.specs.Lists.{AskedInTurn, RowAsks}
 use Rattle.session_rules.specs.LoaderLog.{newest}
 use Rattle.session_rules.specs.Reports.{lcs_file, progress_lus, ready_lus}
 use Rattle.session_rules.specs.Target as target
-use Rattle.session_rules.specs.TargetLaws.{FitsChange, HasTurned, after, decision_fits, identity_stays, seen_row, turned_row, turned_view}
-use Rattle.session_rules.specs.TargetLog.{TargetReading, TargetSessionLog, reading_turned, row_in, session_view, target_extended, target_view, with_done}
+use Rattle.session_rules.specs.TargetLaws.{FitsChange, HasTurned, after, decision_fits, seen_row, turned_row, turned_view}
+use Rattle.session_rules.specs.TargetLog.{TargetReading, TargetSessionLog, reading_turned, session_view, target_extended, target_view, with_done}
 use Rattle.session_rules.specs.TargetRows.{Arriving, Awaits_lur, Gives_denial, Gives_lci, Gives_lui, Over, Reads_file, RowMove, RowView, Writes_completion, Writes_lcl, Writes_lcs, Writes_progress, Writes_ready, Writes_stop, arriving_of, view_moved, with_bytes}
 
 -- ---- the file of a row
@@ -67,50 +66,49 @@ row_writes v Over name o file e = absurd cc
 -- ---- one event
 
 -- The session turned to another row, and that row asks for the transfer.
-pub record IsAskedByRow (accepts : HeaderView → Bool) (r : TargetReading) (e : Event) (role : Role) : Type 0 where
+pub record IsAskedByRow (accepts : Accepts) (r : TargetReading) (e : Event) (role : Role) : Type 0 where
   pub session : TargetSessionLog
   pub was : RowView
   pub kept : Arriving
   pub move : RowMove
-  pub turned : seen_row accepts (target_extended accepts r e).active.identity session ≡ view_moved was kept move
+  pub turned : seen_row session ≡ view_moved was kept move
   pub live : (target_extended accepts r e).live ≡ Some session
-  pub asks : target.row_request (target_view accepts r) (seen_row accepts (target_extended accepts r e).active.identity session) ≡ Some role
+  pub asks : target.row_request (target_view r) (seen_row session) ≡ Some role
 
 -- so it is of what the target asks for at an event
-abbrev pub IsAskedSo : (accepts : HeaderView → Bool) → TargetReading → Event → Role → Type 0
+abbrev pub IsAskedSo : Accepts → TargetReading → Event → Role → Type 0
 IsAskedSo accepts r e role = is_asking role ≡ true → IsAskedByRow accepts r e role
 
-module _ (joins : SumsJoin) (accepts : HeaderView → Bool) (r : TargetReading) (e : Event) (going : IsLive r.end.live) where
+module _ (joins : SumsJoin) (accepts : Accepts) (r : TargetReading) (e : Event) (going : IsLive r.end.live) where
   abbrev v_now : target.TargetView
-  v_now = target_view accepts r
+  v_now = target_view r
 
   abbrev d_now : target.TargetDecision
-  d_now = target.target_decision accepts (target_view accepts r) e
+  d_now = target.target_decision accepts (target_view r) e
 
-  asked_by_row : (s : TargetSessionLog) (move : RowMove) (more : List ℕ) (role : Role) → r.live ≡ Some s → d_now.change ≡ target.Turns move more → target.row_request v_now (turned_view accepts r.active.identity r.end s move more) ≡ Some role → IsAskedByRow accepts r e role
+  asked_by_row : (s : TargetSessionLog) (move : RowMove) (more : List ℕ) (role : Role) → r.live ≡ Some s → d_now.change ≡ target.Turns move more → target.row_request v_now (turned_view r.end s move more) ≡ Some role → IsAskedByRow accepts r e role
   asked_by_row s move more role live is asks =
       let then : Reading = after r.end d_now.moves in
-      let session : TargetSessionLog = with_done s (newest then.past) in
-      let same : target_extended accepts r e ≡ reading_turned accepts then r session = turned_reading accepts then r s move more d_now.change live is in
-      let turned : HasTurned accepts r.active.identity r.end s d_now.moves move more = fits_turned r.live d_now.change live is (decision_fits joins accepts r e going) in
-      let view : seen_row accepts r.active.identity session ≡ turned_view accepts r.active.identity r.end s move more = turned_row joins accepts r.active.identity s r.end d_now.moves move more turned in
-      let id : (target_extended accepts r e).active.identity ≡ r.active.identity = ap (λ (x : TargetReading). x.active.identity) same ∙ identity_stays r.active (row_in accepts r.active.identity session) in
+      let session : TargetSessionLog = with_done accepts r.active s (newest then.past) in
+      let same : target_extended accepts r e ≡ reading_turned then r session = turned_reading accepts then r s move more d_now.change live is in
+      let turned : HasTurned accepts r.active r.end s d_now.moves move more = fits_turned r.live d_now.change live is (decision_fits joins accepts r e going) in
+      let view : seen_row session ≡ turned_view r.end s move more = turned_row joins accepts r.active s r.end d_now.moves move more turned in
       record {
         session = session;
-        was = seen_row accepts r.active.identity s;
-        kept = with_bytes (arriving_of (seen_row accepts r.active.identity s) (arriving_in r.end.live)) more;
+        was = seen_row s;
+        kept = with_bytes (arriving_of (seen_row s) (arriving_in r.end.live)) more;
         move = move;
-        turned = ap (λ (i : Identity). seen_row accepts i session) id ∙ view;
+        turned = view;
         live = ap (λ (x : TargetReading). x.live) same;
-        asks = ap (λ (i : Identity). target.row_request v_now (seen_row accepts i session)) id ∙ (ap (λ (row : RowView). target.row_request v_now row) view ∙ asks);
+        asks = ap (λ (row : RowView). target.row_request v_now row) view ∙ asks;
       }
     where
-      fits_turned : (live : Option TargetSessionLog) (change : target.TargetChange) → live ≡ Some s → change ≡ target.Turns move more → FitsChange accepts r.active.identity r.end live d_now.moves change → HasTurned accepts r.active.identity r.end s d_now.moves move more
+      fits_turned : (live : Option TargetSessionLog) (change : target.TargetChange) → live ≡ Some s → change ≡ target.Turns move more → FitsChange accepts r.active r.end live d_now.moves change → HasTurned accepts r.active r.end s d_now.moves move more
       fits_turned live change is_some is_turn fits =
-          (subst (λ (x : Option TargetSessionLog). FitsChange accepts r.active.identity r.end x d_now.moves (target.Turns move more)) is_some
-          (subst (λ (c : target.TargetChange). FitsChange accepts r.active.identity r.end live d_now.moves c) is_turn fits)).0
+          (subst (λ (x : Option TargetSessionLog). FitsChange accepts r.active r.end x d_now.moves (target.Turns move more)) is_some
+          (subst (λ (c : target.TargetChange). FitsChange accepts r.active r.end live d_now.moves c) is_turn fits)).0
 
-  asked_in_turn : (live : Option TargetSessionLog) (move : RowMove) (more : List ℕ) (role : Role) → r.live ≡ live → d_now.change ≡ target.Turns move more → RowAsks v_now (session_view accepts r live) move more role → IsAskedByRow accepts r e role
+  asked_in_turn : (live : Option TargetSessionLog) (move : RowMove) (more : List ℕ) (role : Role) → r.live ≡ live → d_now.change ≡ target.Turns move more → RowAsks v_now (session_view r.end live) move more role → IsAskedByRow accepts r e role
   asked_in_turn None move more role live is asks = absurd asks
   asked_in_turn (Some s) move more role live is asks = asked_by_row s move more role live is asks
 

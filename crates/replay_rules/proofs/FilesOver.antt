@@ -1,5 +1,5 @@
 -- What holds of each file that the target writes in a run, where nothing is injected: the row in which it was written.
-use Rattle.std.proofs.Common.{Option, true, ◌≡◌, ℕ, List, [], ◌∷◌, ◌++◌, Some, refl, ap, subst, ◌∙◌}
+use Rattle.std.proofs.Common.{Option, ◌≡◌, ℕ, List, [], ◌∷◌, ◌++◌, Some, refl, ap, subst, ◌∙◌}
 use Rattle.std.specs.List.{AllByRecursion}
 use Rattle.disk_layout.specs.declared.identity.Identity.{Identity}
 use Rattle.exchange_trace.specs.declared.trace.Side.TheVariants as sides
@@ -7,8 +7,7 @@ use Rattle.exchange_trace.specs.Happenings.{DatagramView, HappeningView}
 use Rattle.exchange_trace.specs.Logs.{Event, event_for}
 use Rattle.exchange_trace.specs.Posts.{posted_in}
 use Rattle.exchange_trace.specs.Steps.{Step}
-use Rattle.accept_rules.specs.Permissions.{Permits}
-use Rattle.load_header.specs.Header.{HeaderView}
+use Rattle.accept_rules.specs.Permissions.{AcceptsPermitted}
 use Rattle.transfer_end.specs.OtherEnds.{MoveHasRole, MovesStayFair}
 use Rattle.transfer_end.specs.Transfers.{Reads, Role, ServesRead, ServesWrite, Transfer, Writes}
 use Rattle.session_rules.specs.declared.outcome.FileKind.{FileKind}
@@ -57,7 +56,7 @@ still_files set s steps (Reads name o) earlier h = tt
 still_files set s steps (ServesRead name o file) earlier h = tt
 still_files set s steps (ServesWrite name o) earlier h = tt
 
-module _ (joins : SumsJoin) (moves : MovesStayFair) (spells : HeadersAreSpelled) (payloads : PayloadsAreBytes) (requests : RequestsAreSpelled) (arrives : WhatArrivesWasSent) (set : Setting) (permits : (h : HeaderView) → set.accepts h ≡ true → Permits h) (told : LengthsAreTold set.media)
+module _ (joins : SumsJoin) (moves : MovesStayFair) (spells : HeadersAreSpelled) (payloads : PayloadsAreBytes) (requests : RequestsAreSpelled) (arrives : WhatArrivesWasSent) (set : Setting) (permits : AcceptsPermitted set.accepts) (told : LengthsAreTold set.media)
     (bank : IsLittle set.start.identity.bank) (few : HasFewLoads set.start) where
   module _ (given : HappeningView) (posts : List DatagramView) (steps : List Step) (r : TargetReading) (e : Event) (up : target_at set steps ≡ Is_up r) (comes : event_for sides.Target (posted_in steps) given ≡ Some e)
       (is : IsUninjected set (record { given = given; posts = posts; notes = [] } ∷ steps)) where
@@ -67,10 +66,10 @@ module _ (joins : SumsJoin) (moves : MovesStayFair) (spells : HeadersAreSpelled)
     abbrev then : TargetReading
     then = target_extended set.accepts r e
 
-    placed_now : SessionPlaced set.accepts then.active.identity then.end then.live
-    placed_now = reached_placed set joins (Some e) (Is_up r) (subst (λ (state : TargetState). HasLive state) up (target_is_live joins set steps)) (subst (StatePlaced set) up (state_placed set joins steps))
+    placed_now : SessionPlaced then.end then.live
+    placed_now = reached_placed set joins (Some e) (Is_up r) (subst (λ (state : TargetState). HasLive state) up (target_is_live joins set steps)) (subst StatePlaced up (state_placed set joins steps))
 
-    fits_now : SessionFits AllWanted UploadSmall HasText set.accepts then.active.identity then.live
+    fits_now : SessionFits AllWanted UploadSmall HasText then.live
     fits_now =
         let brings : BringsAt AllWanted UploadSmall HasText set (Is_up r) (Some e) =
         subst (λ (state : TargetState). BringsAt AllWanted UploadSmall HasText set state (Some e)) up
@@ -82,11 +81,11 @@ module _ (joins : SumsJoin) (moves : MovesStayFair) (spells : HeadersAreSpelled)
     asked_over : (role : Role) → IsAskedSo set.accepts r e role → NewOver (FilesOver set (quiet_step ∷ steps)) (former_at set steps) then.end role
     asked_over (Writes name o file) asked = λ t live. (
         let h = asked refl in
-        let row : RowView = seen_row set.accepts then.active.identity h.session in
-        let is = row_writes (target_view set.accepts r) row name o file h.asks in (
+        let row : RowView = seen_row h.session in
+        let is = row_writes (target_view r) row name o file h.asks in (
           row_kind row,
           is.0 ∙ ap (λ (id : Identity). file_name id.hw id.pos (row_kind row)) (subst (λ (state : TargetState). HasTarget set state) up (same_target set steps)),
-          record { row = row; is_kind = refl; writes = is.1; placed = placed_before row then.end.past (former_at set steps) (subst (SessionPlaced set.accepts then.active.identity then.end) h.live placed_now).placed; fits = subst (SessionFits AllWanted UploadSmall HasText set.accepts then.active.identity) h.live fits_now },
+          record { row = row; is_kind = refl; writes = is.1; placed = placed_before row then.end.past (former_at set steps) (subst (SessionPlaced then.end) h.live placed_now).placed; fits = subst (SessionFits AllWanted UploadSmall HasText) h.live fits_now },
         )
         )
     asked_over (Reads name o) asked = λ t live. tt
@@ -97,7 +96,7 @@ module _ (joins : SumsJoin) (moves : MovesStayFair) (spells : HeadersAreSpelled)
   Fact steps = IsUninjected set steps
 
   begins : (given : HappeningView) (posts : List DatagramView) (steps : List Step) (r : TargetReading) (e : Event) → target_at set steps ≡ Is_up r → event_for sides.Target (posted_in steps) given ≡ Some e → Fact (record { given = given; posts = posts; notes = [] } ∷ steps)
-      → AllByRecursion (MoveHasRole (NewOver (FilesOver set (record { given = given; posts = posts; notes = [] } ∷ steps)) (former_at set steps) (target_extended set.accepts r e).end)) (target_decision set.accepts (target_view set.accepts r) e).moves
+      → AllByRecursion (MoveHasRole (NewOver (FilesOver set (record { given = given; posts = posts; notes = [] } ∷ steps)) (former_at set steps) (target_extended set.accepts r e).end)) (target_decision set.accepts (target_view r) e).moves
   begins given posts steps r e up comes fact =
       roles_mapped (IsAskedSo set.accepts r e) (NewOver (FilesOver set (record { given = given; posts = posts; notes = [] } ∷ steps)) (former_at set steps) (target_extended set.accepts r e).end)
       (asked_over given posts steps r e up comes fact) _ (moves_asked joins set.accepts r e (subst (λ (state : TargetState). HasLive state) up (target_is_live joins set steps)))

@@ -4,16 +4,16 @@ use Rattle.std.specs.Prelude.{◌==◌}
 use Rattle.std.specs.List.{AllByRecursion}
 use Rattle.std.proofs.lemmas.List.{length-append}
 use Rattle.load_base.specs.Config.{LoadView}
-use Rattle.load_header.specs.Header.{HeaderView}
 use Rattle.disk_layout.specs.declared.identity.Identity.{Identity}
-use Rattle.disk_layout.specs.Holds.{StandingView}
+use Rattle.disk_layout.specs.Holds.{StandingView, outline_of}
 use Rattle.exchange_trace.specs.declared.trace.Side.TheVariants as sides
 use Rattle.exchange_trace.specs.Logs.{Event, event_for}
 use Rattle.exchange_trace.specs.Posts.{posted_in}
 use Rattle.exchange_trace.specs.Steps.{Boot_refused, Came_up, Note, Step, Went_down}
+use Rattle.accept_rules.specs.Permissions.{Accepts}
 use Rattle.session_rules.specs.NewConfigs.{IsGoodLoad}
 use Rattle.session_rules.specs.SoundLogs.{StaysOrIsNew}
-use Rattle.session_rules.specs.TargetLaws.{row_of_more}
+use Rattle.session_rules.specs.TargetLaws.{row_of_one}
 use Rattle.session_rules.specs.TargetLog.{TargetReading}
 use Rattle.session_rules.specs.TargetRows.{Awaits_lur, Breaks_off, Gives_denial, Gives_lci, Gives_lui, Judges, Over, Passes, Reads_file, Refuses_request, Requests, RowMove, WholeRow, Writes_completion, Writes_lcl, Writes_lcs, Writes_progress, Writes_ready, Writes_stop, UploadEnd, load_of, placed, placed_if, row_judged, row_move, row_moved, row_of, row_view, transfer_end, with_file, with_header}
 use Rattle.session_rules.specs.Uploads.{Accepts_file, Accepts_header, Complete, Judgement, More_files, Next, Next_load, OpenLoad, Stops_for, Upload, next_name, next_wanted, upload_view}
@@ -76,11 +76,9 @@ module _ (bytes : List ℕ) where
   moved_has Over (Judges j) = tt
 
 -- the loads of a good verdict
-new_has : (accepts : HeaderView → Bool) (id : Identity) (first : WholeRow) (done : List Transfer) (t : Transfer) (e : UploadEnd) (loads : List LoadView)
-    → row_of accepts id first (done ++ t ∷ []) ≡ Writes_completion e loads → 1 ≤ length loads
-new_has accepts id first done t e loads is =
-    let row = row_of accepts id first done in
-    subst HasLoad (sym (row_of_more accepts id first done t) ∙ is) (moved_has (arrived_of t) row (row_move accepts id (row_view row) (transfer_end (row_view row) t)))
+new_has : (accepts : Accepts) (active : StandingView) (row : WholeRow) (t : Transfer) (e : UploadEnd) (loads : List LoadView) → row_of accepts active row (t ∷ []) ≡ Writes_completion e loads → 1 ≤ length loads
+new_has accepts active row t e loads is =
+    subst HasLoad (sym (row_of_one accepts active row t) ∙ is) (moved_has (arrived_of t) row (row_move accepts (outline_of active) (row_view row) (transfer_end (row_view row) t)))
 
 -- ---- one step
 
@@ -89,7 +87,7 @@ module _ (set : Setting) where
   stays_good before after (inl same) id good = subst (IsFirstOrGood set) (sym same) good
   stays_good before after (inr new) id good =
       let each : AreGood set new.loads = subst (λ (x : Identity). AllByRecursion (IsGoodLoad (λ h. set.accepts h ≡ true) x) new.loads) id new.new.good in
-      let some : 1 ≤ length new.loads = new_has set.accepts before.active.identity new.session.first new.session.done new.ended new.upload new.loads new.good in
+      let some : 1 ≤ length new.loads = new_has set.accepts before.active new.session.row new.ended new.upload new.loads new.good in
       subst (IsFirstOrGood set) (sym new.next) (inr (some, each))
 
   abbrev AllGood : TargetState → Type 0

@@ -11,7 +11,7 @@ use Rattle.field_grammar.specs.Fields.{judged_padded, number, number_in, pad, ra
 use Rattle.field_grammar.specs.Grammar.{Grammar, IsBytes, check, ended, expected, judged, left, listed, prefix, renamed, seq, sized}
 use Rattle.field_grammar.specs.NumberLaws.{IsWide, wide2, wide4, wide8}
 use Rattle.header_sections.specs.Sections as pieces
-use Rattle.header_sections.specs.Sections.{distance_of, end, name_verdict, part_verdict, section_at, start, text_verdict, user_data}
+use Rattle.header_sections.specs.Sections.{end, name_verdict, part_verdict, section_at, start, text_verdict, user_data}
 use Rattle.header_sections.specs.declared.fault.SectionFault.{SectionFault}
 use Rattle.header_sections.specs.declared.fault.SectionFault.TheVariants as sections
 use Rattle.load_base.specs.declared.name.NameFault.{NameFault}

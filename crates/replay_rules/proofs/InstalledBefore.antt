@@ -2,7 +2,6 @@
 use Rattle.std.proofs.Common.{◌≡◌, inl, inr, ◌+◌, true, false, List, [], ◌∷◌, ◌++◌, map, Option, Some, None, refl, sym, ap, subst, ◌∙◌, append_assoc, arith}
 use Rattle.std.specs.List.{AllByRecursion}
 use Rattle.load_base.specs.Config.{LoadView}
-use Rattle.load_header.specs.Header.{HeaderView}
 use Rattle.load_protocol_files.specs.declared.lur.Wanted.{Wanted}
 use Rattle.load_protocol_files.specs.Lur.{LurSpells}
 use Rattle.disk_layout.specs.Holds.{StandingView}
@@ -11,7 +10,7 @@ use Rattle.exchange_trace.specs.Happenings.{DatagramView, HappeningView}
 use Rattle.exchange_trace.specs.Logs.{Event, event_for}
 use Rattle.exchange_trace.specs.Posts.{posted_in}
 use Rattle.exchange_trace.specs.Steps.{Step}
-use Rattle.accept_rules.specs.Permissions.{Permits}
+use Rattle.accept_rules.specs.Permissions.{AcceptsPermitted}
 use Rattle.transfer_end.specs.Moves.{past_with}
 use Rattle.transfer_end.specs.OtherEndLaws.{among_left, among_right}
 use Rattle.transfer_end.specs.OtherEnds.{Among, MoveHasRole, is_asking, is_receiving}
@@ -97,7 +96,7 @@ still_tells set s steps (Reads name o) earlier tells = tt
 still_tells set s steps (ServesRead name o file) earlier tells = tt
 still_tells set s steps (ServesWrite name o) earlier tells = tt
 
-module _ (joins : SumsJoin) (spells : HeadersAreSpelled) (payloads : PayloadsAreBytes) (requests : RequestsAreSpelled) (set : Setting) (permits : (h : HeaderView) → set.accepts h ≡ true → Permits h) where
+module _ (joins : SumsJoin) (spells : HeadersAreSpelled) (payloads : PayloadsAreBytes) (requests : RequestsAreSpelled) (set : Setting) (permits : AcceptsPermitted set.accepts) where
   module _ (given : HappeningView) (posts : List DatagramView) (earlier : List Step) (r : TargetReading) (e : Event) (up : target_at set earlier ≡ Is_up r) (comes : event_for sides.Target (posted_in earlier) given ≡ Some e)
       (stays : StaysOrIsNew set.accepts r (target_extended set.accepts r e)) (has : InstallsRequest set.accepts r (target_extended set.accepts r e)) where
     abbrev quiet_step : Step
@@ -162,7 +161,7 @@ module _ (joins : SumsJoin) (spells : HeadersAreSpelled) (payloads : PayloadsAre
   fact_before s steps (bytes, stays) = (bytes.1, stays.1)
 
   begins : (given : HappeningView) (posts : List DatagramView) (steps : List Step) (r : TargetReading) (e : Event) → target_at set steps ≡ Is_up r → event_for sides.Target (posted_in steps) given ≡ Some e → Fact (record { given = given; posts = posts; notes = [] } ∷ steps)
-      → AllByRecursion (MoveHasRole (NewOver (TellsOver set (record { given = given; posts = posts; notes = [] } ∷ steps)) (former_at set steps) (target_extended set.accepts r e).end)) (target.target_decision set.accepts (target_view set.accepts r) e).moves
+      → AllByRecursion (MoveHasRole (NewOver (TellsOver set (record { given = given; posts = posts; notes = [] } ∷ steps)) (former_at set steps) (target_extended set.accepts r e).end)) (target.target_decision set.accepts (target_view r) e).moves
   begins given posts steps r e up comes (bytes, stays) =
       let now : TargetStaysOrIsNew set (target_at set steps) (reached set (event_for sides.Target (posted_in steps) given) (target_at set steps)) = stays.0 in
       let has : NewHas set (target_at set steps) (event_for sides.Target (posted_in steps) given) =

@@ -21,7 +21,7 @@ use Rattle.exchange_trace.specs.declared.trace.Side.TheVariants as sides
 use Rattle.exchange_trace.specs.Logs.{Down, Event, Life, Up, event_for, reached as life_reached, target_life}
 use Rattle.exchange_trace.specs.Posts.{posted_in}
 use Rattle.exchange_trace.specs.Steps.{Boot_refused, Came_up, Note, Step, Went_down}
-use Rattle.accept_rules.specs.Permissions.{Permits}
+use Rattle.accept_rules.specs.Permissions.{AcceptsPermitted}
 use Rattle.transfer_end.specs.Moves.{past_with}
 use Rattle.transfer_end.specs.OtherEndLaws.{all_at, among_either, among_left}
 use Rattle.transfer_end.specs.OtherEnds.{Among, AnswersRequest, ComesFromEnd, MovesStayFair, TellsLength, file_sent, is_asking, is_receiving, of_end, of_none, request_taken}
@@ -68,18 +68,18 @@ said_named [] (f ∷ files) named said = absurd said
 said_named (entry ∷ entries) [] named said = absurd said
 said_named (entry ∷ entries) (f ∷ files) (one, named) (is, said) = (subst IsName (sym is.name) one, said_named entries files named said)
 
-load_named : (Accepts : HeaderView → Type 0) (id : Identity) (wanted : Wanted) (load : LoadView) → IsName wanted.header → IsWanted wanted load → IsGoodLoad Accepts id load → AllByRecursion HasName load.files
-load_named Accepts id wanted load named is good =
+load_named : (Accepted : HeaderView → Type 0) (id : Identity) (wanted : Wanted) (load : LoadView) → IsName wanted.header → IsWanted wanted load → IsGoodLoad Accepted id load → AllByRecursion HasName load.files
+load_named Accepted id wanted load named is good =
     let entries : AllByRecursion (λ (f : FileEntry). IsName f.name) (files_of good.header) =
     all_append (λ (f : FileEntry). IsName f.name) good.header.data_files good.header.support_files (entries_of_all good.header.data_files good.spelled.0.data_files) (entries_of_all good.header.support_files good.spelled.0.support_files) in
     subst (λ (files : List FileView). AllByRecursion HasName files) (sym good.whole) (subst IsName (sym is.header) named, said_named (files_of good.header) good.files entries good.each)
 
-loads_named : (Accepts : HeaderView → Type 0) (id : Identity) (request : List Wanted) (loads : List LoadView) → AreNamed request → AllZip IsWanted request loads → AllByRecursion (IsGoodLoad Accepts id) loads → AllByRecursion HasName (files_in loads)
-loads_named Accepts id [] [] named each good = tt
-loads_named Accepts id [] (load ∷ loads) named each good = absurd each
-loads_named Accepts id (w ∷ request) [] named each good = absurd each
-loads_named Accepts id (w ∷ request) (load ∷ loads) (one, named) (is, each) (first, good) =
-    all_append HasName load.files (files_in loads) (load_named Accepts id w load one is first) (loads_named Accepts id request loads named each good)
+loads_named : (Accepted : HeaderView → Type 0) (id : Identity) (request : List Wanted) (loads : List LoadView) → AreNamed request → AllZip IsWanted request loads → AllByRecursion (IsGoodLoad Accepted id) loads → AllByRecursion HasName (files_in loads)
+loads_named Accepted id [] [] named each good = tt
+loads_named Accepted id [] (load ∷ loads) named each good = absurd each
+loads_named Accepted id (w ∷ request) [] named each good = absurd each
+loads_named Accepted id (w ∷ request) (load ∷ loads) (one, named) (is, each) (first, good) =
+    all_append HasName load.files (files_in loads) (load_named Accepted id w load one is first) (loads_named Accepted id request loads named each good)
 
 -- ---- a file that was read is the media set's
 
@@ -158,20 +158,20 @@ module _ (set : Setting) (s : Step) (earlier : List Step) (told : LengthsAreTold
 
 -- ---- what the target read, at each moment
 
-abbrev TargetReads : Setting → TargetState → Type 0
-TargetReads set (Is_up r) = SessionReads set.accepts r
-TargetReads set (Is_down active interrupted) = Unit {0}
+abbrev TargetReads : TargetState → Type 0
+TargetReads (Is_up r) = SessionReads r
+TargetReads (Is_down active interrupted) = Unit {0}
 
-gone_reads : (set : Setting) (before after : TargetState) → TargetReads set (gone_down before after)
+gone_reads : (set : Setting) (before after : TargetState) → TargetReads (gone_down before after)
 gone_reads set (Is_up r) (Is_up s) = tt
 gone_reads set (Is_up r) (Is_down active interrupted) = tt
 gone_reads set (Is_down active interrupted) after = tt
 
-come_reads : (set : Setting) (first_port sequence : ℕ) (state : TargetState) → TargetReads set state → TargetReads set (come_up first_port sequence state)
+come_reads : (set : Setting) (first_port sequence : ℕ) (state : TargetState) → TargetReads state → TargetReads (come_up first_port sequence state)
 come_reads set first_port sequence (Is_up r) h = h
 come_reads set first_port sequence (Is_down active interrupted) h = tt
 
-noted_reads : (set : Setting) (notes : List Note) (before after : TargetState) → TargetReads set after → TargetReads set (noted notes before after)
+noted_reads : (set : Setting) (notes : List Note) (before after : TargetState) → TargetReads after → TargetReads (noted notes before after)
 noted_reads set [] before after h = h
 noted_reads set (Went_down ∷ notes) before after h = noted_reads set notes (gone_down before after) (gone_down before after) (gone_reads set before after)
 noted_reads set (Came_up first_port sequence ∷ notes) before after h =
@@ -183,9 +183,9 @@ abbrev NewIsRead : Setting → TargetState → Option Event → Type 0
 NewIsRead set (Is_up r) (Some e) = (new : IsNewAt set.accepts r (target_extended set.accepts r e)) → InstallsWhatWasRead set.accepts r (target_extended set.accepts r e) new
 NewIsRead set state e = Unit {0}
 
-module _ (joins : SumsJoin) (spells : HeadersAreSpelled) (payloads : PayloadsAreBytes) (requests : RequestsAreSpelled) (set : Setting) (permits : (h : HeaderView) → set.accepts h ≡ true → Permits h) where
-  reached_reads : (life then : Life) (state : TargetState) (e : Option Event) → TargetTakes life state → HasLive state → TargetIsSound set (life_reached e life) (reached set e state) → TargetReads set state
-      → TargetReads set (reached set e state) × NewIsRead set state e
+module _ (joins : SumsJoin) (spells : HeadersAreSpelled) (payloads : PayloadsAreBytes) (requests : RequestsAreSpelled) (set : Setting) (permits : AcceptsPermitted set.accepts) where
+  reached_reads : (life then : Life) (state : TargetState) (e : Option Event) → TargetTakes life state → HasLive state → TargetIsSound set (life_reached e life) (reached set e state) → TargetReads state
+      → TargetReads (reached set e state) × NewIsRead set state e
   reached_reads (Up first_port log) then (Is_up r) None takes live sound h = (h, tt)
   reached_reads (Up first_port log) then (Is_up r) (Some e) (packets, blocks, last) live (fit, sound) h = target_step_reads requests set.accepts joins payloads log r e fit packets live h
   reached_reads (Up first_port log) then (Is_down active interrupted) e takes live sound h = absurd takes
@@ -193,13 +193,13 @@ module _ (joins : SumsJoin) (spells : HeadersAreSpelled) (payloads : PayloadsAre
   reached_reads Down then (Is_down active interrupted) None takes live sound h = (tt, tt)
   reached_reads Down then (Is_down active interrupted) (Some e) takes live sound h = (tt, tt)
 
-  step_reads : (s : Step) (earlier : List Step) → AllCarryBytes (s ∷ earlier) → TargetReads set (target_at set earlier)
-      → TargetReads set (reached set (event_for sides.Target (posted_in earlier) s.given) (target_at set earlier)) × NewIsRead set (target_at set earlier) (event_for sides.Target (posted_in earlier) s.given)
+  step_reads : (s : Step) (earlier : List Step) → AllCarryBytes (s ∷ earlier) → TargetReads (target_at set earlier)
+      → TargetReads (reached set (event_for sides.Target (posted_in earlier) s.given) (target_at set earlier)) × NewIsRead set (target_at set earlier) (event_for sides.Target (posted_in earlier) s.given)
   step_reads s earlier all h =
       reached_reads (target_life earlier) (target_life earlier) (target_at set earlier) (event_for sides.Target (posted_in earlier) s.given) (target_takes set earlier) (target_is_live joins set earlier)
       (step_sound joins spells payloads set permits s earlier all (target_sound joins spells payloads set permits earlier all.1)).0 h
 
-  target_reads : (steps : List Step) → AllCarryBytes steps → TargetReads set (target_at set steps)
+  target_reads : (steps : List Step) → AllCarryBytes steps → TargetReads (target_at set steps)
   target_reads [] all = tt
   target_reads (s ∷ earlier) all = noted_reads set s.notes (target_at set earlier) _ (step_reads s earlier all (target_reads earlier all.1)).0
 
@@ -224,7 +224,7 @@ module _ (set : Setting) (s : Step) (earlier : List Step) (told : LengthsAreTold
   step_brings (Is_down active interrupted) None up comes change read = none_brought set (s ∷ earlier) active active refl
   step_brings (Is_down active interrupted) (Some e) up comes change read = none_brought set (s ∷ earlier) active active refl
 
-all_of_media : SumsJoin → HeadersAreSpelled → PayloadsAreBytes → RequestsAreSpelled → (set : Setting) → ((h : HeaderView) → set.accepts h ≡ true → Permits h) → LengthsAreTold set.media → (steps : List Step) → AllCarryBytes steps → AllStayOrAreNew set steps
+all_of_media : SumsJoin → HeadersAreSpelled → PayloadsAreBytes → RequestsAreSpelled → (set : Setting) → AcceptsPermitted set.accepts → LengthsAreTold set.media → (steps : List Step) → AllCarryBytes steps → AllStayOrAreNew set steps
     → AllArriveAsSent set steps → AllOfMedia set steps
 all_of_media joins spells payloads requests set permits told [] bytes stay sent = tt
 all_of_media joins spells payloads requests set permits told (s ∷ earlier) bytes (change, stay) (now, sent) = (

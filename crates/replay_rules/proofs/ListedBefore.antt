@@ -25,16 +25,17 @@ use Rattle.replay_rules.specs.OtherEndTraces.{former_at, target_transfers, trans
 use Rattle.replay_rules.specs.Promises.{ListIsDue}
 use Rattle.replay_rules.specs.TieLaws.{HasLive, target_is_live}
 use Rattle.replay_rules.proofs.EachBefore.{AllOver, NewOver, newest_then, over_at, roles_mapped, trace_over}
-use Rattle.replay_rules.proofs.ListedTraces.{IsWrittenAs, list_due, same_target}
+use Rattle.replay_rules.proofs.ListedTraces.{IsWrittenAs, list_due, not_due, same_target}
 
--- The file is the list of what was active before one of these steps, after which a session had its list to write; the transfer
--- that was the newest then came after these.
+-- The file is the list of what was active before one of these steps, which made a session's list due; the transfer that was the
+-- newest then came after these.
 pub record ListWasDueAfter (set : Setting) (steps : List Step) (earlier : List Transfer) (file : List ℕ) : Type 0 where
   pub since : List Step
   pub made : Step
   pub before : List Step
   pub split : steps ≡ since ++ made ∷ before
-  pub due : ListIsDue set (target_at set (made ∷ before))
+  pub due : ListIsDue (target_at set (made ∷ before))
+  pub newly : ListIsDue (target_at set before) → ⊥
   pub lists : file ≡ lcl_file (outline_of (active_at set before))
   pub newest : Transfer
   pub transfers : target_transfers set made before ≡ newest ∷ earlier
@@ -44,7 +45,7 @@ WritesOver set steps role earlier = IsWrittenAs set (ListWasDueAfter set steps e
 
 still_after : (set : Setting) (s : Step) (steps : List Step) (earlier : List Transfer) (file : List ℕ) → ListWasDueAfter set steps earlier file → ListWasDueAfter set (s ∷ steps) earlier file
 still_after set s steps earlier file h =
-    record { since = s ∷ h.since; made = h.made; before = h.before; split = ap (λ (x : List Step). s ∷ x) h.split; due = h.due; lists = h.lists; newest = h.newest; transfers = h.transfers }
+    record { since = s ∷ h.since; made = h.made; before = h.before; split = ap (λ (x : List Step). s ∷ x) h.split; due = h.due; newly = h.newly; lists = h.lists; newest = h.newest; transfers = h.transfers }
 
 still_writes : (set : Setting) (s : Step) (steps : List Step) (role : Role) (earlier : List Transfer) → WritesOver set steps role earlier → WritesOver set (s ∷ steps) role earlier
 still_writes set s steps (Writes name o file) earlier (kind, named, due) = (kind, named, λ e. still_after set s steps earlier file (due e))
@@ -69,7 +70,8 @@ module _ (joins : SumsJoin) (set : Setting) where
         made = quiet_step;
         before = steps;
         split = refl;
-        due = subst (λ (x : Option Event). ListIsDue set (reached set x (target_at set steps))) (sym comes) (subst (λ (state : TargetState). ListIsDue set (reached set (Some e) state)) (sym up) (list_due set r e file asked));
+        due = subst (λ (x : Option Event). ListIsDue (reached set x (target_at set steps))) (sym comes) (subst (λ (state : TargetState). ListIsDue (reached set (Some e) state)) (sym up) (list_due set r e file asked));
+        newly = λ was. not_due set.accepts r e file asked (subst (λ (state : TargetState). ListIsDue state) up was);
         lists = asked.lists ∙ ap (λ (state : TargetState). lcl_file (outline_of (active_in state))) (sym up);
         newest = t;
         transfers = newest_then set given posts steps r e t up comes live;
@@ -83,7 +85,7 @@ module _ (joins : SumsJoin) (set : Setting) where
   Fact steps = Unit {0}
 
   begins : (given : HappeningView) (posts : List DatagramView) (steps : List Step) (r : TargetReading) (e : Event) → target_at set steps ≡ Is_up r → event_for sides.Target (posted_in steps) given ≡ Some e → Fact (record { given = given; posts = posts; notes = [] } ∷ steps)
-      → AllByRecursion (MoveHasRole (NewOver (WritesOver set (record { given = given; posts = posts; notes = [] } ∷ steps)) (former_at set steps) (target_extended set.accepts r e).end)) (target_decision set.accepts (target_view set.accepts r) e).moves
+      → AllByRecursion (MoveHasRole (NewOver (WritesOver set (record { given = given; posts = posts; notes = [] } ∷ steps)) (former_at set steps) (target_extended set.accepts r e).end)) (target_decision set.accepts (target_view r) e).moves
   begins given posts steps r e up comes fact =
       roles_mapped (IsAskedRole set.accepts r e) (NewOver (WritesOver set (record { given = given; posts = posts; notes = [] } ∷ steps)) (former_at set steps) (target_extended set.accepts r e).end)
       (asked_over given posts steps r e up comes) _ (moves_ask joins set.accepts r e (subst (λ (state : TargetState). HasLive state) up (target_is_live joins set steps)))
@@ -95,7 +97,7 @@ module _ (joins : SumsJoin) (set : Setting) where
 -- what is due so was due
 due_in_time : (set : Setting) (steps : List Step) (role : Role) (earlier : List Transfer) → WritesOver set steps role earlier → IsWrittenInTime set steps role
 due_in_time set steps (Writes name o file) earlier (kind, named, due) =
-    (kind, named, λ e. let h : ListWasDueAfter set steps earlier file = due e in record { since = h.since; made = h.made; before = h.before; split = h.split; due = h.due; lists = h.lists })
+    (kind, named, λ e. let h : ListWasDueAfter set steps earlier file = due e in record { since = h.since; made = h.made; before = h.before; split = h.split; due = h.due; newly = h.newly; lists = h.lists })
 due_in_time set steps (Reads name o) earlier h = tt
 due_in_time set steps (ServesRead name o file) earlier h = tt
 due_in_time set steps (ServesWrite name o) earlier h = tt

@@ -1,5 +1,5 @@
 -- Proofs that completed information sessions list what was active.
-use Rattle.std.proofs.Common.{◌≡◌, inl, inr, ℕ, suc, Bool, true, false, cond, List, [], ◌∷◌, ◌++◌, length, ◌⊎◌, ◌↔◌, Option, Some, None, Ok, refl, sym, ap, subst, ◌∙◌, append_assoc, length-append, arith}
+use Rattle.std.proofs.Common.{◌≡◌, inl, inr, ℕ, suc, true, false, cond, List, [], ◌∷◌, ◌++◌, length, ◌⊎◌, ◌↔◌, Option, Some, None, Ok, refl, sym, ap, subst, ◌∙◌, append_assoc, length-append, arith}
 use Rattle.std.specs.Prelude.{bytes_eq}
 use Rattle.std.proofs.lemmas.List.{append_cancel_left}
 use Rattle.field_grammar.specs.Answers.{answer}
@@ -12,7 +12,6 @@ use Rattle.load_base.specs.Name.{IsName, is_name_byte}
 use Rattle.tftp_packet.specs.declared.options.Options.{Options}
 use Rattle.tftp_packet.specs.Options.{ended_text}
 use Rattle.tftp_packet.specs.Packets.{PacketSpells, Wrq, packet_bytes}
-use Rattle.load_header.specs.Header.{HeaderView}
 use Rattle.exchange_trace.specs.declared.trace.Side.TheVariants as sides
 use Rattle.exchange_trace.specs.declared.trace.Side.{Side}
 use Rattle.exchange_trace.specs.Happenings.{Booted, DatagramView, Delivered, Ended, HappeningView, Info_started, Injected, Lost, Power_cut, Size_told, Ticked, Upload_started, is_same_side}
@@ -25,6 +24,7 @@ use Rattle.transfer_end.specs.Packets.{packet_in}
 use Rattle.transfer_end.specs.SentPacketLaws.{read_is_spelled}
 use Rattle.transfer_end.specs.Readings.{Reading}
 use Rattle.transfer_end.specs.Transfers.{Reads, Role, ServesRead, ServesWrite, Transfer, Writes, first_packet}
+use Rattle.accept_rules.specs.Permissions.{Accepts}
 use Rattle.session_rules.specs.declared.outcome.FileKind.{FileKind}
 use Rattle.session_rules.specs.declared.outcome.FileKind.TheVariants as kinds
 use Rattle.session_rules.specs.FileNames.{extension, file_name}
@@ -33,6 +33,7 @@ use Rattle.session_rules.specs.LoaderLog.{newest}
 use Rattle.session_rules.specs.LoaderRoles.{TakesFile}
 use Rattle.session_rules.specs.Target.{Begins, Continues, Ends, TargetChange, Turns, Turns_without_port, target_decision}
 use Rattle.session_rules.specs.TargetLaws.{identity_stays}
+use Rattle.session_rules.specs.TargetRows.{WholeRow, Writes_lcl}
 use Rattle.session_rules.specs.TargetLog.{TargetReading, TargetSessionLog, log_turned, reading_turned, reading_without_port, target_extended, target_reading_changed, target_view}
 use Rattle.replay_rules.specs.BothEnds.{Is_down, Is_up, Setting, TargetState, come_up, gone_down, noted, reached, target_at}
 use Rattle.replay_rules.specs.ChangeLaws.{HasTarget, noted_target}
@@ -43,19 +44,19 @@ use Rattle.replay_rules.specs.Promises.{ListIsDue, SessionWritesList, WritesList
 
 -- ---- the target stays the same
 
-changed_identity : (accepts : HeaderView → Bool) (end : Reading) (r : TargetReading) (live : Option TargetSessionLog) (change : TargetChange) → r.live ≡ live → (target_reading_changed accepts end r change).active.identity ≡ r.active.identity
+changed_identity : (accepts : Accepts) (end : Reading) (r : TargetReading) (live : Option TargetSessionLog) (change : TargetChange) → r.live ≡ live → (target_reading_changed accepts end r change).active.identity ≡ r.active.identity
 changed_identity accepts end r live (Continues more) is = refl
 changed_identity accepts end r live (Begins kind) is = identity_stays r.active _
-changed_identity accepts end r None (Turns move more) is = ap (λ (l : Option TargetSessionLog). (log_turned (reading_turned accepts) end r l).active.identity) is
-changed_identity accepts end r (Some s) (Turns move more) is = ap (λ (l : Option TargetSessionLog). (log_turned (reading_turned accepts) end r l).active.identity) is ∙ identity_stays r.active _
-changed_identity accepts end r None (Turns_without_port move more) is = ap (λ (l : Option TargetSessionLog). (log_turned (reading_without_port accepts) end r l).active.identity) is
-changed_identity accepts end r (Some s) (Turns_without_port move more) is = ap (λ (l : Option TargetSessionLog). (log_turned (reading_without_port accepts) end r l).active.identity) is ∙ identity_stays r.active _
+changed_identity accepts end r None (Turns move more) is = ap (λ (l : Option TargetSessionLog). (log_turned accepts reading_turned end r l).active.identity) is
+changed_identity accepts end r (Some s) (Turns move more) is = ap (λ (l : Option TargetSessionLog). (log_turned accepts reading_turned end r l).active.identity) is ∙ identity_stays r.active _
+changed_identity accepts end r None (Turns_without_port move more) is = ap (λ (l : Option TargetSessionLog). (log_turned accepts reading_without_port end r l).active.identity) is
+changed_identity accepts end r (Some s) (Turns_without_port move more) is = ap (λ (l : Option TargetSessionLog). (log_turned accepts reading_without_port end r l).active.identity) is ∙ identity_stays r.active _
 changed_identity accepts end r live (Ends reason) is = refl
 
 reached_target : (set : Setting) (e : Option Event) (state : TargetState) → HasTarget set state → HasTarget set (reached set e state)
 reached_target set None (Is_up r) is = is
 reached_target set (Some e) (Is_up r) is =
-    let d = target_decision set.accepts (target_view set.accepts r) e in
+    let d = target_decision set.accepts (target_view r) e in
     changed_identity set.accepts (readings_after sides.Target r.end d.moves) r r.live d.change refl ∙ is
 reached_target set None (Is_down active interrupted) is = is
 reached_target set (Some e) (Is_down active interrupted) is = is
@@ -92,9 +93,21 @@ one_noted (Boot_refused fault) notes before after = noted_none notes (gone_down 
 -- ---- what the target writes
 
 -- the list is due once it is asked for
-pub list_due : (set : Setting) (r : TargetReading) (e : Event) (file : List ℕ) → ListIsAsked set.accepts r e file → ListIsDue set (Is_up (target_extended set.accepts r e))
+pub list_due : (set : Setting) (r : TargetReading) (e : Event) (file : List ℕ) → ListIsAsked set.accepts r e file → ListIsDue (Is_up (target_extended set.accepts r e))
 list_due set r e file h =
-    subst (λ (live : Option TargetSessionLog). SessionWritesList set (target_extended set.accepts r e) live) (sym h.live) (subst WritesList (sym h.row) tt)
+    subst (λ (live : Option TargetSessionLog). SessionWritesList live) (sym h.live) (subst WritesList (sym h.row) tt)
+
+list_row : (row : WholeRow) → WritesList row → row ≡ Writes_lcl
+list_row Writes_lcl due = refl
+list_row row due = absurd due
+
+-- and not before
+pub not_due : (accepts : Accepts) (r : TargetReading) (e : Event) (file : List ℕ) → ListIsAsked accepts r e file → ListIsDue (Is_up r) → ⊥
+not_due accepts r e file h due = by r.live refl due
+  where
+    by : (live : Option TargetSessionLog) → r.live ≡ live → SessionWritesList live → ⊥
+    by None is due = absurd due
+    by (Some s) is due = h.newly s is (list_row s.row due)
 
 -- ---- names
 

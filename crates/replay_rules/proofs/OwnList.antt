@@ -197,7 +197,8 @@ module _ (joins : SumsJoin) (moves : MovesStayFair) (reads : ListsAreRead) (set 
       starts = given_info (posted_in start_at.before) start_at.start.given info.hw info.pos comes_at;
       newest = (n.no_start, subst NoneStarts came.newest start_at.newest);
       one = grows ∙ ap (λ (z : List EndedSession). session ∷ z) (sym n.ended_then);
-      due = subst (λ (z : List Step). ListIsDue set (target_at set (due.made ∷ z))) came.split due.due;
+      due = subst (λ (z : List Step). ListIsDue (target_at set (due.made ∷ z))) came.split due.due;
+      newly = subst (λ (z : List Step). ListIsDue (target_at set z) → ⊥) came.split due.newly;
       listed = subst (λ (z : List Step). session.listed ≡ Some (lcl_of (outline_of (active_at set z)))) came.split listed_is;
     }
 

@@ -2,7 +2,6 @@
 use Rattle.std.proofs.Common.{◌≡◌, ◌⊎◌, inl, inr, ⊎_elim, ℕ, ◌<◌, ◌≤◌, Bool, true, false, List, [], ◌∷◌, ◌++◌, length, map, Option, Some, None, Ok, refl, sym, ap, subst, ◌∙◌, append_assoc, arith, cond}
 use Rattle.std.proofs.lemmas.Bool.{eq-eqb}
 use Rattle.field_grammar.specs.Grammar.{IsBytes}
-use Rattle.load_header.specs.Header.{HeaderView}
 use Rattle.load_protocol_files.specs.declared.lur.Wanted.{Wanted}
 use Rattle.load_protocol_files.specs.Lur.{LurSpells}
 use Rattle.disk_layout.specs.Holds.{StandingView}
@@ -10,7 +9,7 @@ use Rattle.exchange_trace.specs.declared.trace.Side.TheVariants as sides
 use Rattle.exchange_trace.specs.Logs.{Event, Gets, Learns, Starts_info, Starts_upload, Ticks, event_for, logged, loader_log}
 use Rattle.exchange_trace.specs.Posts.{posted_in}
 use Rattle.exchange_trace.specs.Steps.{Step}
-use Rattle.accept_rules.specs.Permissions.{Permits}
+use Rattle.accept_rules.specs.Permissions.{AcceptsPermitted}
 use Rattle.transfer_end.specs.OtherEndLaws.{all_at, among_either, among_right}
 use Rattle.transfer_end.specs.OtherEnds.{Among, AnswersRequest, ComesFromEnd, MovesStayFair, OwnPortsRise, TellsLength, file_sent, is_asking, of_end, of_none}
 use Rattle.transfer_end.specs.Transfers.{Reads, Role, ServesRead, ServesWrite, Transfer, Writes, arrived_of}
@@ -98,7 +97,7 @@ none_brought set s before new none e = by (target_at set before) (sym (ap (λ (x
 -- ---- the step that completes a session
 
 module _ (joins : SumsJoin) (moves : MovesStayFair) (spells : HeadersAreSpelled) (payloads : PayloadsAreBytes) (requests : RequestsAreSpelled) (reads : RequestsAreRead) (statuses : StatusesAreSpelled) (set : Setting)
-    (permits : (h : HeaderView) → set.accepts h ≡ true → Permits h) (entries : EntriesFit set.media) where
+    (permits : AcceptsPermitted set.accepts) (entries : EntriesFit set.media) where
   module _ (s : Step) (earlier : List Step) (is : IsUninjected set (s ∷ earlier)) (session : EndedSession) (e : Event) (comes : event_for sides.Loader (posted_in earlier) s.given ≡ Some e) (alone : event_for sides.Target (posted_in earlier) s.given ≡ None)
       (grows : (loader_at set (s ∷ earlier)).ended ≡ session ∷ (loader_at set earlier).ended) (h : CompletionArrived set.media (loader_at set earlier) e) where
     abbrev n : EndsNewest set s earlier h.ends.session h.ends.live h.ends.transfer

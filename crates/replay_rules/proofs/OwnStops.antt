@@ -159,6 +159,6 @@ module _ (joins : SumsJoin) (moves : MovesStayFair) (set : Setting) (hw : Begins
       starts = given_starts (posted_in start_at.before) start_at.start.given upload.hw upload.pos upload.parts comes_at;
       newest = (n.no_start, subst NoneStarts came.newest start_at.newest);
       one = grows ∙ ap (λ (z : List EndedSession). session ∷ z) (sym n.ended_then);
-      fails = subst (λ (z : List Step). FailsFor set (target_at set (failed.failed ∷ z)) failed.reason) came.split failed.fails;
+      fails = subst (λ (z : List Step). FailsFor (target_at set (failed.failed ∷ z)) failed.reason) came.split failed.fails;
       tells = tells;
     }

@@ -2,9 +2,7 @@
 use Rattle.std.proofs.Common.{◌≡◌, ℕ, Bool, true, false, cond, eqb, List, [], ◌∷◌, ◌++◌, Option, Some, None, refl, sym, ap, subst, ◌∙◌, append_assoc}
 use Rattle.std.specs.List.{AllByRecursion}
 use Rattle.load_header.specs.declared.header.FileEntry.{FileEntry}
-use Rattle.load_header.specs.Header.{HeaderView}
-use Rattle.disk_layout.specs.declared.identity.Identity.{Identity}
-use Rattle.disk_layout.specs.Holds.{StandingView}
+use Rattle.disk_layout.specs.Holds.{Outline, StandingView, outline_of}
 use Rattle.tftp_link.specs.Answers.{is_live}
 use Rattle.exchange_trace.specs.declared.trace.Side.TheVariants as sides
 use Rattle.exchange_trace.specs.Logs.{Event, event_for}
@@ -15,15 +13,16 @@ use Rattle.transfer_end.specs.Moves.{Move}
 use Rattle.transfer_end.specs.OtherEnds.{is_asking}
 use Rattle.transfer_end.specs.Readings.{Reading}
 use Rattle.transfer_end.specs.Transfers.{Reads, Role, ServesRead, ServesWrite, Transfer, Writes, arrived_of, end_in, end_of, error_of, phase_of}
+use Rattle.accept_rules.specs.Permissions.{Accepts}
 use Rattle.session_rules.specs.declared.outcome.FileKind.{FileKind}
 use Rattle.session_rules.specs.declared.outcome.FileKind.TheVariants.{Lci, Lui}
 use Rattle.session_rules.specs.BufferLaws.{SumsJoin}
 use Rattle.session_rules.specs.LoaderLog.{newest}
 use Rattle.session_rules.specs.Roles.{HasRole}
 use Rattle.session_rules.specs.Target.{Begins, Continues, Ends, TargetChange, Turns, Turns_without_port, target_decision}
-use Rattle.session_rules.specs.TargetLaws.{FitsChange, HasTurned, after, decision_fits, identity_stays, row_of_none, seen_row, turned_row, turned_view}
-use Rattle.session_rules.specs.TargetLog.{TargetReading, TargetSessionLog, log_turned, reading_turned, row_in, standing_in, target_extended, target_reading_changed, target_view, with_done}
-use Rattle.session_rules.specs.TargetRows.{Arriving, Awaits_lur, Breaks_off, Gives_denial, Gives_lci, Gives_lui, Judges, Kept_bytes, Kept_sums, Over, Passes, Reads_file, Refuses_request, Requests, RowMove, RowView, WholeRow, Writes_completion, Writes_lcl, Writes_lcs, Writes_progress, Writes_ready, Writes_stop, arriving_of, error_move, file_move, first_row, header_move, placed_view_if, read_move, row_after, row_move_by, row_view, view_judged, view_judged_in, view_moved, with_file_view, with_header_view}
+use Rattle.session_rules.specs.TargetLaws.{FitsChange, HasTurned, after, decision_fits, seen_row, turned_row, turned_view}
+use Rattle.session_rules.specs.TargetLog.{TargetReading, TargetSessionLog, log_turned, reading_turned, target_extended, target_reading_changed, target_view, with_done}
+use Rattle.session_rules.specs.TargetRows.{Arriving, Awaits_lur, Breaks_off, Gives_denial, Gives_lci, Gives_lui, Judges, Kept_bytes, Kept_sums, Over, Passes, Reads_file, Refuses_request, Requests, RowMove, RowView, Writes_completion, Writes_lcl, Writes_lcs, Writes_progress, Writes_ready, Writes_stop, arriving_of, error_move, file_move, first_row, header_move, placed_view_if, read_move, row_after, row_move_by, row_view, view_judged, view_judged_in, view_moved, with_file_view, with_header_view}
 use Rattle.session_rules.specs.Uploads.{Accepts_file, Accepts_header, Complete, Judgement, More_files, Next, Next_load, OpenLoadView, Stops_for, UploadView, next_entry, next_name, next_wanted}
 use Rattle.replay_rules.specs.BothEnds.{Is_down, Is_up, Setting, TargetState, come_up, gone_down, noted, reached, target_at}
 use Rattle.replay_rules.specs.TieLaws.{HasLive, target_is_live}
@@ -109,8 +108,8 @@ ComesIn row (Requests loads) = Awaits row
 ComesIn row (Refuses_request fault) = Awaits row
 ComesIn row move = Unit {0}
 
-module _ (accepts : HeaderView → Bool) (id : Identity) where
-  header_comes : (row : RowView) (u : UploadView) (wanted : Option _) (arriving : Arriving) → ComesIn row (header_move accepts id u wanted arriving)
+module _ (accepts : Accepts) (active : Outline) where
+  header_comes : (row : RowView) (u : UploadView) (wanted : Option _) (arriving : Arriving) → ComesIn row (header_move accepts active u wanted arriving)
   header_comes row u None arriving = tt
   header_comes row u (Some w) (Kept_bytes b) = tt
   header_comes row u (Some w) (Kept_sums s) = tt
@@ -120,7 +119,7 @@ module _ (accepts : HeaderView → Bool) (id : Identity) where
   file_comes row u l (Some entry) (Kept_bytes b) = tt
   file_comes row u l (Some entry) (Kept_sums s) = tt
 
-  read_comes : (row : RowView) (u : UploadView) (current : Option OpenLoadView) (arriving : Arriving) → ComesIn row (read_move accepts id u current arriving)
+  read_comes : (row : RowView) (u : UploadView) (current : Option OpenLoadView) (arriving : Arriving) → ComesIn row (read_move accepts active u current arriving)
   read_comes row u None arriving = header_comes row u (next_wanted u) arriving
   read_comes row u (Some l) arriving = file_comes row u l (next_entry l) arriving
 
@@ -145,7 +144,7 @@ module _ (accepts : HeaderView → Bool) (id : Identity) where
   error_comes (Writes_completion e loads) code = tt
   error_comes Over code = tt
 
-  move_comes : (row : RowView) (error : Option ℕ) (arriving : Arriving) → ComesIn row (row_move_by accepts id row arriving error)
+  move_comes : (row : RowView) (error : Option ℕ) (arriving : Arriving) → ComesIn row (row_move_by accepts active row arriving error)
   move_comes row (Some code) arriving = error_comes row code
   move_comes (Reads_file u) None arriving = read_comes (Reads_file u) u u.current arriving
   move_comes Awaits_lur None arriving = awaited_comes _
@@ -233,9 +232,9 @@ pub record IsPlaced (row : RowView) (end : Reading) : Type 0 where
   pub role : LiveOfRow row end.live
   pub placed : PlacedRow row end.past
 
-abbrev pub SessionPlaced : (HeaderView → Bool) → Identity → Reading → Option TargetSessionLog → Type 0
-SessionPlaced accepts id end None = Unit {0}
-SessionPlaced accepts id end (Some s) = IsPlaced (seen_row accepts id s) end
+abbrev pub SessionPlaced : Reading → Option TargetSessionLog → Type 0
+SessionPlaced end None = Unit {0}
+SessionPlaced end (Some s) = IsPlaced (seen_row s) end
 
 of_role : (row : RowView) (live : Option Transfer) (role : Role) → HasRole live role → LiveOfRow row live → IsOfTargetRow row role
 of_role row None role was fits = absurd was
@@ -257,17 +256,14 @@ gives_none : (live : Option Transfer) → LiveOfRow Over live
 gives_none None = tt
 gives_none (Some t) = tt
 
-module _ (joins : SumsJoin) (accepts : HeaderView → Bool) where
-  for_identity : (active : StandingView) (row : WholeRow) (end : Reading) (s : TargetSessionLog) → IsPlaced (seen_row accepts active.identity s) end → IsPlaced (seen_row accepts (standing_in active row).identity s) end
-  for_identity active row end s h = subst (λ (id : Identity). IsPlaced (seen_row accepts id s) end) (sym (identity_stays active row)) h
-
-  turned_placed : (id : Identity) (end : Reading) (s : TargetSessionLog) (moves : List Move) (move : RowMove) (more : List ℕ) → HasTurned accepts id end s moves move more → LiveOfRow (turned_view accepts id end s move more) (after end moves).live → IsPlaced (seen_row accepts id s) end
-      → IsPlaced (seen_row accepts id (with_done s (newest (after end moves).past))) (after end moves)
-  turned_placed id end s moves move more h role was =
-      let row : RowView = seen_row accepts id s in
-      let comes : ComesIn row move = subst (ComesIn row) (sym h.comes_to) (move_comes accepts id row (error_of h.ended) (arriving_of row (arrived_of h.ended))) in
-      let then : PlacedRow (turned_view accepts id end s move more) (h.ended ∷ end.past) = moved_next h.ended end.past (over_heard h.ended h.over) row _ move comes (of_role row end.live h.ended.role h.was_live was.role) was.placed in
-      subst (λ (x : RowView). IsPlaced x (after end moves)) (sym (turned_row joins accepts id s end moves move more h)) (record { role = role; placed = subst (PlacedRow (turned_view accepts id end s move more)) (sym h.past) then })
+module _ (joins : SumsJoin) (accepts : Accepts) where
+  turned_placed : (active : StandingView) (end : Reading) (s : TargetSessionLog) (moves : List Move) (move : RowMove) (more : List ℕ) → HasTurned accepts active end s moves move more → LiveOfRow (turned_view end s move more) (after end moves).live → IsPlaced (seen_row s) end
+      → IsPlaced (seen_row (with_done accepts active s (newest (after end moves).past))) (after end moves)
+  turned_placed active end s moves move more h role was =
+      let row : RowView = seen_row s in
+      let comes : ComesIn row move = subst (ComesIn row) (sym h.comes_to) (move_comes accepts (outline_of active) row (error_of h.ended) (arriving_of row (arrived_of h.ended))) in
+      let then : PlacedRow (turned_view end s move more) (h.ended ∷ end.past) = moved_next h.ended end.past (over_heard h.ended h.over) row _ move comes (of_role row end.live h.ended.role h.was_live was.role) was.placed in
+      subst (λ (x : RowView). IsPlaced x (after end moves)) (sym (turned_row joins accepts active s end moves move more h)) (record { role = role; placed = subst (PlacedRow (turned_view end s move more)) (sym h.past) then })
 
   first_placed : (kind : FileKind) (sequence : ℕ) (end : Reading) → LiveGives end.live → IsPlaced (row_view (first_row kind sequence)) end
   first_placed Lci sequence end gives = record { role = gives_lci end.live gives; placed = tt }
@@ -279,62 +275,57 @@ module _ (joins : SumsJoin) (accepts : HeaderView → Bool) where
   first_placed kind sequence end gives = record { role = gives_none end.live; placed = tt }
 
   abbrev ReadingPlaced : TargetReading → Type 0
-  ReadingPlaced r = SessionPlaced accepts r.active.identity r.end r.live
+  ReadingPlaced r = SessionPlaced r.end r.live
 
-  changed_placed : (r : TargetReading) (live : Option TargetSessionLog) (moves : List Move) (change : TargetChange) → r.live ≡ live → FitsChange accepts r.active.identity r.end live moves change → FitsRole accepts r.active.identity r.end live moves change → SessionPlaced accepts r.active.identity r.end live
+  changed_placed : (r : TargetReading) (live : Option TargetSessionLog) (moves : List Move) (change : TargetChange) → r.live ≡ live → FitsChange accepts r.active r.end live moves change → FitsRole r.end live moves change → SessionPlaced r.end live
       → ReadingPlaced (target_reading_changed accepts (after r.end moves) r change)
-  changed_placed r live moves (Begins kind) is fits role h =
-      let s : TargetSessionLog = record { first = first_row kind r.active.sequence; done = [] } in
-      for_identity r.active (row_in accepts r.active.identity s) (after r.end moves) s
-      (subst (λ (x : WholeRow). IsPlaced (row_view x) (after r.end moves)) (sym (row_of_none accepts r.active.identity (first_row kind r.active.sequence))) (first_placed kind r.active.sequence (after r.end moves) role))
+  changed_placed r live moves (Begins kind) is fits role h = first_placed kind r.active.sequence (after r.end moves) role
   changed_placed r live moves (Ends why) is fits role h = tt
-  changed_placed r None moves (Continues more) is fits role h = subst (SessionPlaced accepts r.active.identity (after r.end moves)) (sym is) tt
+  changed_placed r None moves (Continues more) is fits role h = subst (SessionPlaced (after r.end moves)) (sym is) tt
   changed_placed r (Some s) moves (Continues more) is (arrives, reads, past) role h =
-      subst (SessionPlaced accepts r.active.identity (after r.end moves)) (sym is) (record { role = role h.role; placed = subst (PlacedRow (seen_row accepts r.active.identity s)) (sym past) h.placed })
+      subst (SessionPlaced (after r.end moves)) (sym is) (record { role = role h.role; placed = subst (PlacedRow (seen_row s)) (sym past) h.placed })
   changed_placed r None moves (Turns move more) is fits role h = rw is tt
   changed_placed r None moves (Turns_without_port move more) is fits role h = rw is tt
   changed_placed r (Some s) moves (Turns move more) is (turn, none_came, reads) role h =
-      let then : TargetSessionLog = with_done s (newest (after r.end moves).past) in
-      subst (λ (x : Option TargetSessionLog). ReadingPlaced (log_turned (reading_turned accepts) (after r.end moves) r x)) (sym is)
-      (for_identity r.active (row_in accepts r.active.identity then) (after r.end moves) then (turned_placed r.active.identity r.end s moves move more turn role h))
+      subst (λ (x : Option TargetSessionLog). ReadingPlaced (log_turned accepts reading_turned (after r.end moves) r x)) (sym is) (turned_placed r.active r.end s moves move more turn role h)
   changed_placed r (Some s) moves (Turns_without_port move more) is turn role h = rw is tt
 
   extended_placed : (r : TargetReading) (e : Event) → IsLive r.end.live → ReadingPlaced r → ReadingPlaced (target_extended accepts r e)
   extended_placed r e live h =
-      let d = target_decision accepts (target_view accepts r) e in
+      let d = target_decision accepts (target_view r) e in
       changed_placed r r.live d.moves d.change refl (decision_fits joins accepts r e live) (decision_roles accepts r e) h
 
 -- ---- a trace
 
-abbrev pub StatePlaced : Setting → TargetState → Type 0
-StatePlaced set (Is_up r) = SessionPlaced set.accepts r.active.identity r.end r.live
-StatePlaced set (Is_down active interrupted) = Unit {0}
+abbrev pub StatePlaced : TargetState → Type 0
+StatePlaced (Is_up r) = SessionPlaced r.end r.live
+StatePlaced (Is_down active interrupted) = Unit {0}
 
 module _ (set : Setting) where
-  gone_placed : (before after : TargetState) → StatePlaced set (gone_down before after)
+  gone_placed : (before after : TargetState) → StatePlaced (gone_down before after)
   gone_placed (Is_up r) (Is_up s) = tt
   gone_placed (Is_up r) (Is_down active interrupted) = tt
   gone_placed (Is_down active interrupted) after = tt
 
-  come_placed : (first_port sequence : ℕ) (state : TargetState) → StatePlaced set state → StatePlaced set (come_up first_port sequence state)
+  come_placed : (first_port sequence : ℕ) (state : TargetState) → StatePlaced state → StatePlaced (come_up first_port sequence state)
   come_placed first_port sequence (Is_up r) h = h
   come_placed first_port sequence (Is_down active interrupted) h = tt
 
-  noted_placed : (notes : List Note) (before after : TargetState) → StatePlaced set after → StatePlaced set (noted notes before after)
+  noted_placed : (notes : List Note) (before after : TargetState) → StatePlaced after → StatePlaced (noted notes before after)
   noted_placed [] before after h = h
   noted_placed (Went_down ∷ notes) before after h = noted_placed notes (gone_down before after) (gone_down before after) (gone_placed before after)
   noted_placed (Came_up first_port sequence ∷ notes) before after h =
       let up = come_up first_port sequence (gone_down before after) in noted_placed notes up up (come_placed first_port sequence (gone_down before after) (gone_placed before after))
   noted_placed (Boot_refused fault ∷ notes) before after h = noted_placed notes (gone_down before after) (gone_down before after) (gone_placed before after)
 
-  pub reached_placed : SumsJoin → (e : Option Event) (state : TargetState) → HasLive state → StatePlaced set state → StatePlaced set (reached set e state)
+  pub reached_placed : SumsJoin → (e : Option Event) (state : TargetState) → HasLive state → StatePlaced state → StatePlaced (reached set e state)
   reached_placed joins None (Is_up r) live h = h
   reached_placed joins (Some e) (Is_up r) live h = extended_placed joins set.accepts r e live h
   reached_placed joins None (Is_down active interrupted) live h = tt
   reached_placed joins (Some e) (Is_down active interrupted) live h = tt
 
   -- so it is at each moment, whatever comes
-  pub state_placed : SumsJoin → (steps : List Step) → StatePlaced set (target_at set steps)
+  pub state_placed : SumsJoin → (steps : List Step) → StatePlaced (target_at set steps)
   state_placed joins [] = tt
   state_placed joins (s ∷ earlier) =
       let e = event_for sides.Target (posted_in earlier) s.given in

@@ -12,6 +12,7 @@ use Rattle.std.proofs.Math.Nat.{min-le_left}
 use Rattle.crc_fields.specs.CheckSums.{crc32_after, crc32_of}
 use Rattle.crc_fields.specs.WidthLaws.{crc16_fits, crc32_fits}
 use Rattle.field_grammar.specs.Answers.{answer}
+use Rattle.field_grammar.specs.Fields.{number_fields}
 use Rattle.field_grammar.specs.Grammar.{IsBytes}
 use Rattle.field_grammar.specs.NumberLaws.{length_number_bytes}
 use Rattle.field_grammar.specs.WrittenLaws.{at_most_each}
@@ -25,10 +26,12 @@ use Rattle.load_header.specs.HeaderFields.{IsHeader, IsHeaderFile}
 use Rattle.load_protocol_files.specs.declared.fault.FileFault.{FileFault}
 use Rattle.load_protocol_files.specs.declared.lur.Wanted.{Wanted}
 use Rattle.load_protocol_files.specs.Lur.{LurSpells, LurView, WantedFits, lur}
-use Rattle.disk_layout.specs.declared.identity.Identity.{Identity}
 use Rattle.disk_layout.specs.declared.manifest.ManifestFile.{ManifestFile}
-use Rattle.disk_layout.specs.Manifest.{LoadEntry, file_entry_fields, load_entry_fields, manifest_fields, total_length}
+use Rattle.disk_layout.specs.declared.manifest.Layout.TheVariants as layouts
+use Rattle.disk_layout.specs.Manifest.{LoadEntry, file_entry_fields, load_entry_fields, manifest_fields, total_length, type_fields}
+use Rattle.disk_layout.specs.Holds.{Outline}
 use Rattle.part_number.specs.VerdictLaws.{part_size}
+use Rattle.accept_rules.specs.Permissions.{Accepts}
 use Rattle.session_rules.specs.declared.reason.Reason.{Reason}
 use Rattle.session_rules.specs.declared.reason.Reason.TheVariants as reasons
 use Rattle.session_rules.specs.declared.reason.RequestFault.{RequestFault}
@@ -113,18 +116,22 @@ loads_length (l ∷ loads) (one, all) =
 file_fields : (f : ManifestFile) → FileSmall f → length (concat (file_entry_fields f)) ≤ 300
 file_fields f small = let name = small.name in simp (length-append, length_number_bytes) (omega (arith, name))
 
-load_fields : (l : LoadEntry) → LoadSmall l → length (concat (load_entry_fields l)) ≤ 80000
+load_fields : (l : LoadEntry) → LoadSmall l → length (concat (load_entry_fields layouts.Two l)) ≤ 80000
 load_fields l small =
-    let part = small.part in
-    let count = small.count in
-    let each : length (concat (flat_map file_entry_fields l.files)) ≤ length l.files * 300 = at_most_each file_entry_fields (λ f. FileSmall f) 300 file_fields l.files (All-from_recursion (λ (f : ManifestFile). FileSmall f) l.files small.files) in
-    simp (length-append, length_number_bytes) (omega (arith, part, count, each))
+    by_type l.type_id small.part small.count
+    (at_most_each file_entry_fields (λ f. FileSmall f) 300 file_fields l.files (All-from_recursion (λ (f : ManifestFile). FileSmall f) l.files small.files))
+  where
+    by_type : (t : Option ℕ) → length l.part ≤ 255 → length l.files ≤ 256 → length (concat (flat_map file_entry_fields l.files)) ≤ length l.files * 300
+        → length (concat ((l.part ∷ []) ++ (type_fields layouts.Two t ++ (number_fields 2 (length l.files) ++ flat_map file_entry_fields l.files)))) ≤ 80000
+    by_type None part count each = simp (length-append, length_number_bytes) (omega (arith, part, count, each))
+    by_type (Some n) part count each = simp (length-append, length_number_bytes) (omega (arith, part, count, each))
 
 needs_little : (loads : List LoadEntry) → length loads ≤ 33 → AllByRecursion LoadSmall loads → IsLittle (need_of loads)
 unfolding need_of
 needs_little loads few all =
-    let each : length (concat (flat_map load_entry_fields loads)) ≤ length loads * 80000 = at_most_each load_entry_fields (λ l. LoadSmall l) 80000 load_fields loads (All-from_recursion (λ (l : LoadEntry). LoadSmall l) loads all) in
-    let size : length (concat (manifest_fields loads)) ≤ 2 + length loads * 80000 = simp (length-append, length_number_bytes) (omega (arith, each)) in
+    let each : length (concat (flat_map (load_entry_fields layouts.Two) loads)) ≤ length loads * 80000
+    = at_most_each (load_entry_fields layouts.Two) (λ l. LoadSmall l) 80000 load_fields loads (All-from_recursion (λ (l : LoadEntry). LoadSmall l) loads all) in
+    let size : length (concat (manifest_fields layouts.Two loads)) ≤ 4 + length loads * 80000 = simp (length-append, length_number_bytes) (omega (arith, each)) in
     omega (arith, loads_length loads all, size, few)
 
 -- ---- headers
@@ -186,7 +193,7 @@ short_prefix bytes = rw (length-take buffer_size bytes) (min-le_left buffer_size
 
 -- ---- a header that was read
 
-module _ (spells : HeadersAreSpelled) (accepts : HeaderView → Bool) (id : Identity) (bank : IsLittle id.bank) (u : UploadView) (fits : UploadFits AllWanted UploadSmall u) where
+module _ (spells : HeadersAreSpelled) (accepts : Accepts) (active : Outline) (bank : IsLittle active.identity.bank) (u : UploadView) (fits : UploadFits AllWanted UploadSmall u) where
   module _ (w : Wanted) (found : next_wanted u ≡ Some w) (bytes : List ℕ) (fit : IsBytes bytes) where
     abbrev arriving : Arriving
     arriving = Kept_bytes (buffered bytes)
@@ -204,14 +211,14 @@ module _ (spells : HeadersAreSpelled) (accepts : HeaderView → Bool) (id : Iden
         let more = fits.more in
         needs_little (u.loads ++ planned_load w h (length bytes) ∷ []) (omega (arith, one, few, more)) (all_more LoadSmall u.loads (planned_load w h (length bytes)) fits.sound.loads (planned_small w h (length bytes) wanted_fits small (omega (arith, le))))
 
-    header_told : (h : HeaderView) → HeaderSmall h → length bytes ≤ 65536 → ToldIf HasText (header_reason accepts id u w h (length bytes))
+    header_told : (h : HeaderView) → HeaderSmall h → length bytes ≤ 65536 → ToldIf HasText (header_reason accepts active u w h (length bytes))
     header_told h small le =
         or_told (unless (bytes_eq h.part w.part) reasons.PartDiffers) _ (unless_told (bytes_eq h.part w.part) reasons.PartDiffers (short_reason reasons.PartDiffers (plain_text 255 (codes "A3") refl (omega arith))))
-        (or_told (unless (is_for id.hw id.pos h) reasons.NotThisHardware) _ (unless_told (is_for id.hw id.pos h) reasons.NotThisHardware (short_reason reasons.NotThisHardware (plain_text 255 (codes "A4") refl (omega arith))))
+        (or_told (unless (is_for active.identity.hw active.identity.pos h) reasons.NotThisHardware) _ (unless_told (is_for active.identity.hw active.identity.pos h) reasons.NotThisHardware (short_reason reasons.NotThisHardware (plain_text 255 (codes "A4") refl (omega arith))))
         (or_told (unless (accepts h) reasons.RuleRefused) _ (unless_told (accepts h) reasons.RuleRefused (short_reason reasons.RuleRefused (plain_text 255 (codes "A5") refl (omega arith))))
-        (unless_told (nat_le (need_of (u.loads ++ planned_load w h (length bytes) ∷ [])) id.bank) (reasons.BankFull (need_of (u.loads ++ planned_load w h (length bytes) ∷ [])) id.bank)
-        (short_reason (reasons.BankFull (need_of (u.loads ++ planned_load w h (length bytes) ∷ [])) id.bank)
-        (coded_text 255 (codes "A9") (need_of (u.loads ++ planned_load w h (length bytes) ∷ []) ∷ id.bank ∷ []) refl (need_told h small le, (bank, tt)) (omega arith))))))
+        (unless_told (nat_le (need_of (u.loads ++ planned_load w h (length bytes) ∷ [])) active.identity.bank) (reasons.BankFull (need_of (u.loads ++ planned_load w h (length bytes) ∷ [])) active.identity.bank)
+        (short_reason (reasons.BankFull (need_of (u.loads ++ planned_load w h (length bytes) ∷ [])) active.identity.bank)
+        (coded_text 255 (codes "A9") (need_of (u.loads ++ planned_load w h (length bytes) ∷ []) ∷ active.identity.bank ∷ []) refl (need_told h small le, (bank, tt)) (omega arith))))))
 
     accepted_brings : (h : HeaderView) → HeaderSmall h → length bytes ≤ 65536 → SoundPlaced AllWanted UploadSmall HasText u (with_header_view (next_wanted u) h arriving)
     accepted_brings h small le =
@@ -220,19 +227,19 @@ module _ (spells : HeadersAreSpelled) (accepts : HeaderView → Bool) (id : Iden
         subst (λ (x : Option Wanted). SoundPlaced AllWanted UploadSmall HasText u (with_header_view x h arriving)) (sym found)
         (opened_small u _ fits.sound (record { part = omega (arith, part); name = omega (arith, name); header = small; size = omega (arith, le); count = omega arith; files = tt }))
 
-    read_brings : (found_header : Result HeaderView HeaderFault) → length bytes ≤ 65536 → answer header (take buffer_size bytes) ≡ found_header → BringsSo (judge_read_header accepts id u w (buffered bytes) found_header)
+    read_brings : (found_header : Result HeaderView HeaderFault) → length bytes ≤ 65536 → answer header (take buffer_size bytes) ≡ found_header → BringsSo (judge_read_header accepts active u w (buffered bytes) found_header)
     read_brings (Err fault) le e = refused_header fault (header_fault_short (take buffer_size bytes) fault (short_prefix bytes) (take_bytes buffer_size bytes fit) e)
     read_brings (Ok h) le e =
         let small : HeaderSmall h = header_small h (spells (take buffer_size bytes) h (take_bytes buffer_size bytes fit) e).0 in
         judged_brings u arriving _ (arrived_with u h 0) (Accepts_header h (next_with u h 0))
-        (or_told (header_reason accepts id u w h (length bytes)) _ (header_told h small le) (load_told h (next_with u h 0) (crc32_of (covered_header (take buffer_size bytes))) small.load_crc (let crc = crc32_fits (covered_header (take buffer_size bytes)) in omega (arith, crc))))
+        (or_told (header_reason accepts active u w h (length bytes)) _ (header_told h small le) (load_told h (next_with u h 0) (crc32_of (covered_header (take buffer_size bytes))) small.load_crc (let crc = crc32_fits (covered_header (take buffer_size bytes)) in omega (arith, crc))))
         (accepted_brings h small le)
 
-    header_brings : BringsSo (judge_header accepts id u w (buffered bytes))
+    header_brings : BringsSo (judge_header accepts active u w (buffered bytes))
     unfolding judge_header
     header_brings = by (is_too_long (buffered bytes)) refl
       where
-        by : (long : Bool) → is_too_long (buffered bytes) ≡ long → BringsSo (cond long (Stops_for (reasons.HeaderRefused headers.TooLong) (length u.loads)) (judge_read_header accepts id u w (buffered bytes) (answer header (take buffer_size bytes))))
+        by : (long : Bool) → is_too_long (buffered bytes) ≡ long → BringsSo (cond long (Stops_for (reasons.HeaderRefused headers.TooLong) (length u.loads)) (judge_read_header accepts active u w (buffered bytes) (answer header (take buffer_size bytes))))
         by true e = refused_header headers.TooLong (coded_text 100 (codes "H11") [] refl tt (omega arith))
         by false e = read_brings (answer header (take buffer_size bytes)) (ltb-false buffer_size (length bytes) e) refl
 
@@ -336,20 +343,20 @@ abbrev pub ReadsLittle : List ℕ → RowView → Type 0
 ReadsLittle bytes (Reads_file u) = IsLittle (length bytes)
 ReadsLittle bytes row = Unit {0}
 
-module _ (spells : HeadersAreSpelled) (reads : RequestsAreSpelled) (accepts : HeaderView → Bool) (id : Identity) (bank : IsLittle id.bank) (bytes : List ℕ) (fit : IsBytes bytes) where
+module _ (spells : HeadersAreSpelled) (reads : RequestsAreSpelled) (accepts : Accepts) (active : Outline) (bank : IsLittle active.identity.bank) (bytes : List ℕ) (fit : IsBytes bytes) where
   abbrev MovesSo : RowView → Option ℕ → Type 0
-  MovesSo row error = MoveBrings row (arriving_of row bytes) (row_move_by accepts id row (arriving_of row bytes) error)
+  MovesSo row error = MoveBrings row (arriving_of row bytes) (row_move_by accepts active row (arriving_of row bytes) error)
 
-  header_moves : (u : UploadView) → UploadFits AllWanted UploadSmall u → (wanted : Option Wanted) → next_wanted u ≡ wanted → MoveBrings (Reads_file u) (Kept_bytes (buffered bytes)) (header_move accepts id u wanted (Kept_bytes (buffered bytes)))
+  header_moves : (u : UploadView) → UploadFits AllWanted UploadSmall u → (wanted : Option Wanted) → next_wanted u ≡ wanted → MoveBrings (Reads_file u) (Kept_bytes (buffered bytes)) (header_move accepts active u wanted (Kept_bytes (buffered bytes)))
   header_moves u fits None found = tt
-  header_moves u fits (Some w) found = header_brings spells accepts id bank u fits w found bytes fit
+  header_moves u fits (Some w) found = header_brings spells accepts active bank u fits w found bytes fit
 
   file_moves : (u : UploadView) → UploadFits AllWanted UploadSmall u → IsLittle (length bytes) → (l : OpenLoadView) → u.current ≡ Some l → (entry : Option FileEntry) → next_entry l ≡ entry → (s : Sums) → s.count ≡ length bytes → IsLittle s.crc16 → s.load_crc ≤ 4294967295
       → MoveBrings (Reads_file u) (Kept_sums s) (file_move u l entry (Kept_sums s))
   file_moves u fits little l current None next s count crc16 crc32 = tt
-  file_moves u fits little l current (Some entry) next s count crc16 crc32 = file_brings spells accepts id bank u fits l current entry next s (omega (arith, count, little)) crc16 crc32
+  file_moves u fits little l current (Some entry) next s count crc16 crc32 = file_brings spells accepts active bank u fits l current entry next s (omega (arith, count, little)) crc16 crc32
 
-  read_moves : (u : UploadView) → UploadFits AllWanted UploadSmall u → IsLittle (length bytes) → (current : Option OpenLoadView) → u.current ≡ current → MoveBrings (Reads_file u) (arriving_load current bytes) (read_move accepts id u current (arriving_load current bytes))
+  read_moves : (u : UploadView) → UploadFits AllWanted UploadSmall u → IsLittle (length bytes) → (current : Option OpenLoadView) → u.current ≡ current → MoveBrings (Reads_file u) (arriving_load current bytes) (read_move accepts active u current (arriving_load current bytes))
   read_moves u fits little None e = header_moves u fits (next_wanted u) refl
   read_moves u fits little (Some l) e =
       let said : ℕ = said_length (next_entry l) in

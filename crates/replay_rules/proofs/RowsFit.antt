@@ -9,7 +9,8 @@ use Rattle.load_header.specs.Header.{HeaderView, header}
 use Rattle.load_protocol_files.specs.declared.fault.FileFault.{FileFault}
 use Rattle.load_protocol_files.specs.declared.lur.Wanted.{Wanted}
 use Rattle.load_protocol_files.specs.Lur.{LurView, lur}
-use Rattle.disk_layout.specs.declared.identity.Identity.{Identity}
+use Rattle.disk_layout.specs.Holds.{Outline}
+use Rattle.accept_rules.specs.Permissions.{Accepts}
 use Rattle.session_rules.specs.declared.reason.Reason.{Reason}
 use Rattle.session_rules.specs.declared.reason.Reason.TheVariants as reasons
 use Rattle.session_rules.specs.declared.reason.RequestFault.TheVariants as requests
@@ -109,17 +110,17 @@ module _ (Asked : List Wanted → Type 0) (Sound : UploadView → Type 0) (Told 
   judged_fits u None arrived judgement few h = h
   judged_fits u (Some reason) arrived judgement few h = few
 
-  read_header_fits : (accepts : HeaderView → Bool) (id : Identity) (u : UploadView) (w : Wanted) (b : Buffer) (found : Result HeaderView HeaderFault) → length u.loads < length u.request → JudgedFits u (judge_read_header accepts id u w b found)
-  read_header_fits accepts id u w b (Ok h) more = judged_fits u _ (arrived_with u h 0) (Accepts_header h (next_with u h 0)) (arrived_fits u h 0 more) (next_fits u h 0)
-  read_header_fits accepts id u w b (Err fault) more = omega (arith, more)
+  read_header_fits : (accepts : Accepts) (active : Outline) (u : UploadView) (w : Wanted) (b : Buffer) (found : Result HeaderView HeaderFault) → length u.loads < length u.request → JudgedFits u (judge_read_header accepts active u w b found)
+  read_header_fits accepts active u w b (Ok h) more = judged_fits u _ (arrived_with u h 0) (Accepts_header h (next_with u h 0)) (arrived_fits u h 0 more) (next_fits u h 0)
+  read_header_fits accepts active u w b (Err fault) more = omega (arith, more)
 
-  header_fits : (accepts : HeaderView → Bool) (id : Identity) (u : UploadView) (w : Wanted) (b : Buffer) → length u.loads < length u.request → JudgedFits u (judge_header accepts id u w b)
+  header_fits : (accepts : Accepts) (active : Outline) (u : UploadView) (w : Wanted) (b : Buffer) → length u.loads < length u.request → JudgedFits u (judge_header accepts active u w b)
   unfolding judge_header
-  header_fits accepts id u w b more = by (is_too_long b)
+  header_fits accepts active u w b more = by (is_too_long b)
     where
-      by : (long : Bool) → JudgedFits u (cond long (Stops_for (reasons.HeaderRefused Rattle.load_header.specs.declared.fault.HeaderFault.TheVariants.TooLong) (length u.loads)) (judge_read_header accepts id u w b (answer header b.prefix)))
+      by : (long : Bool) → JudgedFits u (cond long (Stops_for (reasons.HeaderRefused Rattle.load_header.specs.declared.fault.HeaderFault.TheVariants.TooLong) (length u.loads)) (judge_read_header accepts active u w b (answer header b.prefix)))
       by true = omega (arith, more)
-      by false = read_header_fits accepts id u w b (answer header b.prefix) more
+      by false = read_header_fits accepts active u w b (answer header b.prefix) more
 
   file_fits : (u : UploadView) (l : OpenLoadView) (entry : FileEntry) (s : _) → length u.loads < length u.request → JudgedFits u (judge_file u l entry s)
   unfolding judge_file
@@ -144,9 +145,9 @@ module _ (Asked : List Wanted → Type 0) (Sound : UploadView → Type 0) (Told 
       by false = request_counts row (answer lur b.prefix)
   lur_counts row (Kept_sums s) = tt
 
-  module _ (accepts : HeaderView → Bool) (id : Identity) where
-    header_counts : (u : UploadView) (wanted : Option Wanted) (arriving : Arriving) → length u.loads < length u.request → Counts (Reads_file u) (header_move accepts id u wanted arriving)
-    header_counts u (Some w) (Kept_bytes b) more = header_fits accepts id u w b more
+  module _ (accepts : Accepts) (active : Outline) where
+    header_counts : (u : UploadView) (wanted : Option Wanted) (arriving : Arriving) → length u.loads < length u.request → Counts (Reads_file u) (header_move accepts active u wanted arriving)
+    header_counts u (Some w) (Kept_bytes b) more = header_fits accepts active u w b more
     header_counts u (Some w) (Kept_sums s) more = tt
     header_counts u None arriving more = tt
 
@@ -155,7 +156,7 @@ module _ (Asked : List Wanted → Type 0) (Sound : UploadView → Type 0) (Told 
     file_counts u l (Some entry) (Kept_bytes b) more = tt
     file_counts u l None arriving more = tt
 
-    read_counts : (u : UploadView) (current : Option OpenLoadView) (arriving : Arriving) → length u.loads < length u.request → Counts (Reads_file u) (read_move accepts id u current arriving)
+    read_counts : (u : UploadView) (current : Option OpenLoadView) (arriving : Arriving) → length u.loads < length u.request → Counts (Reads_file u) (read_move accepts active u current arriving)
     read_counts u None arriving more = header_counts u (next_wanted u) arriving more
     read_counts u (Some l) arriving more = file_counts u l (next_entry l) arriving more
 
@@ -173,7 +174,7 @@ module _ (Asked : List Wanted → Type 0) (Sound : UploadView → Type 0) (Told 
     error_counts (Writes_completion e loads) code h = tt
     error_counts Over code h = tt
 
-    move_counts : (row : RowView) (error : Option ℕ) (arriving : Arriving) → RowFits row → Counts row (row_move_by accepts id row arriving error)
+    move_counts : (row : RowView) (error : Option ℕ) (arriving : Arriving) → RowFits row → Counts row (row_move_by accepts active row arriving error)
     move_counts row (Some code) arriving h = error_counts row code h
     move_counts (Reads_file u) None arriving h = read_counts u u.current arriving h.more
     move_counts Awaits_lur None arriving h = lur_counts Awaits_lur arriving
@@ -255,5 +256,5 @@ module _ (Asked : List Wanted → Type 0) (Sound : UploadView → Type 0) (Told 
   moved_fits none row arriving Breaks_off h counts brings = tt
 
   -- a transfer that is over keeps it
-  pub row_fits : Asked [] → (accepts : HeaderView → Bool) (id : Identity) (row : RowView) (arriving : Arriving) (end : TransferEnd) → RowFits row → Brings row arriving (row_move accepts id row end) → RowFits (view_moved row arriving (row_move accepts id row end))
-  row_fits none accepts id row arriving end h brings = moved_fits none row arriving (row_move accepts id row end) h (move_counts accepts id row end.error end.arriving h) brings
+  pub row_fits : Asked [] → (accepts : Accepts) (active : Outline) (row : RowView) (arriving : Arriving) (end : TransferEnd) → RowFits row → Brings row arriving (row_move accepts active row end) → RowFits (view_moved row arriving (row_move accepts active row end))
+  row_fits none accepts active row arriving end h brings = moved_fits none row arriving (row_move accepts active row end) h (move_counts accepts active row end.error end.arriving h) brings

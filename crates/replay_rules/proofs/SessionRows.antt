@@ -2,11 +2,9 @@
 use Rattle.std.proofs.Common.{◌≡◌, ℕ, Bool, true, false, cond, eqb, List, [], ◌∷◌, length, Option, Some, None, refl, sym, subst, arith}
 use Rattle.std.specs.Prelude.{◌==◌}
 use Rattle.std.proofs.lemmas.List.{length-map}
-use Rattle.load_header.specs.Header.{HeaderView}
 use Rattle.load_protocol_files.specs.declared.lur.Wanted.{Wanted}
-use Rattle.disk_layout.specs.declared.identity.Identity.{Identity}
 use Rattle.disk_layout.specs.Contents.{entries_of, entry_of}
-use Rattle.disk_layout.specs.Holds.{StandingView}
+use Rattle.disk_layout.specs.Holds.{StandingView, outline_of}
 use Rattle.exchange_trace.specs.declared.trace.Side.TheVariants as sides
 use Rattle.exchange_trace.specs.Logs.{Event, event_for}
 use Rattle.exchange_trace.specs.Posts.{posted_in}
@@ -15,14 +13,15 @@ use Rattle.transfer_end.specs.Laws.{IsLive}
 use Rattle.transfer_end.specs.Moves.{Move}
 use Rattle.transfer_end.specs.Readings.{Reading}
 use Rattle.transfer_end.specs.Transfers.{arrived_of, arriving_in, error_of}
+use Rattle.accept_rules.specs.Permissions.{Accepts}
 use Rattle.session_rules.specs.declared.outcome.FileKind.{FileKind}
 use Rattle.session_rules.specs.declared.outcome.FileKind.TheVariants.{Lci, Lui}
 use Rattle.session_rules.specs.declared.reason.Reason.{Reason}
 use Rattle.session_rules.specs.BufferLaws.{SumsJoin}
 use Rattle.session_rules.specs.LoaderLog.{newest}
 use Rattle.session_rules.specs.Target.{Begins, Continues, Ends, TargetChange, Turns, Turns_without_port, target_decision}
-use Rattle.session_rules.specs.TargetLaws.{FitsChange, HasTurned, after, decision_fits, identity_stays, row_of_none, seen_row, turned_row}
-use Rattle.session_rules.specs.TargetLog.{TargetReading, TargetSessionLog, log_turned, reading_turned, reading_without_port, row_in, standing_in, target_extended, target_reading_changed, target_view, with_done}
+use Rattle.session_rules.specs.TargetLaws.{FitsChange, HasTurned, after, decision_fits, seen_row, turned_row}
+use Rattle.session_rules.specs.TargetLog.{TargetReading, TargetSessionLog, log_turned, reading_turned, reading_without_port, standing_in, target_extended, target_reading_changed, target_view, with_done}
 use Rattle.session_rules.specs.TargetRows.{Arriving, Awaits_lur, Breaks_off, Gives_denial, Gives_lci, Gives_lui, Judges, Over, Passes, Reads_file, Refuses_request, Requests, RowMove, RowView, TransferEnd, WholeRow, Writes_completion, Writes_lcl, Writes_lcs, Writes_progress, Writes_ready, Writes_stop, arriving_of, first_row, row_move, row_view, view_moved, with_bytes, with_file_view, with_header_view}
 use Rattle.session_rules.specs.Uploads.{Accepts_file, Accepts_header, Judgement, OpenLoadView, Stops_for, UploadView, next_name, next_wanted}
 use Rattle.replay_rules.specs.BothEnds.{Is_down, Is_up, Setting, TargetState, changed, come_up, gone_down, noted, reached, settled, target_at}
@@ -36,15 +35,15 @@ module _ (Asked : List Wanted → Type 0) (Sound : UploadView → Type 0) (Told 
   Fits row = RowFits Asked Sound Told (row_view row)
 
   -- so it is of a live session
-  abbrev pub SessionFits : (HeaderView → Bool) → Identity → Option TargetSessionLog → Type 0
-  SessionFits accepts id None = Unit {0}
-  SessionFits accepts id (Some s) = Fits (row_in accepts id s)
+  abbrev pub SessionFits : Option TargetSessionLog → Type 0
+  SessionFits None = Unit {0}
+  SessionFits (Some s) = Fits s.row
 
   -- what the transfer brings that is over where a session turns to another row
-  abbrev pub BringsIn : (HeaderView → Bool) → Identity → Reading → Option TargetSessionLog → List Move → Type 0
-  BringsIn accepts id end live moves =
-      (s : TargetSessionLog) → live ≡ Some s → (move : RowMove) (more : List ℕ) (h : HasTurned accepts id end s moves move more) → RowFits Asked Sound Told (seen_row accepts id s)
-      → Brings Asked Sound Told (seen_row accepts id s) (arriving_of (seen_row accepts id s) (arrived_of h.ended)) (row_move accepts id (seen_row accepts id s) (record { error = error_of h.ended; arriving = arriving_of (seen_row accepts id s) (arrived_of h.ended) }))
+  abbrev pub BringsIn : Accepts → (active : StandingView) → Reading → Option TargetSessionLog → List Move → Type 0
+  BringsIn accepts active end live moves =
+      (s : TargetSessionLog) → live ≡ Some s → (move : RowMove) (more : List ℕ) (h : HasTurned accepts active end s moves move more) → RowFits Asked Sound Told (seen_row s)
+      → Brings Asked Sound Told (seen_row s) (arriving_of (seen_row s) (arrived_of h.ended)) (row_move accepts (outline_of active) (seen_row s) (record { error = error_of h.ended; arriving = arriving_of (seen_row s) (arrived_of h.ended) }))
 
   first_fits : (kind : FileKind) (sequence : ℕ) → Fits (first_row kind sequence)
   first_fits Lui sequence = by (eqb sequence 4294967295)
@@ -55,24 +54,17 @@ module _ (Asked : List Wanted → Type 0) (Sound : UploadView → Type 0) (Told 
   first_fits Lci sequence = tt
   first_fits kind sequence = tt
 
-  module _ (none : Asked []) (joins : SumsJoin) (accepts : HeaderView → Bool) where
-    turned_fits : (id : Identity) (end : Reading) (s : TargetSessionLog) (moves : List Move) (move : RowMove) (more : List ℕ) → HasTurned accepts id end s moves move more → (live : Option TargetSessionLog) → live ≡ Some s → BringsIn accepts id end live moves → Fits (row_in accepts id s)
-        → Fits (row_in accepts id (with_done s (newest (after end moves).past)))
-    turned_fits id end s moves move more h live is brings fits =
-        subst (RowFits Asked Sound Told) (sym (turned_row joins accepts id s end moves move more h))
-        (subst (λ (m : RowMove). RowFits Asked Sound Told (view_moved (seen_row accepts id s) (with_bytes (arriving_of (seen_row accepts id s) (arriving_in end.live)) more) m)) (sym h.comes_to)
-        (subst (λ (arriving : Arriving). RowFits Asked Sound Told (view_moved (seen_row accepts id s) arriving (row_move accepts id (seen_row accepts id s) (end_of_turn h)))) (sym h.arrived)
-        (row_fits Asked Sound Told none accepts id (seen_row accepts id s) (arriving_of (seen_row accepts id s) (arrived_of h.ended)) (end_of_turn h) fits (brings s is move more h fits))))
+  module _ (none : Asked []) (joins : SumsJoin) (accepts : Accepts) where
+    turned_fits : (active : StandingView) (end : Reading) (s : TargetSessionLog) (moves : List Move) (move : RowMove) (more : List ℕ) → HasTurned accepts active end s moves move more → (live : Option TargetSessionLog) → live ≡ Some s → BringsIn accepts active end live moves → Fits s.row
+        → Fits (with_done accepts active s (newest (after end moves).past)).row
+    turned_fits active end s moves move more h live is brings fits =
+        subst (RowFits Asked Sound Told) (sym (turned_row joins accepts active s end moves move more h))
+        (subst (λ (m : RowMove). RowFits Asked Sound Told (view_moved (seen_row s) (with_bytes (arriving_of (seen_row s) (arriving_in end.live)) more) m)) (sym h.comes_to)
+        (subst (λ (arriving : Arriving). RowFits Asked Sound Told (view_moved (seen_row s) arriving (row_move accepts (outline_of active) (seen_row s) (end_of_turn h)))) (sym h.arrived)
+        (row_fits Asked Sound Told none accepts (outline_of active) (seen_row s) (arriving_of (seen_row s) (arrived_of h.ended)) (end_of_turn h) fits (brings s is move more h fits))))
       where
-        end_of_turn : HasTurned accepts id end s moves move more → TransferEnd
-        end_of_turn t = record { error = error_of t.ended; arriving = arriving_of (seen_row accepts id s) (arrived_of t.ended) }
-
-    for_identity : (active : StandingView) (row : WholeRow) (s : TargetSessionLog) → Fits (row_in accepts active.identity s) → Fits (row_in accepts (standing_in active row).identity s)
-    for_identity active row s h = subst (λ (id : Identity). Fits (row_in accepts id s)) (sym (identity_stays active row)) h
-
-    -- a session that begins
-    begun_fits : (active : StandingView) (kind : FileKind) → Fits (row_in accepts active.identity (record { first = first_row kind active.sequence; done = [] }))
-    begun_fits active kind = subst Fits (sym (row_of_none accepts active.identity (first_row kind active.sequence))) (first_fits kind active.sequence)
+        end_of_turn : HasTurned accepts active end s moves move more → TransferEnd
+        end_of_turn t = record { error = error_of t.ended; arriving = arriving_of (seen_row s) (arrived_of t.ended) }
 
     -- ---- how many loads are active
 
@@ -91,32 +83,31 @@ module _ (Asked : List Wanted → Type 0) (Sound : UploadView → Type 0) (Told 
     installs_few active Over few fits = few
 
     abbrev ReadingFits : TargetReading → Type 0
-    ReadingFits r = SessionFits accepts r.active.identity r.live × (HasFewLoads r.active)
+    ReadingFits r = SessionFits r.live × (HasFewLoads r.active)
 
     -- ---- one event
 
-    changed_fits : (r : TargetReading) (live : Option TargetSessionLog) (moves : List Move) (change : TargetChange) → r.live ≡ live → FitsChange accepts r.active.identity r.end live moves change → BringsIn accepts r.active.identity r.end r.live moves → SessionFits accepts r.active.identity live → HasFewLoads r.active
+    changed_fits : (r : TargetReading) (live : Option TargetSessionLog) (moves : List Move) (change : TargetChange) → r.live ≡ live → FitsChange accepts r.active r.end live moves change → BringsIn accepts r.active r.end r.live moves → SessionFits live → HasFewLoads r.active
         → ReadingFits (target_reading_changed accepts (after r.end moves) r change)
     changed_fits r live moves (Begins kind) is fits brings h few =
-        let s : TargetSessionLog = record { first = first_row kind r.active.sequence; done = [] } in
-        (for_identity r.active (row_in accepts r.active.identity s) s (begun_fits r.active kind), installs_few r.active (row_in accepts r.active.identity s) few (begun_fits r.active kind))
+        let first = first_fits kind r.active.sequence in (first, installs_few r.active (first_row kind r.active.sequence) few first)
     changed_fits r live moves (Ends why) is fits brings h few = (tt, few)
-    changed_fits r live moves (Continues more) is fits brings h few = (subst (SessionFits accepts r.active.identity) (sym is) h, few)
+    changed_fits r live moves (Continues more) is fits brings h few = (subst SessionFits (sym is) h, few)
     changed_fits r None moves (Turns move more) is fits brings h few = rw is (tt, few)
     changed_fits r None moves (Turns_without_port move more) is fits brings h few = rw is (tt, few)
     changed_fits r (Some s) moves (Turns move more) is (turn, none_came, role) brings h few =
-        let then : TargetSessionLog = with_done s (newest (after r.end moves).past) in
-        let now = turned_fits r.active.identity r.end s moves move more turn r.live is brings h in
-        subst (λ (x : Option TargetSessionLog). ReadingFits (log_turned (reading_turned accepts) (after r.end moves) r x)) (sym is)
-        (for_identity r.active (row_in accepts r.active.identity then) then now, installs_few r.active (row_in accepts r.active.identity then) few now)
+        let then : TargetSessionLog = with_done accepts r.active s (newest (after r.end moves).past) in
+        let now = turned_fits r.active r.end s moves move more turn r.live is brings h in
+        subst (λ (x : Option TargetSessionLog). ReadingFits (log_turned accepts reading_turned (after r.end moves) r x)) (sym is)
+        (now, installs_few r.active then.row few now)
     changed_fits r (Some s) moves (Turns_without_port move more) is turn brings h few =
-        let then : TargetSessionLog = with_done s (newest (after r.end moves).past) in
-        let now = turned_fits r.active.identity r.end s moves move more turn r.live is brings h in
-        subst (λ (x : Option TargetSessionLog). ReadingFits (log_turned (reading_without_port accepts) (after r.end moves) r x)) (sym is) (tt, installs_few r.active (row_in accepts r.active.identity then) few now)
+        let then : TargetSessionLog = with_done accepts r.active s (newest (after r.end moves).past) in
+        let now = turned_fits r.active r.end s moves move more turn r.live is brings h in
+        subst (λ (x : Option TargetSessionLog). ReadingFits (log_turned accepts reading_without_port (after r.end moves) r x)) (sym is) (tt, installs_few r.active then.row few now)
 
-    extended_fits : (r : TargetReading) (e : Event) → IsLive r.end.live → BringsIn accepts r.active.identity r.end r.live (target_decision accepts (target_view accepts r) e).moves → ReadingFits r → ReadingFits (target_extended accepts r e)
+    extended_fits : (r : TargetReading) (e : Event) → IsLive r.end.live → BringsIn accepts r.active r.end r.live (target_decision accepts (target_view r) e).moves → ReadingFits r → ReadingFits (target_extended accepts r e)
     extended_fits r e live brings (h, few) =
-        let d = target_decision accepts (target_view accepts r) e in changed_fits r r.live d.moves d.change refl (decision_fits joins accepts r e live) brings h few
+        let d = target_decision accepts (target_view r) e in changed_fits r r.live d.moves d.change refl (decision_fits joins accepts r e live) brings h few
 
 -- ---- of a state
 
@@ -127,7 +118,7 @@ FewIf (Some s) = HasFewLoads s
 module _ (Asked : List Wanted → Type 0) (Sound : UploadView → Type 0) (Told : Reason → Type 0) (set : Setting) where
   -- of a target that is up, its live session; and what may be active has few loads
   abbrev pub StateFits : TargetState → Type 0
-  StateFits (Is_up r) = SessionFits Asked Sound Told set.accepts r.active.identity r.live × HasFewLoads r.active
+  StateFits (Is_up r) = SessionFits Asked Sound Told r.live × HasFewLoads r.active
   StateFits (Is_down active interrupted) = HasFewLoads active × FewIf interrupted
 
   few_active : (state : TargetState) → StateFits state → HasFewLoads (active_in state)
@@ -168,7 +159,7 @@ module _ (Asked : List Wanted → Type 0) (Sound : UploadView → Type 0) (Told 
 
   -- what a transfer brings that is over in a step
   abbrev pub BringsAt : TargetState → Option Event → Type 0
-  BringsAt (Is_up r) (Some e) = BringsIn Asked Sound Told set.accepts r.active.identity r.end r.live (target_decision set.accepts (target_view set.accepts r) e).moves
+  BringsAt (Is_up r) (Some e) = BringsIn Asked Sound Told set.accepts r.active r.end r.live (target_decision set.accepts (target_view r) e).moves
   BringsAt state e = Unit {0}
 
   module _ (none : Asked []) (joins : SumsJoin) where
@@ -226,7 +217,7 @@ any_brings row arriving Passes = tt
 any_brings row arriving Breaks_off = tt
 
 any_brings_at : (set : Setting) (state : TargetState) (e : Option Event) → BringsAt AnyAsked AnySound AnyTold set state e
-any_brings_at set (Is_up r) (Some e) = λ s is move more h fits. any_brings (seen_row set.accepts r.active.identity s) (arriving_of (seen_row set.accepts r.active.identity s) (arrived_of h.ended)) (row_move set.accepts r.active.identity (seen_row set.accepts r.active.identity s) (record { error = error_of h.ended; arriving = arriving_of (seen_row set.accepts r.active.identity s) (arrived_of h.ended) }))
+any_brings_at set (Is_up r) (Some e) = λ s is move more h fits. any_brings (seen_row s) (arriving_of (seen_row s) (arrived_of h.ended)) (row_move set.accepts (outline_of r.active) (seen_row s) (record { error = error_of h.ended; arriving = arriving_of (seen_row s) (arrived_of h.ended) }))
 any_brings_at set (Is_up r) None = tt
 any_brings_at set (Is_down active interrupted) e = tt
 

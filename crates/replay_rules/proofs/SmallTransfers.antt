@@ -2,8 +2,8 @@
 use Rattle.std.proofs.Common.{◌≡◌, ◌⊎◌, inl, inr, ⊎_elim, ℕ, ◌≤◌, Bool, true, false, cond, ◌&&◌, List, [], ◌∷◌, ◌++◌, length, Option, Some, None, refl, sym, ap, subst, ◌∙◌, arith}
 use Rattle.std.specs.Prelude.{fold, nat_lt, ◌==◌}
 use Rattle.field_grammar.specs.Grammar.{IsBytes}
-use Rattle.load_header.specs.Header.{HeaderView}
 use Rattle.disk_layout.specs.declared.identity.Identity.{Identity}
+use Rattle.disk_layout.specs.Holds.{outline_of}
 use Rattle.tftp_packet.specs.Packets.{Ack, Data, Error, Oack, PacketSpells, PacketView, Rrq, Wrq}
 use Rattle.tftp_link.specs.declared.phase.Phase.{Phase}
 use Rattle.tftp_link.specs.declared.phase.Phase.TheVariants.{Failed, Finished, Running, Waiting}
@@ -15,7 +15,7 @@ use Rattle.exchange_trace.specs.declared.trace.Side.TheVariants as sides
 use Rattle.exchange_trace.specs.Logs.{Down, Event, Life, Up, event_for, target_life}
 use Rattle.exchange_trace.specs.Posts.{posted_in}
 use Rattle.exchange_trace.specs.Steps.{Step}
-use Rattle.accept_rules.specs.Permissions.{Permits}
+use Rattle.accept_rules.specs.Permissions.{AcceptsPermitted}
 use Rattle.transfer_end.specs.CameLaws.{moves_came}
 use Rattle.transfer_end.specs.Moves.{past_with}
 use Rattle.transfer_end.specs.OtherEndLaws.{all_at, among_either, among_left}
@@ -202,15 +202,15 @@ of_view row (Some t) role was fits = subst (λ (x : Role). IsOfView row x) was f
 
 -- ---- one step
 
-module _ (joins : SumsJoin) (moves : MovesStayFair) (spells : HeadersAreSpelled) (payloads : PayloadsAreBytes) (requests : RequestsAreSpelled) (arrives : WhatArrivesWasSent) (set : Setting) (permits : (h : HeaderView) → set.accepts h ≡ true → Permits h) (told : LengthsAreTold set.media) (bank : IsLittle set.start.identity.bank) where
+module _ (joins : SumsJoin) (moves : MovesStayFair) (spells : HeadersAreSpelled) (payloads : PayloadsAreBytes) (requests : RequestsAreSpelled) (arrives : WhatArrivesWasSent) (set : Setting) (permits : AcceptsPermitted set.accepts) (told : LengthsAreTold set.media) (bank : IsLittle set.start.identity.bank) where
   module _ (s : Step) (earlier : List Step) (is : IsUninjected set (s ∷ earlier)) where
     module _ (r : TargetReading) (e : Event) (up : target_at set earlier ≡ Is_up r) (comes : event_for sides.Target (posted_in earlier) s.given ≡ Some e) (se : TargetSessionLog) (move : RowMove) (more : List ℕ)
-        (h : HasTurned set.accepts r.active.identity r.end se (target_decision set.accepts (target_view set.accepts r) e).moves move more) where
+        (h : HasTurned set.accepts r.active r.end se (target_decision set.accepts (target_view r) e).moves move more) where
       abbrev then : Reading
-      then = after_moves r.end (target_decision set.accepts (target_view set.accepts r) e).moves
+      then = after_moves r.end (target_decision set.accepts (target_view r) e).moves
 
       end_is : (target_extended set.accepts r e).end ≡ then
-      end_is = let d = target_decision set.accepts (target_view set.accepts r) e in end_stays set.accepts then r d.change
+      end_is = let d = target_decision set.accepts (target_view r) e in end_stays set.accepts then r d.change
 
       there : Among h.ended (target_transfers set s earlier)
       there =
@@ -266,13 +266,13 @@ module _ (joins : SumsJoin) (moves : MovesStayFair) (spells : HeadersAreSpelled)
 
     brings_now : (life : Life) (state : TargetState) (e : Option Event) → target_at set earlier ≡ state → event_for sides.Target (posted_in earlier) s.given ≡ e → BringsBytes e → TargetTakes life state → TargetIsSound set life state → BringsAt AllWanted UploadSmall HasText set state e
     brings_now (Up first_port log) (Is_up r) (Some e) up comes now (packets, blocks, last) (fit, sound) = λ se live move more h fits.
-        (let d = target_decision set.accepts (target_view set.accepts r) e in
+        (let d = target_decision set.accepts (target_view r) e in
         let bank_now : IsLittle r.active.identity.bank = subst (λ (id : Identity). IsLittle id.bank) (sym (subst (λ (state : TargetState). HasTarget set state) up (same_target set earlier))) bank in
-        let bytes : IsBytes (arrived_of h.ended) = newest_bytes payloads (e ∷ log) (after_moves r.end d.moves) h.ended (now, fit) (moves_came sides.Target e log r.end d.moves (target_moves_heard set.accepts (target_view set.accepts r) e) packets) h.is_newest in
-        row_brings spells requests set.accepts r.active.identity bank_now (arrived_of h.ended) bytes (seen_row set.accepts r.active.identity se) (error_of h.ended) (code_little r e up comes se move more h)
-        (row_little r e up comes se move more h (seen_row set.accepts r.active.identity se) (of_view (seen_row set.accepts r.active.identity se) r.end.live h.ended.role h.was_live (live_fits se (subst (λ (x : Option TargetSessionLog). SoundIn set.accepts r.active.identity r.end.live x) live sound)))) fits)
+        let bytes : IsBytes (arrived_of h.ended) = newest_bytes payloads (e ∷ log) (after_moves r.end d.moves) h.ended (now, fit) (moves_came sides.Target e log r.end d.moves (target_moves_heard set.accepts (target_view r) e) packets) h.is_newest in
+        row_brings spells requests set.accepts (outline_of r.active) bank_now (arrived_of h.ended) bytes (seen_row se) (error_of h.ended) (code_little r e up comes se move more h)
+        (row_little r e up comes se move more h (seen_row se) (of_view (seen_row se) r.end.live h.ended.role h.was_live (live_fits se (subst (λ (x : Option TargetSessionLog). SoundIn set.accepts r.active r.end.live x) live sound)))) fits)
       where
-        live_fits : (se : TargetSessionLog) → SoundIn set.accepts r.active.identity r.end.live (Some se) → LiveFits (seen_row set.accepts r.active.identity se) r.end.live
+        live_fits : (se : TargetSessionLog) → SoundIn set.accepts r.active r.end.live (Some se) → LiveFits (seen_row se) r.end.live
         live_fits se sound = sound.role
     brings_now (Up first_port log) (Is_up r) None up comes now takes sound = tt
     brings_now (Up first_port log) (Is_down active interrupted) e up comes now takes sound = absurd takes

@@ -1,16 +1,16 @@
 -- Once no sequence number is left, none is left after.
 use Rattle.std.proofs.Common.{◌≡◌, ℕ, Bool, true, false, cond, List, [], ◌∷◌, Option, Some, None, refl, arith}
 use Rattle.std.specs.Prelude.{◌==◌}
-use Rattle.load_header.specs.Header.{HeaderView}
 use Rattle.disk_layout.specs.Holds.{StandingView}
 use Rattle.exchange_trace.specs.declared.trace.Side.TheVariants as sides
 use Rattle.exchange_trace.specs.Logs.{Event, event_for}
 use Rattle.exchange_trace.specs.Posts.{posted_in}
 use Rattle.exchange_trace.specs.Steps.{Boot_refused, Came_up, Note, Step, Went_down}
 use Rattle.transfer_end.specs.Readings.{Reading}
+use Rattle.accept_rules.specs.Permissions.{Accepts}
 use Rattle.session_rules.specs.Target as target
 use Rattle.session_rules.specs.TargetLaws.{after}
-use Rattle.session_rules.specs.TargetLog.{TargetReading, TargetSessionLog, row_in, standing_in, target_extended, target_reading_changed, target_view}
+use Rattle.session_rules.specs.TargetLog.{TargetReading, TargetSessionLog, standing_in, target_extended, target_reading_changed, target_view}
 use Rattle.session_rules.specs.TargetRows.{WholeRow, Writes_completion, first_row}
 use Rattle.replay_rules.specs.BothEnds.{Is_down, Is_up, Setting, TargetState, changed, come_up, gone_down, noted, reached, settled, target_at}
 use Rattle.replay_rules.specs.Histories.{active_in}
@@ -69,18 +69,18 @@ installed_spent : (active : StandingView) (row : WholeRow) → IsSpent active �
 installed_spent active (Writes_completion upload loads) h = omega (arith, h)
 installed_spent active row h = h
 
-changed_by : (accepts : HeaderView → Bool) (end : Reading) (r : TargetReading) (live : Option TargetSessionLog) (change : target.TargetChange) → r.live ≡ live → IsSpent r.active → IsSpent (target_reading_changed accepts end r change).active
+changed_by : (accepts : Accepts) (end : Reading) (r : TargetReading) (live : Option TargetSessionLog) (change : target.TargetChange) → r.live ≡ live → IsSpent r.active → IsSpent (target_reading_changed accepts end r change).active
 changed_by accepts end r live (target.Continues more) is h = h
-changed_by accepts end r live (target.Begins kind) is h = installed_spent r.active (row_in accepts r.active.identity (record { first = first_row kind r.active.sequence; done = [] })) h
+changed_by accepts end r live (target.Begins kind) is h = installed_spent r.active (first_row kind r.active.sequence) h
 changed_by accepts end r None (target.Turns move more) is h = rw is h
 changed_by accepts end r (Some s) (target.Turns move more) is h = rw is (installed_spent r.active _ h)
 changed_by accepts end r None (target.Turns_without_port move more) is h = rw is h
 changed_by accepts end r (Some s) (target.Turns_without_port move more) is h = rw is (installed_spent r.active _ h)
 changed_by accepts end r live (target.Ends why) is h = h
 
-pub extended_spent : (accepts : HeaderView → Bool) (r : TargetReading) (e : Event) → IsSpent r.active → IsSpent (target_extended accepts r e).active
+pub extended_spent : (accepts : Accepts) (r : TargetReading) (e : Event) → IsSpent r.active → IsSpent (target_extended accepts r e).active
 extended_spent accepts r e h =
-    let d = target.target_decision accepts (target_view accepts r) e in
+    let d = target.target_decision accepts (target_view r) e in
     changed_by accepts (after r.end d.moves) r r.live d.change refl h
 
 reached_spent : (set : Setting) (e : Option Event) (state : TargetState) → AllSpent state → AllSpent (reached set e state)

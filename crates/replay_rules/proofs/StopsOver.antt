@@ -34,7 +34,7 @@ pub record FailedAfter (set : Setting) (steps : List Step) (earlier : List Trans
   pub reason : Reason
   pub upload : UploadEnd
   pub split : steps ≡ since ++ failed ∷ before
-  pub fails : FailsFor set (target_at set (failed ∷ before)) reason
+  pub fails : FailsFor (target_at set (failed ∷ before)) reason
   pub writes : file ≡ stopped_lus upload.request upload.arrived upload.reports reason
   pub newest : Transfer
   pub transfers : target_transfers set failed before ≡ newest ∷ earlier
@@ -84,7 +84,7 @@ module _ (joins : SumsJoin) (set : Setting) (hw : BeginsWell set.start.identity.
           reason = h.reason;
           upload = h.upload;
           split = refl;
-          fails = subst (λ (state : TargetState). FailsFor set state h.reason) (sym state_is) (h.session, h.live, ap verdict_in h.row ∙ ap stopped_by h.why);
+          fails = subst (λ (state : TargetState). FailsFor state h.reason) (sym state_is) (h.session, h.live, ap verdict_in h.row ∙ ap stopped_by h.why);
           writes = h.writes;
           newest = t;
           transfers = newest_then set given posts steps r e t up comes live;
@@ -98,7 +98,7 @@ module _ (joins : SumsJoin) (set : Setting) (hw : BeginsWell set.start.identity.
   Fact steps = Unit {0}
 
   begins : (given : HappeningView) (posts : List DatagramView) (steps : List Step) (r : TargetReading) (e : Event) → target_at set steps ≡ Is_up r → event_for sides.Target (posted_in steps) given ≡ Some e → Fact (record { given = given; posts = posts; notes = [] } ∷ steps)
-      → AllByRecursion (MoveHasRole (NewOver (StopsOver set (record { given = given; posts = posts; notes = [] } ∷ steps)) (former_at set steps) (target_extended set.accepts r e).end)) (target_decision set.accepts (target_view set.accepts r) e).moves
+      → AllByRecursion (MoveHasRole (NewOver (StopsOver set (record { given = given; posts = posts; notes = [] } ∷ steps)) (former_at set steps) (target_extended set.accepts r e).end)) (target_decision set.accepts (target_view r) e).moves
   begins given posts steps r e up comes fact =
       roles_mapped (TellsCause set.accepts r e) (NewOver (StopsOver set (record { given = given; posts = posts; notes = [] } ∷ steps)) (former_at set steps) (target_extended set.accepts r e).end)
       (stops_over given posts steps r e up comes) _

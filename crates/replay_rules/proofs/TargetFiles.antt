@@ -9,7 +9,6 @@ use Rattle.load_protocol_files.specs.declared.lur.Wanted.{Wanted}
 use Rattle.load_protocol_files.specs.Files.{file_fields}
 use Rattle.load_protocol_files.specs.Lus.{counts_fields}
 use Rattle.load_protocol_files.specs.Pieces.{counted_fields}
-use Rattle.load_header.specs.Header.{HeaderView}
 use Rattle.disk_layout.specs.Holds.{Outline}
 use Rattle.tftp_packet.specs.declared.options.Options.{Options}
 use Rattle.exchange_trace.specs.Logs.{Event}
@@ -17,6 +16,7 @@ use Rattle.transfer_end.specs.Laws.{IsLive}
 use Rattle.transfer_end.specs.Moves.{Asks, Asks_size, Hears, Move, Recalls, Refuses, Repeats, Serves, Stops}
 use Rattle.transfer_end.specs.OtherEnds.{MoveHasRole}
 use Rattle.transfer_end.specs.Transfers.{Reads, Role, ServesRead, ServesWrite, Writes}
+use Rattle.accept_rules.specs.Permissions.{Accepts}
 use Rattle.session_rules.specs.declared.outcome.FileKind.{FileKind}
 use Rattle.session_rules.specs.declared.outcome.FileKind.TheVariants as kinds
 use Rattle.session_rules.specs.declared.reason.Reason.{Reason}
@@ -28,9 +28,9 @@ use Rattle.replay_rules.proofs.FilesInRows.{IsAskedByRow, IsAskedSo, moves_asked
 use Rattle.session_rules.specs.Reports.{accepting_lui, completed_lus, denying_lui, lci_file, lcl_file, lcs_file, progress_lus, ready_lus, reason_text, stopped_lus}
 use Rattle.session_rules.specs.Target as target
 use Rattle.session_rules.specs.TargetLaws.{seen_row}
-use Rattle.session_rules.specs.TargetLog.{TargetReading, TargetSessionLog, row_in, target_extended, target_view}
+use Rattle.session_rules.specs.TargetLog.{TargetReading, TargetSessionLog, target_extended, target_view}
 use Rattle.session_rules.specs.TargetRows as rows
-use Rattle.session_rules.specs.TargetRows.{Arriving, Awaits_lur, Breaks_off, Gives_denial, Gives_lci, Gives_lui, Judges, Over, Passes, Reads_file, Refuses_request, Requests, RowMove, RowView, UploadEnd, WholeRow, Writes_completion, Writes_lcl, Writes_lcs, Writes_progress, Writes_ready, Writes_stop, placed_view, placed_view_if, row_view, view_judged, view_judged_in, view_moved, with_bytes, with_file_view, with_header_view}
+use Rattle.session_rules.specs.TargetRows.{Arriving, Awaits_lur, Breaks_off, Gives_denial, Gives_lci, Gives_lui, Judges, Over, Passes, Reads_file, Refuses_request, Requests, RowMove, RowView, UploadEnd, WholeRow, Writes_completion, Writes_lcl, Writes_lcs, Writes_progress, Writes_ready, Writes_stop, placed_view, placed_view_if, row_view, view_judged, view_judged_in, view_moved, with_file_view, with_header_view}
 use Rattle.session_rules.specs.Uploads.{Accepts_file, Accepts_header, Complete, Judgement, More_files, Next, Next_load, OpenLoadView, Stops_for, UploadView, next_name, next_wanted}
 
 -- ---- the bytes of a status
@@ -353,17 +353,17 @@ row_file v hw Over name o file why e = absurd cc
 -- ---- one event
 
 -- the session stops at an event, for this reason and with this file
-pub record StopsNow (accepts : HeaderView → Bool) (later : TargetReading) (file : List ℕ) : Type 0 where
+pub record StopsNow (accepts : Accepts) (later : TargetReading) (file : List ℕ) : Type 0 where
   pub upload : UploadEnd
   pub reason : Reason
   pub session : TargetSessionLog
   pub live : later.live ≡ Some session
-  pub row : row_in accepts later.active.identity session ≡ Writes_stop upload
+  pub row : session.row ≡ Writes_stop upload
   pub why : upload.reason ≡ Some reason
   pub writes : file ≡ stopped_lus upload.request upload.arrived upload.reports reason
 
 -- what holds of a file that the target begins to give or to write at an event
-abbrev pub TellsCause : (accepts : HeaderView → Bool) → TargetReading → Event → Role → Type 0
+abbrev pub TellsCause : Accepts → TargetReading → Event → Role → Type 0
 TellsCause accepts r e (Writes name options file) = (IsDenial file → ⊥) × (IsLcsStop file → ⊥) × (IsStop file → StopsNow accepts (target_extended accepts r e) file)
 TellsCause accepts r e (ServesRead name options file) = IsOwnReply r.active.sequence file
 TellsCause accepts r e role = Unit {0}
@@ -382,22 +382,22 @@ stop_row Gives_denial upload e = absurd cc
 stop_row Awaits_lur upload e = absurd cc
 stop_row Over upload e = absurd cc
 
-module _ (joins : SumsJoin) (accepts : HeaderView → Bool) (r : TargetReading) (e : Event) (going : IsLive r.end.live) (hw : BeginsWell r.active.identity.hw) where
+module _ (joins : SumsJoin) (accepts : Accepts) (r : TargetReading) (e : Event) (going : IsLive r.end.live) (hw : BeginsWell r.active.identity.hw) where
   abbrev v_now : target.TargetView
-  v_now = target_view accepts r
+  v_now = target_view r
 
   abbrev d_now : target.TargetDecision
-  d_now = target.target_decision accepts (target_view accepts r) e
+  d_now = target.target_decision accepts (target_view r) e
 
   written_tells : (name : List ℕ) (o : Options) (file : List ℕ) → IsAskedByRow accepts r e (Writes name o file) → TellsCause accepts r e (Writes name o file)
   written_tells name o file h =
-      let row : RowView = seen_row accepts (target_extended accepts r e).active.identity h.session in
+      let row : RowView = seen_row h.session in
       let is = row_file v_now hw row name o file (subst HasNoReason (sym h.turned) (moved_reason h.was h.kept h.move)) h.asks in
       (is.no_denial, is.no_lcs, λ stop. stops_so file h row refl (is.stops stop))
     where
-      stops_so : (file : List ℕ) (h : IsAskedByRow accepts r e (Writes name o file)) (row : RowView) → seen_row accepts (target_extended accepts r e).active.identity h.session ≡ row → RowStops row file → StopsNow accepts (target_extended accepts r e) file
+      stops_so : (file : List ℕ) (h : IsAskedByRow accepts r e (Writes name o file)) (row : RowView) → seen_row h.session ≡ row → RowStops row file → StopsNow accepts (target_extended accepts r e) file
       stops_so file h row at stops =
-          record { upload = stops.upload; reason = stops.reason; session = h.session; live = h.live; row = stop_row (row_in accepts (target_extended accepts r e).active.identity h.session) stops.upload (at ∙ stops.is); why = stops.why; writes = stops.writes }
+          record { upload = stops.upload; reason = stops.reason; session = h.session; live = h.live; row = stop_row h.session.row stops.upload (at ∙ stops.is); why = stops.why; writes = stops.writes }
 
   role_tells : (role : Role) → IsAskedSo accepts r e role → IsTargetRole v_now role → TellsCause accepts r e role
   role_tells (Writes name o file) asked has = written_tells name o file (asked refl)

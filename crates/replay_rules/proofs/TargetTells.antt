@@ -88,7 +88,7 @@ module _ (joins : SumsJoin) (set : Setting) (hw : BeginsWell set.start.identity.
   Fact steps = AllStayOrAreNew set steps
 
   begins : (given : HappeningView) (posts : List DatagramView) (steps : List Step) (r : TargetReading) (e : Event) → target_at set steps ≡ Is_up r → event_for sides.Target (posted_in steps) given ≡ Some e → Fact (record { given = given; posts = posts; notes = [] } ∷ steps)
-      → AllByRecursion (MoveHasRole (NewOver (ToldOver set (record { given = given; posts = posts; notes = [] } ∷ steps)) (former_at set steps) (target_extended set.accepts r e).end)) (target_decision set.accepts (target_view set.accepts r) e).moves
+      → AllByRecursion (MoveHasRole (NewOver (ToldOver set (record { given = given; posts = posts; notes = [] } ∷ steps)) (former_at set steps) (target_extended set.accepts r e).end)) (target_decision set.accepts (target_view r) e).moves
   begins given posts steps r e up comes changes =
       roles_mapped (TellsCause set.accepts r e) (NewOver (ToldOver set (record { given = given; posts = posts; notes = [] } ∷ steps)) (former_at set steps) (target_extended set.accepts r e).end)
       (λ role h t live. told_role given posts steps r e role up h) _

@@ -1,13 +1,12 @@
 -- Which loads are installed in a run: those of a start of an upload before (docs/EXCHANGE.md, "Runs").
-use Rattle.std.specs.Prelude.{◌≡◌, ℕ, List, [], ◌∷◌, ◌++◌, true, Option, Some, None, ⊤}
+use Rattle.std.specs.Prelude.{◌≡◌, ℕ, List, [], ◌∷◌, ◌++◌, Option, Some, None, ⊤}
 use Rattle.std.specs.List.{AllByRecursion}
-use Rattle.load_header.specs.Header.{HeaderView}
 use Rattle.load_protocol_files.specs.declared.lur.Wanted.{Wanted}
 use Rattle.load_protocol_files.specs.Lur.{WantedFits}
 use Rattle.disk_layout.specs.Holds.{StandingView}
 use Rattle.exchange_trace.specs.Happenings.{Upload_started}
 use Rattle.exchange_trace.specs.Steps.{Step}
-use Rattle.accept_rules.specs.Permissions.{Permits}
+use Rattle.accept_rules.specs.Permissions.{AcceptsPermitted}
 use Rattle.session_rules.specs.MediaFiles.{Media}
 use Rattle.replay_rules.specs.BothEnds.{Setting}
 use Rattle.replay_rules.specs.Histories.{brings}
@@ -42,4 +41,4 @@ AllBroughtAreAsked set (s ∷ earlier) = BroughtIsAsked (brings set s earlier) e
 -- Where nothing is injected, each configuration that an install step brings has the parts of a start of an upload before it,
 -- through losses, repeats, other orders, power losses and boots.
 abbrev pub InstallsAreAsked : Type 0
-InstallsAreAsked = (set : Setting) (steps : List Step) → ((h : HeaderView) → set.accepts h ≡ true → Permits h) → EntriesFit set.media → IsUninjected set steps → AllBroughtAreAsked set steps
+InstallsAreAsked = (set : Setting) (steps : List Step) → AcceptsPermitted set.accepts → EntriesFit set.media → IsUninjected set steps → AllBroughtAreAsked set steps

@@ -1,12 +1,12 @@
 -- Both ends after the steps of a trace (docs/EXCHANGE.md, "Runs").
 use Rattle.std.specs.Prelude.{ℕ, List, [], ◌∷◌, Bool, false, ◌==◌, Option, Some, None, is_some, if◌then◌else◌}
-use Rattle.load_header.specs.Header.{HeaderView}
 use Rattle.disk_layout.specs.Holds.{StandingView}
 use Rattle.exchange_trace.specs.declared.trace.Side.{Side}
 use Rattle.exchange_trace.specs.declared.trace.Side.TheVariants as sides
 use Rattle.exchange_trace.specs.Logs.{Event, event_for, loader_log}
 use Rattle.exchange_trace.specs.Posts.{posted_in}
 use Rattle.exchange_trace.specs.Steps.{Step, Note, Went_down, Came_up, Boot_refused}
+use Rattle.accept_rules.specs.Permissions.{Accepts}
 use Rattle.session_rules.specs.LoaderLog.{LoaderReading, loader_reading}
 use Rattle.session_rules.specs.MediaFiles.{Media}
 use Rattle.session_rules.specs.TargetLog.{TargetReading, new_target_reading, target_extended}
@@ -14,7 +14,7 @@ use Rattle.session_rules.specs.TargetLog.{TargetReading, new_target_reading, tar
 -- what a run stands on: the media set, the headers that the interlock accepts, and what is active at the start
 pub record Setting : Type 0 where
   pub media : Media
-  pub accepts : HeaderView → Bool
+  pub accepts : Accepts
   pub start : StandingView
 
 -- what the loader's log says after these steps

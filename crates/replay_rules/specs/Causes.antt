@@ -1,12 +1,11 @@
 -- Why sessions of a run are denied or stopped where nothing is injected (docs/EXCHANGE.md, "Operations").
-use Rattle.std.specs.Prelude.{◌≡◌, ℕ, ◌≤◌, List, [], ◌∷◌, ◌++◌, length, true, Some, ⊤}
+use Rattle.std.specs.Prelude.{◌≡◌, ℕ, ◌≤◌, List, [], ◌∷◌, ◌++◌, length, Some, ⊤}
 use Rattle.load_base.specs.Ident.{IsIdent}
 use Rattle.load_base.specs.Text.{IsText}
-use Rattle.load_header.specs.Header.{HeaderView}
 use Rattle.disk_layout.specs.Holds.{StandingView}
 use Rattle.exchange_trace.specs.Happenings.{Upload_started}
 use Rattle.exchange_trace.specs.Steps.{Step}
-use Rattle.accept_rules.specs.Permissions.{Permits}
+use Rattle.accept_rules.specs.Permissions.{AcceptsPermitted}
 use Rattle.session_rules.specs.declared.outcome.FileKind.{FileKind}
 use Rattle.session_rules.specs.declared.outcome.Outcome.{Outcome}
 use Rattle.session_rules.specs.declared.outcome.Outcome.TheVariants.{BadFile, Completed, Denied, TargetStopped}
@@ -15,7 +14,7 @@ use Rattle.session_rules.specs.declared.reason.Reason.TheVariants.{SequenceSpent
 use Rattle.session_rules.specs.Loader.{EndedSession}
 use Rattle.session_rules.specs.NewConfigs.{Fails_for, verdict_in}
 use Rattle.session_rules.specs.Reports.{reason_text}
-use Rattle.session_rules.specs.TargetLog.{TargetSessionLog, row_in}
+use Rattle.session_rules.specs.TargetLog.{TargetSessionLog}
 use Rattle.replay_rules.specs.BothEnds.{Is_down, Is_up, Setting, TargetState, loader_at, target_at}
 use Rattle.replay_rules.specs.Histories.{active_at}
 use Rattle.replay_rules.specs.ListTraces.{AllCanBeListed, OwnFilesAreNamed}
@@ -75,14 +74,14 @@ AllDeniedWhereSpent set (s ∷ earlier) = DeniedWhereSpent set s earlier × AllD
 -- Where nothing is injected a session is denied only where the configuration that is active has the last sequence number, and
 -- for that reason: through losses, repeats, other orders, power losses and boots. The target's hardware is an Ident.
 abbrev pub DenialsAreForSequence : Type 0
-DenialsAreForSequence = (set : Setting) (steps : List Step) → ((h : HeaderView) → set.accepts h ≡ true → Permits h) → IsIdent set.start.identity.hw → IsUninjected set steps → AllDeniedWhereSpent set steps
+DenialsAreForSequence = (set : Setting) (steps : List Step) → AcceptsPermitted set.accepts → IsIdent set.start.identity.hw → IsUninjected set steps → AllDeniedWhereSpent set steps
 
 -- ---- stopped
 
 -- the verdict on what arrived in the target's live session is that it fails for this reason
-abbrev pub FailsFor : Setting → TargetState → Reason → Type 0
-FailsFor set (Is_up r) reason = (session : TargetSessionLog) × (r.live ≡ Some session) × (verdict_in (row_in set.accepts r.active.identity session) ≡ Fails_for reason)
-FailsFor set (Is_down active interrupted) reason = ⊥
+abbrev pub FailsFor : TargetState → Reason → Type 0
+FailsFor (Is_up r) reason = (session : TargetSessionLog) × (r.live ≡ Some session) × (verdict_in session.row ≡ Fails_for reason)
+FailsFor (Is_down active interrupted) reason = ⊥
 
 -- The newest start is that of an upload, and the session that ended last is the one that ended since: so it is that upload.
 -- Since its start there was a step after which the verdict of a session of the target was that it fails for this reason; the
@@ -102,7 +101,7 @@ pub record IsStoppedByVerdict (set : Setting) (steps : List Step) (text : List �
   pub starts : start.given ≡ Upload_started hw pos parts
   pub newest : NoneStarts (since ++ failed ∷ between)
   pub one : (loader_at set steps).ended ≡ session ∷ (loader_at set (start ∷ before)).ended
-  pub fails : FailsFor set (target_at set (failed ∷ (between ++ start ∷ before))) reason
+  pub fails : FailsFor (target_at set (failed ∷ (between ++ start ∷ before))) reason
   pub tells : IsText (reason_text reason) → text ≡ reason_text reason
 
 abbrev pub StoppedWhereFailed : Setting → Step → List Step → Type 0
@@ -115,7 +114,7 @@ AllStoppedWhereFailed set (s ∷ earlier) = StoppedWhereFailed set s earlier × 
 -- Under the same premises a session is stopped by the target only after the verdict of a session of the target gave, since its
 -- own start, the reason that is told, with its numbers.
 abbrev pub StopsAreForVerdicts : Type 0
-StopsAreForVerdicts = (set : Setting) (steps : List Step) → ((h : HeaderView) → set.accepts h ≡ true → Permits h) → IsIdent set.start.identity.hw → IsUninjected set steps → AllStoppedWhereFailed set steps
+StopsAreForVerdicts = (set : Setting) (steps : List Step) → AcceptsPermitted set.accepts → IsIdent set.start.identity.hw → IsUninjected set steps → AllStoppedWhereFailed set steps
 
 -- ---- bad files
 
@@ -140,5 +139,5 @@ NoBadFiles set (s ∷ earlier) = NoBadFile set s earlier × NoBadFiles set earli
 -- can be listed and no file of the media set is too long to be told, no session ends by a bad file: each LCI, LCS, LCL, LUI and
 -- LUS that comes to the loader is one, of at most 65,536 bytes, and has a status that is allowed in its row. No LUR comes to it.
 abbrev pub FilesAreGood : Type 0
-FilesAreGood = (set : Setting) (steps : List Step) → ((h : HeaderView) → set.accepts h ≡ true → Permits h) → IsIdent set.start.identity.hw → OwnFilesAreNamed set → BeginsSmall set.start → LengthsAreTold set.media → AllCanBeListed set steps
+FilesAreGood = (set : Setting) (steps : List Step) → AcceptsPermitted set.accepts → IsIdent set.start.identity.hw → OwnFilesAreNamed set → BeginsSmall set.start → LengthsAreTold set.media → AllCanBeListed set steps
     → IsUninjected set steps → NoBadFiles set steps

@@ -3,7 +3,6 @@ use Rattle.std.proofs.Common.{◌∙◌, ap, sym, subst, inr, ◌≡◌, inl, �
 use Rattle.std.specs.Prelude.{slice_get, ◌==◌}
 use Rattle.std.specs.List.{AllByRecursion}
 use Rattle.std.proofs.lemmas.Bool.{eq-eqb}
-use Rattle.load_header.specs.Header.{HeaderView}
 use Rattle.disk_layout.specs.declared.identity.Identity.{Identity}
 use Rattle.disk_layout.specs.Holds.{StandingView}
 use Rattle.exchange_trace.specs.declared.trace.Side.TheVariants as sides
@@ -11,7 +10,7 @@ use Rattle.exchange_trace.specs.Happenings.{Booted, DatagramView, Delivered, End
 use Rattle.exchange_trace.specs.Logs.{Event, Life, Up, Down, Ticks, event_for, gets, noted as life_noted, reached as life_reached, target_life}
 use Rattle.exchange_trace.specs.Posts.{numbered, posted_in}
 use Rattle.exchange_trace.specs.Steps.{Boot_refused, Came_up, Note, Step, Went_down}
-use Rattle.accept_rules.specs.Permissions.{Permits}
+use Rattle.accept_rules.specs.Permissions.{AcceptsPermitted}
 use Rattle.session_rules.specs.BufferLaws.{SumsJoin}
 use Rattle.session_rules.specs.NewConfigs.{IsGoodLoad}
 use Rattle.session_rules.specs.SoundLogs.{EventIsBytes, LogIsBytes, SessionIsSound, StaysOrIsNew}
@@ -97,7 +96,7 @@ noted_sound set (Came_up first_port sequence ∷ notes) life before after h =
     noted_sound set notes (Up first_port []) up up (come_sound set first_port sequence (gone_down before after) (gone_sound set before after))
 noted_sound set (Boot_refused fault ∷ notes) life before after h = noted_sound set notes Down (gone_down before after) (gone_down before after) (gone_sound set before after)
 
-module _ (joins : SumsJoin) (spells : HeadersAreSpelled) (payloads : PayloadsAreBytes) (set : Setting) (permits : (h : HeaderView) → set.accepts h ≡ true → Permits h) where
+module _ (joins : SumsJoin) (spells : HeadersAreSpelled) (payloads : PayloadsAreBytes) (set : Setting) (permits : AcceptsPermitted set.accepts) where
   -- what one event makes of a target
   abbrev pub Reached : Life → TargetState → Option Event → Type 0
   Reached life state e = TargetIsSound set (life_reached e life) (reached set e state) × TargetStaysOrIsNew set state (reached set e state)

@@ -3,14 +3,13 @@ use Rattle.std.specs.Prelude.{◌≡◌, List, [], ◌∷◌, true, Option, Some
 use Rattle.std.specs.List.{AllByRecursion}
 use Rattle.field_grammar.specs.Grammar.{IsBytes}
 use Rattle.load_base.specs.Config.{LoadView}
-use Rattle.load_header.specs.Header.{HeaderView}
 use Rattle.disk_layout.specs.Holds.{StandingView}
 use Rattle.exchange_trace.specs.declared.trace.Side.TheVariants as sides
 use Rattle.exchange_trace.specs.Happenings.{DatagramView, HappeningView, Injected}
 use Rattle.exchange_trace.specs.Logs.{event_for}
 use Rattle.exchange_trace.specs.Posts.{posted_in}
 use Rattle.exchange_trace.specs.Steps.{Step}
-use Rattle.accept_rules.specs.Permissions.{Permits}
+use Rattle.accept_rules.specs.Permissions.{AcceptsPermitted}
 use Rattle.session_rules.specs.NewConfigs.{IsGoodLoad}
 use Rattle.session_rules.specs.SoundLogs.{StaysOrIsNew}
 use Rattle.replay_rules.specs.Histories.{brings}
@@ -43,7 +42,7 @@ AllStayOrAreNew set (s ∷ earlier) =
 -- Whatever is delivered, lost, repeated, reordered, delayed or injected in a run, and wherever power fails, the configuration
 -- changes by good verdicts alone, under each interlock that accepts only what may be.
 abbrev pub ChangesAreNew : Type 0
-ChangesAreNew = (set : Setting) (steps : List Step) → ((h : HeaderView) → set.accepts h ≡ true → Permits h) → AllCarryBytes steps → AllStayOrAreNew set steps
+ChangesAreNew = (set : Setting) (steps : List Step) → AcceptsPermitted set.accepts → AllCarryBytes steps → AllStayOrAreNew set steps
 
 -- ---- what is installed is good
 
@@ -61,4 +60,4 @@ AllBroughtAreGood set (s ∷ earlier) = BroughtIsGood set (brings set s earlier)
 
 -- under the same premises
 abbrev pub InstallsAreGood : Type 0
-InstallsAreGood = (set : Setting) (steps : List Step) → ((h : HeaderView) → set.accepts h ≡ true → Permits h) → AllCarryBytes steps → AllBroughtAreGood set steps
+InstallsAreGood = (set : Setting) (steps : List Step) → AcceptsPermitted set.accepts → AllCarryBytes steps → AllBroughtAreGood set steps

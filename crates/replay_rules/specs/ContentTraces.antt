@@ -9,9 +9,9 @@ use Rattle.replay_rules.specs.BothEnds.{Is_down, Is_up, Setting, TargetState, ta
 
 -- What a target keeps is of what there is by its log; both change with each event as the target decides.
 pub record FollowsItsLog (set : Setting) (r : TargetReading) : Type 0 where
-  pub kept : AreKept (contents_of set.accepts r) (target_view set.accepts r)
-  pub view : (e : Event) → target_view set.accepts (target_extended set.accepts r e) ≡ target_after set.accepts (target_view set.accepts r) e
-  pub contents : (e : Event) → contents_of set.accepts (target_extended set.accepts r e) ≡ contents_after set.accepts (target_view set.accepts r) e (contents_of set.accepts r)
+  pub kept : AreKept (contents_of r) (target_view r)
+  pub view : (e : Event) → target_view (target_extended set.accepts r e) ≡ target_after set.accepts (target_view r) e
+  pub contents : (e : Event) → contents_of (target_extended set.accepts r e) ≡ contents_after set.accepts (target_view r) e (contents_of r)
 
 abbrev pub ContentsFollowAt : Setting → TargetState → Type 0
 ContentsFollowAt set (Is_up r) = FollowsItsLog set r

@@ -22,7 +22,7 @@ use Rattle.session_rules.specs.MediaFiles.{wanted_of}
 use Rattle.session_rules.specs.NewConfigs.{IsGoodLoad, IsWanted, AreOfMedia}
 use Rattle.session_rules.specs.Uploads.{need_of}
 use Rattle.session_rules.specs.TargetRows.{Writes_completion, WholeRow}
-use Rattle.session_rules.specs.TargetLog.{TargetReading, TargetSessionLog, row_in}
+use Rattle.session_rules.specs.TargetLog.{TargetReading, TargetSessionLog}
 use Rattle.replay_rules.specs.BothEnds.{Setting, TargetState, Is_up, Is_down, loader_at, target_at}
 use Rattle.replay_rules.specs.Runs.{IsQuiet}
 
@@ -69,21 +69,21 @@ IsLastAcknowledgement r (Some (Gets from to bytes)) = (packet : PacketView) × (
 IsLastAcknowledgement r e = ⊥
 
 -- a session of the target goes on, or ends with the acknowledgement of its last LUS, once all is installed
-abbrev pub EndsInstalled : Setting → TargetReading → Option Event → (before after : Option TargetSessionLog) → Type 0
-EndsInstalled set r e None after = ⊤
-EndsInstalled set r e (Some s) (Some next) = ⊤
-EndsInstalled set r e (Some s) None = IsInstalled (row_in set.accepts r.active.identity s) × IsLastAcknowledgement r e
+abbrev pub EndsInstalled : TargetReading → Option Event → (before after : Option TargetSessionLog) → Type 0
+EndsInstalled r e None after = ⊤
+EndsInstalled r e (Some s) (Some next) = ⊤
+EndsInstalled r e (Some s) None = IsInstalled s.row × IsLastAcknowledgement r e
 
 -- so it is where this reaches the target
-abbrev pub EndsWell : Setting → (before : TargetState) → Option Event → (after : TargetState) → Type 0
-EndsWell set (Is_up r) e (Is_up after) = EndsInstalled set r e r.live after.live
-EndsWell set before e after = ⊥
+abbrev pub EndsWell : (before : TargetState) → Option Event → (after : TargetState) → Type 0
+EndsWell (Is_up r) e (Is_up after) = EndsInstalled r e r.live after.live
+EndsWell before e after = ⊥
 
 -- so it is in each of these steps, which follow others
 abbrev pub AllEndWell : Setting → (since before : List Step) → Type 0
 AllEndWell set [] before = ⊤
 AllEndWell set (s ∷ since) before =
-    EndsWell set (target_at set (since ++ before)) (event_for sides.Target (posted_in (since ++ before)) s.given) (target_at set (s ∷ since ++ before))
+    EndsWell (target_at set (since ++ before)) (event_for sides.Target (posted_in (since ++ before)) s.given) (target_at set (s ∷ since ++ before))
     × AllEndWell set since before
 
 -- ---- what is asked for

@@ -22,13 +22,14 @@ use Rattle.replay_rules.specs.Promises.{ListIsDue}
 
 -- ---- what the target writes
 
--- the file is the list of what was active before one of these steps, after which a session had its list to write
+-- the file is the list of what was active before one of these steps, which made a session's list due
 pub record ListWasDue (set : Setting) (steps : List Step) (file : List ℕ) : Type 0 where
   pub since : List Step
   pub made : Step
   pub before : List Step
   pub split : steps ≡ since ++ made ∷ before
-  pub due : ListIsDue set (target_at set (made ∷ before))
+  pub due : ListIsDue (target_at set (made ∷ before))
+  pub newly : ListIsDue (target_at set before) → ⊥
   pub lists : file ≡ lcl_file (outline_of (active_at set before))
 
 -- a file that the target asks to write is one of its own, and a list is of what was active when it became due
@@ -56,8 +57,8 @@ abbrev pub OwnFilesAreNamed : Setting → Type 0
 OwnFilesAreNamed set = (kind : FileKind) → IsName (file_name set.start.identity.hw set.start.identity.pos kind)
 
 -- The newest start is that of an information operation, and the session that ended last is the one that ended since: so it is
--- that operation's. It lists exactly what was active before a step since its start, after which a session of the target had its
--- list to write.
+-- that operation's. It lists exactly what was active before the step since its start which made the list of a session of the
+-- target due.
 pub record ListsInSession (set : Setting) (steps : List Step) (session : EndedSession) : Type 0 where
   pub since : List Step
   pub made : Step
@@ -70,7 +71,8 @@ pub record ListsInSession (set : Setting) (steps : List Step) (session : EndedSe
   pub starts : start.given ≡ Info_started hw pos
   pub newest : NoneStarts (since ++ made ∷ between)
   pub one : (loader_at set steps).ended ≡ session ∷ (loader_at set (start ∷ before)).ended
-  pub due : ListIsDue set (target_at set (made ∷ (between ++ start ∷ before)))
+  pub due : ListIsDue (target_at set (made ∷ (between ++ start ∷ before)))
+  pub newly : ListIsDue (target_at set (between ++ start ∷ before)) → ⊥
   pub listed : session.listed ≡ Some (lcl_of (outline_of (active_at set (between ++ start ∷ before))))
 
 -- a session that ends in the newest step as a completed information session
@@ -82,7 +84,7 @@ abbrev pub AllListInSession : Setting → List Step → Type 0
 AllListInSession set [] = ⊤
 AllListInSession set (s ∷ earlier) = ListsWhereCompleted set s earlier × AllListInSession set earlier
 
--- Without injection each completed information session lists exactly what was active before a step of its own session, after
--- which a session of the target had its list to write, through losses, repeats, other orders, power losses and boots.
+-- Without injection each completed information session lists exactly what was active before the step of its own session that
+-- made its list due at the target, through losses, repeats, other orders, power losses and boots.
 abbrev pub CompletedListsActive : Type 0
 CompletedListsActive = (set : Setting) (steps : List Step) → IsUninjected set steps → OwnFilesAreNamed set → AllCanBeListed set steps → AllListInSession set steps

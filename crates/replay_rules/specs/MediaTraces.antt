@@ -1,8 +1,7 @@
 -- What is installed in a run are the media set's files (docs/EXCHANGE.md, "Runs").
-use Rattle.std.specs.Prelude.{◌≡◌, ℕ, ◌≤◌, List, length, true, Some}
-use Rattle.load_header.specs.Header.{HeaderView}
+use Rattle.std.specs.Prelude.{◌≡◌, ℕ, ◌≤◌, List, length, Some}
 use Rattle.exchange_trace.specs.Steps.{Step}
-use Rattle.accept_rules.specs.Permissions.{Permits}
+use Rattle.accept_rules.specs.Permissions.{AcceptsPermitted}
 use Rattle.session_rules.specs.MediaFiles.{Media}
 use Rattle.replay_rules.specs.BothEnds.{Setting}
 use Rattle.replay_rules.specs.OtherEndTraces.{IsUninjected}
@@ -15,4 +14,4 @@ LengthsAreTold media = (name bytes : List ℕ) → media.file name ≡ Some byte
 -- Where nothing is injected, each file of each configuration that an install step brings is the media set's file of its
 -- name, through losses, repeats, other orders, power losses and boots.
 abbrev pub InstallsAreOfMedia : Type 0
-InstallsAreOfMedia = (set : Setting) (steps : List Step) → ((h : HeaderView) → set.accepts h ≡ true → Permits h) → LengthsAreTold set.media → IsUninjected set steps → AllOfMedia set steps
+InstallsAreOfMedia = (set : Setting) (steps : List Step) → AcceptsPermitted set.accepts → LengthsAreTold set.media → IsUninjected set steps → AllOfMedia set steps

@@ -1,12 +1,11 @@
 -- Uploads that are completed in a run: each was installed in its own session, and what it installed stays, until a later
 -- installation replaces it (docs/EXCHANGE.md, "Runs").
-use Rattle.std.specs.Prelude.{◌≡◌, ℕ, List, [], ◌∷◌, ◌++◌, true, false, Option, Some, ⊤}
+use Rattle.std.specs.Prelude.{◌≡◌, ℕ, List, [], ◌∷◌, ◌++◌, false, Option, Some, ⊤}
 use Rattle.std.specs.List.{AllByRecursion}
-use Rattle.load_header.specs.Header.{HeaderView}
 use Rattle.disk_layout.specs.Holds.{StandingView}
 use Rattle.exchange_trace.specs.Happenings.{Upload_started}
 use Rattle.exchange_trace.specs.Steps.{Step}
-use Rattle.accept_rules.specs.Permissions.{Permits}
+use Rattle.accept_rules.specs.Permissions.{AcceptsPermitted}
 use Rattle.transfer_end.specs.OtherEnds.{Among}
 use Rattle.session_rules.specs.declared.outcome.SessionKind.TheVariants.{Upload}
 use Rattle.session_rules.specs.Loader.{EndedSession}
@@ -57,7 +56,7 @@ AllInstalledInSession set (s ∷ earlier) = InstalledWhereCompleted set s earlie
 -- Where nothing is injected and the media set's entries can be told in a request, each upload is completed only in or after a
 -- step of its own session that installed its parts, through losses, repeats, other orders, power losses and boots.
 abbrev pub CompletedInSession : Type 0
-CompletedInSession = (set : Setting) (steps : List Step) → ((h : HeaderView) → set.accepts h ≡ true → Permits h) → EntriesFit set.media → IsUninjected set steps → AllInstalledInSession set steps
+CompletedInSession = (set : Setting) (steps : List Step) → AcceptsPermitted set.accepts → EntriesFit set.media → IsUninjected set steps → AllInstalledInSession set steps
 
 -- ---- what it installed stays
 
@@ -76,5 +75,5 @@ pub record StaysInstalled (set : Setting) (since : List Step) (steps : List Step
 -- Under the same premises, wherever power fails before or after it and whatever is recovered at the end, what an upload
 -- installed that was completed is a member of the run's history, and no earlier member is active at its end.
 abbrev pub CompletedStays : Type 0
-CompletedStays = (set : Setting) (since : List Step) (s : Step) (earlier : List Step) (standing : Option StandingView) → ((h : HeaderView) → set.accepts h ≡ true → Permits h) → EntriesFit set.media
+CompletedStays = (set : Setting) (since : List Step) (s : Step) (earlier : List Step) (standing : Option StandingView) → AcceptsPermitted set.accepts → EntriesFit set.media
     → IsUninjected set (since ++ s ∷ earlier) → HasEnded set s earlier → HasCompleted Upload (loader_at set (s ∷ earlier)).ended → StaysInstalled set since (s ∷ earlier) standing

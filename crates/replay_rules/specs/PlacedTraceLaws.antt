@@ -30,7 +30,7 @@ loader_placed set r (Some e) = loader_posts_placed set.media (loader_view r) e
 
 target_placed : (set : Setting) (state : TargetState) (e : Option Event) → AllByRecursion (IsPlacedOfTarget state e) (due_of_target set state e)
 target_placed set (Is_up r) None = tt
-target_placed set (Is_up r) (Some e) = target_posts_placed set.accepts (target_view set.accepts r) e
+target_placed set (Is_up r) (Some e) = target_posts_placed set.accepts (target_view r) e
 target_placed set (Is_down active interrupted) None = tt
 target_placed set (Is_down active interrupted) (Some e) = tt
 
@@ -60,7 +60,7 @@ loader_two set r (Some e) = loader_posts_two set.media (loader_view r) e
 
 target_two : (set : Setting) (state : TargetState) (e : Option Event) → length (due_of_target set state e) ≤ 2
 target_two set (Is_up r) None = omega arith
-target_two set (Is_up r) (Some e) = target_posts_two set.accepts (target_view set.accepts r) e
+target_two set (Is_up r) (Some e) = target_posts_two set.accepts (target_view r) e
 target_two set (Is_down active interrupted) None = omega arith
 target_two set (Is_down active interrupted) (Some e) = omega arith
 

@@ -14,7 +14,7 @@ use Rattle.session_rules.specs.declared.outcome.SessionKind.{SessionKind}
 use Rattle.session_rules.specs.Loader.{EndedSession}
 use Rattle.session_rules.specs.NewConfigs.{AreOfMedia}
 use Rattle.session_rules.specs.TargetRows.{WholeRow, Writes_lcl}
-use Rattle.session_rules.specs.TargetLog.{TargetReading, TargetSessionLog, row_in}
+use Rattle.session_rules.specs.TargetLog.{TargetSessionLog}
 use Rattle.replay_rules.specs.BothEnds.{Setting, TargetState, Is_up, Is_down, loader_at, target_at}
 use Rattle.replay_rules.specs.Due.{AllDue, AllNoted}
 use Rattle.replay_rules.specs.FaultFree.{NothingInjected}
@@ -54,13 +54,13 @@ abbrev pub WritesList : WholeRow → Type 0
 WritesList Writes_lcl = ⊤
 WritesList row = ⊥
 
-abbrev pub SessionWritesList : Setting → TargetReading → Option TargetSessionLog → Type 0
-SessionWritesList set r None = ⊥
-SessionWritesList set r (Some s) = WritesList (row_in set.accepts r.active.identity s)
+abbrev pub SessionWritesList : Option TargetSessionLog → Type 0
+SessionWritesList None = ⊥
+SessionWritesList (Some s) = WritesList s.row
 
-abbrev pub ListIsDue : Setting → TargetState → Type 0
-ListIsDue set (Is_up r) = SessionWritesList set r r.live
-ListIsDue set (Is_down active interrupted) = ⊥
+abbrev pub ListIsDue : TargetState → Type 0
+ListIsDue (Is_up r) = SessionWritesList r.live
+ListIsDue (Is_down active interrupted) = ⊥
 
 -- ---- completed means installed
 

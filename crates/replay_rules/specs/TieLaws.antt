@@ -55,19 +55,19 @@ loader_due_is : (set : Setting) (steps : List Step) (e : Option Event) → loade
 loader_due_is set steps None = refl
 loader_due_is set steps (Some e) = refl
 
-target_more : SumsJoin → (set : Setting) (state : TargetState) (e : Option Event) → HasLive state → target_next set.accepts (kept_by set state) e ≡ kept_by set (reached set e state)
+target_more : SumsJoin → (set : Setting) (state : TargetState) (e : Option Event) → HasLive state → target_next set.accepts (kept_by state) e ≡ kept_by (reached set e state)
 target_more joins set (Is_up r) None live = refl
 target_more joins set (Is_up r) (Some e) live = ap (λ (v : TargetView). Some v) (target_follows joins set.accepts r e live).0
 target_more joins set (Is_down active interrupted) None live = refl
 target_more joins set (Is_down active interrupted) (Some e) live = refl
 
-target_due_is : (set : Setting) (state : TargetState) (e : Option Event) → target_says set.accepts (kept_by set state) e ≡ due_of_target set state e
+target_due_is : (set : Setting) (state : TargetState) (e : Option Event) → target_says set.accepts (kept_by state) e ≡ due_of_target set state e
 target_due_is set (Is_up r) None = refl
 target_due_is set (Is_up r) (Some e) = refl
 target_due_is set (Is_down active interrupted) None = refl
 target_due_is set (Is_down active interrupted) (Some e) = refl
 
-kept_noted : (set : Setting) (notes : List Note) (before after : TargetState) (v : Option TargetView) → v ≡ kept_by set after → kept_after set notes before after v ≡ kept_by set (noted notes before after)
+kept_noted : (set : Setting) (notes : List Note) (before after : TargetState) (v : Option TargetView) → v ≡ kept_by after → kept_after set notes before after v ≡ kept_by (noted notes before after)
 kept_noted set [] before after v e = e
 kept_noted set (note ∷ notes) before after v e = refl
 
@@ -77,7 +77,7 @@ step_keeps_tie joins set steps loader loader_then target target_then posted s ti
     let to_target = event_for sides.Target (posted_in steps) s.given in
     let said : loader_says set.media loader to_loader ≡ due_of_loader set (loader_at set steps) to_loader = rw tied.loader_is (loader_due_is set steps to_loader) in
     let answered : target_says set.accepts target to_target ≡ due_of_target set (target_at set steps) to_target = rw tied.target_is (target_due_is set (target_at set steps) to_target) in
-    let moved : target_next set.accepts target to_target ≡ kept_by set (reached set to_target (target_at set steps)) = rw tied.target_is (target_more joins set (target_at set steps) to_target (target_is_live joins set steps)) in
+    let moved : target_next set.accepts target to_target ≡ kept_by (reached set to_target (target_at set steps)) = rw tied.target_is (target_more joins set (target_at set steps) to_target (target_is_live joins set steps)) in
     record {
       loader_is = reacts.loader_does ∙ rw tied.loader_is (loader_more set (loader_log steps) to_loader);
       target_is = reacts.target_does ∙ kept_noted set s.notes (target_at set steps) (reached set to_target (target_at set steps)) (target_next set.accepts target to_target) moved;

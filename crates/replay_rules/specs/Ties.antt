@@ -1,6 +1,6 @@
 -- What both ends keep is what the trace says (docs/EXCHANGE.md, "Runs").
-use Rattle.std.specs.Prelude.{◌≡◌, List, [], ◌∷◌, ◌++◌, Bool, Option, Some, None, if◌then◌else◌}
-use Rattle.load_header.specs.Header.{HeaderView}
+use Rattle.std.specs.Prelude.{◌≡◌, List, [], ◌∷◌, ◌++◌, Option, Some, None, if◌then◌else◌}
+use Rattle.accept_rules.specs.Permissions.{Accepts}
 use Rattle.exchange_trace.specs.declared.trace.Side.TheVariants as sides
 use Rattle.exchange_trace.specs.Happenings.{DatagramView}
 use Rattle.exchange_trace.specs.Logs.{Event, event_for}
@@ -15,14 +15,14 @@ use Rattle.replay_rules.specs.BothEnds.{Setting, TargetState, Is_up, Is_down, lo
 use Rattle.replay_rules.specs.Due.{AllDue, goes_down}
 
 -- a target that is up, by what it keeps
-abbrev pub kept_by : Setting → TargetState → Option TargetView
-kept_by set (Is_up r) = Some (target_view set.accepts r)
-kept_by set (Is_down active interrupted) = None
+abbrev pub kept_by : TargetState → Option TargetView
+kept_by (Is_up r) = Some (target_view r)
+kept_by (Is_down active interrupted) = None
 
 -- what the ends keep, and the datagrams that the link was posted, are those of the trace, and all that was posted was due
 pub record IsTied (set : Setting) (steps : List Step) (loader : LoaderView) (target : Option TargetView) (posted : List DatagramView) : Type 0 where
   pub loader_is : loader ≡ loader_view (loader_at set steps)
-  pub target_is : target ≡ kept_by set (target_at set steps)
+  pub target_is : target ≡ kept_by (target_at set steps)
   pub posted_is : posted ≡ posted_in steps
   pub due : AllDue set steps
 
@@ -36,18 +36,18 @@ abbrev pub loader_says : Media → LoaderView → Option Event → List Datagram
 loader_says media v None = []
 loader_says media v (Some e) = loader_posts media v e
 
-abbrev pub target_next : (accepts : HeaderView → Bool) → Option TargetView → Option Event → Option TargetView
+abbrev pub target_next : (accepts : Accepts) → Option TargetView → Option Event → Option TargetView
 target_next accepts (Some v) (Some e) = Some (target_after accepts v e)
 target_next accepts v e = v
 
-abbrev pub target_says : (accepts : HeaderView → Bool) → Option TargetView → Option Event → List DatagramView
+abbrev pub target_says : (accepts : Accepts) → Option TargetView → Option Event → List DatagramView
 target_says accepts (Some v) (Some e) = target_posts accepts v e
 target_says accepts v e = []
 
 -- what is kept of the target where this is noted in a step that leads it from one state to another
 abbrev pub kept_after : Setting → List Note → (before after : TargetState) → Option TargetView → Option TargetView
 kept_after set [] before after v = v
-kept_after set (note ∷ notes) before after v = kept_by set (noted (note ∷ notes) before after)
+kept_after set (note ∷ notes) before after v = kept_by (noted (note ∷ notes) before after)
 
 -- Both ends do in a step what their rules say of what they keep. A target that goes down posts nothing.
 pub record Reacts (set : Setting) (steps : List Step) (loader loader_then : LoaderView) (target target_then : Option TargetView) (s : Step) : Type 0 where

@@ -98,10 +98,10 @@ pub fn what_is_installed_is_of_the_media_set()
     what_comes_was_sent();
 }
 
-/// A completed information session lists exactly what was active before a step since its start,
-/// after which a session of the target had its list to write, through losses, repeats, other
-/// orders, power losses and boots, where nothing is injected, the target's file names are names,
-/// and what is active can be listed.
+/// A completed information session lists exactly what was active before the step since its start
+/// that made the list of a session of the target due, through losses, repeats, other orders, power
+/// losses and boots, where nothing is injected, the target's file names are names, and what is
+/// active can be listed.
 pub fn a_completed_session_lists_what_was_active()
     // Whatever comes, a target writes only lists of what was active when they became due.
     ensures written { TargetWritesInTime }

@@ -7,11 +7,11 @@ use Rattle.disk_model.specs.Arming.{Arms}
 use Rattle.disk_model.specs.declared.disk.DiskFault.{DiskFault}
 use Rattle.disk_layout.specs.Holds.{StandingView}
 use Rattle.disk_layout.specs.declared.fault.RecoverFault.TheVariants.{DiskFailed}
+use Rattle.accept_rules.specs.Permissions.{Accepts}
 use Rattle.bank_store.specs.DiskWrites.{TimeGoesOn}
 use Rattle.bank_store.specs.Fits.{Works}
 use Rattle.bank_store.specs.declared.store.Store.{Store}
 use Rattle.load_header.specs.declared.header.LoadHeader.{LoadHeader}
-use Rattle.load_header.specs.Header.{HeaderView}
 use Rattle.exchange_trace.specs.Logs.{Event, Learns}
 use Rattle.exchange_trace.specs.Happenings.{DatagramView}
 use Rattle.exchange_trace.specs.Steps.{Note, Went_down}
@@ -42,7 +42,7 @@ keeps_here target disk c x has = record {
   alone = has.alone;
 }
 
-pub learns_keeps : {T R : Type 0} (accepts : HeaderView → Bool) (size : Option ℕ) (target after : machine.TargetState R) (disk : DiskState) (c : TargetContents) (x : T) → after.store ≡ target.store → HasContents target disk c
+pub learns_keeps : {T R : Type 0} (accepts : Accepts) (size : Option ℕ) (target after : machine.TargetState R) (disk : DiskState) (c : TargetContents) (x : T) → after.store ≡ target.store → HasContents target disk c
     → KeepsDisk {E = Down} disk after.store disk c (contents_after accepts target.view (Learns size) c) (Ok x)
 learns_keeps accepts size target after disk c x same has = rw same (record {
   adds = record { each = λ t u image may. inl may; here = λ image may. inl (has.alone image may) };
@@ -61,7 +61,7 @@ module _ {S R : Type 0} (may_say : R → LoadHeader → Bool → Type 0) (set : 
 
   adds_in : (state : TargetState) → BeginsStep may_say set state (Some t) old → AddsInStep set e state old new
   adds_in (Is_up r) begins =
-      let keep = keeps (contents_of set.accepts r) (has set e r t after old new result begins.follow begins.holds goes) in
+      let keep = keeps (contents_of r) (has set e r t after old new result begins.follow begins.holds goes) in
       let was = begins.holds.works.beside in
       adds_up set e r t after old new result begins.follow begins.holds goes keep was.image (now was.image was.told)
   adds_in (Is_down active interrupted) begins = absurd (let wrong : Some t.view ≡ None = begins.holds.kept in cc)
@@ -72,7 +72,7 @@ module _ {S R : Type 0} (may_say : R → LoadHeader → Bool → Type 0) (set : 
   -- and answers
   holds_in : (y : S) → result ≡ Ok y → Some after.view ≡ target_next set.accepts (Some t.view) e → (state : TargetState) → BeginsStep may_say set state (Some t) old → HoldsRun set (reached set e state) (Some after) new
   holds_in y ok next (Is_up r) begins =
-      let keep = rw ok at (keeps (contents_of set.accepts r) (has set e r t after old new result begins.follow begins.holds goes)) in
+      let keep = rw ok at (keeps (contents_of r) (has set e r t after old new result begins.follow begins.holds goes)) in
       up_holds set e r t after old new begins.follow begins.holds goes next keep.holds keep.alone
   holds_in y ok next (Is_down active interrupted) begins = absurd (let wrong : Some t.view ≡ None = begins.holds.kept in cc)
 
@@ -107,7 +107,7 @@ next_of set (Some e) before after posts takes = ap (λ v. Some v) takes.keeps
 -- nothing reaches a target that is down
 pub nothing_steps : {T R : Type 0} (E : Type 0) (may_say : R → LoadHeader → Bool → Type 0) (set : Setting) (e : Option Event) (state : TargetState) (disk : DiskState) (x : T) (notes : T → List Note) → notes x ≡ []
     → BeginsStep may_say set state None disk → StepsOn {R = R} {E = E} set e state None notes disk disk (Ok x)
-nothing_steps E may_say set e (Is_up r) disk x notes none begins = absurd (let wrong : None ≡ Some (target_view set.accepts r) = begins.holds.kept in cc)
+nothing_steps E may_say set e (Is_up r) disk x notes none begins = absurd (let wrong : None ≡ Some (target_view r) = begins.holds.kept in cc)
 nothing_steps {T} {R} E may_say set e (Is_down active interrupted) disk x notes none begins = by e
   where
     by : (e : Option Event) → StepsOn {R = R} {E = E} set e (Is_down active interrupted) None notes disk disk (Ok x)

@@ -12,7 +12,7 @@ use Rattle.session_rules.specs.Target.{TargetView, new_target}
 use Rattle.session_rules.specs.TargetLog.{new_target_reading, target_view}
 use Rattle.replay_rules.specs.BothEnds.{Is_down, Is_up, Setting, TargetState, come_up, gone_down, noted, reached, settled}
 use Rattle.replay_rules.specs.ContentTraces.{ContentsFollowAt}
-use Rattle.replay_rules.specs.Histories.{active_by, may_be_active}
+use Rattle.replay_rules.specs.Histories.{may_be_active}
 use Rattle.replay_rules.specs.Promises.{HoldsOneOf}
 use Rattle.target_machine.specs.Boots.{BootFails, ComesUp}
 use Rattle.target_machine.specs.declared.boot.BootFault.TheVariants.{Recover}
@@ -42,7 +42,7 @@ settles one image s active (Some new) apart held (inr (inr none)) = absurd none
 pub comes_up : {R : Type 0} → OneStanding → (set : Setting) (down : TargetState) (rule : R) (target : machine.TargetState R) (old new : DiskState) (image : Image) (first_port sequence : ℕ) → HoldsRun {R = R} set down None old
     → IsSettled old → old.reads ≡ Some image → old.now image → StartsOn target.view target.store image new → OnlyReads old new → ComesUp rule first_port target old → sequence ≡ target.view.active.sequence
     → HoldsRun set (come_up first_port sequence down) (Some target) new
-comes_up one set (Is_up r) rule target old new image first_port sequence holds settled_ told now starts reads up is = absurd (let wrong : None ≡ Some (target_view set.accepts r) = holds.kept in cc)
+comes_up one set (Is_up r) rule target old new image first_port sequence holds settled_ told now starts reads up is = absurd (let wrong : None ≡ Some (target_view r) = holds.kept in cc)
 comes_up {R} one set (Is_down active interrupted) rule target old new image first_port sequence holds settled_ told now starts reads up is =
     let s = starts.active in
     let at : sequence ≡ s.sequence = is ∙ ap (λ o. o.sequence) starts.kept.active in
@@ -108,7 +108,7 @@ down_holds set state target old there result follow holds elapses =
 
 -- it stays down
 pub stays_down : {R : Type 0} (set : Setting) (state : TargetState) (old new : DiskState) → HoldsRun {R = R} set state None old → OnlyReads old new → HoldsRun {R = R} set state None new
-stays_down set (Is_up r) old new holds reads = absurd (let wrong : None ≡ Some (target_view set.accepts r) = holds.kept in cc)
+stays_down set (Is_up r) old new holds reads = absurd (let wrong : None ≡ Some (target_view r) = holds.kept in cc)
 stays_down set (Is_down active interrupted) old new holds reads = record {
   kept = holds.kept;
   tells = reads.tells ∙ holds.tells;

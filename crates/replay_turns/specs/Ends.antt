@@ -1,5 +1,5 @@
 -- What a step does to both ends (docs/EXCHANGE.md, "Runs").
-use Rattle.std.specs.Prelude.{◌≡◌, ◌⊎◌, ℕ, List, ◌∷◌, ◌++◌, Bool, is_some, Option}
+use Rattle.std.specs.Prelude.{◌≡◌, ◌⊎◌, List, ◌∷◌, ◌++◌, Bool, is_some, Option}
 use Rattle.std.specs.List.{AllByRecursion}
 use Rattle.disk_model.specs.State.{DiskState}
 use Rattle.exchange_trace.specs.declared.trace.Side.TheVariants as sides
@@ -16,7 +16,7 @@ use Rattle.target_machine.specs.Decisions as machine
 use Rattle.replay_turns.specs.Powers.{RoseBy, stops_in}
 use Rattle.replay_turns.specs.StepsOnDisks.{BeginsStep, BootIsTold, HoldsRun}
 use Rattle.replay_turns.specs.Targets.{IsNoBoot, TargetLives, TargetTurns}
-use Rattle.replay_turns.specs.Turns.{LoaderTakes, RuleFollows, RunsWhileUp, target_kept}
+use Rattle.replay_turns.specs.Turns.{LoaderTakes, RunsWhileUp, target_kept}
 
 -- Both ends took what happened, and it is recorded as the newest step, with the loader's datagrams before the target's: what
 -- the loader did, what may be noted of the target, that what is carried is bytes, and how often the disk stopped in it.

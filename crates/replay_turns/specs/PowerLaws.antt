@@ -1,5 +1,5 @@
 -- Laws of how often the disk stops, and of happenings that leave its power.
-use Rattle.std.proofs.Common.{◌≡◌, ℕ, ◌+◌, ◌≤◌, List, [], ◌∷◌, ◌++◌, Bool, refl, sym, ap, ◌∙◌, arith}
+use Rattle.std.proofs.Common.{◌≡◌, ℕ, ◌+◌, ◌≤◌, List, ◌∷◌, ◌++◌, Bool, refl, ◌∙◌, arith}
 use Rattle.disk_model.specs.State.{DiskState, KeepsPower}
 use Rattle.exchange_trace.specs.Happenings.{HappeningView, Booted, Delivered, Ended, Info_started, Injected, Lost, Power_cut, Size_told, Ticked, Upload_started}
 use Rattle.exchange_trace.specs.Steps.{Note}

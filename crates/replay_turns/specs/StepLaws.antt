@@ -1,6 +1,6 @@
 -- Laws of what a step leaves of the target's disk.
 use Rattle.std.proofs.Common.{◌≡◌, ◌⊎◌, inl, inr, ℕ, ◌+◌, ◌<◌, ◌≤◌, cond, List, [], ◌∷◌, ◌++◌, Bool, true, false, Option, Some, None, Result, refl, sym, ap, subst, ◌∙◌, arith}
-use Rattle.std.specs.Prelude.{◌==◌, is_some, nat_lt}
+use Rattle.std.specs.Prelude.{◌==◌, is_some}
 use Rattle.std.proofs.lemmas.Bool.Decides.{nat_tests}
 use Rattle.disk_model.specs.Image.{Image}
 use Rattle.disk_model.specs.State.{DiskState, Elapses, IsSettled, OnlyReads}
@@ -10,26 +10,21 @@ use Rattle.disk_layout.specs.Holds.{HasDiskFault, HoldsConfig, StandingView}
 use Rattle.disk_layout.specs.declared.fault.RecoverFault.{RecoverFault}
 use Rattle.bank_store.specs.DiskWrites.{TimeGoesOn}
 use Rattle.exchange_trace.specs.declared.trace.Side.TheVariants as sides
-use Rattle.exchange_trace.specs.Logs.{Event, event_for}
-use Rattle.exchange_trace.specs.Posts.{posted_in}
-use Rattle.exchange_trace.specs.Steps.{Boot_refused, Came_up, Note, Step, Went_down}
-use Rattle.exchange_trace.specs.Happenings.{DatagramView}
+use Rattle.exchange_trace.specs.Logs.{Event}
 use Rattle.session_rules.specs.Contents.{SessionContents, TargetContents, contents_changed, contents_of, contents_turned, reached as row_reached, reached_last}
 use Rattle.session_rules.specs.Target as Target
 use Rattle.session_rules.specs.Target.{TargetChange, TargetView, target_decision}
 use Rattle.session_rules.specs.TargetLog.{TargetReading, standing_in, target_extended, target_view}
 use Rattle.session_rules.specs.TargetRows.{Awaits_lur, Gives_denial, Gives_lci, Gives_lui, Over, Reads_file, RowMove, WholeRow, Writes_completion, Writes_lcl, Writes_lcs, Writes_progress, Writes_ready, Writes_stop, first_row, row_moved}
 use Rattle.load_intake.specs.declared.down.Down.{Down}
-use Rattle.load_intake.specs.Contents.{AddsAtFirst}
-use Rattle.replay_rules.specs.BothEnds.{Is_down, Is_up, Setting, TargetState, changed, gone_down, noted, reached, target_at}
+use Rattle.replay_rules.specs.BothEnds.{Is_down, Is_up, Setting, TargetState, changed, gone_down, reached}
 use Rattle.replay_rules.specs.ContentTraces.{ContentsFollowAt, FollowsItsLog}
 use Rattle.replay_rules.specs.Histories.{may_be_active}
-use Rattle.replay_rules.specs.Promises.{AllMoments, HoldsOneOf}
+use Rattle.replay_rules.specs.Promises.{HoldsOneOf}
 use Rattle.replay_rules.specs.Ties.{kept_by, target_next}
 use Rattle.target_machine.specs.Decisions as machine
 use Rattle.target_machine.specs.Disks.{HoldsContents, KeepsDisk}
-use Rattle.replay_turns.specs.Targets.{TargetTurns}
-use Rattle.replay_turns.specs.StepsOnDisks.{AddsInStep, AreApart, BootIsTold, HasContents, HoldsAsBefore, HoldsRun, LeavesNoMore, Reboots, WorksOn, contents_then}
+use Rattle.replay_turns.specs.StepsOnDisks.{AddsInStep, AreApart, HasContents, HoldsAsBefore, HoldsRun, LeavesNoMore, Reboots, WorksOn, contents_then}
 
 -- ---- one of these configurations
 
@@ -112,7 +107,7 @@ reached_is set None r = refl
 reached_is set (Some e) r = refl
 
 contents_are : (set : Setting) (e : Option Event) (r : TargetReading) → ContentsFollowAt set (Is_up r)
-    → contents_then set.accepts (target_view set.accepts r) e (contents_of set.accepts r) ≡ contents_of set.accepts (reading_then set r e)
+    → contents_then set.accepts (target_view r) e (contents_of r) ≡ contents_of (reading_then set r e)
 contents_are set None r follow = refl
 contents_are set (Some e) r follow = sym (follow.contents e)
 
@@ -120,11 +115,11 @@ up_rises : (set : Setting) (e : Option Event) (r : TargetReading) → ContentsFo
 up_rises set None r follow = inl refl
 up_rises set (Some e) r follow =
     subst (λ (s : StandingView). StaysOrRises r.active s) (sym (ap (λ (c : TargetContents). c.active) (follow.contents e)))
-    (changed_rises (contents_of set.accepts r) (target_decision set.accepts (target_view set.accepts r) e).change)
+    (changed_rises (contents_of r) (target_decision set.accepts (target_view r) e).change)
 
 -- ---- a target that goes down
 
-pub gone_keeps_none : (set : Setting) (before after : TargetState) → kept_by set (gone_down before after) ≡ None
+pub gone_keeps_none : (set : Setting) (before after : TargetState) → kept_by (gone_down before after) ≡ None
 gone_keeps_none set (Is_up r) (Is_up s) = refl
 gone_keeps_none set (Is_up r) (Is_down active interrupted) = refl
 gone_keeps_none set (Is_down active interrupted) after = refl
@@ -246,22 +241,22 @@ both_no_more a b c one other = record {
 -- a target that is up takes what reaches it
 module _ {T R : Type 0} (set : Setting) (e : Option Event) (r : TargetReading) (t after : machine.TargetState R) (old new : DiskState) (result : Result T Down) (follow : ContentsFollowAt set (Is_up r))
     (holds : HoldsRun set (Is_up r) (Some t) old) (goes : TimeGoesOn old new) where
-  view_is : t.view ≡ target_view set.accepts r
+  view_is : t.view ≡ target_view r
   view_is = let same = holds.kept in cc
 
-  pub has : HasContents t old (contents_of set.accepts r)
+  pub has : HasContents t old (contents_of r)
   has = record {
     kept = rw view_is follow.kept;
     holds = holds.works;
     alone = λ left may. elim (holds.leaves left may) [ inl is ↦ is | inr none ↦ absurd none ];
   }
 
-  then_is : contents_then set.accepts t.view e (contents_of set.accepts r) ≡ contents_of set.accepts (reading_then set r e)
-  then_is = ap (λ (v : TargetView). contents_then set.accepts v e (contents_of set.accepts r)) view_is ∙ contents_are set e r follow
+  then_is : contents_then set.accepts t.view e (contents_of r) ≡ contents_of (reading_then set r e)
+  then_is = ap (λ (v : TargetView). contents_then set.accepts v e (contents_of r)) view_is ∙ contents_are set e r follow
 
-  module _ (keeps : KeepsDisk old after.store new (contents_of set.accepts r) (contents_then set.accepts t.view e (contents_of set.accepts r)) result) (was : Image) (told : old.now was) where
-    kept : KeepsDisk old after.store new (contents_of set.accepts r) (contents_of set.accepts (reading_then set r e)) result
-    kept = subst (λ (next : TargetContents). KeepsDisk old after.store new (contents_of set.accepts r) next result) then_is keeps
+  module _ (keeps : KeepsDisk old after.store new (contents_of r) (contents_then set.accepts t.view e (contents_of r)) result) (was : Image) (told : old.now was) where
+    kept : KeepsDisk old after.store new (contents_of r) (contents_of (reading_then set r e)) result
+    kept = subst (λ (next : TargetContents). KeepsDisk old after.store new (contents_of r) next result) then_is keeps
 
     either : (image : Image) → HoldsConfig image r.active ⊎ HoldsConfig image (reading_then set r e).active → HoldsOneOf (may_be_active (Is_up r) ++ may_be_active (reached set e (Is_up r))) image
     either image (inl old) = inl old
@@ -281,18 +276,18 @@ module _ {T R : Type 0} (set : Setting) (e : Option Event) (r : TargetReading) (
     }
 
 -- where it answers
-view_then : (set : Setting) (e : Option Event) (r : TargetReading) → FollowsItsLog set r → target_next set.accepts (Some (target_view set.accepts r)) e ≡ Some (target_view set.accepts (reading_then set r e))
+view_then : (set : Setting) (e : Option Event) (r : TargetReading) → FollowsItsLog set r → target_next set.accepts (Some (target_view r)) e ≡ Some (target_view (reading_then set r e))
 view_then set None r follow = refl
 view_then set (Some e) r follow = ap (λ (v : TargetView). Some v) (sym (follow.view e))
 
 pub up_holds : {R : Type 0} (set : Setting) (e : Option Event) (r : TargetReading) (t after : machine.TargetState R) (old new : DiskState) → ContentsFollowAt set (Is_up r) → HoldsRun set (Is_up r) (Some t) old
-    → TimeGoesOn old new → Some after.view ≡ target_next set.accepts (Some t.view) e → HoldsContents after.store new (contents_then set.accepts t.view e (contents_of set.accepts r))
-    → ((left : Image) → new.now left → HoldsConfig left (contents_then set.accepts t.view e (contents_of set.accepts r)).active) → HoldsRun set (reached set e (Is_up r)) (Some after) new
+    → TimeGoesOn old new → Some after.view ≡ target_next set.accepts (Some t.view) e → HoldsContents after.store new (contents_then set.accepts t.view e (contents_of r))
+    → ((left : Image) → new.now left → HoldsConfig left (contents_then set.accepts t.view e (contents_of r)).active) → HoldsRun set (reached set e (Is_up r)) (Some after) new
 up_holds {R} set e r t after old new follow holds goes next contents alone =
-    let view : t.view ≡ target_view set.accepts r = let same = holds.kept in cc in
-    let is : contents_then set.accepts t.view e (contents_of set.accepts r) ≡ contents_of set.accepts (reading_then set r e) =
-    ap (λ (v : TargetView). contents_then set.accepts v e (contents_of set.accepts r)) view ∙ contents_are set e r follow in
-    let kept : Some after.view ≡ Some (target_view set.accepts (reading_then set r e)) = next ∙ (ap (λ (v : TargetView). target_next set.accepts (Some v) e) view ∙ view_then set e r follow) in
+    let view : t.view ≡ target_view r = let same = holds.kept in cc in
+    let is : contents_then set.accepts t.view e (contents_of r) ≡ contents_of (reading_then set r e) =
+    ap (λ (v : TargetView). contents_then set.accepts v e (contents_of r)) view ∙ contents_are set e r follow in
+    let kept : Some after.view ≡ Some (target_view (reading_then set r e)) = next ∙ (ap (λ (v : TargetView). target_next set.accepts (Some v) e) view ∙ view_then set e r follow) in
     subst (λ (state : TargetState). HoldsRun set state (Some after) new) (sym (reached_is set e r)) (record {
       kept = kept;
       tells = goes.tells ∙ holds.tells;

@@ -5,9 +5,9 @@ use Rattle.disk_model.specs.State.{DiskState, IsSettled}
 use Rattle.disk_layout.specs.Holds.{HoldsConfig, StandingView}
 use Rattle.disk_layout.specs.declared.fault.RecoverFault.TheVariants.{DiskFailed}
 use Rattle.load_header.specs.declared.header.LoadHeader.{LoadHeader}
-use Rattle.load_header.specs.Header.{HeaderView}
 use Rattle.exchange_trace.specs.Logs.{Event}
 use Rattle.exchange_trace.specs.Steps.{Boot_refused, Came_up, Note}
+use Rattle.accept_rules.specs.Permissions.{Accepts}
 use Rattle.session_rules.specs.Contents.{AreKept, TargetContents, contents_after, contents_of}
 use Rattle.session_rules.specs.Target.{TargetView}
 use Rattle.load_intake.specs.Contents.{AddsAtFirst}
@@ -29,13 +29,13 @@ AreApart state = ⊤
 
 -- a target that is up works on a disk that holds what its log says
 abbrev pub WorksOn : {R : Type 0} → Setting → TargetState → Option (machine.TargetState R) → DiskState → Type 0
-WorksOn set (Is_up r) (Some t) disk = HoldsContents t.store disk (contents_of set.accepts r)
+WorksOn set (Is_up r) (Some t) disk = HoldsContents t.store disk (contents_of r)
 WorksOn set state target disk = ⊤
 
 -- The target keeps what its log says, and its disk tells its content: a power loss leaves a configuration that may be active,
 -- and a target that is up works on it.
 pub record HoldsRun {R : Type 0} (set : Setting) (state : TargetState) (target : Option (machine.TargetState R)) (disk : DiskState) : Type 0 where
-  pub kept : target_kept target ≡ kept_by set state
+  pub kept : target_kept target ≡ kept_by state
   pub tells : is_some disk.reads ≡ true
   pub leaves : (image : Image) → disk.now image → HoldsOneOf (may_be_active state) image
   pub works : WorksOn set state target disk
@@ -63,7 +63,7 @@ pub record HasBooted {R : Type 0} (set : Setting) (state : TargetState) (notes :
 -- ---- what a step adds
 
 -- what there is at the target then, by what reaches it, if anything does
-abbrev pub contents_then : (accepts : HeaderView → Bool) → TargetView → Option Event → TargetContents → TargetContents
+abbrev pub contents_then : Accepts → TargetView → Option Event → TargetContents → TargetContents
 contents_then accepts v None c = c
 contents_then accepts v (Some e) c = contents_after accepts v e c
 

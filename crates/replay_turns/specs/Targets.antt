@@ -1,11 +1,11 @@
 -- What a happening does to the target, and which end speaks at it (docs/EXCHANGE.md, "Runs").
-use Rattle.std.specs.Prelude.{◌≡◌, ℕ, List, [], ◌∷◌, Bool, Option, Some, None, ⊤}
+use Rattle.std.specs.Prelude.{◌≡◌, ℕ, List, [], ◌∷◌, Option, Some, None, ⊤}
+use Rattle.accept_rules.specs.Permissions.{Accepts}
 use Rattle.disk_layout.specs.Holds.{Outline}
 use Rattle.exchange_trace.specs.declared.trace.Side.TheVariants as sides
 use Rattle.exchange_trace.specs.Happenings.{DatagramView, HappeningView, Booted, Delivered, Info_started, Injected, Ticked, Upload_started}
 use Rattle.exchange_trace.specs.Logs.{Event}
 use Rattle.exchange_trace.specs.Steps.{Note, Boot_refused, Came_up, Went_down}
-use Rattle.load_header.specs.Header.{HeaderView}
 use Rattle.session_rules.specs.Target.{TargetView, new_target}
 use Rattle.replay_rules.specs.BothEnds.{Setting, TargetState, come_up, gone_down, reached}
 use Rattle.replay_rules.specs.Ties.{kept_by, target_next, target_says}
@@ -17,7 +17,7 @@ TargetTurns set e state before after posts [] = (after ≡ target_next set.accep
 TargetTurns set e state before after posts (Went_down ∷ []) = (after ≡ None) × (posts ≡ [])
 TargetTurns set e state before after posts (Boot_refused fault ∷ []) = (after ≡ None) × (posts ≡ []) × (e ≡ None)
 TargetTurns set e state before after posts (Came_up first_port sequence ∷ []) =
-    (after ≡ kept_by set (come_up first_port sequence (gone_down state (reached set e state)))) × (posts ≡ []) × (e ≡ None)
+    (after ≡ kept_by (come_up first_port sequence (gone_down state (reached set e state)))) × (posts ≡ []) × (e ≡ None)
 TargetTurns set e state before after posts notes = ⊥
 
 -- it came up with this first port on some configuration, which has this sequence number, and keeps nothing of any exchange
@@ -34,7 +34,7 @@ ComesOutOfBoot after notes = ⊥
 
 -- What a turn does to a target of whose disk nothing is known, where the interlock accepts these headers and this would reach
 -- it: it takes what reaches it, or goes down, and posts nothing then; or what a boot makes of it.
-abbrev pub TargetLives : (accepts : HeaderView → Bool) → Option Event → (before after : Option TargetView) → List DatagramView → List Note → Type 0
+abbrev pub TargetLives : (accepts : Accepts) → Option Event → (before after : Option TargetView) → List DatagramView → List Note → Type 0
 TargetLives accepts e before after posts [] = (after ≡ target_next accepts before e) × (posts ≡ target_says accepts before e)
 TargetLives accepts e before after posts (Went_down ∷ []) = (after ≡ None) × (posts ≡ [])
 TargetLives accepts e before after posts notes = ComesOutOfBoot after notes × (posts ≡ []) × (e ≡ None)

@@ -1,20 +1,17 @@
 -- What a happening does to both ends (docs/EXCHANGE.md, "Runs").
-use Rattle.std.specs.Prelude.{◌≡◌, ◌⊎◌, ℕ, List, [], ◌∷◌, ◌++◌, Bool, false, true, is_some, option_map, Option, Some, None, ⊤}
-use Rattle.std.specs.List.{AllByRecursion}
+use Rattle.std.specs.Prelude.{◌≡◌, ◌⊎◌, List, [], ◌∷◌, ◌++◌, Bool, false, option_map, Option, Some, None, ⊤}
 use Rattle.accept_rules.specs.Interlocks.{Follows}
+use Rattle.accept_rules.specs.Permissions.{Accepts}
 use Rattle.bank_store.specs.DiskWrites.{IsRunning}
 use Rattle.disk_layout.specs.DiskReads.{IsOutOfMemory}
 use Rattle.disk_model.specs.State.{DiskState}
-use Rattle.exchange_trace.specs.Happenings.{DatagramView, HappeningView, Booted}
+use Rattle.exchange_trace.specs.Happenings.{DatagramView}
 use Rattle.exchange_trace.specs.Logs.{Event}
 use Rattle.exchange_trace.specs.Steps.{Note, Boot_refused, Came_up, Went_down, with_note}
 use Rattle.exchange_trace.specs.Steps.{Step}
 use Rattle.load_header.specs.declared.header.LoadHeader.{LoadHeader}
-use Rattle.load_header.specs.Header.{HeaderView}
 use Rattle.loader_machine.specs.Machine.{LoaderState, Takes}
 use Rattle.session_rules.specs.Target.{TargetView}
-use Rattle.replay_rules.specs.BothEnds.{Setting, TargetState as TargetStates, come_up, gone_down, reached}
-use Rattle.replay_rules.specs.Ties.{kept_by, target_next, target_says}
 use Rattle.target_machine.specs.Decisions as takes
 use Rattle.target_machine.specs.Decisions.{TargetState}
 use Rattle.replay_turns.specs.declared.powering.PowerNote.{PowerNote}
@@ -32,12 +29,12 @@ abbrev pub target_kept : {R : Type 0} → Option (TargetState R) → Option Targ
 target_kept target = option_map (λ t. t.view) target
 
 -- it takes what reaches it, if anything does, where the interlock accepts these headers
-abbrev pub TargetTakes : {R : Type 0} → (accepts : HeaderView → Bool) → Option Event → (before after : TargetState R) → List DatagramView → Type 0
+abbrev pub TargetTakes : {R : Type 0} → Accepts → Option Event → (before after : TargetState R) → List DatagramView → Type 0
 TargetTakes accepts None before after sent = (after ≡ before) × (sent ≡ [])
 TargetTakes accepts (Some e) before after sent = takes.Takes accepts e before after sent
 
 -- the rule of a target that is up answers as this function does
-abbrev pub RuleFollows : {R : Type 0} → (may_say : R → LoadHeader → Bool → Type 0) → (accepts : HeaderView → Bool) → Option (TargetState R) → Type 0
+abbrev pub RuleFollows : {R : Type 0} → (may_say : R → LoadHeader → Bool → Type 0) → (accepts : Accepts) → Option (TargetState R) → Type 0
 RuleFollows may_say accepts None = ⊤
 RuleFollows may_say accepts (Some t) = Follows may_say t.rule accepts
 

@@ -1,5 +1,5 @@
 //! Both ends, and what has happened between them.
-ghost use Rattle.std.specs.Prelude.{◌≡◌, ◌⊎◌, ◌++◌, ◌∷◌, [], Bool, IfOk, OnOk};
+ghost use Rattle.std.specs.Prelude.{◌≡◌, ◌⊎◌, ◌++◌, ◌∷◌, [], IfOk, OnOk};
 ghost use Rattle.std.specs.List.{AllByRecursion};
 ghost use Rattle.accept_rules.specs.Interlocks.{Follows};
 ghost use Rattle.exchange_trace.specs.declared.trace.Side.TheVariants as sides;
@@ -7,7 +7,7 @@ ghost use Rattle.exchange_trace.specs.Happenings.{Booted, datagram_view, happeni
 ghost use Rattle.exchange_trace.specs.Logs.{event_for};
 ghost use Rattle.exchange_trace.specs.Posts.{posted_in};
 ghost use Rattle.field_grammar.specs.Grammar.{IsBytes};
-ghost use Rattle.load_header.specs.Header.{HeaderView};
+ghost use Rattle.accept_rules.specs.Permissions.{Accepts};
 ghost use Rattle.replay_rules.specs.BothEnds.{Setting, TargetState};
 ghost use Rattle.replay_rules.specs.Changes.{CarriesBytes, InjectsBytes};
 ghost use Rattle.replay_turns.specs.Ends.{HasStepped, StepsAsSaid};
@@ -56,7 +56,7 @@ impl<'m, R: Rule> Ends<'m, R> {
             StepsAsSaid R.may_say set state (happening_view happening) (posts_view posts)
             self.old.recording self.new.recording self.old.loader self.new.loader
             self.old.target self.new.target (K.state disk.old) (K.state disk.new)) }
-        ensures rule { (accepts : HeaderView → Bool)
+        ensures rule { (accepts : Accepts)
             → Follows R.may_say self.old.interlock.now accepts
             → RuleFollows R.may_say accepts self.old.target
             → OnOk result (RuleFollows R.may_say accepts self.new.target) }

@@ -1,12 +1,12 @@
 //! What becomes of the target's power.
-ghost use Rattle.std.specs.Prelude.{◌≡◌, ℕ, [], Bool, None, Option, Some, is_some};
+ghost use Rattle.std.specs.Prelude.{◌≡◌, ℕ, [], None, Option, Some, is_some};
 ghost use Rattle.std.specs.Prelude.{IfOk, Ok, OnErr, OnOk};
 ghost use Rattle.accept_rules.specs.Interlocks.{Follows};
+ghost use Rattle.accept_rules.specs.Permissions.{Accepts};
 ghost use Rattle.bank_store.specs.DiskWrites.{IsRunning};
 ghost use Rattle.disk_layout.specs.Holds.{StandingView};
 ghost use Rattle.disk_model.specs.State.{IsSettled, KeepsPower, OnlyReads};
 ghost use Rattle.exchange_trace.specs.Happenings.{Power_cut};
-ghost use Rattle.load_header.specs.Header.{HeaderView};
 ghost use Rattle.replay_rules.specs.BothEnds.{Is_down, Setting, TargetState, noted};
 ghost use Rattle.replay_rules.specs.Due.{IsBooted, MayBeNoted};
 ghost use Rattle.replay_turns.specs.Targets.{ComesOutOfBoot, TargetLives, TargetTurns};
@@ -46,11 +46,11 @@ pub(crate) fn cut_power<K: Power, R: Rule>(
     requires { RunsWhileUp slot.old (K.state disk.old) }
     ensures turns { (set : Setting) (state : TargetState) → TargetTurns set None state
         (target_kept slot.old) (target_kept slot.new) [] (notes_of result) }
-    ensures lives { (accepts : HeaderView → Bool) → TargetLives accepts None
+    ensures lives { (accepts : Accepts) → TargetLives accepts None
         (target_kept slot.old) (target_kept slot.new) [] (notes_of result) }
     ensures noted { (first_port : ℕ) → MayBeNoted (is_some slot.old) first_port
         (Power_cut calls pick) (notes_of result) }
-    ensures rule { (accepts : HeaderView → Bool) → RuleFollows R.may_say accepts slot.old
+    ensures rule { (accepts : Accepts) → RuleFollows R.may_say accepts slot.old
         → RuleFollows R.may_say accepts slot.new }
     ensures running { RunsWhileUp slot.new (K.state disk.new) }
     ensures stops { RoseBy (stops_in (Power_cut calls pick) (notes_of result))
@@ -83,7 +83,7 @@ pub(crate) fn boot_again<'i, K: Power, R: Rule>(
     ensures noted { IfOk result (λ note. IsBooted first_port (notes_of (Some note))) }
     ensures boots { IfOk result (λ note. ComesOutOfBoot (target_kept slot.new)
         (notes_of (Some note))) }
-    ensures rule { (accepts : HeaderView → Bool) → Follows R.may_say interlock.now accepts
+    ensures rule { (accepts : Accepts) → Follows R.may_say interlock.now accepts
         → OnOk result (RuleFollows R.may_say accepts slot.new) }
     ensures running { OnOk result (RunsWhileUp slot.new (K.state disk.new)) }
     ensures stops { IfOk result (λ note. RoseBy (stops_noted (notes_of (Some note)))
@@ -117,7 +117,7 @@ fn come_up<'i, K: Power, R: Rule>(
     ensures noted { IfOk result (λ note. IsBooted first_port (notes_of (Some note))) }
     ensures boots { IfOk result (λ note. ComesOutOfBoot (target_kept slot.new)
         (notes_of (Some note))) }
-    ensures rule { (accepts : HeaderView → Bool) → Follows R.may_say interlock.now accepts
+    ensures rule { (accepts : Accepts) → Follows R.may_say interlock.now accepts
         → OnOk result (RuleFollows R.may_say accepts slot.new) }
     ensures running { OnOk result (RunsWhileUp slot.new (K.state disk.new)) }
     ensures stops { IfOk result (λ note. RoseBy (stops_noted (notes_of (Some note)))

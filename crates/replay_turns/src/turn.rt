@@ -1,12 +1,12 @@
 //! What a happening does to the target.
-ghost use Rattle.std.specs.Prelude.{◌≡◌, ◌⊎◌, [], ℕ, Bool, is_some, IfOk, None, OnErr, OnOk};
+ghost use Rattle.std.specs.Prelude.{◌≡◌, ◌⊎◌, [], ℕ, is_some, IfOk, None, OnErr, OnOk};
 ghost use Rattle.accept_rules.specs.Interlocks.{Follows};
+ghost use Rattle.accept_rules.specs.Permissions.{Accepts};
 ghost use Rattle.bank_store.specs.DiskWrites.{IsRunning};
 ghost use Rattle.exchange_trace.specs.declared.trace.Side.TheVariants as sides;
 ghost use Rattle.exchange_trace.specs.Happenings.{Booted, happening_view};
 ghost use Rattle.exchange_trace.specs.Logs.{Gets, event_for};
 ghost use Rattle.exchange_trace.specs.Posts.{first_port_after, posted_in};
-ghost use Rattle.load_header.specs.Header.{HeaderView};
 ghost use Rattle.load_intake.specs.Stores.{Writes};
 ghost use Rattle.replay_rules.specs.BothEnds.{Setting, TargetState};
 ghost use Rattle.replay_rules.specs.Due.{LeavesPower, MayBeNoted};
@@ -57,7 +57,7 @@ pub(crate) fn target_turn<'i, K: Power, R: Rule>(
         (event_for sides.Target (posted_in recording.now) (happening_view happening.now)) state
         (target_kept slot.old) (target_kept slot.new) (posts_view reply.posts)
         (notes_of reply.note)) }
-    ensures lives { (accepts : HeaderView → Bool) → RuleFollows R.may_say accepts slot.old
+    ensures lives { (accepts : Accepts) → RuleFollows R.may_say accepts slot.old
         → IfOk result (λ reply. TargetLives accepts
         (event_for sides.Target (posted_in recording.now) (happening_view happening.now))
         (target_kept slot.old) (target_kept slot.new) (posts_view reply.posts)
@@ -66,7 +66,7 @@ pub(crate) fn target_turn<'i, K: Power, R: Rule>(
         → posts_view reply.posts ≡ []) }
     ensures noted { IfOk result (λ reply. MayBeNoted (is_some slot.old)
         (first_port_after recording.now) (happening_view happening.now) (notes_of reply.note)) }
-    ensures rule { (accepts : HeaderView → Bool) → Follows R.may_say interlock.now accepts
+    ensures rule { (accepts : Accepts) → Follows R.may_say interlock.now accepts
         → RuleFollows R.may_say accepts slot.old
         → OnOk result (RuleFollows R.may_say accepts slot.new) }
     ensures running { OnOk result (RunsWhileUp slot.new (K.state disk.new)) }
@@ -123,7 +123,7 @@ fn reach_target<K: Disk, R: Rule>(
         (event_for sides.Target (posted_in recording.now) (happening_view happening.now)) state
         (target_kept slot.old) (target_kept slot.new) (posts_view reply.posts)
         (notes_of reply.note)) }
-    ensures lives { (accepts : HeaderView → Bool) → RuleFollows R.may_say accepts slot.old
+    ensures lives { (accepts : Accepts) → RuleFollows R.may_say accepts slot.old
         → IfOk result (λ reply. TargetLives accepts
         (event_for sides.Target (posted_in recording.now) (happening_view happening.now))
         (target_kept slot.old) (target_kept slot.new) (posts_view reply.posts)
@@ -132,7 +132,7 @@ fn reach_target<K: Disk, R: Rule>(
         → posts_view reply.posts ≡ []) }
     ensures noted { (first_port : ℕ) → IfOk result (λ reply. MayBeNoted (is_some slot.old)
         first_port (happening_view happening.now) (notes_of reply.note)) }
-    ensures rule { (accepts : HeaderView → Bool) → RuleFollows R.may_say accepts slot.old
+    ensures rule { (accepts : Accepts) → RuleFollows R.may_say accepts slot.old
         → OnOk result (RuleFollows R.may_say accepts slot.new) }
     ensures running { OnOk result (RunsWhileUp slot.new (K.state disk.new)) }
     ensures stops { IfOk result (λ reply. RoseBy
@@ -181,13 +181,13 @@ fn target_takes<K: Disk, R: Rule>(
     happening: &Happening,
 ) -> Result<Posts, Down>
     requires { IsRunning (K.state disk.old) }
-    ensures takes { (accepts : HeaderView → Bool) → Follows R.may_say target.old.rule accepts
+    ensures takes { (accepts : Accepts) → Follows R.may_say target.old.rule accepts
         → IfOk result (λ posts. TargetTakes accepts
         (event_for sides.Target (posted_in recording.now) (happening_view happening.now))
         target.old target.new (posts_view posts)) }
     ensures silent { IfOk result (λ posts. ¬ TargetSpeaks (happening_view happening.now)
         → posts_view posts ≡ []) }
-    ensures keeps { (accepts : HeaderView → Bool) → Follows R.may_say target.old.rule accepts
+    ensures keeps { (accepts : Accepts) → Follows R.may_say target.old.rule accepts
         → (c : TargetContents) → HasContents target.old (K.state disk.old) c
         → KeepsDisk (K.state disk.old) target.new.store (K.state disk.new) c
         (contents_then accepts target.old.view (event_for sides.Target (posted_in recording.now)
@@ -220,11 +220,11 @@ fn target_gets<K: Disk, R: Rule>(
     datagram: &Datagram,
 ) -> Result<Posts, Down>
     requires { IsRunning (K.state disk.old) }
-    ensures takes { (accepts : HeaderView → Bool) → Follows R.may_say target.old.rule accepts
+    ensures takes { (accepts : Accepts) → Follows R.may_say target.old.rule accepts
         → IfOk result (λ posts. Takes accepts
         (Gets datagram.now.from datagram.now.to datagram.now.bytes.items)
         target.old target.new (posts_view posts)) }
-    ensures keeps { (accepts : HeaderView → Bool) → Follows R.may_say target.old.rule accepts
+    ensures keeps { (accepts : Accepts) → Follows R.may_say target.old.rule accepts
         → (c : TargetContents) → HasContents target.old (K.state disk.old) c
         → KeepsDisk (K.state disk.old) target.new.store (K.state disk.new) c
         (contents_after accepts target.old.view

@@ -23,7 +23,7 @@ use Rattle.exchange_trace.specs.declared.trace.Side.TheVariants as sides
 use Rattle.exchange_trace.specs.Logs.{Down, Event, Life, Up, event_for, target_life}
 use Rattle.exchange_trace.specs.Posts.{posted_in}
 use Rattle.exchange_trace.specs.Steps.{Boot_refused, Came_up, Note, Step, Went_down}
-use Rattle.accept_rules.specs.Permissions.{Permits}
+use Rattle.accept_rules.specs.Permissions.{AcceptsPermitted}
 use Rattle.session_rules.specs.ArrivedRequestLaws.{target_step_requests}
 use Rattle.session_rules.specs.BufferLaws.{SumsJoin}
 use Rattle.session_rules.specs.NewConfigs.{IsGoodLoad, IsWanted}
@@ -53,9 +53,9 @@ Accepted set h = set.accepts h ≡ true
 abbrev EntryFits : LoadView → Type 0
 EntryFits load = InstalledFits (listed_part (entry_of load))
 
-module _ (Accepts : HeaderView → Type 0) (id : Identity) where
+module _ (Accepted : HeaderView → Type 0) (id : Identity) where
   -- a load that was asked for, and is good
-  wanted_fits : (w : Wanted) (load : LoadView) → WantedFits w → IsWanted w load → IsGoodLoad Accepts id load → EntryFits load
+  wanted_fits : (w : Wanted) (load : LoadView) → WantedFits w → IsWanted w load → IsGoodLoad Accepted id load → EntryFits load
   wanted_fits w load fits is good =
       let first : first_name (map file_entry_of load.files) ≡ w.header = ap (λ (files : List FileView). first_name (map file_entry_of files)) good.whole ∙ is.header in
       record {
@@ -64,13 +64,13 @@ module _ (Accepts : HeaderView → Type 0) (id : Identity) where
         designation = subst IsText (sym first) (name_is_text w.header fits.header);
       }
 
-  all_fit : (request : List Wanted) (loads : List LoadView) → AllByRecursion (λ (w : Wanted). WantedFits w) request → AllZip IsWanted request loads → AllByRecursion (IsGoodLoad Accepts id) loads → AllByRecursion EntryFits loads
+  all_fit : (request : List Wanted) (loads : List LoadView) → AllByRecursion (λ (w : Wanted). WantedFits w) request → AllZip IsWanted request loads → AllByRecursion (IsGoodLoad Accepted id) loads → AllByRecursion EntryFits loads
   all_fit [] [] fits each good = tt
   all_fit [] (load ∷ loads) fits each good = absurd each
   all_fit (w ∷ request) [] fits each good = absurd each
   all_fit (w ∷ request) (load ∷ loads) (fit, fits) (is, each) (one, good) = (wanted_fits w load fit is one, all_fit request loads fits each good)
 
-  new_fits : (before : StandingView) (request : List Wanted) (loads : List LoadView) → LurFits (record { loads = request }) → AllZip IsWanted request loads → AllByRecursion (IsGoodLoad Accepts id) loads
+  new_fits : (before : StandingView) (request : List Wanted) (loads : List LoadView) → LurFits (record { loads = request }) → AllZip IsWanted request loads → AllByRecursion (IsGoodLoad Accepted id) loads
       → HardwareFits (listed before) → HardwareFits (listed (standing_after before loads))
   new_fits before request loads asked each good was = record {
     name = was.name;
@@ -90,11 +90,11 @@ ListsIf None = Unit {0}
 ListsIf (Some s) = Lists s
 
 -- What may be active can be listed, and what a live session was asked for arrived as a request.
-abbrev StateLists : Setting → TargetState → Type 0
-StateLists set (Is_up r) = Lists r.active × SessionHasRequest set.accepts r
-StateLists set (Is_down active interrupted) = Lists active × ListsIf interrupted
+abbrev StateLists : TargetState → Type 0
+StateLists (Is_up r) = Lists r.active × SessionHasRequest r
+StateLists (Is_down active interrupted) = Lists active × ListsIf interrupted
 
-active_lists : (set : Setting) (state : TargetState) → StateLists set state → Lists (active_in state)
+active_lists : (set : Setting) (state : TargetState) → StateLists state → Lists (active_in state)
 active_lists set (Is_up r) h = h.0
 active_lists set (Is_down active interrupted) h = h.0
 
@@ -116,16 +116,16 @@ settled_lists sequence active (Some new) h then = by (sequence == new.sequence)
     by false = h
 
 module _ (set : Setting) where
-  gone_lists : (before after : TargetState) → StateLists set before → StateLists set after → StateLists set (gone_down before after)
+  gone_lists : (before after : TargetState) → StateLists before → StateLists after → StateLists (gone_down before after)
   gone_lists (Is_up r) (Is_up s) h then = (h.0, changed_lists r.active s.active then.0)
   gone_lists (Is_up r) (Is_down active interrupted) h then = then
   gone_lists (Is_down active interrupted) after h then = h
 
-  come_lists : (first_port sequence : ℕ) (state : TargetState) → StateLists set state → StateLists set (come_up first_port sequence state)
+  come_lists : (first_port sequence : ℕ) (state : TargetState) → StateLists state → StateLists (come_up first_port sequence state)
   come_lists first_port sequence (Is_up r) h = h
   come_lists first_port sequence (Is_down active interrupted) h = (settled_lists sequence active interrupted h.0 h.1, tt)
 
-  noted_lists : (notes : List Note) (before after : TargetState) → StateLists set before → StateLists set after → StateLists set (noted notes before after)
+  noted_lists : (notes : List Note) (before after : TargetState) → StateLists before → StateLists after → StateLists (noted notes before after)
   noted_lists [] before after h then = then
   noted_lists (Went_down ∷ notes) before after h then = let down = gone_lists before after h then in noted_lists notes (gone_down before after) (gone_down before after) down down
   noted_lists (Came_up first_port sequence ∷ notes) before after h then =
@@ -135,14 +135,14 @@ module _ (set : Setting) where
 
 -- ---- a step more
 
-module _ (joins : SumsJoin) (spells : HeadersAreSpelled) (payloads : PayloadsAreBytes) (requests : RequestsAreSpelled) (set : Setting) (permits : (h : HeaderView) → set.accepts h ≡ true → Permits h) where
+module _ (joins : SumsJoin) (spells : HeadersAreSpelled) (payloads : PayloadsAreBytes) (requests : RequestsAreSpelled) (set : Setting) (permits : AcceptsPermitted set.accepts) where
   changed_active : (before after : TargetReading) → StaysOrIsNew set.accepts before after → InstallsRequest set.accepts before after → Lists before.active → Lists after.active
   changed_active before after (inl same) asked h = subst (λ (s : StandingView). Lists s) (sym same) h
   changed_active before after (inr new) asked h =
       subst (λ (s : StandingView). Lists s) (sym new.next) (new_fits (Accepted set) before.active.identity before.active new.upload.request new.loads (asked new).spells.0 new.new.each new.new.good h)
 
-  reached_lists : (life : Life) (state : TargetState) (e : Option Event) → BringsBytes e → TargetTakes life state → HasLive state → TargetIsSound set life state → TargetStaysOrIsNew set state (reached set e state) → StateLists set state
-      → StateLists set (reached set e state)
+  reached_lists : (life : Life) (state : TargetState) (e : Option Event) → BringsBytes e → TargetTakes life state → HasLive state → TargetIsSound set life state → TargetStaysOrIsNew set state (reached set e state) → StateLists state
+      → StateLists (reached set e state)
   reached_lists (Up first_port log) (Is_up r) None now takes live sound change h = h
   reached_lists (Up first_port log) (Is_up r) (Some e) now (packets, blocks, last) live (fit, sound) change (h, has) =
       let then = target_step_requests requests set.accepts joins payloads log r e (now, fit) packets live sound has in
@@ -152,7 +152,7 @@ module _ (joins : SumsJoin) (spells : HeadersAreSpelled) (payloads : PayloadsAre
   reached_lists Down (Is_down active interrupted) None now takes live sound change h = h
   reached_lists Down (Is_down active interrupted) (Some e) now takes live sound change h = h
 
-  step_lists : (s : Step) (earlier : List Step) → AllCarryBytes (s ∷ earlier) → StateLists set (target_at set earlier) → StateLists set (target_at set (s ∷ earlier))
+  step_lists : (s : Step) (earlier : List Step) → AllCarryBytes (s ∷ earlier) → StateLists (target_at set earlier) → StateLists (target_at set (s ∷ earlier))
   step_lists s earlier ((posts, given), all) h =
       let e = event_for sides.Target (posted_in earlier) s.given in
       let sound = target_sound joins spells payloads set permits earlier all in
@@ -160,7 +160,7 @@ module _ (joins : SumsJoin) (spells : HeadersAreSpelled) (payloads : PayloadsAre
       (reached_lists (target_life earlier) (target_at set earlier) e (event_bytes (posted_in earlier) s.given (posted_bytes earlier all) given) (target_takes set earlier) (target_is_live joins set earlier) sound
       (step_sound joins spells payloads set permits s earlier ((posts, given), all) sound).1 h)
 
-  state_lists : Lists set.start → (steps : List Step) → AllCarryBytes steps → StateLists set (target_at set steps)
+  state_lists : Lists set.start → (steps : List Step) → AllCarryBytes steps → StateLists (target_at set steps)
   state_lists first [] all = (first, tt)
   state_lists first (s ∷ earlier) all = step_lists s earlier all (state_lists first earlier all.1)
 

@@ -51,7 +51,6 @@ identity_of : (image : Image) (id : Identity) → HasIdentity image id → IsIde
 identity_of image id (fields, rest, parts, follows) = identity_is fields (length rest) id follows
 
 pub held_fits : WhatIsHeldFits
-held_fits image s held = record {
-  identity = identity_of image s.identity held.by.outline.has_active.identity;
-  loads = ((manifest_spelling (manifest_of image s.identity held.slot) (entries_of s.loads)).0 held.by.outline.manifest).0;
-}
+held_fits image s held =
+    let (layout, fits, is) = (manifest_spelling (manifest_of image s.identity held.slot) (entries_of s.loads)).0 held.by.outline.manifest in
+    record { identity = identity_of image s.identity held.by.outline.has_active.identity; loads = record { layout = layout; fits = fits } }

@@ -8,6 +8,7 @@ use Rattle.field_grammar.specs.Grammar.{IsBytes}
 use Rattle.disk_layout.specs.Contents.{entries_of, entry_of}
 use Rattle.disk_layout.specs.Holds.{StandingView}
 use Rattle.exchange_trace.specs.Steps.{Step}
+use Rattle.accept_rules.specs.Permissions.{AcceptsPermitted}
 use Rattle.session_rules.specs.declared.outcome.Outcome.{Outcome}
 use Rattle.session_rules.specs.declared.outcome.Outcome.TheVariants.{BadFile, Denied, TargetStopped}
 use Rattle.session_rules.specs.declared.outcome.SessionKind.TheVariants.{Info, Upload}
@@ -36,7 +37,7 @@ use Rattle.replay_rules.specs.Outcomes.{OutcomesHaveCauses}
 use Rattle.finish_ends.specs.Scripts.{TracesAreBounded}
 use Rattle.session_completion.specs.FinishedRuns.{FinishCompletes, IsComplete}
 use Rattle.run_promises.specs.Listing.{StandingFits, WhatFitsNamesItsFiles, WhatIsActiveCanBeListed}
-use Rattle.run_promises.specs.Promises.{AcceptsPermitted, CanBeTold, CompletesAtFinish, DenialIsTrue, EndsIn, IsTold, IsToldAs, IsWholeRun, ListIsTrue, RunsKeepPromises, StopIsTrue, TellsTrue, UploadIsInstalled}
+use Rattle.run_promises.specs.Promises.{CanBeTold, CompletesAtFinish, DenialIsTrue, EndsIn, IsTold, IsToldAs, IsWholeRun, ListIsTrue, RunsKeepPromises, StopIsTrue, TellsTrue, UploadIsInstalled}
 use Rattle.run_promises.proofs.Told.{told_ended}
 
 uninjected : (set : Setting) (steps : List Step) → IsWholeRun set steps → NothingInjected steps → IsUninjected set steps
@@ -67,7 +68,7 @@ pub record EndedLaws : Type 0 where
   pub files : FilesAreGood
   pub causes : OutcomesHaveCauses
 
-module _ (ended : EndedLaws) (media : InstallsAreOfMedia) (lists : CompletedListsActive) (names : WhatFitsNamesItsFiles) (active : WhatIsActiveCanBeListed) (stays : CompletedStays) (set : Setting) (steps : List Step) (standing : Option StandingView) (accepts : AcceptsPermitted set) (can : CanBeTold set.media) (fits : StandingFits set.start) (is : IsUninjected set steps) where
+module _ (ended : EndedLaws) (media : InstallsAreOfMedia) (lists : CompletedListsActive) (names : WhatFitsNamesItsFiles) (active : WhatIsActiveCanBeListed) (stays : CompletedStays) (set : Setting) (steps : List Step) (standing : Option StandingView) (accepts : AcceptsPermitted set.accepts) (can : CanBeTold set.media) (fits : StandingFits set.start) (is : IsUninjected set steps) where
   abbrev sessions : List EndedSession
   sessions = all_sessions (loader_view (loader_at set steps))
 
@@ -109,7 +110,7 @@ module _ (ended : EndedLaws) (media : InstallsAreOfMedia) (lists : CompletedList
   begins_small : BeginsSmall set.start
   begins_small =
       let count : length (entries_of set.start.loads) ≡ length set.start.loads = length-map set.start.loads entry_of in
-      let few = fits.loads.count in
+      let few = fits.loads.fits.count in
       let bank = fits.identity.bank in
       record { bank = omega (arith, bank.1); few = omega (arith, count, few) }
 
@@ -130,7 +131,7 @@ served_bytes media can loads are = by (files_in loads) are
     by (f ∷ files) (now, rest) = (can.bytes f.name f.bytes now, by files rest)
 
 -- a fault-free run that was left to its last `finish`
-completes_free : FinishCompletes → (set : Setting) (steps : List Step) (standing : Option StandingView) → IsWholeRun set steps → AcceptsPermitted set → CanBeTold set.media
+completes_free : FinishCompletes → (set : Setting) (steps : List Step) (standing : Option StandingView) → IsWholeRun set steps → AcceptsPermitted set.accepts → CanBeTold set.media
     → (named : (kind : FileKind) → IsName (file_name set.start.identity.hw set.start.identity.pos kind)) → (script : List Line) → Follows set script steps → CompletesAtFinish set script steps standing
 completes_free complete set steps standing is accepts can named script follows left up last stands active =
     subst (λ (list : List Step). IsComplete set left.before left.free list last) (sym left.split)

@@ -12,6 +12,7 @@ use Rattle.load_protocol_files.specs.declared.lcl.Part.{Part}
 use Rattle.load_protocol_files.specs.Files.{file_fields}
 use Rattle.load_protocol_files.specs.Lcl.{HardwareFits, HardwareView, InstalledFits, hardware_fields, installed_fields, lcl_fields}
 use Rattle.load_protocol_files.specs.LclLaws.{hardware_size, installed_size, lcl_size}
+use Rattle.disk_layout.specs.declared.manifest.Layout.{Layout}
 use Rattle.disk_layout.specs.declared.manifest.ManifestFile.{ManifestFile}
 use Rattle.disk_layout.specs.Contents.{entries_of}
 use Rattle.disk_layout.specs.Holds.{StandingView, outline_of}
@@ -33,16 +34,16 @@ first_fits : (files : List ManifestFile) → All (λ (f : ManifestFile). FileFit
 first_fits [] fits = no_text
 first_fits (f ∷ files) fits = name_is_text f.name (All-head (λ (x : ManifestFile). FileFits x) f files fits).name
 
-entry_fits : (l : LoadEntry) → LoadFits l → InstalledFits (listed_part l)
-entry_fits l fits = record { number = part_text_is_text l.part fits.part; amendment = no_text; designation = first_fits l.files fits.files }
+entry_fits : (layout : Layout) (l : LoadEntry) → LoadFits layout l → InstalledFits (listed_part l)
+entry_fits layout l fits = record { number = part_text_is_text l.part fits.part; amendment = no_text; designation = first_fits l.files fits.files }
 
 pub standing_fits : (s : StandingView) → StandingFits s → HardwareFits (listed s)
 standing_fits s fits = record {
   name = ident_is_text s.identity.hw fits.identity.hw;
   serial = ident_is_text s.identity.serial fits.identity.serial;
-  count = rw length-map (omega (arith, fits.loads.count));
+  count = rw length-map (omega (arith, fits.loads.fits.count));
   parts = All-map (λ (p : Part). InstalledFits p) listed_part (entries_of s.loads)
-      (All-weaker (λ (l : LoadEntry). LoadFits l) (λ (l : LoadEntry). InstalledFits (listed_part l)) entry_fits (entries_of s.loads) fits.loads.each);
+      (All-weaker (λ (l : LoadEntry). LoadFits fits.loads.layout l) (λ (l : LoadEntry). InstalledFits (listed_part l)) (entry_fits fits.loads.layout) (entries_of s.loads) fits.loads.fits.each);
 }
 
 -- ---- how long a list is

@@ -2,14 +2,13 @@
 -- docs/EXCHANGE.md, "Operations").
 use Rattle.std.specs.Prelude.{◌≡◌, List, true}
 use Rattle.load_base.specs.Name.{IsName}
-use Rattle.load_header.specs.Header.{HeaderView}
 use Rattle.disk_model.specs.Image.{Image}
 use Rattle.disk_layout.specs.Contents.{entries_of}
 use Rattle.disk_layout.specs.Holds.{HoldsConfig, StandingView}
 use Rattle.disk_layout.specs.Identity.{IsIdentity}
-use Rattle.disk_layout.specs.Manifest.{ManifestFits}
+use Rattle.disk_layout.specs.Manifest.{FitsALayout}
 use Rattle.exchange_trace.specs.Steps.{Step}
-use Rattle.accept_rules.specs.Permissions.{Permits}
+use Rattle.accept_rules.specs.Permissions.{AcceptsPermitted}
 use Rattle.session_rules.specs.declared.outcome.FileKind.{FileKind}
 use Rattle.session_rules.specs.FileNames.{file_name}
 use Rattle.replay_rules.specs.BothEnds.{Setting}
@@ -21,7 +20,7 @@ use Rattle.replay_rules.specs.ListTraces.{AllCanBeListed, CanBeListed}
 -- its identity has three Idents and the size of a bank, and its loads can be said by a manifest
 pub record StandingFits (s : StandingView) : Type 0 where
   pub identity : IsIdentity s.identity
-  pub loads : ManifestFits (entries_of s.loads)
+  pub loads : FitsALayout (entries_of s.loads)
 
 -- so it is of whatever an image holds
 abbrev pub WhatIsHeldFits : Type 0
@@ -40,5 +39,5 @@ WhatFitsCanBeListed = (s : StandingView) → StandingFits s → CanBeListed s
 -- Whatever is delivered, lost, repeated, reordered, delayed or injected in a run, and wherever power fails, what is active at
 -- each moment can be listed, where it began with what a disk can hold.
 abbrev pub WhatIsActiveCanBeListed : Type 0
-WhatIsActiveCanBeListed = (set : Setting) (steps : List Step) → ((h : HeaderView) → set.accepts h ≡ true → Permits h) → AllCarryBytes steps → StandingFits set.start
+WhatIsActiveCanBeListed = (set : Setting) (steps : List Step) → AcceptsPermitted set.accepts → AllCarryBytes steps → StandingFits set.start
     → AllCanBeListed set steps

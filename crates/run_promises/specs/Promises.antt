@@ -1,14 +1,13 @@
 -- What is promised of a run that came to its end (docs/PROMISES.md, "The exchange is defined").
-use Rattle.std.specs.Prelude.{◌≡◌, ℕ, ◌+◌, ◌≤◌, List, ◌∷◌, ◌++◌, length, reverse, true, Option, Some}
+use Rattle.std.specs.Prelude.{◌≡◌, ℕ, ◌+◌, ◌≤◌, List, ◌∷◌, ◌++◌, length, reverse, Option, Some}
 use Rattle.std.specs.List.{AllByRecursion}
 use Rattle.field_grammar.specs.Grammar.{IsBytes}
-use Rattle.load_header.specs.Header.{HeaderView}
 use Rattle.disk_model.specs.Image.{Image}
 use Rattle.disk_layout.specs.Holds.{HoldsConfig, StandingView}
 use Rattle.exchange_trace.specs.Lines.{Line}
 use Rattle.exchange_trace.specs.Posts.{AllHonest}
 use Rattle.exchange_trace.specs.Steps.{Step}
-use Rattle.accept_rules.specs.Permissions.{Permits}
+use Rattle.accept_rules.specs.Permissions.{AcceptsPermitted}
 use Rattle.session_rules.specs.declared.outcome.FileKind.{FileKind}
 use Rattle.session_rules.specs.declared.outcome.Outcome.{Outcome}
 use Rattle.session_rules.specs.declared.outcome.Outcome.TheVariants.{BadFile, Completed, Denied, TargetStopped}
@@ -37,10 +36,6 @@ use Rattle.session_completion.specs.FinishedRuns.{FinishIsLeft, IsComplete}
 use Rattle.run_promises.specs.Listing.{StandingFits}
 
 -- ---- premises
-
--- the interlock accepts only what it may
-abbrev pub AcceptsPermitted : Setting → Type 0
-AcceptsPermitted set = (h : HeaderView) → set.accepts h ≡ true → Permits h
 
 -- The entries of the media set have names and part numbers, and its files are bytes, no more than a request can tell the length
 -- of.
@@ -156,12 +151,12 @@ CompletesAtFinish set script steps standing =
 -- and the run began with what a disk can hold, what is told is true; a run of a script has no more steps than its lines allow,
 -- and a fault-free one that was left to its last `finish` is complete.
 pub record KeepsPromises (set : Setting) (steps : List Step) (sessions : List EndedSession) (standing : Option StandingView) : Type 0 where
-  pub good : AcceptsPermitted set → ChangesByGoodLoads set steps
-  pub reports : AcceptsPermitted set → AllReportsAreTrue set steps
+  pub good : AcceptsPermitted set.accepts → ChangesByGoodLoads set steps
+  pub reports : AcceptsPermitted set.accepts → AllReportsAreTrue set steps
   pub causes : AllEndByCause set steps
-  pub tells : AcceptsPermitted set → CanBeTold set.media → StandingFits set.start → NothingInjected steps → TellsTrue set steps sessions standing
+  pub tells : AcceptsPermitted set.accepts → CanBeTold set.media → StandingFits set.start → NothingInjected steps → TellsTrue set steps sessions standing
   pub bounded : (script : List Line) → Follows set script steps → length steps ≤ most_of_lines 0 script + 1
-  pub completes : AcceptsPermitted set → CanBeTold set.media → StandingFits set.start → (script : List Line) → Follows set script steps → CompletesAtFinish set script steps standing
+  pub completes : AcceptsPermitted set.accepts → CanBeTold set.media → StandingFits set.start → (script : List Line) → Follows set script steps → CompletesAtFinish set script steps standing
 
 abbrev pub RunsKeepPromises : Type 0
 RunsKeepPromises = (set : Setting) (steps : List Step) (standing : Option StandingView) → IsWholeRun set steps

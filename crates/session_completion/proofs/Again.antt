@@ -1,10 +1,9 @@
 -- What is next comes again by a tick.
-use Rattle.std.proofs.Common.{◌≡◌, ℕ, ◌+◌, ◌<◌, ◌≤◌, Bool, true, false, List, [], ◌∷◌, ◌++◌, length, Option, Some, None, refl, sym, ap, subst, ◌∙◌, arith, append-nil, ◌⊎◌, inl, inr}
+use Rattle.std.proofs.Common.{◌≡◌, ℕ, ◌+◌, ◌<◌, ◌≤◌, true, false, List, [], ◌∷◌, ◌++◌, length, Option, Some, None, refl, sym, ap, subst, ◌∙◌, arith, append-nil, ◌⊎◌, inl, inr}
 use Rattle.std.specs.Prelude.{is_some, nat_le, ◌==◌}
 use Rattle.std.proofs.lemmas.Bool.Decides.{nat_tests}
 use Rattle.disk_layout.specs.Holds.{Outline}
 use Rattle.load_base.specs.Config.{LoadView}
-use Rattle.load_header.specs.Header.{HeaderView}
 use Rattle.load_protocol_files.specs.declared.lur.Wanted.{Wanted}
 use Rattle.field_grammar.specs.Grammar.{IsBytes}
 use Rattle.exchange_trace.specs.declared.trace.Side.{Side}
@@ -20,6 +19,7 @@ use Rattle.transfer_end.specs.Moves.{Move, Recalls, all_posts, datagram, kept_po
 use Rattle.transfer_end.specs.Packets.{belongs, heard_answer, packet_in, transfer_moves}
 use Rattle.transfer_end.specs.Transfers.{LinkEnd, Receives, Sends, end_packet}
 use Rattle.transfer_end.specs.Views.{EndView, TransferView}
+use Rattle.accept_rules.specs.Permissions.{Accepts}
 use Rattle.session_rules.specs.BufferLaws.{SumsJoin}
 use Rattle.session_rules.specs.Loader as loader
 use Rattle.session_rules.specs.Loader.{LoaderDecision, LoaderSession, LoaderView, loader_posts}
@@ -94,17 +94,17 @@ loader_acks media v from to bytes p d is high mine kept posts =
     ap (λ (x : LoaderDecision). all_posts sides.Loader v.end x.moves) (ap (λ (o : Option PacketView). loader.got_decision media v from to o) is ∙ loader_recalls media v v.live from to p high mine kept)
     ∙ append-nil (kept_post sides.Loader v.end.kept from p) ∙ posts
 
-target_recalls : (accepts : HeaderView → Bool) (v : TargetView) (live : Option TargetSession) (from to : ℕ) (p : PacketView) → belongs v.end.live from to ≡ false → belongs v.end.kept from to ≡ true
+target_recalls : (accepts : Accepts) (v : TargetView) (live : Option TargetSession) (from to : ℕ) (p : PacketView) → belongs v.end.live from to ≡ false → belongs v.end.kept from to ≡ true
     → target.transfer_decision accepts v live from to p ≡ target.doing (Recalls from p ∷ [])
 target_recalls accepts v None from to p mine kept = ap (λ (moves : List Move). target.doing moves) (recalls v.end from to p mine kept)
 target_recalls accepts v (Some s) from to p mine kept =
     ap (λ (a : Answer). target.answer_decision accepts v s (transfer_moves v.end from to p) a) (not_heard v.end from to p mine) ∙ ap (λ (moves : List Move). target.doing moves) (recalls v.end from to p mine kept)
 
-target_got : (accepts : HeaderView → Bool) (v : TargetView) (from to : ℕ) (p : PacketView) → (to == 59) ≡ false → belongs v.end.live from to ≡ false → belongs v.end.kept from to ≡ true
+target_got : (accepts : Accepts) (v : TargetView) (from to : ℕ) (p : PacketView) → (to == 59) ≡ false → belongs v.end.live from to ≡ false → belongs v.end.kept from to ≡ true
     → target.got_decision accepts v from to (Some p) ≡ target.doing (Recalls from p ∷ [])
 target_got accepts v from to p high mine kept = rw high (target_recalls accepts v v.live from to p mine kept)
 
-target_acks : (accepts : HeaderView → Bool) (v : TargetView) (from to : ℕ) (bytes : List ℕ) (p : PacketView) (d : DatagramView) → packet_in bytes ≡ Some p → (to == 59) ≡ false → belongs v.end.live from to ≡ false → belongs v.end.kept from to ≡ true
+target_acks : (accepts : Accepts) (v : TargetView) (from to : ℕ) (bytes : List ℕ) (p : PacketView) (d : DatagramView) → packet_in bytes ≡ Some p → (to == 59) ≡ false → belongs v.end.live from to ≡ false → belongs v.end.kept from to ≡ true
     → kept_post sides.Target v.end.kept from p ≡ d ∷ [] → target_posts accepts v (Gets from to bytes) ≡ d ∷ []
 target_acks accepts v from to bytes p d is high mine kept posts =
     ap (λ (x : TargetDecision). all_posts sides.Target v.end x.moves) (ap (λ (o : Option PacketView). target.got_decision accepts v from to o) is ∙ target_got accepts v from to p high mine kept)

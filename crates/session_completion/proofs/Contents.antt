@@ -1,5 +1,5 @@
 -- Loads of the same names and lengths, all of the media set, are the same.
-use Rattle.std.proofs.Common.{◌≡◌, ℕ, List, [], ◌∷◌, ◌++◌, map, Some, refl, sym, ap, ◌∙◌}
+use Rattle.std.proofs.Common.{◌≡◌, ℕ, List, [], ◌∷◌, ◌++◌, map, Option, Some, refl, sym, ap, ◌∙◌}
 use Rattle.std.specs.List.{AllByRecursion}
 use Rattle.load_base.specs.Config.{FileView, LoadView}
 use Rattle.load_header.specs.Header.{HeaderView}
@@ -47,8 +47,8 @@ all_right : {A : Type 0} (P : A → Type 0) (xs ys : List A) → AllByRecursion 
 all_right P [] ys all = all
 all_right P (x ∷ xs) ys all = all_right P xs ys all.1
 
-abbrev load_with : List ℕ → List ℕ → List FileView → LoadView
-load_with part header files = record { part = part; header_name = header; files = files }
+abbrev load_with : List ℕ → Option ℕ → List ℕ → List FileView → LoadView
+load_with part type_id header files = record { part = part; type_id = type_id; header_name = header; files = files }
 
 -- the header of a good load is its first file
 first_names : (f g : FileView) (fs gs xs ys : List FileView) → xs ≡ f ∷ fs → ys ≡ g ∷ gs → xs ≡ ys → f.name ≡ g.name
@@ -60,9 +60,11 @@ first_names f g fs gs xs ys one two same =
 load_same : (media : Media) (A B : HeaderView → Type 0) (id : Identity) (x y : LoadView) → entry_of x ≡ entry_of y → AllByRecursion (IsOfMedia media) x.files → AllByRecursion (IsOfMedia media) y.files → IsGoodLoad A id x → IsGoodLoad B id y → x ≡ y
 load_same media A B id x y e one two good fine =
     let part : x.part ≡ y.part = ap (λ (entry : LoadEntry). entry.part) e in
+    let type_id : x.type_id ≡ y.type_id = ap (λ (entry : LoadEntry). entry.type_id) e in
     let files : x.files ≡ y.files = files_same media x.files y.files (ap (λ (entry : LoadEntry). entry.files) e) one two in
     let header : x.header_name ≡ y.header_name = first_names (file_with x.header_name good.bytes) (file_with y.header_name fine.bytes) good.files fine.files x.files y.files good.whole fine.whole files in
-    ap (λ (p : List ℕ). load_with p x.header_name x.files) part ∙ ap (λ (h : List ℕ). load_with y.part h x.files) header ∙ ap (λ (fs : List FileView). load_with y.part y.header_name fs) files
+    ap (λ (p : List ℕ). load_with p x.type_id x.header_name x.files) part ∙ ap (λ (t : Option ℕ). load_with y.part t x.header_name x.files) type_id
+    ∙ ap (λ (h : List ℕ). load_with y.part y.type_id h x.files) header ∙ ap (λ (fs : List FileView). load_with y.part y.type_id y.header_name fs) files
 
 pub loads_same : (media : Media) (A B : HeaderView → Type 0) (id : Identity) (xs ys : List LoadView) → entries_of xs ≡ entries_of ys → AreOfMedia media xs → AreOfMedia media ys
     → AllByRecursion (IsGoodLoad A id) xs → AllByRecursion (IsGoodLoad B id) ys → xs ≡ ys

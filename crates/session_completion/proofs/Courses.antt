@@ -1,5 +1,5 @@
 -- Good loads lead from row to row.
-use Rattle.std.proofs.Common.{◌≡◌, ℕ, suc, ◌+◌, ◌<◌, ◌≤◌, Bool, true, false, cond, List, [], ◌∷◌, ◌++◌, length, map, take, Option, Some, None, Ok, refl, sym, ap, subst, ◌∙◌, arith, append-nil, append_assoc, length-append}
+use Rattle.std.proofs.Common.{◌≡◌, ℕ, suc, ◌+◌, ◌<◌, ◌≤◌, Bool, true, false, cond, List, [], ◌∷◌, ◌++◌, length, map, take, Option, Some, None, Ok, refl, sym, ap, ap₂, subst, ◌∙◌, arith, append-nil, append_assoc, length-append}
 use Rattle.std.specs.Prelude.{slice_get, nat_lt, nat_le, unwrap_or, ◌↔◌}
 use Rattle.std.specs.List.{AllByRecursion, AllZip, flat_map, concat, sum_by}
 use Rattle.std.proofs.lemmas.List.{take_all}
@@ -9,7 +9,10 @@ use Rattle.std.proofs.lemmas.Bool.Decides.{nat_tests}
 use Rattle.crc_fields.specs.CheckSums.{crc16_of, crc32_after, crc32_of}
 use Rattle.disk_layout.specs.Contents.{bytes_of, entries_of, entry_of, file_entry_of}
 use Rattle.disk_layout.specs.declared.manifest.ManifestFile.{ManifestFile}
-use Rattle.disk_layout.specs.Manifest.{LoadEntry, load_entry_fields, manifest_fields, total_length}
+use Rattle.disk_layout.specs.declared.manifest.Layout.TheVariants as layouts
+use Rattle.disk_layout.specs.Manifest.{LoadEntry, head_fields, load_entry_fields, manifest_fields, total_length}
+use Rattle.disk_layout.specs.Holds.{outline_of}
+use Rattle.disk_layout.specs.Offsets.{layout_mark}
 use Rattle.field_grammar.specs.Answers.{answer}
 use Rattle.field_grammar.specs.Grammar.{IsBytes, Spelled}
 use Rattle.load_base.specs.Config.{FileView, LoadView}
@@ -37,7 +40,7 @@ use Rattle.session_rules.specs.Reports.{lur_file}
 use Rattle.field_grammar.specs.ExactLaws.{answer-spelled, spelled_at_start}
 use Rattle.replay_rules.specs.FaultFree.{IsGranted}
 use Rattle.std.proofs.lemmas.List.Folds.{concat-append}
-use Rattle.field_grammar.specs.Fields.{number_bytes, number_fields}
+use Rattle.field_grammar.specs.Fields.{number_bytes}
 use Rattle.field_grammar.specs.NumberLaws.{length_number_bytes}
 
 -- ---- lists
@@ -143,11 +146,11 @@ module _ (joins : SumsJoin) (set : Setting) (wanted : List Wanted) where
   -- ---- a header
 
   abbrev header_row : UploadView → Option Wanted → List ℕ → RowView
-  header_row u found file = view_moved (Reads_file u) (Kept_bytes (buffered file)) (header_move set.accepts set.start.identity u found (Kept_bytes (buffered file)))
+  header_row u found file = view_moved (Reads_file u) (Kept_bytes (buffered file)) (header_move set.accepts (outline_of set.start) u found (Kept_bytes (buffered file)))
 
   accepts_header : (u : UploadView) (w : Wanted) (h : HeaderView) (bytes : List ℕ) → length bytes ≤ 65536 → answer header bytes ≡ Ok h → h.part ≡ w.part → is_for set.start.identity.hw set.start.identity.pos h ≡ true → set.accepts h ≡ true
       → need_of (u.loads ++ planned_load w h (length bytes) ∷ []) ≤ set.start.identity.bank → LastCrc h (next_with u h 0) (crc32_of (covered_header bytes))
-      → judge_header set.accepts set.start.identity u w (buffered bytes) ≡ Accepts_header h (next_with u h 0)
+      → judge_header set.accepts (outline_of set.start) u w (buffered bytes) ≡ Accepts_header h (next_with u h 0)
   unfolding judge_header
   accepts_header u w h bytes small read part suits accepted fit last =
       let all : take buffer_size bytes ≡ bytes = take_all buffer_size bytes small in
@@ -497,8 +500,9 @@ entries_are (e ∷ entries) (f ∷ files) h =
     ap (λ (m : ManifestFile). m ∷ map (λ (entry : FileEntry). let x : ManifestFile = record { name = entry.name; length = entry.length } in x) entries) (same_file e.name f.name e.length (length f.bytes) (sym h.0.name) (sym h.0.size))
     ∙ ap (λ (xs : List ManifestFile). file_entry_of f ∷ xs) (entries_are entries files h.1)
 
-same_entry : (part part' : List ℕ) (files files' : List ManifestFile) → part ≡ part' → files ≡ files' → ◌≡◌ {A = LoadEntry} (record { part = part; files = files }) (record { part = part'; files = files' })
-same_entry part part' files files' a b = cc
+same_entry : (part part' : List ℕ) (type_id type_id' : Option ℕ) (files files' : List ManifestFile) → part ≡ part' → type_id ≡ type_id' → files ≡ files'
+    → ◌≡◌ {A = LoadEntry} (record { part = part; type_id = type_id; files = files }) (record { part = part'; type_id = type_id'; files = files' })
+same_entry part part' type_id type_id' files files' a b c = cc
 
 module _ (joins : SumsJoin) (set : Setting) (wanted : List Wanted) (read : HeadersAreRead) where
   files_ready : (entries : List FileEntry) (files : List FileView) → AllZip IsAsSaid entries files → AllByRecursion IsHeaderFile entries → AllByRecursion (λ (f : FileView). set.media.file f.name ≡ Some f.bytes) files
@@ -533,8 +537,8 @@ module _ (joins : SumsJoin) (set : Setting) (wanted : List Wanted) (read : Heade
         are_bytes = all_bytes.0;
         each = files_ready (files_of good.header) good.files good.each fits all_there.1 all_bytes.1;
         crc = good.crc;
-        entry = same_entry w.part load.part _ _ (sym is.part) files_are;
-        planned = same_entry good.header.part load.part _ _ (sym good.part)
+        entry = same_entry w.part load.part (Some good.header.type_id) load.type_id _ _ (sym is.part) (sym good.type_id) files_are;
+        planned = same_entry good.header.part load.part (Some good.header.type_id) load.type_id _ _ (sym good.part) (sym good.type_id)
             (ap (λ (xs : List ManifestFile). let m : ManifestFile = record { name = w.header; length = length good.bytes } in m ∷ xs) (entries_are (files_of good.header) good.files good.each) ∙ files_are);
         count = ap length good.whole ∙ as_sum (length good.files);
       }
@@ -558,22 +562,31 @@ entries_joined : (done rest : List LoadView) → entries_of (done ++ rest) ≡ e
 entries_joined [] rest = refl
 entries_joined (d ∷ done) rest = ap (λ (xs : List LoadEntry). entry_of d ∷ xs) (entries_joined done rest)
 
+abbrev fields : LoadEntry → List (List ℕ)
+fields l = load_entry_fields layouts.Two l
+
 need_more : (xs ys : List LoadEntry) → need_of xs ≤ need_of (xs ++ ys)
 unfolding need_of
 need_more xs ys =
     let files = flat_map-append (λ (l : LoadEntry). l.files) xs ys in
     let total : total_length (xs ++ ys) ≡ total_length xs + total_length ys =
     ap (λ (fs : List ManifestFile). Rattle.disk_layout.specs.Manifest.entries_length fs) files ∙ sum_by-append (λ (f : ManifestFile). f.length) (flat_map (λ (l : LoadEntry). l.files) xs) (flat_map (λ (l : LoadEntry). l.files) ys) in
-    let body : length (concat (flat_map load_entry_fields (xs ++ ys))) ≡ length (concat (flat_map load_entry_fields xs)) + length (concat (flat_map load_entry_fields ys)) =
-    ap (λ (fs : List (List ℕ)). length (concat fs)) (flat_map-append load_entry_fields xs ys) ∙ ap length (concat-append (flat_map load_entry_fields xs) (flat_map load_entry_fields ys)) ∙ length-append (concat (flat_map load_entry_fields xs)) (concat (flat_map load_entry_fields ys)) in
+    let body : length (concat (flat_map fields (xs ++ ys))) ≡ length (concat (flat_map fields xs)) + length (concat (flat_map fields ys)) =
+    ap (λ (fs : List (List ℕ)). length (concat fs)) (flat_map-append fields xs ys) ∙ ap length (concat-append (flat_map fields xs) (flat_map fields ys)) ∙ length-append (concat (flat_map fields xs)) (concat (flat_map fields ys)) in
     let one = manifest_size xs in
     let two = manifest_size (xs ++ ys) in
     omega arith
   where
-    manifest_size : (zs : List LoadEntry) → length (concat (manifest_fields zs)) ≡ 2 + length (concat (flat_map load_entry_fields zs))
+    -- a manifest begins with two numbers, the mark of its layout and how many loads it has
+    head_size : (n : ℕ) → length (concat (head_fields layouts.Two n)) ≡ 4
+    head_size n =
+        length-append (number_bytes 2 layout_mark) (number_bytes 2 n ++ [])
+        ∙ ap₂ (λ (a : ℕ) (b : ℕ). a + b) (length_number_bytes 2 layout_mark) (ap length (append-nil (number_bytes 2 n)) ∙ length_number_bytes 2 n)
+
+    manifest_size : (zs : List LoadEntry) → length (concat (manifest_fields layouts.Two zs)) ≡ 4 + length (concat (flat_map fields zs))
     manifest_size zs =
-        ap length (concat-append (number_fields 2 (length zs)) (flat_map load_entry_fields zs)) ∙ length-append (concat (number_fields 2 (length zs))) (concat (flat_map load_entry_fields zs))
-        ∙ ap (λ (k : ℕ). k + length (concat (flat_map load_entry_fields zs))) (ap length (append-nil (number_bytes 2 (length zs))) ∙ length_number_bytes 2 (length zs))
+        ap length (concat-append (head_fields layouts.Two (length zs)) (flat_map fields zs)) ∙ length-append (concat (head_fields layouts.Two (length zs))) (concat (flat_map fields zs))
+        ∙ ap (λ (k : ℕ). k + length (concat (flat_map fields zs))) (head_size (length zs))
 
 pub good_loads_lead_on : SumsJoin → HeadersAreRead → GoodLoadsLeadOn
 good_loads_lead_on joins read set wanted [] served some own protocol files = absurd (omega arith)

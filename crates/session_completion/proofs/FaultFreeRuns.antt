@@ -19,7 +19,6 @@ use Rattle.replay_rules.specs.Ties.{IsTied, StepKeepsTie, kept_by, loader_next, 
 use Rattle.session_completion.specs.FaultFreeRuns.{FaultFreeRunsComplete, FaultFreeRunsLead, GivesNoneUp, IsWorldOf, NoneGivesUp, retries_after, QuietIsIdle}
 use Rattle.session_completion.specs.GoodUploads.{GoodUploadsComplete, Leads, begins, delivers, retries_at, started, tells, ticks}
 use Rattle.session_completion.specs.Worlds.{World, at_loader, at_target, delivered, told, waits, delivered_to}
-use Rattle.load_header.specs.Header.{HeaderView}
 use Rattle.transfer_end.specs.Readings.{Reading}
 use Rattle.replay_rules.specs.Runs.{retries_in}
 use Rattle.session_completion.proofs.GivenUp.{fault_free_gives_none_up}
@@ -44,7 +43,7 @@ loader_due_so : (set : Setting) (steps : List Step) (e : Option Event) → due_o
 loader_due_so set steps None = refl
 loader_due_so set steps (Some e) = refl
 
-target_due_so : (set : Setting) (state : TargetState) (v : TargetView) (e : Option Event) → Some v ≡ kept_by set state → due_of_target set state e ≡ target_says set.accepts (Some v) e
+target_due_so : (set : Setting) (state : TargetState) (v : TargetView) (e : Option Event) → Some v ≡ kept_by state → due_of_target set state e ≡ target_says set.accepts (Some v) e
 target_due_so set (Is_up r) v None is = refl
 target_due_so set (Is_up r) v (Some e) is = ap (λ (x : TargetView). target_posts set.accepts x e) (some_same (sym is))
   where
@@ -145,12 +144,12 @@ pub live_so : (r : Reading) (live : Option SessionLog) → is_some (session_view
 live_so r None = refl
 live_so r (Some s) = refl
 
-target_live_so : (accepts : HeaderView → Bool) (r : TargetReading) (live : Option TargetSessionLog) → is_some (target_session_view accepts r live) ≡ is_some live
-target_live_so accepts r None = refl
-target_live_so accepts r (Some s) = refl
+target_live_so : (r : TargetReading) (live : Option TargetSessionLog) → is_some (target_session_view r.end live) ≡ is_some live
+target_live_so r None = refl
+target_live_so r (Some s) = refl
 
-pub target_so : (set : Setting) (state : TargetState) (v : TargetView) → Some v ≡ kept_by set state → (is_some v.live ≡ waits_in state) × (v.end.retries ≡ retries_in state)
-target_so set (Is_up r) v is = (ap (λ (x : TargetView). is_some x.live) (same is) ∙ target_live_so set.accepts r r.live, ap (λ (x : TargetView). x.end.retries) (same is))
+pub target_so : (set : Setting) (state : TargetState) (v : TargetView) → Some v ≡ kept_by state → (is_some v.live ≡ waits_in state) × (v.end.retries ≡ retries_in state)
+target_so set (Is_up r) v is = (ap (λ (x : TargetView). is_some x.live) (same is) ∙ target_live_so r r.live, ap (λ (x : TargetView). x.end.retries) (same is))
   where
     same : {x y : TargetView} → Some x ≡ Some y → x ≡ y
     same h = cc
@@ -238,9 +237,9 @@ pub fault_free_runs_lead : StepKeepsTie → FaultFreeRunsLead
 fault_free_runs_lead keeps set steps free due honest =
     let (r, is_up) = up_is (target_at set free.before) (ports_for free.loads) free.target_ready in
     let due_so : AllDue set (free.since ++ free.start ∷ free.before) = subst (λ (ss : List Step). AllDue set ss) free.split due in
-    let found : World = record { loader = loader_view (loader_at set free.before); target = target_view set.accepts r; posts = [] } in
+    let found : World = record { loader = loader_view (loader_at set free.before); target = target_view r; posts = [] } in
     let from_start = due_before set free.since (free.start ∷ free.before) due_so in
-    let was : IsWorldOf set free.before (posted_in free.before) found = record { loader_is = refl; target_is = sym (ap (λ (x : TargetState). kept_by set x) is_up); posted_is = append-nil (posted_in free.before); due = from_start.1 } in
+    let was : IsWorldOf set free.before (posted_in free.before) found = record { loader_is = refl; target_is = sym (ap (λ (x : TargetState). kept_by x) is_up); posted_is = append-nil (posted_in free.before); due = from_start.1 } in
     let is_start : stepped set found (event_for sides.Loader (posted_in free.before) free.start.given) (event_for sides.Target (posted_in free.before) free.start.given) ≡ started set free.parts found
     = ap (λ (h : HappeningView). stepped set found (event_for sides.Loader (posted_in free.before) h) (event_for sides.Target (posted_in free.before) h)) free.starts
     ∙ loader_alone set found (Starts_upload set.start.identity.hw set.start.identity.pos free.parts) in

@@ -24,7 +24,7 @@ use Rattle.replay_rules.specs.Promises.{AllOfMedia, EndsOnce, HasCompleted, None
 use Rattle.replay_rules.specs.Runs.{Follows, IsQuiet, IsWithinMargin, plan_at, scene_at}
 use Rattle.transfer_completion.specs.BlockLaws.{eq_false}
 use Rattle.session_completion.proofs.Followed.{Names, named_at, named_within, At, LeftAt, NoEnds, due_of_before, finish_is, follows_before}
-use Rattle.accept_rules.specs.Permissions.{Permits}
+use Rattle.accept_rules.specs.Permissions.{AcceptsPermitted}
 use Rattle.disk_layout.specs.Contents.{entries_of}
 use Rattle.disk_layout.specs.Holds.{StandingView}
 use Rattle.load_header.specs.Header.{HeaderView}
@@ -261,10 +261,10 @@ comes_to : (set : Setting) (steps last : List Step) (free : IsFaultFree set step
 comes_to set steps last free before w left loader target completed active = by (target_at set last) refl
   where
     by : (state : TargetState) → target_at set last ≡ state → HasEntries set steps free last
-    by (Is_down old interrupted) e = absurd (let wrong : Some w.target ≡ None = left.tied.target_is ∙ ap (λ (x : TargetState). kept_by set x) e in cc)
+    by (Is_down old interrupted) e = absurd (let wrong : Some w.target ≡ None = left.tied.target_is ∙ ap (λ (x : TargetState). kept_by x) e in cc)
     by (Is_up r) e =
-        let kept : Some w.target ≡ Some (target_view set.accepts r) = left.tied.target_is ∙ ap (λ (x : TargetState). kept_by set x) e in
-        let view : w.target ≡ target_view set.accepts r = cc in
+        let kept : Some w.target ≡ Some (target_view r) = left.tied.target_is ∙ ap (λ (x : TargetState). kept_by x) e in
+        let view : w.target ≡ target_view r = cc in
         record {
           outcome = subst (λ (v : LoaderView). HasCompleted Upload v.ended) left.tied.loader_is completed;
           quiet = record {
@@ -310,7 +310,7 @@ module _ (set : Setting) (script : List Line) (steps more : List Step) (free : I
     carries = left.carries;
   }
 
-  has_entries : StepKeepsTie → FaultFreeRunsComplete → ((h : HeaderView) → set.accepts h ≡ true → Permits h) → IsNamed set steps free → IsWithinMargin set steps → HasEntries set steps free (more ++ steps)
+  has_entries : StepKeepsTie → FaultFreeRunsComplete → AcceptsPermitted set.accepts → IsNamed set steps free → IsWithinMargin set steps → HasEntries set steps free (more ++ steps)
   has_entries keeps complete permits named margin =
       let follows = follows_before set script more steps left.follows in
       let (now, tied, finished) = complete set steps free

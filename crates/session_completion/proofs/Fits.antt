@@ -1,13 +1,13 @@
 -- The check sums that a target keeps of a load have 32 bits, whatever happens.
-use Rattle.std.proofs.Common.{◌≡◌, ℕ, ◌-◌, ◌≤◌, Bool, List, [], Option, Some, None, refl, arith}
+use Rattle.std.proofs.Common.{◌≡◌, ℕ, ◌-◌, ◌≤◌, List, [], Option, Some, None, refl, arith}
 use Rattle.crc_fields.specs.CheckSums.{bits_of, crc16_after, crc32_after, register_after, register_after_bits}
 use Rattle.load_base.specs.Config.{LoadView}
-use Rattle.load_header.specs.Header.{HeaderView}
 use Rattle.exchange_trace.specs.declared.trace.Side.{Side}
 use Rattle.exchange_trace.specs.declared.trace.Side.TheVariants as sides
 use Rattle.exchange_trace.specs.Logs.{Event, Gets, Learns}
 use Rattle.transfer_end.specs.Views.{EndView}
 use Rattle.transfer_end.specs.Moves.{views_after}
+use Rattle.accept_rules.specs.Permissions.{Accepts}
 use Rattle.session_rules.specs.TargetRows.{Arriving, Kept_bytes, Kept_sums, with_bytes, arriving_of, arriving_load, RowView, RowMove, Awaits_lur, Gives_lci, Writes_lcs, Writes_lcl, Gives_lui, Gives_denial, Writes_ready, Reads_file, Writes_progress, Writes_stop, Writes_completion, Over, view_moved}
 use Rattle.session_rules.specs.Target as target
 use Rattle.session_rules.specs.Target.{TargetView, TargetSession, TargetChange, target_after, target_changed, target_decision}
@@ -77,7 +77,7 @@ changed_fits end v (target.Turns m last) = turned_fits end v v.live m last
 changed_fits end v (target.Turns_without_port m last) = spent_fits end v v.live m last
 changed_fits end v (target.Ends reason) = tt
 
-after_fits : (accepts : HeaderView → Bool) (v : TargetView) (e : Event) → SessionFits (target_after accepts v e).live
+after_fits : (accepts : Accepts) (v : TargetView) (e : Event) → SessionFits (target_after accepts v e).live
 after_fits accepts v e = changed_fits (views_after sides.Target v.end (target_decision accepts v e).moves) v (target_decision accepts v e).change
 
 none_fits : (live : Option TargetSession) → live ≡ None → SessionFits live

@@ -1,7 +1,6 @@
 -- A side without a session has no live transfer.
 use Rattle.std.proofs.Common.{◌≡◌, ℕ, Bool, true, false, cond, eqb, List, [], ◌∷◌, ◌++◌, length, Option, Some, None, Result, Ok, Err, refl, sym, subst}
 use Rattle.std.specs.Prelude.{bytes_eq, nat_lt}
-use Rattle.load_header.specs.Header.{HeaderView}
 use Rattle.load_protocol_files.specs.declared.lur.Wanted.{Wanted}
 use Rattle.tftp_packet.specs.declared.options.Options.{Options}
 use Rattle.tftp_packet.specs.Packets.{Ack, Data, Error, Oack, PacketView, Rrq, Wrq}
@@ -13,6 +12,7 @@ use Rattle.transfer_end.specs.Moves.{Hears, Move, Recalls, Stops, view_after, vi
 use Rattle.transfer_end.specs.Packets.{belongs, has_port, heard_answer, is_busy, is_fresh, may_repeat, packet_in, transfer_moves}
 use Rattle.transfer_end.specs.Transfers.{Role, ServesRead, ServesWrite}
 use Rattle.transfer_end.specs.Views.{EndView, TransferView}
+use Rattle.accept_rules.specs.Permissions.{Accepts}
 use Rattle.session_rules.specs.declared.outcome.FileKind.{FileKind}
 use Rattle.session_rules.specs.declared.outcome.FileKind.TheVariants.{Lci, Lui, Lur}
 use Rattle.session_rules.specs.declared.outcome.Outcome.TheVariants.{PeerError}
@@ -213,7 +213,7 @@ module _ (v : EndView) where
   without_port_stops : (s : TargetSession) → TargetIsStopped (Target.without_port (Some s))
   without_port_stops s = refl
 
-module _ (accepts : HeaderView → Bool) (v : TargetView) (s : TargetSession) (live : v.live ≡ Some s) where
+module _ (accepts : Accepts) (v : TargetView) (s : TargetSession) (live : v.live ≡ Some s) where
   target_turn_stops : (heard : List Move) (more : List ℕ) (error : Option ℕ) → TargetIsStopped v.end (Target.turn_decision accepts v s heard more error)
   target_turn_stops heard more error = target_next_stops v.end heard more _ _ _
 
@@ -283,7 +283,7 @@ module _ (accepts : HeaderView → Bool) (v : TargetView) (s : TargetSession) (l
   target_with_session (Learns size) = tt
 
 -- without a session: none begins, or one does
-module _ (accepts : HeaderView → Bool) (v : TargetView) (none : v.live ≡ None) (free : v.end.live ≡ None) where
+module _ (accepts : Accepts) (v : TargetView) (none : v.live ≡ None) (free : v.end.live ≡ None) where
   abbrev TargetFreed : TargetChange → Option TransferView → Type 0
   TargetFreed (Target.Begins kind) live = Unit {0}
   TargetFreed change live = live ≡ None
@@ -344,14 +344,14 @@ target_changed_with now v s (Target.Turns_without_port move more) live h none = 
     by (Some t) = h
 target_changed_with now v s (Target.Ends reason) live h none = h
 
-target_changed_without : (accepts : HeaderView → Bool) (now : EndView) (v : TargetView) (change : TargetChange) (none : v.live ≡ None) (free : v.end.live ≡ None) → TargetFreed accepts v none free change now.live → TargetIsFree (target_changed now v change)
+target_changed_without : (accepts : Accepts) (now : EndView) (v : TargetView) (change : TargetChange) (none : v.live ≡ None) (free : v.end.live ≡ None) → TargetFreed accepts v none free change now.live → TargetIsFree (target_changed now v change)
 target_changed_without accepts now v (Target.Continues more) none free h is = h
 target_changed_without accepts now v (Target.Begins kind) none free h is = absurd cc
 target_changed_without accepts now v (Target.Turns move more) none free h is = subst (λ (x : Option TargetSession). (Target.session_turned Target.view_turned now v x move more).end.live ≡ None) (sym none) h
 target_changed_without accepts now v (Target.Turns_without_port move more) none free h is = subst (λ (x : Option TargetSession). (Target.session_turned Target.view_without_port now v x move more).end.live ≡ None) (sym none) h
 target_changed_without accepts now v (Target.Ends reason) none free h is = h
 
-pub target_stays_free : (accepts : HeaderView → Bool) (v : TargetView) (e : Event) → TargetIsFree v → TargetIsFree (target_after accepts v e)
+pub target_stays_free : (accepts : Accepts) (v : TargetView) (e : Event) → TargetIsFree v → TargetIsFree (target_after accepts v e)
 target_stays_free accepts v e free = by v.live refl
   where
     by : (x : Option TargetSession) → v.live ≡ x → TargetIsFree (target_after accepts v e)

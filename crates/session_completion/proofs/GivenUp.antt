@@ -102,7 +102,7 @@ target_given_up : (set : Setting) (end : Reading) (s : TargetSessionLog) (active
     → (target_extended set.accepts (record { end = end; live = Some s; active = active; reason = reason }) Ticks).live ≡ None
 target_given_up set end s active reason spent = rw spent refl
 
-target_gives_up : (set : Setting) (r : TargetReading) → is_some r.live ≡ true → may_repeat (end_view r.end) ≡ false → EndsInstalled set r (Some Ticks) r.live (target_extended set.accepts r Ticks).live → ⊥
+target_gives_up : (set : Setting) (r : TargetReading) → is_some r.live ≡ true → may_repeat (end_view r.end) ≡ false → EndsInstalled r (Some Ticks) r.live (target_extended set.accepts r Ticks).live → ⊥
 target_gives_up set r live spent well = by r.live refl live
   where
     by : (o : Option TargetSessionLog) → r.live ≡ o → is_some o ≡ true → ⊥
@@ -110,11 +110,11 @@ target_gives_up set r live spent well = by r.live refl live
     by (Some s) e h =
         let ends : (target_extended set.accepts r Ticks).live ≡ None
         = subst (λ (o : Option TargetSessionLog). (target_extended set.accepts (record { end = r.end; live = o; active = r.active; reason = r.reason }) Ticks).live ≡ None) (sym e) (target_given_up set r.end s r.active r.reason spent) in
-        let both : EndsInstalled set r (Some Ticks) (Some s) None
-        = subst (λ (o : Option TargetSessionLog). EndsInstalled set r (Some Ticks) (Some s) o) ends (subst (λ (o : Option TargetSessionLog). EndsInstalled set r (Some Ticks) o (target_extended set.accepts r Ticks).live) e well) in
+        let both : EndsInstalled r (Some Ticks) (Some s) None
+        = subst (λ (o : Option TargetSessionLog). EndsInstalled r (Some Ticks) (Some s) o) ends (subst (λ (o : Option TargetSessionLog). EndsInstalled r (Some Ticks) o (target_extended set.accepts r Ticks).live) e well) in
         both.1
 
-state_gives_up : (set : Setting) (state : TargetState) → waits_in state ≡ true → nat_lt (retries_in state) 5 ≡ false → EndsWell set state (Some Ticks) (reached set (Some Ticks) state) → ⊥
+state_gives_up : (set : Setting) (state : TargetState) → waits_in state ≡ true → nat_lt (retries_in state) 5 ≡ false → EndsWell state (Some Ticks) (reached set (Some Ticks) state) → ⊥
 state_gives_up set (Is_up r) live spent well = target_gives_up set r live spent well
 state_gives_up set (Is_down active interrupted) live spent well = well
 
@@ -129,15 +129,15 @@ tick_stays n h = by (nat_lt n 5) refl
 
 module _ (set : Setting) (base : List Step) (now : List EndedSession) (completed : NewAreCompleted (loader_at set base).ended now) where
   step_gives_none_up : (since : List Step) (s : Step) (given : HappeningView) → s.given ≡ given → s.notes ≡ [] → Grows (loader_at set (s ∷ (since ++ base))).ended now
-      → EndsWell set (target_at set (since ++ base)) (event_for sides.Target (posted_in (since ++ base)) s.given) (target_at set (s ∷ (since ++ base))) → GivesNoneUp set given (since ++ base)
+      → EndsWell (target_at set (since ++ base)) (event_for sides.Target (posted_in (since ++ base)) s.given) (target_at set (s ∷ (since ++ base))) → GivesNoneUp set given (since ++ base)
   step_gives_none_up since s (Ticked sides.Loader) is notes late well = λ live. tick_stays (retries_after set (since ++ base) sides.Loader) (λ spent.
       none_given_up (loader_at set base).ended (loader_at set (since ++ base)).ended (loader_extended set.media (loader_at set (since ++ base)) Ticks).ended now (all_grow set since base)
       (loader_gives_up set.media (loader_at set (since ++ base)) live spent)
       (subst (λ (h : HappeningView). Grows (loader_reading set.media (logged (event_for sides.Loader (posted_in (since ++ base)) h) (loader_log (since ++ base)))).ended now) is late) completed)
   step_gives_none_up since s (Ticked sides.Target) is notes late well = λ live. tick_stays (retries_after set (since ++ base) sides.Target) (λ spent.
       state_gives_up set (target_at set (since ++ base)) live spent
-      (subst (λ (h : HappeningView). EndsWell set (target_at set (since ++ base)) (event_for sides.Target (posted_in (since ++ base)) h) (reached set (event_for sides.Target (posted_in (since ++ base)) h) (target_at set (since ++ base)))) is
-      (subst (λ (ns : List Note). EndsWell set (target_at set (since ++ base)) (event_for sides.Target (posted_in (since ++ base)) s.given) (noted ns (target_at set (since ++ base)) (reached set (event_for sides.Target (posted_in (since ++ base)) s.given) (target_at set (since ++ base))))) notes well)))
+      (subst (λ (h : HappeningView). EndsWell (target_at set (since ++ base)) (event_for sides.Target (posted_in (since ++ base)) h) (reached set (event_for sides.Target (posted_in (since ++ base)) h) (target_at set (since ++ base)))) is
+      (subst (λ (ns : List Note). EndsWell (target_at set (since ++ base)) (event_for sides.Target (posted_in (since ++ base)) s.given) (noted ns (target_at set (since ++ base)) (reached set (event_for sides.Target (posted_in (since ++ base)) s.given) (target_at set (since ++ base))))) notes well)))
   step_gives_none_up since s (Delivered side n) is notes late well = tt
   step_gives_none_up since s (Lost n) is notes late well = tt
   step_gives_none_up since s (Injected d) is notes late well = tt

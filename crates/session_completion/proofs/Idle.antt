@@ -1,7 +1,6 @@
 -- A quiet run leaves both ends idle.
-use Rattle.std.proofs.Common.{◌≡◌, ℕ, Bool, false, List, [], ◌∷◌, Option, Some, None, refl, sym, ap, subst}
+use Rattle.std.proofs.Common.{◌≡◌, ℕ, false, List, [], ◌∷◌, Option, Some, None, refl, sym, ap, subst}
 use Rattle.std.specs.Prelude.{is_some}
-use Rattle.load_header.specs.Header.{HeaderView}
 use Rattle.exchange_trace.specs.declared.trace.Side.TheVariants as sides
 use Rattle.exchange_trace.specs.Happenings.{DatagramView}
 use Rattle.exchange_trace.specs.Logs.{Event, event_for, loader_log}
@@ -36,34 +35,34 @@ log_is_free : (media : Media) (log : List Event) → LoaderIsFree (loader_view (
 log_is_free media [] = λ e. refl
 log_is_free media (e ∷ log) = subst (λ (v : LoaderView). LoaderIsFree v) (loaders_follow media log e) (loader_stays_free media (loader_view (loader_reading media log)) e (log_is_free media log))
 
-abbrev StateIsFree : Setting → TargetState → Type 0
-StateIsFree set (Is_up r) = TargetIsFree (target_view set.accepts r)
-StateIsFree set (Is_down active interrupted) = Unit {0}
+abbrev StateIsFree : TargetState → Type 0
+StateIsFree (Is_up r) = TargetIsFree (target_view r)
+StateIsFree (Is_down active interrupted) = Unit {0}
 
 module _ (joins : SumsJoin) (set : Setting) where
-  reached_free : (e : Option Event) (state : TargetState) → HasLive state → StateIsFree set state → StateIsFree set (reached set e state)
+  reached_free : (e : Option Event) (state : TargetState) → HasLive state → StateIsFree state → StateIsFree (reached set e state)
   reached_free None (Is_up r) live free = free
-  reached_free (Some e) (Is_up r) live free = subst (λ (v : TargetView). TargetIsFree v) (target_follows joins set.accepts r e live).0 (target_stays_free set.accepts (target_view set.accepts r) e free)
+  reached_free (Some e) (Is_up r) live free = subst (λ (v : TargetView). TargetIsFree v) (target_follows joins set.accepts r e live).0 (target_stays_free set.accepts (target_view r) e free)
   reached_free None (Is_down active interrupted) live free = tt
   reached_free (Some e) (Is_down active interrupted) live free = tt
 
-  gone_free : (before after : TargetState) → StateIsFree set (gone_down before after)
+  gone_free : (before after : TargetState) → StateIsFree (gone_down before after)
   gone_free (Is_up r) (Is_up s) = tt
   gone_free (Is_up r) (Is_down active interrupted) = tt
   gone_free (Is_down active interrupted) after = tt
 
-  come_free : (port sequence : ℕ) (state : TargetState) → StateIsFree set state → StateIsFree set (come_up port sequence state)
+  come_free : (port sequence : ℕ) (state : TargetState) → StateIsFree state → StateIsFree (come_up port sequence state)
   come_free port sequence (Is_up r) free = free
   come_free port sequence (Is_down active interrupted) free = λ e. refl
 
-  noted_free : (notes : List Note) (before after : TargetState) → StateIsFree set after → StateIsFree set (noted notes before after)
+  noted_free : (notes : List Note) (before after : TargetState) → StateIsFree after → StateIsFree (noted notes before after)
   noted_free [] before after free = free
   noted_free (Went_down ∷ notes) before after free = noted_free notes (gone_down before after) (gone_down before after) (gone_free before after)
   noted_free (Came_up port sequence ∷ notes) before after free =
       noted_free notes (come_up port sequence (gone_down before after)) (come_up port sequence (gone_down before after)) (come_free port sequence (gone_down before after) (gone_free before after))
   noted_free (Boot_refused fault ∷ notes) before after free = noted_free notes (gone_down before after) (gone_down before after) (gone_free before after)
 
-  trace_is_free : (steps : List Step) → StateIsFree set (target_at set steps)
+  trace_is_free : (steps : List Step) → StateIsFree (target_at set steps)
   trace_is_free [] = λ e. refl
   trace_is_free (s ∷ earlier) =
       noted_free s.notes (target_at set earlier) (reached set (event_for sides.Target (posted_in earlier) s.given) (target_at set earlier))
@@ -78,8 +77,8 @@ none_so (Some x) e = absurd cc
 no_session : (r : Reading) (live : Option SessionLog) → is_some live ≡ false → session_view r live ≡ None
 no_session r live e = ap (λ (x : Option SessionLog). session_view r x) (none_so live e)
 
-no_target_session : (accepts : HeaderView → Bool) (r : TargetReading) (live : Option TargetSessionLog) → is_some live ≡ false → target_session_view accepts r live ≡ None
-no_target_session accepts r live e = ap (λ (x : Option TargetSessionLog). target_session_view accepts r x) (none_so live e)
+no_target_session : (r : TargetReading) (live : Option TargetSessionLog) → is_some live ≡ false → target_session_view r.end live ≡ None
+no_target_session r live e = ap (λ (x : Option TargetSessionLog). target_session_view r.end x) (none_so live e)
 
 kept_below : (port : ℕ) (kept : Option Transfer) → IsDrawnBefore port kept → IsBelow port (seen kept)
 kept_below port None h = tt
@@ -88,15 +87,15 @@ kept_below port (Some t) h = h
 abbrev world : LoaderView → TargetView → List DatagramView → World
 world loader target posts = record { loader = loader; target = target; posts = posts }
 
-idle_world : (set : Setting) (loader : LoaderReading) (state : TargetState) (ports : ℕ) (target : TargetView) → LoaderIsFree (loader_view loader) → StateIsFree set state → TargetIsApart loader.end state → HasTarget set state
-    → is_some loader.live ≡ false → waits_in state ≡ false → HasPorts loader.end ports → IsReadyFor state ports → Some target ≡ kept_by set state → IsIdle set ports (world (loader_view loader) target [])
+idle_world : (set : Setting) (loader : LoaderReading) (state : TargetState) (ports : ℕ) (target : TargetView) → LoaderIsFree (loader_view loader) → StateIsFree state → TargetIsApart loader.end state → HasTarget set state
+    → is_some loader.live ≡ false → waits_in state ≡ false → HasPorts loader.end ports → IsReadyFor state ports → Some target ≡ kept_by state → IsIdle set ports (world (loader_view loader) target [])
 idle_world set loader (Is_down active interrupted) ports target free state_free apart same quiet target_quiet has ready is = absurd ready
 idle_world set loader (Is_up r) ports target free state_free apart same quiet target_quiet has ready is =
     subst (λ (v : TargetView). IsIdle set ports (world (loader_view loader) v [])) (sym view) (record {
       loader = no_session loader.end loader.live quiet;
       loader_free = free (no_session loader.end loader.live quiet);
-      target = no_target_session set.accepts r r.live target_quiet;
-      target_free = state_free (no_target_session set.accepts r r.live target_quiet);
+      target = no_target_session r r.live target_quiet;
+      target_free = state_free (no_target_session r r.live target_quiet);
       posts = refl;
       sequence = ready.0;
       loader_ports = has;
@@ -110,7 +109,7 @@ idle_world set loader (Is_up r) ports target free state_free apart same quiet ta
       identity = same;
     })
   where
-    view : target ≡ target_view set.accepts r
+    view : target ≡ target_view r
     view = cc
 
 pub quiet_is_idle : SumsJoin → PortsStayApart → ChangesAreNew → QuietIsIdle

@@ -707,7 +707,7 @@ module _ (set : Setting) (wanted : List Wanted) (loads : List LoadView) (o : Out
 
   row_for_is : (v : TargetView) (first more : List ℕ) (row : RowView) → IsStep set wanted row → v.active.identity ≡ set.start.identity → first ++ more ≡ arrives_in row (file_in set wanted row)
       → row_for set.accepts v (target_session row first) more ≡ next_row set wanted row
-  row_for_is v first more row step id whole = turns_to joins set wanted row first more v.active.identity step.fine.summed id whole
+  row_for_is v first more row step id whole = turns_to joins set wanted row first more v.active step.fine.summed id whole
 
   target_row_over : (v : TargetView) (e : Event) (moves : List Rattle.transfer_end.specs.Moves.Move) (first more : List ℕ) (row : RowView) → IsStep set wanted row
       → target.target_decision set.accepts v e ≡ record { moves = moves; change = target.Turns (move_for set.accepts v (target_session row first) more) more }

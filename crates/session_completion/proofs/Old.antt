@@ -8,13 +8,13 @@ use Rattle.disk_layout.specs.Holds.{Outline}
 use Rattle.exchange_trace.specs.declared.trace.Side.TheVariants as sides
 use Rattle.exchange_trace.specs.Happenings.{DatagramView}
 use Rattle.exchange_trace.specs.Logs.{Gets}
-use Rattle.load_header.specs.Header.{HeaderView}
 use Rattle.tftp_packet.specs.declared.options.Options.{Options}
 use Rattle.tftp_packet.specs.Packets.{PacketView, Rrq, Wrq, Data, Ack, Error, Oack}
 use Rattle.tftp_link.specs.Answers.{Answer, Dropped, Again, Grants, TakesBlock, TakesLast, Proceeds, Completes, Fails}
 use Rattle.transfer_end.specs.Views.{EndView}
 use Rattle.transfer_end.specs.Moves.{Move, views_after, all_posts}
 use Rattle.transfer_end.specs.Packets.{packet_in, belongs, heard_answer, transfer_moves, is_busy, is_fresh}
+use Rattle.accept_rules.specs.Permissions.{Accepts}
 use Rattle.session_rules.specs.declared.outcome.FileKind.{FileKind}
 use Rattle.session_rules.specs.declared.outcome.FileKind.TheVariants.{Lci, Lui, Lur}
 use Rattle.session_rules.specs.declared.reason.Reason.{Reason}
@@ -151,7 +151,7 @@ module _ (none : NoMoreSums) where
   nothing_kept : (v : TargetView) (fits : SessionFits v.live) (P : DatagramView → Type 0) → TargetQuiet v P target.nothing
   nothing_kept v fits P = keeps v fits P [] (refl, tt)
 
-  answers : (accepts : HeaderView → Bool) (v : TargetView) (fits : SessionFits v.live) (P : DatagramView → Type 0) (s : TargetSession) (ms : List Move) (a : Answer) → IsDroppedOrAgain a → AreQuiet sides.Target v.end P ms
+  answers : (accepts : Accepts) (v : TargetView) (fits : SessionFits v.live) (P : DatagramView → Type 0) (s : TargetSession) (ms : List Move) (a : Answer) → IsDroppedOrAgain a → AreQuiet sides.Target v.end P ms
       → TargetQuiet v P (target.answer_decision accepts v s ms a)
   answers accepts v fits P s ms Dropped k q = keeps v fits P ms q
   answers accepts v fits P s ms Again k q = keeps v fits P ms q
@@ -217,13 +217,13 @@ module _ (none : NoMoreSums) where
     pub asked : (to == 59) ≡ true → ((is_fresh v.end from ≡ false) × (is_own_file v.active.identity p ≡ true)) ⊎ ((is_busy v.end ≡ true) × (is_write p ≡ true))
     pub packet : (to == 59) ≡ false → IsOldPacket sides.Target v.end P from to p
 
-  moved_quiet : (accepts : HeaderView → Bool) (v : TargetView) (fits : SessionFits v.live) (P : DatagramView → Type 0) (live : Option TargetSession) (from to : ℕ) (p : PacketView) → IsOldPacket sides.Target v.end P from to p
+  moved_quiet : (accepts : Accepts) (v : TargetView) (fits : SessionFits v.live) (P : DatagramView → Type 0) (live : Option TargetSession) (from to : ℕ) (p : PacketView) → IsOldPacket sides.Target v.end P from to p
       → TargetQuiet v P (target.transfer_decision accepts v live from to p)
   moved_quiet accepts v fits P None from to p old = keeps v fits P (transfer_moves v.end from to p) (old_is_quiet sides.Target v.end P from to p old)
   moved_quiet accepts v fits P (Some s) from to p old =
       answers accepts v fits P s (transfer_moves v.end from to p) (heard_answer v.end from to p) (old_is_not_awaited sides.Target P v.end.live from p (belongs v.end.live from to) old.live) (old_is_quiet sides.Target v.end P from to p old)
 
-  gets_quiet : (accepts : HeaderView → Bool) (v : TargetView) (fits : SessionFits v.live) (P : DatagramView → Type 0) (from to : ℕ) (p : Option PacketView) → ((q : PacketView) → p ≡ Some q → IsOldAtTarget v P from to q)
+  gets_quiet : (accepts : Accepts) (v : TargetView) (fits : SessionFits v.live) (P : DatagramView → Type 0) (from to : ℕ) (p : Option PacketView) → ((q : PacketView) → p ≡ Some q → IsOldAtTarget v P from to q)
       → TargetQuiet v P (target.got_decision accepts v from to p)
   gets_quiet accepts v fits P from to None old = nothing_kept v fits P
   gets_quiet accepts v fits P from to (Some p) old =
@@ -231,6 +231,6 @@ module _ (none : NoMoreSums) where
       (λ e. elim ((old p refl).asked e) [ inl spent ↦ requests_quiet v fits P from p spent.0 spent.1 | inr busy ↦ busy_quiet v fits P from p busy.0 busy.1 ]) (λ e. moved_quiet accepts v fits P v.live from to p ((old p refl).packet e))
 
   -- Such a datagram changes nothing at the target, and is answered by nothing or by one of the kind.
-  pub target_old : (accepts : HeaderView → Bool) (v : TargetView) (fits : SessionFits v.live) (P : DatagramView → Type 0) (from to : ℕ) (bytes : List ℕ) → ((p : PacketView) → packet_in bytes ≡ Some p → IsOldAtTarget v P from to p)
+  pub target_old : (accepts : Accepts) (v : TargetView) (fits : SessionFits v.live) (P : DatagramView → Type 0) (from to : ℕ) (bytes : List ℕ) → ((p : PacketView) → packet_in bytes ≡ Some p → IsOldAtTarget v P from to p)
       → (target_after accepts v (Gets from to bytes) ≡ v) × Replies P (target_posts accepts v (Gets from to bytes))
   target_old accepts v fits P from to bytes old = gets_quiet accepts v fits P from to (packet_in bytes) old

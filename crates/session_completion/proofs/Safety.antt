@@ -1,5 +1,5 @@
 -- Whatever is delivered, told or ticked, a world stands where a clean one stands, by the laws of clean uploads.
-use Rattle.std.proofs.Common.{◌≡◌, ℕ, ◌+◌, ◌<◌, Bool, true, List, [], ◌∷◌, ◌++◌, Option, Some, None, refl, sym, ap, subst, ◌∙◌, inl, inr}
+use Rattle.std.proofs.Common.{◌≡◌, ℕ, ◌+◌, ◌<◌, true, List, [], ◌∷◌, ◌++◌, Option, Some, None, refl, sym, ap, subst, ◌∙◌, inl, inr}
 use Rattle.std.specs.Prelude.{Contains, is_some}
 use Rattle.std.proofs.lemmas.List.{append-nil}
 use Rattle.std.proofs.lemmas.List.Elements.{Contains-append_left, Contains-append_right, All-from_recursion, All-contains, recursion_from_All, All-contains_itself}
@@ -9,6 +9,7 @@ use Rattle.exchange_trace.specs.declared.trace.Side.TheVariants as sides
 use Rattle.exchange_trace.specs.Happenings.{DatagramView, other}
 use Rattle.exchange_trace.specs.Logs.{Ticks}
 use Rattle.exchange_trace.specs.Posts.{numbered}
+use Rattle.accept_rules.specs.Permissions.{Accepts}
 use Rattle.replay_rules.specs.BothEnds.{Setting}
 use Rattle.transfer_completion.specs.Replies.{IsOld}
 use Rattle.transfer_completion.specs.Retries.{with_retries}
@@ -19,7 +20,6 @@ use Rattle.session_completion.specs.Laws.{retries_of_getter, LastWasPosted, Next
 use Rattle.session_completion.specs.Safety.{was_old, was_next, DeliveringIsSafe, TickingIsSafe, TellingIsSafe, retries_of}
 use Rattle.transfer_completion.specs.BlockLaws.{lt_true}
 use Rattle.transfer_end.specs.Views.{EndView}
-use Rattle.load_header.specs.Header.{HeaderView}
 use Rattle.disk_layout.specs.Holds.{Outline}
 use Rattle.session_rules.specs.declared.reason.Reason.{Reason}
 use Rattle.session_rules.specs.Loader.{LoaderView, LoaderSession, EndedSession, loader_posts, loader_after}
@@ -91,7 +91,7 @@ loader_ticks : (media : Media) (end : EndView) (live : Option LoaderSession) (en
 loader_ticks media end None ended n d waiting left last = absurd cc
 loader_ticks media end (Some s) ended n d waiting left last = rw (lt_true n 5 left) (ap (λ (x : Option LoaderSession). loader_view (with_retries end (n + 1)) x ended) (loader_same (Some s)), rw last refl)
 
-target_ticks : (accepts : HeaderView → Bool) (end : EndView) (live : Option TargetSession) (active : Outline) (reason : Option Reason) (n : ℕ) (d : DatagramView) → SessionFits live → is_some live ≡ true → n < 5 → end.last ≡ Some d
+target_ticks : (accepts : Accepts) (end : EndView) (live : Option TargetSession) (active : Outline) (reason : Option Reason) (n : ℕ) (d : DatagramView) → SessionFits live → is_some live ≡ true → n < 5 → end.last ≡ Some d
     → (target_after accepts (retried_target (target_view end live active reason) n) Ticks ≡ retried_target (target_view end live active reason) (n + 1)) × (target_posts accepts (retried_target (target_view end live active reason) n) Ticks ≡ d ∷ [])
 target_ticks accepts end None active reason n d fits waiting left last = absurd cc
 target_ticks accepts end (Some s) active reason n d fits waiting left last = rw (lt_true n 5 left) (ap (λ (x : Option TargetSession). target_view (with_retries end (n + 1)) x active reason) (target_same no_more_sums (Some s) fits), rw last refl)

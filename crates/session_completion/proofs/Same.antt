@@ -3,7 +3,6 @@ use Rattle.std.proofs.Common.{◌≡◌, ℕ, Bool, true, false, cond, List, [],
 use Rattle.std.specs.Prelude.{length, nat_lt, bytes_eq, ◌==◌}
 use Rattle.exchange_trace.specs.declared.trace.Side.TheVariants as sides
 use Rattle.exchange_trace.specs.Logs.{Event, Starts_info, Starts_upload, Gets, Ticks, Learns}
-use Rattle.load_header.specs.Header.{HeaderView}
 use Rattle.load_protocol_files.specs.declared.lur.Wanted.{Wanted}
 use Rattle.tftp_packet.specs.declared.options.Options.{Options}
 use Rattle.tftp_packet.specs.Packets.{PacketView, Rrq, Wrq, Data, Ack, Error, Oack}
@@ -12,6 +11,7 @@ use Rattle.transfer_end.specs.Transfers.{Role}
 use Rattle.transfer_end.specs.Views.{EndView}
 use Rattle.transfer_end.specs.Moves.{Move, Hears, Recalls, Asks, Stops, views_after, all_posts}
 use Rattle.transfer_end.specs.Packets.{packet_in, belongs, heard_answer, transfer_moves, is_busy, is_fresh, has_port}
+use Rattle.accept_rules.specs.Permissions.{Accepts}
 use Rattle.session_rules.specs.declared.outcome.FileKind.{FileKind}
 use Rattle.session_rules.specs.declared.outcome.FileKind.TheVariants.{Lci, Lui, Lur}
 use Rattle.session_rules.specs.declared.outcome.SessionKind.TheVariants.{Info, Upload}
@@ -141,7 +141,7 @@ if_not : (b : Bool) (d e : TargetDecision) → NoTicks d.moves → NoTicks e.mov
 if_not true d e x y = x
 if_not false d e x y = y
 
-target_decides : (accepts : HeaderView → Bool) (v : TargetView) (n : ℕ) (e : Event) → IsNoTicking e → target_decision accepts (retried_target v n) e ≡ target_decision accepts v e
+target_decides : (accepts : Accepts) (v : TargetView) (n : ℕ) (e : Event) → IsNoTicking e → target_decision accepts (retried_target v n) e ≡ target_decision accepts v e
 target_decides accepts v n (Starts_info hw pos) k = refl
 target_decides accepts v n (Starts_upload hw pos parts) k = refl
 target_decides accepts v n (Gets from to bytes) k = refl
@@ -191,12 +191,12 @@ nexts_no : (v : EndView) (ms : List Move) (last : List ℕ) (m : RowMove) (row :
 nexts_no v ms last m row (Some role) k = if_not (has_port v) _ _ (more_no ms (Asks role) k tt) (more_no ms Stops k tt)
 nexts_no v ms last m row None k = if_not (target.is_over row) _ _ (more_no ms Stops k tt) k
 
-turned_no : (accepts : HeaderView → Bool) (v : TargetView) (s : TargetSession) (ms : List Move) (last : List ℕ) (error : Option ℕ) → NoTicks ms → NoTicks (target.turn_decision accepts v s ms last error).moves
+turned_no : (accepts : Accepts) (v : TargetView) (s : TargetSession) (ms : List Move) (last : List ℕ) (error : Option ℕ) → NoTicks ms → NoTicks (target.turn_decision accepts v s ms last error).moves
 turned_no accepts v s ms last error k =
-    let move = row_move accepts v.active.identity s.row (record { error = error; arriving = with_bytes s.arriving last }) in
+    let move = row_move accepts v.active s.row (record { error = error; arriving = with_bytes s.arriving last }) in
     nexts_no v.end ms last move (view_moved s.row (with_bytes s.arriving last) move) (target.row_request v (view_moved s.row (with_bytes s.arriving last) move)) k
 
-answers_no : (accepts : HeaderView → Bool) (v : TargetView) (s : TargetSession) (ms : List Move) (a : Answer) → NoTicks ms → NoTicks (target.answer_decision accepts v s ms a).moves
+answers_no : (accepts : Accepts) (v : TargetView) (s : TargetSession) (ms : List Move) (a : Answer) → NoTicks ms → NoTicks (target.answer_decision accepts v s ms a).moves
 answers_no accepts v s ms Dropped k = k
 answers_no accepts v s ms Again k = k
 answers_no accepts v s ms (Grants o) k = k
@@ -206,15 +206,15 @@ answers_no accepts v s ms Proceeds k = k
 answers_no accepts v s ms Completes k = turned_no accepts v s ms [] None k
 answers_no accepts v s ms (Fails code) k = turned_no accepts v s ms [] (Some code) k
 
-transfers_no : (accepts : HeaderView → Bool) (v : TargetView) (live : Option TargetSession) (from to : ℕ) (p : PacketView) → NoTicks (target.transfer_decision accepts v live from to p).moves
+transfers_no : (accepts : Accepts) (v : TargetView) (live : Option TargetSession) (from to : ℕ) (p : PacketView) → NoTicks (target.transfer_decision accepts v live from to p).moves
 transfers_no accepts v None from to p = transfer_no v.end from to p
 transfers_no accepts v (Some s) from to p = answers_no accepts v s (transfer_moves v.end from to p) (heard_answer v.end from to p) (transfer_no v.end from to p)
 
-gets_no : (accepts : HeaderView → Bool) (v : TargetView) (from to : ℕ) (p : Option PacketView) → NoTicks (target.got_decision accepts v from to p).moves
+gets_no : (accepts : Accepts) (v : TargetView) (from to : ℕ) (p : Option PacketView) → NoTicks (target.got_decision accepts v from to p).moves
 gets_no accepts v from to None = tt
 gets_no accepts v from to (Some p) = if_not (to == 59) (target.request_decision v from p) (target.transfer_decision accepts v v.live from to p) (asked_no v from p) (transfers_no accepts v v.live from to p)
 
-target_no : (accepts : HeaderView → Bool) (v : TargetView) (e : Event) → IsNoTicking e → NoTicks (target_decision accepts v e).moves
+target_no : (accepts : Accepts) (v : TargetView) (e : Event) → IsNoTicking e → NoTicks (target_decision accepts v e).moves
 target_no accepts v (Starts_info hw pos) k = tt
 target_no accepts v (Starts_upload hw pos parts) k = tt
 target_no accepts v (Gets from to bytes) k = gets_no accepts v from to (packet_in bytes)

@@ -4,7 +4,6 @@ use Rattle.std.specs.Prelude.{bytes_eq, ◌==◌}
 use Rattle.exchange_trace.specs.declared.trace.Side.TheVariants as sides
 use Rattle.exchange_trace.specs.Happenings.{DatagramView}
 use Rattle.exchange_trace.specs.Logs.{Event, Gets}
-use Rattle.load_header.specs.Header.{HeaderView}
 use Rattle.tftp_packet.specs.declared.options.Options.{Options}
 use Rattle.tftp_packet.specs.Packets.{PacketView, Rrq, Wrq}
 use Rattle.tftp_link.specs.Answers.{Answer, Dropped, Again, Grants, TakesBlock, TakesLast, Proceeds, Completes, Fails}
@@ -12,6 +11,7 @@ use Rattle.transfer_end.specs.Moves.{Move, Hears, Asks, Serves, Stops, all_posts
 use Rattle.transfer_end.specs.Packets.{answer_of, belongs, is_busy, is_fresh, has_port, packet_in}
 use Rattle.transfer_end.specs.Transfers.{Role, ServesRead, ServesWrite}
 use Rattle.transfer_end.specs.Views.{EndView, TransferView}
+use Rattle.accept_rules.specs.Permissions.{Accepts}
 use Rattle.session_rules.specs.declared.outcome.FileKind.TheVariants.{Lci, Lui, Lur}
 use Rattle.session_rules.specs.Target as target
 use Rattle.session_rules.specs.Target.{TargetChange, TargetDecision, TargetSession, TargetView, own_name, target_after, target_changed, target_decision, target_posts}
@@ -38,17 +38,17 @@ change_end end v (target.Turns m more) = turned_end end v v.live m more
 change_end end v (target.Turns_without_port m more) = spent_end end v v.live m more
 change_end end v (target.Ends reason) = refl
 
-abbrev pub TargetReaches : (HeaderView → Bool) → TargetView → Event → List DatagramView → (own peer i : ℕ) → Position → List DatagramView → Type 0
+abbrev pub TargetReaches : Accepts → TargetView → Event → List DatagramView → (own peer i : ℕ) → Position → List DatagramView → Type 0
 TargetReaches accepts v e posts own peer i position new = Reaches sides.Target posts own peer i position new (target_after accepts v e).end (target_posts accepts v e) (target_retries accepts v e)
 
-pub target_reaches : (accepts : HeaderView → Bool) (v : TargetView) (e : Event) (moves : List Move) (change : TargetChange) (posts : List DatagramView) (own peer i : ℕ) (position : Position) (new : List DatagramView)
+pub target_reaches : (accepts : Accepts) (v : TargetView) (e : Event) (moves : List Move) (change : TargetChange) (posts : List DatagramView) (own peer i : ℕ) (position : Position) (new : List DatagramView)
     → target_decision accepts v e ≡ record { moves = moves; change = change } → Moved sides.Target v.end moves posts own peer i position new → TargetReaches accepts v e posts own peer i position new
 target_reaches accepts v e moves change posts own peer i position new is m =
     subst (λ (d : TargetDecision). Reaches sides.Target posts own peer i position new (target_changed (views_after sides.Target v.end d.moves) v d.change).end (all_posts sides.Target v.end d.moves) (λ r. retries_after sides.Target v.end d.moves r)) (sym is)
     (subst (λ (x : EndView). Reaches sides.Target posts own peer i position new x (all_posts sides.Target v.end moves) (λ r. retries_after sides.Target v.end moves r)) (sym (change_end (views_after sides.Target v.end moves) v change))
     (record { stands = m.stands; posted_is = m.posted; resets = m.resets; last = m.last }))
 
-pub target_is : (accepts : HeaderView → Bool) (v : TargetView) (e : Event) (moves : List Move) (change : TargetChange) → target_decision accepts v e ≡ record { moves = moves; change = change }
+pub target_is : (accepts : Accepts) (v : TargetView) (e : Event) (moves : List Move) (change : TargetChange) → target_decision accepts v e ≡ record { moves = moves; change = change }
     → target_after accepts v e ≡ target_changed (views_after sides.Target v.end moves) v change
 target_is accepts v e moves change is = ap (λ (d : TargetDecision). target_changed (views_after sides.Target v.end d.moves) v d.change) is
 
@@ -56,13 +56,13 @@ abbrev decides : List Move → TargetChange → TargetDecision
 decides moves change = record { moves = moves; change = change }
 
 -- what the end of a transfer comes to, with these bytes as the last of its file, and the row after it
-abbrev pub move_for : (accepts : HeaderView → Bool) → TargetView → TargetSession → List ℕ → RowMove
-move_for accepts v s more = row_move accepts v.active.identity s.row (record { error = None; arriving = with_bytes s.arriving more })
+abbrev pub move_for : Accepts → TargetView → TargetSession → List ℕ → RowMove
+move_for accepts v s more = row_move accepts v.active s.row (record { error = None; arriving = with_bytes s.arriving more })
 
-abbrev pub row_for : (accepts : HeaderView → Bool) → TargetView → TargetSession → List ℕ → RowView
+abbrev pub row_for : Accepts → TargetView → TargetSession → List ℕ → RowView
 row_for accepts v s more = view_moved s.row (with_bytes s.arriving more) (move_for accepts v s more)
 
-module _ (accepts : HeaderView → Bool) (v : TargetView) (from to : ℕ) (bytes : List ℕ) (p : PacketView) (is : packet_in bytes ≡ Some p) where
+module _ (accepts : Accepts) (v : TargetView) (from to : ℕ) (bytes : List ℕ) (p : PacketView) (is : packet_in bytes ≡ Some p) where
   asked : (to == 59) ≡ true → target_decision accepts v (Gets from to bytes) ≡ target.request_decision v from p
   asked low = ap (λ (o : Option PacketView). target.got_decision accepts v from to o) is ∙ rw low refl
 
@@ -142,6 +142,6 @@ module _ (accepts : HeaderView → Bool) (v : TargetView) (from to : ℕ) (bytes
     over_and_ends a more ends none is_end high mine answers =
         turns a more ends high mine answers ∙ ap (λ (r : Option Role). target.next_decision v.end (Hears from p ∷ []) more (move_for accepts v s more) (row_for accepts v s more) r) none ∙ rw is_end refl
 
-pub target_end_is : (accepts : HeaderView → Bool) (v : TargetView) (e : Event) (moves : List Move) (change : TargetChange) → target_decision accepts v e ≡ record { moves = moves; change = change }
+pub target_end_is : (accepts : Accepts) (v : TargetView) (e : Event) (moves : List Move) (change : TargetChange) → target_decision accepts v e ≡ record { moves = moves; change = change }
     → (target_after accepts v e).end ≡ views_after sides.Target v.end moves
 target_end_is accepts v e moves change is = ap (λ (x : TargetView). x.end) (target_is accepts v e moves change is) ∙ change_end (views_after sides.Target v.end moves) v change

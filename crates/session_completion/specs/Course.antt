@@ -3,6 +3,7 @@
 use Rattle.std.specs.Prelude.{◌≡◌, ℕ, zero, suc, ◌+◌, ◌*◌, List, [], length, Option, Some, None, unwrap_or}
 use Rattle.crc_fields.specs.CheckSums.{crc32_of}
 use Rattle.disk_layout.specs.Contents.{entries_of}
+use Rattle.disk_layout.specs.Holds.{outline_of}
 use Rattle.field_grammar.specs.Grammar.{IsBytes}
 use Rattle.load_base.specs.Config.{LoadView}
 use Rattle.load_base.specs.Name.{IsName}
@@ -79,11 +80,11 @@ arrives_in Awaits_lur file = file
 arrives_in (Reads_file u) file = file
 arrives_in row file = []
 
--- by the target's own rules
+-- by the target's own rules, which go by what is active; of that the tests read the identity alone, which is that of the start
 abbrev pub next_row : Setting → List Wanted → RowView → RowView
 next_row set wanted row =
     view_moved row (arriving_of row (arrives_in row (file_in set wanted row)))
-    (row_move set.accepts set.start.identity row (record { error = None; arriving = arriving_of row (arrives_in row (file_in set wanted row)) }))
+    (row_move set.accepts (outline_of set.start) row (record { error = None; arriving = arriving_of row (arrives_in row (file_in set wanted row)) }))
 
 -- ---- what has to hold of a row
 

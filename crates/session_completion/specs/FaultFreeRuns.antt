@@ -3,8 +3,7 @@ use Rattle.std.specs.Prelude.{◌≡◌, ℕ, ◌<◌, List, [], ◌∷◌, ◌+
 use Rattle.std.specs.List.{AllByRecursion}
 use Rattle.field_grammar.specs.Grammar.{IsBytes}
 use Rattle.load_base.specs.Config.{FileView}
-use Rattle.load_header.specs.Header.{HeaderView}
-use Rattle.accept_rules.specs.Permissions.{Permits}
+use Rattle.accept_rules.specs.Permissions.{AcceptsPermitted}
 use Rattle.exchange_trace.specs.declared.trace.Side.{Side}
 use Rattle.exchange_trace.specs.declared.trace.Side.TheVariants as sides
 use Rattle.exchange_trace.specs.Happenings.{DatagramView, HappeningView, Ticked}
@@ -66,11 +65,11 @@ pub record IsNamed (set : Setting) (steps : List Step) (free : IsFaultFree set s
 
 -- A quiet run leaves both ends idle, with as many ports as are left.
 abbrev pub QuietIsIdle : Type 0
-QuietIsIdle = (set : Setting) (steps : List Step) (ports : ℕ) (w : World) → IsUninjected set steps → ((h : HeaderView) → set.accepts h ≡ true → Permits h) → IsQuiet set steps → HasPorts (loader_at set steps).end ports
+QuietIsIdle = (set : Setting) (steps : List Step) (ports : ℕ) (w : World) → IsUninjected set steps → AcceptsPermitted set.accepts → IsQuiet set steps → HasPorts (loader_at set steps).end ports
     → IsReadyFor (target_at set steps) ports → w.posts ≡ [] → IsWorldOf set steps (posted_in steps) w → IsIdle set ports w
 
 -- A fault-free run within the margin is completed by a `finish` of its world.
 abbrev pub FaultFreeRunsComplete : Type 0
-FaultFreeRunsComplete = (set : Setting) (steps : List Step) (free : IsFaultFree set steps) → IsUninjected set steps → ((h : HeaderView) → set.accepts h ≡ true → Permits h)
+FaultFreeRunsComplete = (set : Setting) (steps : List Step) (free : IsFaultFree set steps) → IsUninjected set steps → AcceptsPermitted set.accepts
     → IsNamed set steps free → IsWithinMargin set steps → (now : World) × IsWorldOf set steps (posted_in free.before) now
     × ((queue : List DatagramView) (first : Side) → AreAmong now.posts queue → IsFinished set free.loads now queue first)

@@ -1,9 +1,8 @@
 -- A fault-free run that is left to a script's `finish` completes (docs/EXCHANGE.md, "A fault-free run completes").
 use Rattle.std.specs.Prelude.{◌≡◌, List, [], ◌∷◌, ◌++◌, true, Option, Some, None, ⊤}
 use Rattle.std.specs.List.{AllByRecursion}
-use Rattle.accept_rules.specs.Permissions.{Permits}
+use Rattle.accept_rules.specs.Permissions.{AcceptsPermitted}
 use Rattle.disk_layout.specs.Holds.{StandingView}
-use Rattle.load_header.specs.Header.{HeaderView}
 use Rattle.exchange_trace.specs.Following.{Scene, Turn, begins, goes_on}
 use Rattle.exchange_trace.specs.Lines.{Finish, Line}
 use Rattle.exchange_trace.specs.Steps.{Step}
@@ -74,5 +73,5 @@ pub record IsComplete (set : Setting) (steps : List Step) (free : IsFaultFree se
 
 -- A fault-free run within the margin that is left to `finish` completes.
 abbrev pub FinishCompletes : Type 0
-FinishCompletes = (set : Setting) (script : List Line) (steps more : List Step) (free : IsFaultFree set steps) (standing : StandingView) → ((h : HeaderView) → set.accepts h ≡ true → Permits h) → LengthsAreTold set.media → IsNamed set steps free
+FinishCompletes = (set : Setting) (script : List Line) (steps more : List Step) (free : IsFaultFree set steps) (standing : StandingView) → AcceptsPermitted set.accepts → LengthsAreTold set.media → IsNamed set steps free
     → IsWithinMargin set steps → IsLeftToFinish set script steps more → standing ≡ active_by (target_at set (more ++ steps)) (Some standing) → IsComplete set steps free (more ++ steps) standing

@@ -1,7 +1,6 @@
 -- Proofs that what both sides acknowledge had come.
-use Rattle.std.proofs.Common.{ℕ, List, [], ◌∷◌, Bool, sym, subst}
+use Rattle.std.proofs.Common.{ℕ, List, [], ◌∷◌, sym, subst}
 use Rattle.std.specs.List.{AllByRecursion}
-use Rattle.load_header.specs.Header.{HeaderView}
 use Rattle.disk_layout.specs.Holds.{StandingView}
 use Rattle.exchange_trace.specs.declared.trace.Side.{Side}
 use Rattle.exchange_trace.specs.declared.trace.Side.TheVariants as sides
@@ -13,6 +12,7 @@ use Rattle.transfer_end.specs.Moves.{readings_after}
 use Rattle.transfer_end.specs.Placed.{IsPlaced}
 use Rattle.transfer_end.specs.Readings.{Reading}
 use Rattle.transfer_end.specs.Views.{end_view}
+use Rattle.accept_rules.specs.Permissions.{Accepts}
 use Rattle.session_rules.specs.HeardLaws.{loader_moves_heard, loader_takes_what_came, target_moves_heard, target_takes_what_came}
 use Rattle.session_rules.specs.Laws.{LoaderAcksWhatCame, TargetAcksWhatCame}
 use Rattle.session_rules.specs.Loader as loader
@@ -46,18 +46,18 @@ loader_acks_what_came media log e =
 
 -- ---- the target
 
-pub target_extended_last : (accepts : HeaderView → Bool) (log : List Event) (r : TargetReading) (e : Event) → PacketsCame log r.end → LastAcks sides.Target log r.end.last → LastAcks sides.Target (e ∷ log) (target_extended accepts r e).end.last
+pub target_extended_last : (accepts : Accepts) (log : List Event) (r : TargetReading) (e : Event) → PacketsCame log r.end → LastAcks sides.Target log r.end.last → LastAcks sides.Target (e ∷ log) (target_extended accepts r e).end.last
 target_extended_last accepts log r e packets last =
-    let d = target.target_decision accepts (target_view accepts r) e in
+    let d = target.target_decision accepts (target_view r) e in
     subst (λ (x : Reading). LastAcks sides.Target (e ∷ log) x.last) (sym (target_end_stays accepts (readings_after sides.Target r.end d.moves) r d.change))
-    (last_stays_acked sides.Target e log r.end d.moves (target_moves_heard accepts (target_view accepts r) e) packets last)
+    (last_stays_acked sides.Target e log r.end d.moves (target_moves_heard accepts (target_view r) e) packets last)
 
-pub target_extended_acks : (accepts : HeaderView → Bool) (log : List Event) (r : TargetReading) (e : Event) → PacketsCame log r.end → LastAcks sides.Target log r.end.last
-    → AllByRecursion (AcksWhatCame sides.Target (e ∷ log)) (target.target_posts accepts (target_view accepts r) e)
+pub target_extended_acks : (accepts : Accepts) (log : List Event) (r : TargetReading) (e : Event) → PacketsCame log r.end → LastAcks sides.Target log r.end.last
+    → AllByRecursion (AcksWhatCame sides.Target (e ∷ log)) (target.target_posts accepts (target_view r) e)
 target_extended_acks accepts log r e packets last =
-    all_ack sides.Target log r.end e (target.target_posts accepts (target_view accepts r) e) packets last (target_posts_placed accepts (target_view accepts r) e)
+    all_ack sides.Target log r.end e (target.target_posts accepts (target_view r) e) packets last (target_posts_placed accepts (target_view r) e)
 
-target_last : (accepts : HeaderView → Bool) (first_port : ℕ) (active : StandingView) (log : List Event) → LastAcks sides.Target log (target_reading accepts first_port active log).end.last
+target_last : (accepts : Accepts) (first_port : ℕ) (active : StandingView) (log : List Event) → LastAcks sides.Target log (target_reading accepts first_port active log).end.last
 target_last accepts first_port active [] = tt
 target_last accepts first_port active (e ∷ log) =
     target_extended_last accepts log (target_reading accepts first_port active log) e (target_takes_what_came accepts first_port active log).0 (target_last accepts first_port active log)

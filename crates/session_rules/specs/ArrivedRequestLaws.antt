@@ -7,12 +7,10 @@ use Rattle.std.proofs.lemmas.List.{take_all}
 use Rattle.field_grammar.specs.Answers.{answer}
 use Rattle.field_grammar.specs.Fields.{number_bytes}
 use Rattle.field_grammar.specs.Grammar.{IsBytes}
-use Rattle.load_header.specs.Header.{HeaderView}
 use Rattle.load_protocol_files.specs.declared.fault.FileFault.{FileFault}
 use Rattle.load_protocol_files.specs.declared.lur.Wanted.{Wanted}
 use Rattle.load_protocol_files.specs.Lur.{LurSpells, LurView, lur}
-use Rattle.disk_layout.specs.declared.identity.Identity.{Identity}
-use Rattle.disk_layout.specs.Holds.{StandingView}
+use Rattle.disk_layout.specs.Holds.{StandingView, outline_of}
 use Rattle.tftp_packet.specs.declared.options.Options.{Options}
 use Rattle.tftp_packet.specs.Packets.{Ack, Data, Error, Oack, PacketView, Rrq, Wrq}
 use Rattle.tftp_link.specs.declared.phase.Phase.{Phase}
@@ -30,6 +28,7 @@ use Rattle.transfer_end.specs.OtherEnds.{is_asking, is_receiving}
 use Rattle.transfer_end.specs.Readings.{Reading}
 use Rattle.transfer_end.specs.RfcLaws.{end_is_of_link}
 use Rattle.transfer_end.specs.Transfers.{LinkEnd, Reads, Receives, Role, Sends, ServesRead, ServesWrite, Transfer, Writes, arrived_in, arrived_of, end_in, end_of, error_of, is_received, phase_of, taken_from}
+use Rattle.accept_rules.specs.Permissions.{Accepts}
 use Rattle.session_rules.specs.declared.outcome.FileKind.{FileKind}
 use Rattle.session_rules.specs.declared.outcome.FileKind.TheVariants.{Lci, Lui}
 use Rattle.session_rules.specs.declared.reason.Reason.{Reason}
@@ -45,8 +44,8 @@ use Rattle.session_rules.specs.Roles.{HasRole, IsOfView, LiveFits, ReadsFile, Re
 use Rattle.session_rules.specs.SoundLogLaws.{PayloadsAreBytes, begins_active, newest_bytes}
 use Rattle.session_rules.specs.SoundLogs.{LogIsBytes, SessionIsSound, SoundIn}
 use Rattle.session_rules.specs.Target.{Begins, Continues, Ends, TargetChange, Turns, Turns_without_port, target_decision}
-use Rattle.session_rules.specs.TargetLaws.{FitsChange, HasTurned, after, decision_fits, identity_stays, row_of_more, row_of_none}
-use Rattle.session_rules.specs.TargetLog.{TargetReading, TargetSessionLog, row_in, standing_in, target_extended, target_reading_changed, target_view, with_done}
+use Rattle.session_rules.specs.TargetLaws.{FitsChange, HasTurned, after, decision_fits, row_of_one}
+use Rattle.session_rules.specs.TargetLog.{TargetReading, TargetSessionLog, target_extended, target_reading_changed, target_view, with_done}
 use Rattle.session_rules.specs.TargetRows.{Arriving, Awaits_lur, Breaks_off, Gives_denial, Gives_lci, Gives_lui, Judges, Kept_bytes, Kept_sums, Over, Passes, Reads_file, Refuses_request, Requests, RowMove, RowView, WholeRow, Writes_completion, Writes_lcl, Writes_lcs, Writes_progress, Writes_ready, Writes_stop, arriving_of, error_move, file_move, first_row, header_move, placed_if, read_move, request_move, row_judged, row_move, row_move_by, row_moved, row_view, row_with, transfer_end, with_file, with_header}
 use Rattle.session_rules.specs.Uploads.{Accepts_file, Accepts_header, Complete, Judgement, More_files, Next, Next_load, OpenLoad, OpenLoadView, Stops_for, Upload, UploadView, is_load_count, judge_request, next_entry, next_name, next_wanted, request_read, upload_view}
 
@@ -152,7 +151,7 @@ RequestBefore end (Reads_file u) = RequestArrived end u.request
 RequestBefore end (Writes_progress u) = RequestArrived end u.request
 RequestBefore end row = Unit {0}
 
-module _ (reads : RequestsAreSpelled) (accepts : HeaderView → Bool) (id : Identity) (end : Reading) (t : Transfer) (before : List Transfer) (a : end.past ≡ t ∷ before) (fit : IsBytes (arrived_of t)) (over : is_live (phase_of (end_in t)) ≡ false) where
+module _ (reads : RequestsAreSpelled) (accepts : Accepts) (active : StandingView) (end : Reading) (t : Transfer) (before : List Transfer) (a : end.past ≡ t ∷ before) (fit : IsBytes (arrived_of t)) (over : is_live (phase_of (end_in t)) ≡ false) where
   abbrev Brings : RowMove → Type 0
   Brings (Requests loads) = RequestArrived end loads
   Brings move = Unit {0}
@@ -161,12 +160,12 @@ module _ (reads : RequestsAreSpelled) (accepts : HeaderView → Bool) (id : Iden
   as_move (Ok loads) nothing none is = request_arrived reads end t before loads a nothing fit over none is
   as_move (Err fault) nothing none is = tt
 
-  header_brings : (u : UploadView) (wanted : Option Wanted) (arriving : Arriving) → Brings (header_move accepts id u wanted arriving)
+  header_brings : (u : UploadView) (wanted : Option Wanted) (arriving : Arriving) → Brings (header_move accepts (outline_of active) u wanted arriving)
   header_brings u None arriving = tt
   header_brings u (Some w) (Kept_bytes b) = tt
   header_brings u (Some w) (Kept_sums s) = tt
 
-  read_brings : (u : UploadView) (current : Option OpenLoadView) (arriving : Arriving) → Brings (read_move accepts id u current arriving)
+  read_brings : (u : UploadView) (current : Option OpenLoadView) (arriving : Arriving) → Brings (read_move accepts (outline_of active) u current arriving)
   read_brings u None arriving = header_brings u (next_wanted u) arriving
   read_brings u (Some l) (Kept_bytes b) = by (next_entry l)
     where
@@ -193,7 +192,7 @@ module _ (reads : RequestsAreSpelled) (accepts : HeaderView → Bool) (id : Iden
   error_brings (Writes_completion e loads) code = tt
   error_brings Over code = tt
 
-  move_brings : (row : WholeRow) (error : Option ℕ) → IsOfView (row_view row) t.role → error_of t ≡ error → Brings (row_move_by accepts id (row_view row) (arriving_of (row_view row) (arrived_of t)) error)
+  move_brings : (row : WholeRow) (error : Option ℕ) → IsOfView (row_view row) t.role → error_of t ≡ error → Brings (row_move_by accepts (outline_of active) (row_view row) (arriving_of (row_view row) (arrived_of t)) error)
   move_brings row (Some code) is e = error_brings (row_view row) code
   move_brings (Reads_file u) None is e = read_brings (upload_view u) (upload_view u).current _
   move_brings Awaits_lur None is e = as_move (judge_request (buffered (arrived_of t))) is e refl
@@ -248,8 +247,8 @@ module _ (reads : RequestsAreSpelled) (accepts : HeaderView → Bool) (id : Iden
   moved_has (Writes_completion e loads) bytes Passes brings h = tt
   moved_has Over bytes Passes brings h = tt
 
-  row_has : (row : WholeRow) → IsOfView (row_view row) t.role → RequestBefore end row → HasRequest end (row_with accepts id row t)
-  row_has row is h = moved_has row (arrived_of t) (row_move accepts id (row_view row) (transfer_end (row_view row) t)) (move_brings row (error_of t) is refl) h
+  row_has : (row : WholeRow) → IsOfView (row_view row) t.role → RequestBefore end row → HasRequest end (row_with accepts active row t)
+  row_has row is h = moved_has row (arrived_of t) (row_move accepts (outline_of active) (row_view row) (transfer_end (row_view row) t)) (move_brings row (error_of t) is refl) h
 
 -- ---- one event more
 
@@ -317,14 +316,14 @@ of_view row None role was fits = absurd was
 of_view row (Some t) role was fits = subst (λ (x : Role). IsOfView row x) was fits
 
 -- a session turns to its next row
-turned_has : RequestsAreSpelled → (accepts : HeaderView → Bool) (id : Identity) (end : Reading) (s : TargetSessionLog) (moves : List Move) (move : RowMove) (more : List ℕ) → (h : HasTurned accepts id end s moves move more) → IsBytes (arrived_of h.ended)
-    → LiveFits (row_view (row_in accepts id s)) end.live → HasRequest end (row_in accepts id s) → HasRequest (after end moves) (row_in accepts id (with_done s (h.ended ∷ [])))
-turned_has reads accepts id end s moves move more h fit role was =
-    subst (λ (row : WholeRow). HasRequest (after end moves) row) (sym (row_of_more accepts id s.first s.done h.ended))
-    (row_has reads accepts id (after end moves) h.ended end.past h.past fit h.over (row_in accepts id s) is (has_then end (after end moves) h.ended (row_in accepts id s) h.past is was))
+turned_has : RequestsAreSpelled → (accepts : Accepts) (active : StandingView) (end : Reading) (s : TargetSessionLog) (moves : List Move) (move : RowMove) (more : List ℕ) → (h : HasTurned accepts active end s moves move more) → IsBytes (arrived_of h.ended)
+    → LiveFits (row_view s.row) end.live → HasRequest end s.row → HasRequest (after end moves) (with_done accepts active s (h.ended ∷ [])).row
+turned_has reads accepts active end s moves move more h fit role was =
+    subst (λ (row : WholeRow). HasRequest (after end moves) row) (sym (row_of_one accepts active s.row h.ended))
+    (row_has reads accepts active (after end moves) h.ended end.past h.past fit h.over s.row is (has_then end (after end moves) h.ended s.row h.past is was))
   where
-    is : IsOfView (row_view (row_in accepts id s)) h.ended.role
-    is = of_view (row_view (row_in accepts id s)) end.live h.ended.role h.was_live role
+    is : IsOfView (row_view s.row) h.ended.role
+    is = of_view (row_view s.row) end.live h.ended.role h.was_live role
 
 first_has : (end : Reading) (kind : FileKind) (sequence : ℕ) → HasRequest end (first_row kind sequence)
 first_has end Lci sequence = tt
@@ -335,49 +334,40 @@ first_has end Lui sequence = by (eqb sequence 4294967295)
     by false = tt
 first_has end kind sequence = tt
 
-turned_installs : (accepts : HeaderView → Bool) (before now : TargetReading) (s : TargetSessionLog) (t : Transfer) → before.live ≡ Some s → newest now.end.past ≡ t ∷ [] → HasRequest now.end (row_in accepts before.active.identity (with_done s (t ∷ [])))
+turned_installs : (accepts : Accepts) (before now : TargetReading) (s : TargetSessionLog) (t : Transfer) → before.live ≡ Some s → newest now.end.past ≡ t ∷ [] → HasRequest now.end (with_done accepts before.active s (t ∷ [])).row
     → InstallsRequest accepts before now
 turned_installs accepts before now s t live one has new =
     let same : s ≡ new.session = session_is s new.session (sym live ∙ new.live) in
     let last : t ≡ new.ended = one_is (newest now.end.past) t new.ended one new.is_newest in
-    let here : HasRequest now.end (row_in accepts before.active.identity (with_done new.session (new.ended ∷ []))) =
-    subst (λ (x : TargetSessionLog). HasRequest now.end (row_in accepts before.active.identity (with_done x (new.ended ∷ [])))) same
-    (subst (λ (x : Transfer). HasRequest now.end (row_in accepts before.active.identity (with_done s (x ∷ [])))) last has) in
+    let here : HasRequest now.end (with_done accepts before.active new.session (new.ended ∷ [])).row =
+    subst (λ (x : TargetSessionLog). HasRequest now.end (with_done accepts before.active x (new.ended ∷ [])).row) same
+    (subst (λ (x : Transfer). HasRequest now.end (with_done accepts before.active s (x ∷ [])).row) last has) in
     subst (λ (x : WholeRow). HasRequest now.end x) new.good here
 
-abbrev EventRequests : (accepts : HeaderView → Bool) → TargetReading → TargetReading → Type 0
-EventRequests accepts before now = SessionHasRequest accepts now × InstallsRequest accepts before now
+abbrev EventRequests : Accepts → TargetReading → TargetReading → Type 0
+EventRequests accepts before now = SessionHasRequest now × InstallsRequest accepts before now
 
-module _ (reads : RequestsAreSpelled) (accepts : HeaderView → Bool) where
-  for_identity : (active : StandingView) (row : WholeRow) (end : Reading) (s : TargetSessionLog) → HasRequest end (row_in accepts active.identity s) → HasRequest end (row_in accepts (standing_in active row).identity s)
-  for_identity active row end s h = subst (λ (id : Identity). HasRequest end (row_in accepts id s)) (sym (identity_stays active row)) h
-
-  changed_requests : (end : Reading) (live : Option TargetSessionLog) (active : StandingView) (reason : Option Reason) (moves : List Move) (change : TargetChange) → FitsChange accepts active.identity end live moves change → SoundIn accepts active.identity end.live live → RequestIn accepts active.identity end live
+module _ (reads : RequestsAreSpelled) (accepts : Accepts) where
+  changed_requests : (end : Reading) (live : Option TargetSessionLog) (active : StandingView) (reason : Option Reason) (moves : List Move) (change : TargetChange) → FitsChange accepts active end live moves change → SoundIn accepts active end.live live → RequestIn end live
       → ((t : Transfer) → newest (after end moves).past ≡ t ∷ [] → IsBytes (arrived_of t))
       → EventRequests accepts (reading end live active reason) (target_reading_changed accepts (after end moves) (reading end live active reason) change)
   changed_requests end live active reason moves (Begins kind) fits sound h bytes =
-      let s : TargetSessionLog = record { first = first_row kind active.sequence; done = [] } in
-      let row : row_in accepts active.identity s ≡ first_row kind active.sequence = row_of_none accepts active.identity (first_row kind active.sequence) in (
-        for_identity active (row_in accepts active.identity s) (after end moves) s (subst (λ (x : WholeRow). HasRequest (after end moves) x) (sym row) (first_has (after end moves) kind active.sequence)),
-        λ new. no_new _ accepts _ _ (ap (λ (x : WholeRow). standing_in active x) row ∙ begins_active active kind active.sequence) new,
-      )
+      (first_has (after end moves) kind active.sequence, λ new. no_new _ accepts _ _ (begins_active active kind active.sequence) new)
   changed_requests end live active reason moves (Ends why) fits sound h bytes = (tt, λ new. no_new _ accepts _ _ refl new)
   changed_requests end None active reason moves (Continues more) fits sound h bytes = (tt, λ new. no_new _ accepts _ _ refl new)
   changed_requests end None active reason moves (Turns move more) fits sound h bytes = (tt, λ new. no_new _ accepts _ _ refl new)
   changed_requests end None active reason moves (Turns_without_port move more) fits sound h bytes = (tt, λ new. no_new _ accepts _ _ refl new)
-  changed_requests end (Some s) active reason moves (Continues more) fits sound h bytes = (has_still end (after end moves) (row_in accepts active.identity s) fits.2 h, λ new. no_new _ accepts _ _ refl new)
+  changed_requests end (Some s) active reason moves (Continues more) fits sound h bytes = (has_still end (after end moves) s.row fits.2 h, λ new. no_new _ accepts _ _ refl new)
   changed_requests end (Some s) active reason moves (Turns move more) (turn, none, role) sound h bytes =
-      let now = turned_has reads accepts active.identity end s moves move more turn (bytes turn.ended turn.is_newest) sound.role h in
-      let then = with_done s (newest (after end moves).past) in (
-        for_identity active (row_in accepts active.identity then) (after end moves) then
-            (subst (λ (ts : List Transfer). HasRequest (after end moves) (row_in accepts active.identity (with_done s ts))) (sym turn.is_newest) now),
+      let now = turned_has reads accepts active end s moves move more turn (bytes turn.ended turn.is_newest) sound.role h in (
+        subst (λ (ts : List Transfer). HasRequest (after end moves) (with_done accepts active s ts).row) (sym turn.is_newest) now,
         turned_installs accepts _ _ s turn.ended refl turn.is_newest now,
       )
   changed_requests end (Some s) active reason moves (Turns_without_port move more) turn sound h bytes =
-      (tt, turned_installs accepts _ _ s turn.ended refl turn.is_newest (turned_has reads accepts active.identity end s moves move more turn (bytes turn.ended turn.is_newest) sound.role h))
+      (tt, turned_installs accepts _ _ s turn.ended refl turn.is_newest (turned_has reads accepts active end s moves move more turn (bytes turn.ended turn.is_newest) sound.role h))
 
-  pub target_step_requests : SumsJoin → PayloadsAreBytes → (log : List Event) (r : TargetReading) (e : Event) → LogIsBytes (e ∷ log) → PacketsCame log r.end → IsLive r.end.live → SessionIsSound accepts r → SessionHasRequest accepts r → EventRequests accepts r (target_extended accepts r e)
+  pub target_step_requests : SumsJoin → PayloadsAreBytes → (log : List Event) (r : TargetReading) (e : Event) → LogIsBytes (e ∷ log) → PacketsCame log r.end → IsLive r.end.live → SessionIsSound accepts r → SessionHasRequest r → EventRequests accepts r (target_extended accepts r e)
   target_step_requests joins payloads log r e fit packets live sound h =
-      let d = target_decision accepts (target_view accepts r) e in
+      let d = target_decision accepts (target_view r) e in
       changed_requests r.end r.live r.active r.reason d.moves d.change (decision_fits joins accepts r e live) sound h
-      (λ t one. newest_bytes payloads (e ∷ log) (after r.end d.moves) t fit (moves_came sides.Target e log r.end d.moves (target_moves_heard accepts (target_view accepts r) e) packets) one)
+      (λ t one. newest_bytes payloads (e ∷ log) (after r.end d.moves) t fit (moves_came sides.Target e log r.end d.moves (target_moves_heard accepts (target_view r) e) packets) one)

@@ -13,7 +13,6 @@ use Rattle.load_protocol_files.specs.Lui.{lui}
 use Rattle.load_protocol_files.specs.Lus.{LusView, lus}
 use Rattle.load_protocol_files.specs.Pieces.{counted_fields}
 use Rattle.load_base.specs.Config.{LoadView}
-use Rattle.load_header.specs.Header.{HeaderView}
 use Rattle.disk_layout.specs.Holds.{Outline, StandingView}
 use Rattle.disk_layout.specs.Manifest.{LoadEntry}
 use Rattle.tftp_packet.specs.declared.options.Options.{Options}
@@ -30,9 +29,10 @@ use Rattle.transfer_end.specs.OtherEnds.{MoveFits, MoveHasRole, MovesFit, Serves
 use Rattle.transfer_end.specs.Readings.{Reading}
 use Rattle.transfer_end.specs.RfcLaws.{end_is_of_link}
 use Rattle.transfer_end.specs.ViewLaws.{end_of_more}
-use Rattle.transfer_end.specs.Transfers.{LinkEnd, Role, ServesRead, ServesWrite, Transfer, Writes, arrived_of, arriving_in, end_answer, end_in, end_moved, end_of, is_received, with_packet}
+use Rattle.transfer_end.specs.Transfers.{LinkEnd, Role, ServesRead, ServesWrite, Transfer, Writes, arrived_of, arriving_in, end_answer, end_moved, end_of, is_received, with_packet}
 use Rattle.transfer_end.specs.Transfers as transfers
 use Rattle.transfer_end.specs.Views.{TransferView}
+use Rattle.accept_rules.specs.Permissions.{Accepts}
 use Rattle.session_rules.specs.declared.outcome.FileKind.{FileKind}
 use Rattle.session_rules.specs.declared.outcome.FileKind.TheVariants as kinds
 use Rattle.session_rules.specs.declared.outcome.Outcome.{Outcome}
@@ -59,11 +59,11 @@ use Rattle.session_rules.specs.SessionLaws.{begun_by, decision_begins}
 use Rattle.session_rules.specs.Sessions.{started_by}
 use Rattle.session_rules.specs.Target as target
 use Rattle.session_rules.specs.TargetLaws.{FitsChange, HasTurned, after, decision_fits, seen_row, turned_row, turned_view}
-use Rattle.session_rules.specs.TargetLog.{TargetReading, TargetSessionLog, reading_turned, row_in, session_view, standing_after, standing_in, target_extended, target_view, with_done}
+use Rattle.session_rules.specs.TargetLog.{TargetReading, TargetSessionLog, reading_turned, session_view, standing_after, standing_in, target_extended, target_view, with_done}
 use Rattle.session_rules.specs.TargetRows as rows
 use Rattle.session_rules.specs.TargetRows.{Arriving, Breaks_off, Judges, Passes, Refuses_request, Requests, placed_view, placed_view_if, view_judged, view_judged_in, with_file_view, with_header_view}
 use Rattle.session_rules.specs.Uploads.{Accepts_file, Accepts_header, Complete, Judgement, More_files, Next, Next_load, OpenLoadView, Stops_for, UploadView, next_name, next_wanted}
-use Rattle.session_rules.specs.TargetRows.{Awaits_lur, Gives_denial, Gives_lci, Gives_lui, Over, Reads_file, RowMove, RowView, UploadEnd, WholeRow, Writes_completion, Writes_lcl, Writes_lcs, Writes_progress, Writes_ready, Writes_stop, row_view, view_moved, with_bytes}
+use Rattle.session_rules.specs.TargetRows.{Awaits_lur, Gives_denial, Gives_lci, Gives_lui, Over, Reads_file, RowMove, RowView, UploadEnd, WholeRow, Writes_completion, Writes_lcl, Writes_lcs, Writes_progress, Writes_ready, Writes_stop, row_view, view_moved}
 
 -- ---- the bytes of a status
 
@@ -443,38 +443,38 @@ installs_row active Over other entries e = absurd cc
 
 -- ---- the target: one event
 
-module _ (joins : SumsJoin) (accepts : HeaderView → Bool) (r : TargetReading) (e : Event) (going : IsLive r.end.live) where
+module _ (joins : SumsJoin) (accepts : Accepts) (r : TargetReading) (e : Event) (going : IsLive r.end.live) where
   abbrev v_now : target.TargetView
-  v_now = target_view accepts r
+  v_now = target_view r
 
   abbrev d_now : target.TargetDecision
-  d_now = target.target_decision accepts (target_view accepts r) e
+  d_now = target.target_decision accepts (target_view r) e
 
-  installs : (s : TargetSessionLog) (move : RowMove) (more : List ℕ) → r.live ≡ Some s → d_now.change ≡ target.Turns move more → Completes_row (turned_view accepts r.active.identity r.end s move more) → InstallsNow accepts r e
+  installs : (s : TargetSessionLog) (move : RowMove) (more : List ℕ) → r.live ≡ Some s → d_now.change ≡ target.Turns move more → Completes_row (turned_view r.end s move more) → InstallsNow accepts r e
   installs s move more live is (end, entries, row) =
       let then : Reading = after r.end d_now.moves in
-      let session : TargetSessionLog = with_done s (newest then.past) in
-      let same : target_extended accepts r e ≡ reading_turned accepts then r session = turned_reading accepts then r s move more d_now.change live is in
-      let turned : HasTurned accepts r.active.identity r.end s d_now.moves move more =
+      let session : TargetSessionLog = with_done accepts r.active s (newest then.past) in
+      let same : target_extended accepts r e ≡ reading_turned then r session = turned_reading accepts then r s move more d_now.change live is in
+      let turned : HasTurned accepts r.active r.end s d_now.moves move more =
       fits_turned r.live d_now.change live is (decision_fits joins accepts r e going) in
-      let view : seen_row accepts r.active.identity session ≡ Writes_completion end entries = turned_row joins accepts r.active.identity s r.end d_now.moves move more turned ∙ row in
-      let (loads, next) = installs_row r.active (row_in accepts r.active.identity session) end entries view in
+      let view : seen_row session ≡ Writes_completion end entries = turned_row joins accepts r.active s r.end d_now.moves move more turned ∙ row in
+      let (loads, next) = installs_row r.active session.row end entries view in
       record { loads = loads; next = ap (λ (x : TargetReading). x.active) same ∙ next }
     where
-      fits_turned : (live : Option TargetSessionLog) (change : target.TargetChange) → live ≡ Some s → change ≡ target.Turns move more → FitsChange accepts r.active.identity r.end live d_now.moves change → HasTurned accepts r.active.identity r.end s d_now.moves move more
+      fits_turned : (live : Option TargetSessionLog) (change : target.TargetChange) → live ≡ Some s → change ≡ target.Turns move more → FitsChange accepts r.active r.end live d_now.moves change → HasTurned accepts r.active r.end s d_now.moves move more
       fits_turned live change is_some is_turn fits =
-          (subst (λ (x : Option TargetSessionLog). FitsChange accepts r.active.identity r.end x d_now.moves (target.Turns move more)) is_some
-          (subst (λ (c : target.TargetChange). FitsChange accepts r.active.identity r.end live d_now.moves c) is_turn fits)).0
+          (subst (λ (x : Option TargetSessionLog). FitsChange accepts r.active r.end x d_now.moves (target.Turns move more)) is_some
+          (subst (λ (c : target.TargetChange). FitsChange accepts r.active r.end live d_now.moves c) is_turn fits)).0
 
-  asked_by_row : (s : TargetSessionLog) (move : RowMove) (more : List ℕ) (role : Role) → r.live ≡ Some s → d_now.change ≡ target.Turns move more → target.row_request v_now (turned_view accepts r.active.identity r.end s move more) ≡ Some role
+  asked_by_row : (s : TargetSessionLog) (move : RowMove) (more : List ℕ) (role : Role) → r.live ≡ Some s → d_now.change ≡ target.Turns move more → target.row_request v_now (turned_view r.end s move more) ≡ Some role
       → TellsInstalled accepts r e role
   asked_by_row s move more (Writes name o file) live is asks = λ says. installs s move more live is
-      (row_says v_now (turned_view accepts r.active.identity r.end s move more) name o file (moved_reason _ _ move) asks says)
+      (row_says v_now (turned_view r.end s move more) name o file (moved_reason _ _ move) asks says)
   asked_by_row s move more (transfers.Reads name o) live is asks = tt
   asked_by_row s move more (ServesWrite name o) live is asks = tt
-  asked_by_row s move more (ServesRead name o file) live is asks = absurd (row_serves_not v_now (turned_view accepts r.active.identity r.end s move more) name o file asks)
+  asked_by_row s move more (ServesRead name o file) live is asks = absurd (row_serves_not v_now (turned_view r.end s move more) name o file asks)
 
-  asked_in_turn : (live : Option TargetSessionLog) (move : RowMove) (more : List ℕ) (role : Role) → r.live ≡ live → d_now.change ≡ target.Turns move more → RowAsks v_now (session_view accepts r live) move more role → TellsInstalled accepts r e role
+  asked_in_turn : (live : Option TargetSessionLog) (move : RowMove) (more : List ℕ) (role : Role) → r.live ≡ live → d_now.change ≡ target.Turns move more → RowAsks v_now (session_view r.end live) move more role → TellsInstalled accepts r e role
   asked_in_turn None move more role live is asks = absurd asks
   asked_in_turn (Some s) move more role live is asks = asked_by_row s move more role live is asks
 

@@ -1,14 +1,14 @@
 -- How an upload is completed, at both sides (docs/EXCHANGE.md, "Upload").
-use Rattle.std.specs.Prelude.{◌≤◌, length, ◌≡◌, ℕ, List, ◌∷◌, Bool, true, Ok, ⊤}
+use Rattle.std.specs.Prelude.{◌≤◌, length, ◌≡◌, ℕ, List, ◌∷◌, true, Ok, ⊤}
 use Rattle.std.specs.List.{AllByRecursion}
 use Rattle.field_grammar.specs.Answers.{answer}
 use Rattle.load_base.specs.Config.{LoadView}
-use Rattle.load_header.specs.Header.{HeaderView}
 use Rattle.load_protocol_files.specs.Lus.{LusSpells, LusView, lus}
 use Rattle.exchange_trace.specs.Logs.{Event}
 use Rattle.transfer_end.specs.Laws.{IsLive}
 use Rattle.transfer_end.specs.OtherEnds.{MoveHasRole, is_receiving}
 use Rattle.transfer_end.specs.Transfers.{Role, ServesRead, Writes, arrived_of, end_in, is_received}
+use Rattle.accept_rules.specs.Permissions.{Accepts}
 use Rattle.session_rules.specs.declared.outcome.Outcome.TheVariants.{Completed}
 use Rattle.session_rules.specs.declared.outcome.SessionKind.TheVariants.{Upload}
 use Rattle.session_rules.specs.Loader.{EndedSession}
@@ -44,18 +44,18 @@ CompletedUploadArrived = (media : Media) (log : List Event) (e : Event) (session
 -- ---- the target
 
 -- the event makes these loads what is active
-pub record InstallsNow (accepts : HeaderView → Bool) (r : TargetReading) (e : Event) : Type 0 where
+pub record InstallsNow (accepts : Accepts) (r : TargetReading) (e : Event) : Type 0 where
   pub loads : List LoadView
   pub next : (target_extended accepts r e).active ≡ standing_after r.active loads
 
 -- a file that is sent says that all is installed only if it is as the transfer begins; a file that is given has no more bytes
 -- than the option `tsize` can tell (RFC 2349), and never says so
-abbrev pub TellsInstalled : (accepts : HeaderView → Bool) → TargetReading → Event → Role → Type 0
+abbrev pub TellsInstalled : Accepts → TargetReading → Event → Role → Type 0
 TellsInstalled accepts r e (Writes name options file) = SaysCompleted file → InstallsNow accepts r e
 TellsInstalled accepts r e (ServesRead name options file) = (length file ≤ 4294967295) × (SaysCompleted file → ⊥)
 TellsInstalled accepts r e role = ⊤
 
 -- Whatever reaches a target, it begins to send a file which says that all is installed only as it installs.
 abbrev pub TargetTellsInstalled : Type 0
-TargetTellsInstalled = (accepts : HeaderView → Bool) (r : TargetReading) (e : Event) → IsLive r.end.live
-    → AllByRecursion (MoveHasRole (TellsInstalled accepts r e)) (target_decision accepts (target_view accepts r) e).moves
+TargetTellsInstalled = (accepts : Accepts) (r : TargetReading) (e : Event) → IsLive r.end.live
+    → AllByRecursion (MoveHasRole (TellsInstalled accepts r e)) (target_decision accepts (target_view r) e).moves

@@ -1,13 +1,12 @@
 -- The target's sessions with all contents, event by event (docs/EXCHANGE.md, "The target").
-use Rattle.std.specs.Prelude.{◌≡◌, ℕ, List, [], ◌∷◌, ◌++◌, Bool, Option, Some, None, option_map}
-use Rattle.load_header.specs.Header.{HeaderView}
-use Rattle.disk_layout.specs.declared.identity.Identity.{Identity}
-use Rattle.disk_layout.specs.Holds.{StandingView, outline_of}
+use Rattle.std.specs.Prelude.{◌≡◌, ℕ, List, [], ◌∷◌, ◌++◌, Option, Some, None, option_map}
+use Rattle.disk_layout.specs.Holds.{Outline, StandingView, outline_of}
 use Rattle.exchange_trace.specs.Logs.{Event}
 use Rattle.transfer_end.specs.Readings.{Reading}
 use Rattle.transfer_end.specs.Transfers.{arriving_in}
+use Rattle.accept_rules.specs.Permissions.{Accepts}
 use Rattle.session_rules.specs.Target.{Begins, Continues, Ends, TargetChange, TargetSession, TargetView, Turns, Turns_without_port, target_decision}
-use Rattle.session_rules.specs.TargetLog.{TargetReading, TargetSessionLog, row_in, standing_in, target_reading, target_view}
+use Rattle.session_rules.specs.TargetLog.{TargetReading, TargetSessionLog, standing_in, target_reading, target_view}
 use Rattle.session_rules.specs.TargetRows.{RowMove, WholeRow, arriving_of, first_row, row_move, row_moved, row_view, view_moved, with_bytes}
 
 -- a session: its next row, and what has arrived of the row's file
@@ -33,9 +32,9 @@ pub record AreKept (c : TargetContents) (v : TargetView) : Type 0 where
 -- What is kept goes on with the bytes that come, and turns to the row that the contents turn to.
 pub record ContentsAreKept : Type 0 where
   pub more : (row : WholeRow) (first rest : List ℕ) → with_bytes (arriving_of (row_view row) first) rest ≡ arriving_of (row_view row) (first ++ rest)
-  pub moved : (accepts : HeaderView → Bool) (id : Identity) (row : WholeRow) (error : Option ℕ) (bytes : List ℕ)
-      → view_moved (row_view row) (arriving_of (row_view row) bytes) (row_move accepts id (row_view row) (record { error = error; arriving = arriving_of (row_view row) bytes }))
-      ≡ row_view (row_moved row bytes (row_move accepts id (row_view row) (record { error = error; arriving = arriving_of (row_view row) bytes })))
+  pub moved : (accepts : Accepts) (active : Outline) (row : WholeRow) (error : Option ℕ) (bytes : List ℕ)
+      → view_moved (row_view row) (arriving_of (row_view row) bytes) (row_move accepts active (row_view row) (record { error = error; arriving = arriving_of (row_view row) bytes }))
+      ≡ row_view (row_moved row bytes (row_move accepts active (row_view row) (record { error = error; arriving = arriving_of (row_view row) bytes })))
 
 -- ---- after an event
 
@@ -65,21 +64,21 @@ contents_changed c (Turns_without_port move more) = contents_turned reached_last
 contents_changed c (Ends reason) = record { active = c.active; live = None }
 
 -- after an event, by what the target keeps before it
-abbrev pub contents_after : (accepts : HeaderView → Bool) → TargetView → Event → TargetContents → TargetContents
+abbrev pub contents_after : Accepts → TargetView → Event → TargetContents → TargetContents
 contents_after accepts v e c = contents_changed c (target_decision accepts v e).change
 
 -- ---- what a log says of them
 
-abbrev pub session_contents : (accepts : HeaderView → Bool) → Identity → Reading → Option TargetSessionLog → Option SessionContents
-session_contents accepts id end None = None
-session_contents accepts id end (Some s) = Some (record { row = row_in accepts id s; arrived = arriving_in end.live })
+abbrev pub session_contents : Reading → Option TargetSessionLog → Option SessionContents
+session_contents end None = None
+session_contents end (Some s) = Some (record { row = s.row; arrived = arriving_in end.live })
 
-abbrev pub contents_of : (accepts : HeaderView → Bool) → TargetReading → TargetContents
-contents_of accepts r = record { active = r.active; live = session_contents accepts r.active.identity r.end r.live }
+abbrev pub contents_of : TargetReading → TargetContents
+contents_of r = record { active = r.active; live = session_contents r.end r.live }
 
 -- What a target keeps is of what its log says, and this changes with each event as the target decides.
 abbrev pub ContentsFollow : Type 0
-ContentsFollow = ((accepts : HeaderView → Bool) (r : TargetReading) → AreKept (contents_of accepts r) (target_view accepts r))
-    × ((accepts : HeaderView → Bool) (first_port : ℕ) (active : StandingView) (log : List Event) (e : Event)
-    → contents_of accepts (target_reading accepts first_port active (e ∷ log))
-    ≡ contents_after accepts (target_view accepts (target_reading accepts first_port active log)) e (contents_of accepts (target_reading accepts first_port active log)))
+ContentsFollow = ((r : TargetReading) → AreKept (contents_of r) (target_view r))
+    × ((accepts : Accepts) (first_port : ℕ) (active : StandingView) (log : List Event) (e : Event)
+    → contents_of (target_reading accepts first_port active (e ∷ log))
+    ≡ contents_after accepts (target_view (target_reading accepts first_port active log)) e (contents_of (target_reading accepts first_port active log)))

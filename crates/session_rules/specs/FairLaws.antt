@@ -2,7 +2,6 @@
 use Rattle.std.proofs.Common.{◌≡◌, ℕ, Bool, true, false, cond, eqb, List, [], ◌∷◌, ◌++◌, length, Option, Some, None, Result, Ok, Err, refl, sym, subst, arith}
 use Rattle.std.specs.Prelude.{bytes_eq, nat_lt}
 use Rattle.std.proofs.lemmas.Bool.{eqb-true}
-use Rattle.load_header.specs.Header.{HeaderView}
 use Rattle.load_protocol_files.specs.declared.lur.Wanted.{Wanted}
 use Rattle.tftp_packet.specs.declared.options.Options.{Options}
 use Rattle.tftp_packet.specs.Packets.{Ack, Data, Error, Oack, PacketView, Rrq, Wrq}
@@ -16,6 +15,7 @@ use Rattle.transfer_end.specs.Packets.{belongs, has_port, heard_answer, is_busy,
 use Rattle.transfer_end.specs.Readings.{Reading}
 use Rattle.transfer_end.specs.Transfers.{Reads, Role, ServesRead, ServesWrite, Transfer, Writes}
 use Rattle.transfer_end.specs.Views.{EndView}
+use Rattle.accept_rules.specs.Permissions.{Accepts}
 use Rattle.session_rules.specs.declared.outcome.FileKind.{FileKind}
 use Rattle.session_rules.specs.declared.outcome.FileKind.TheVariants as kinds
 use Rattle.session_rules.specs.declared.outcome.Outcome.TheVariants.{PeerError}
@@ -273,14 +273,14 @@ module _ (v : target.TargetView) where
         target_if (Gets from to bytes) (has_port v.end) _ _ (then_fits v.end (IsTargetRole v) from to bytes p (Asks role) is asks has) (target_stops p is)
     target_next_fits p more move row None e is = target_if (Gets from to bytes) (target.is_over row) _ _ (target_stops p is) (target_heard_fits p is)
 
-    target_turn_fits : (accepts : HeaderView → Bool) (s : target.TargetSession) (p : PacketView) (more : List ℕ) (error : Option ℕ) → packet_in bytes ≡ Some p
+    target_turn_fits : (accepts : Accepts) (s : target.TargetSession) (p : PacketView) (more : List ℕ) (error : Option ℕ) → packet_in bytes ≡ Some p
         → TargetFit (Gets from to bytes) (target.turn_decision accepts v s (transfer_moves v.end from to p) more error)
     target_turn_fits accepts s p more error is =
         let arriving : Arriving = with_bytes s.arriving more in
-        let move : RowMove = row_move accepts v.active.identity s.row (record { error = error; arriving = arriving }) in
+        let move : RowMove = row_move accepts v.active s.row (record { error = error; arriving = arriving }) in
         target_next_fits p more move (view_moved s.row arriving move) (target.row_request v (view_moved s.row arriving move)) refl is
 
-    target_answer_fits : (accepts : HeaderView → Bool) (s : target.TargetSession) (p : PacketView) (answer : Answer) → packet_in bytes ≡ Some p
+    target_answer_fits : (accepts : Accepts) (s : target.TargetSession) (p : PacketView) (answer : Answer) → packet_in bytes ≡ Some p
         → TargetFit (Gets from to bytes) (target.answer_decision accepts v s (transfer_moves v.end from to p) answer)
     target_answer_fits accepts s p (TakesBlock payload) is = target_heard_fits p is
     target_answer_fits accepts s p (TakesLast payload) is = target_turn_fits accepts s p payload None is
@@ -291,7 +291,7 @@ module _ (v : target.TargetView) where
     target_answer_fits accepts s p (Grants o) is = target_heard_fits p is
     target_answer_fits accepts s p Proceeds is = target_heard_fits p is
 
-    target_transfer_fits : (accepts : HeaderView → Bool) (live : Option target.TargetSession) (p : PacketView) → packet_in bytes ≡ Some p → TargetFit (Gets from to bytes) (target.transfer_decision accepts v live from to p)
+    target_transfer_fits : (accepts : Accepts) (live : Option target.TargetSession) (p : PacketView) → packet_in bytes ≡ Some p → TargetFit (Gets from to bytes) (target.transfer_decision accepts v live from to p)
     target_transfer_fits accepts None p is = target_heard_fits p is
     target_transfer_fits accepts (Some s) p is = target_answer_fits accepts s p (heard_answer v.end from to p) is
 
@@ -299,7 +299,7 @@ module _ (v : target.TargetView) where
     target_at_59 true x y e p q = p (eqb-true to 59 e)
     target_at_59 false x y e p q = q
 
-    target_got_fits : (accepts : HeaderView → Bool) (p : Option PacketView) → packet_in bytes ≡ p → TargetFit (Gets from to bytes) (target.got_decision accepts v from to p)
+    target_got_fits : (accepts : Accepts) (p : Option PacketView) → packet_in bytes ≡ p → TargetFit (Gets from to bytes) (target.got_decision accepts v from to p)
     target_got_fits accepts None is = (tt, tt)
     target_got_fits accepts (Some p) is = target_at_59 (eqb to 59) _ _ refl (λ at. target_request_fits p at is) (target_transfer_fits accepts v.live p is)
 
@@ -321,9 +321,9 @@ loader_stays_fair moves_stay_fair media r e theirs posted was live ports h =
 
 pub target_stays_fair : MovesStayFair → TargetStaysFair
 target_stays_fair moves_stay_fair accepts r e former theirs posted was live ports h =
-    let d = target.target_decision accepts (target_view accepts r) e in
+    let d = target.target_decision accepts (target_view r) e in
     subst (λ (x : Reading). AreFair sides.Target sides.Loader (all_of x former) theirs x.last (posted ++ target_due accepts r e)) (sym (target_end_stays accepts (readings_after sides.Target r.end d.moves) r d.change))
-    (moves_stay_fair sides.Target sides.Loader e r.end former theirs d.moves posted (λ same. cc) (target_moves_fit accepts (target_view accepts r) e).0 was live ports h)
+    (moves_stay_fair sides.Target sides.Loader e r.end former theirs d.moves posted (λ same. cc) (target_moves_fit accepts (target_view r) e).0 was live ports h)
 
 pub loader_ports_stay : (media : Media) (log : List Event) → PortsFit (loader_reading media log).end []
 loader_ports_stay media [] = record { counts = tt; first = omega arith; below = tt; rise = tt }
@@ -332,9 +332,9 @@ loader_ports_stay media (e ∷ log) =
     let d = loader.loader_decision media (loader_view r) e in
     subst (λ (x : Reading). PortsFit x []) (sym (loader_end_stays (readings_after sides.Loader r.end d.moves) r d.change)) (ports_stay sides.Loader r.end [] d.moves (loader_ports_stay media log))
 
-pub target_ports_stay : (accepts : HeaderView → Bool) (r : TargetReading) (e : Event) (former : List Transfer) → PortsFit r.end former → PortsFit (target_extended accepts r e).end former
+pub target_ports_stay : (accepts : Accepts) (r : TargetReading) (e : Event) (former : List Transfer) → PortsFit r.end former → PortsFit (target_extended accepts r e).end former
 target_ports_stay accepts r e former fit =
-    let d = target.target_decision accepts (target_view accepts r) e in
+    let d = target.target_decision accepts (target_view r) e in
     subst (λ (x : Reading). PortsFit x former) (sym (target_end_stays accepts (readings_after sides.Target r.end d.moves) r d.change)) (ports_stay sides.Target r.end former d.moves fit)
 
 pub loader_gives_media_files : LoaderGivesMediaFiles

@@ -1,7 +1,6 @@
 -- What both sides ask for and serve (docs/EXCHANGE.md, "Operations").
-use Rattle.std.specs.Prelude.{◌≡◌, List, [], ◌++◌, Bool, Some, ⊤}
+use Rattle.std.specs.Prelude.{◌≡◌, List, [], ◌++◌, Some, ⊤}
 use Rattle.std.specs.List.{AllByRecursion}
-use Rattle.load_header.specs.Header.{HeaderView}
 use Rattle.exchange_trace.specs.Logs.{Event}
 use Rattle.exchange_trace.specs.declared.trace.Side.TheVariants as sides
 use Rattle.exchange_trace.specs.Happenings.{DatagramView}
@@ -10,6 +9,7 @@ use Rattle.transfer_end.specs.Moves.{Move}
 use Rattle.transfer_end.specs.OtherEnds.{AreFair, EventWasPosted, HaveRoles, MoveHasRole, MovesFit, PortsFit, all_of}
 use Rattle.transfer_end.specs.Transfers.{Role, ServesRead, ServesWrite, Transfer}
 use Rattle.transfer_end.specs.Views.{EndView}
+use Rattle.accept_rules.specs.Permissions.{Accepts}
 use Rattle.session_rules.specs.declared.outcome.FileKind.{FileKind}
 use Rattle.session_rules.specs.Loader.{LoaderView, loader_decision}
 use Rattle.session_rules.specs.LoaderLog.{LoaderReading, loader_due, loader_extended, loader_reading}
@@ -39,7 +39,7 @@ abbrev pub LoaderMovesFit : Type 0
 LoaderMovesFit = (media : Media) (v : LoaderView) (e : Event) → MovesAreFit e v.end (IsLoaderRole media) (loader_decision media v e).moves
 
 abbrev pub TargetMovesFit : Type 0
-TargetMovesFit = (accepts : HeaderView → Bool) (v : TargetView) (e : Event) → MovesAreFit e v.end (IsTargetRole v) (target_decision accepts v e).moves
+TargetMovesFit = (accepts : Accepts) (v : TargetView) (e : Event) → MovesAreFit e v.end (IsTargetRole v) (target_decision accepts v e).moves
 
 -- So both sides stay fair where what reaches the loader was posted by the target,
 abbrev pub LoaderStaysFair : Type 0
@@ -49,7 +49,7 @@ LoaderStaysFair = (media : Media) (r : LoaderReading) (e : Event) (theirs : List
 
 -- and where what reaches the target, which may have had lives before, was posted by the loader.
 abbrev pub TargetStaysFair : Type 0
-TargetStaysFair = (accepts : HeaderView → Bool) (r : TargetReading) (e : Event) (former theirs : List Transfer) (posted : List DatagramView)
+TargetStaysFair = (accepts : Accepts) (r : TargetReading) (e : Event) (former theirs : List Transfer) (posted : List DatagramView)
     → EventWasPosted posted sides.Loader e → IsLive r.end.live → PortsFit r.end former → AreFair sides.Target sides.Loader (all_of r.end former) theirs r.end.last posted
     → AreFair sides.Target sides.Loader (all_of (target_extended accepts r e).end former) theirs (target_extended accepts r e).end.last (posted ++ target_due accepts r e)
 

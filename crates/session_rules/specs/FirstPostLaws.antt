@@ -1,7 +1,6 @@
 -- Proofs that both sides first post blocks in their order.
 use Rattle.std.proofs.Common.{◌≡◌, ℕ, ◌<◌, Bool, true, false, cond, List, [], ◌∷◌, ◌++◌, Option, Some, None, refl, sym, subst, append-nil}
 use Rattle.std.specs.List.{AllByRecursion}
-use Rattle.load_header.specs.Header.{HeaderView}
 use Rattle.disk_layout.specs.Holds.{StandingView}
 use Rattle.exchange_trace.specs.declared.trace.Side.{Side}
 use Rattle.exchange_trace.specs.declared.trace.Side.TheVariants as sides
@@ -16,6 +15,7 @@ use Rattle.transfer_end.specs.Packets.{may_repeat}
 use Rattle.transfer_end.specs.Readings.{Reading}
 use Rattle.transfer_end.specs.Transfers.{Transfer}
 use Rattle.transfer_end.specs.Views.{EndView}
+use Rattle.accept_rules.specs.Permissions.{Accepts}
 use Rattle.session_rules.specs.declared.outcome.Outcome.TheVariants.{GaveUp}
 use Rattle.session_rules.specs.declared.reason.Reason.TheVariants as reasons
 use Rattle.session_rules.specs.BufferLaws.{SumsJoin}
@@ -109,13 +109,13 @@ loader_in_order in_order media (e ∷ log) =
 pub loader_blocks_in_order : MovesPostInOrder → LoaderBlocksInOrder
 loader_blocks_in_order in_order media log = (loader_in_order in_order media log).each
 
-module _ (joins : SumsJoin) (moves_post_in_order : MovesPostInOrder) (accepts : HeaderView → Bool) (first_port : ℕ) (active : StandingView) (above : 59 < first_port) where
+module _ (joins : SumsJoin) (moves_post_in_order : MovesPostInOrder) (accepts : Accepts) (first_port : ℕ) (active : StandingView) (above : 59 < first_port) where
   ports_fit : (log : List Event) → PortsFit (target_reading accepts first_port active log).end []
   ports_fit [] = record { counts = tt; first = above; below = tt; rise = tt }
   ports_fit (e ∷ log) = target_ports_stay accepts (target_reading accepts first_port active log) e [] (ports_fit log)
 
   target_moves_in_order : (log : List Event) (e : Event) → AllInOrder (target_reading accepts first_port active log).end (target_first_posts accepts first_port active log)
-      → AllInOrder (readings_after sides.Target (target_reading accepts first_port active log).end (target.target_decision accepts (target_view accepts (target_reading accepts first_port active log)) e).moves)
+      → AllInOrder (readings_after sides.Target (target_reading accepts first_port active log).end (target.target_decision accepts (target_view (target_reading accepts first_port active log)) e).moves)
       (target_first_posts accepts first_port active log ++ unless_tick e (target_due accepts (target_reading accepts first_port active log) e))
   target_moves_in_order log e h = by e
     where
@@ -125,12 +125,12 @@ module _ (joins : SumsJoin) (moves_post_in_order : MovesPostInOrder) (accepts : 
       posts : List DatagramView
       posts = target_first_posts accepts first_port active log
 
-      other : (e : Event) → IsNoTick e → AllInOrder (readings_after sides.Target r.end (target.target_decision accepts (target_view accepts r) e).moves) (posts ++ target_due accepts r e)
+      other : (e : Event) → IsNoTick e → AllInOrder (readings_after sides.Target r.end (target.target_decision accepts (target_view r) e).moves) (posts ++ target_due accepts r e)
       other e none =
-          moves_post_in_order sides.Target e r.end (target.target_decision accepts (target_view accepts r) e).moves posts none (target_moves_fit accepts (target_view accepts r) e).0 (target_live joins accepts first_port active log) (ports_fit log).counts (ports_fit log).first h
+          moves_post_in_order sides.Target e r.end (target.target_decision accepts (target_view r) e).moves posts none (target_moves_fit accepts (target_view r) e).0 (target_live joins accepts first_port active log) (ports_fit log).counts (ports_fit log).first h
 
-      by : (e : Event) → AllInOrder (readings_after sides.Target r.end (target.target_decision accepts (target_view accepts r) e).moves) (posts ++ unless_tick e (target_due accepts r e))
-      by Ticks = tick_in_order sides.Target r.end (target.target_decision accepts (target_view accepts r) Ticks).moves posts (target_at_tick (target_view accepts r).end (target_view accepts r).live) h
+      by : (e : Event) → AllInOrder (readings_after sides.Target r.end (target.target_decision accepts (target_view r) e).moves) (posts ++ unless_tick e (target_due accepts r e))
+      by Ticks = tick_in_order sides.Target r.end (target.target_decision accepts (target_view r) Ticks).moves posts (target_at_tick (target_view r).end (target_view r).live) h
       by (Gets from to bytes) = other (Gets from to bytes) tt
       by (Learns size) = other (Learns size) tt
       by (Starts_info hw pos) = other (Starts_info hw pos) tt
@@ -140,7 +140,7 @@ module _ (joins : SumsJoin) (moves_post_in_order : MovesPostInOrder) (accepts : 
   target_in_order [] = record { each = λ t a. absurd a; below = tt }
   target_in_order (e ∷ log) =
       let r = target_reading accepts first_port active log in
-      let d = target.target_decision accepts (target_view accepts r) e in
+      let d = target.target_decision accepts (target_view r) e in
       subst (λ (x : Reading). AllInOrder x (target_first_posts accepts first_port active (e ∷ log))) (sym (target_end_stays accepts (readings_after sides.Target r.end d.moves) r d.change)) (target_moves_in_order log e (target_in_order log))
 
 pub target_blocks_in_order : SumsJoin → MovesPostInOrder → TargetBlocksInOrder
@@ -163,16 +163,16 @@ loader_step_in_order in_order media r e posts live ports h =
     by (Starts_info hw pos) = other (Starts_info hw pos) tt
     by (Starts_upload hw pos parts) = other (Starts_upload hw pos parts) tt
 
-pub target_step_in_order : MovesPostInOrder → (accepts : HeaderView → Bool) (r : TargetReading) (e : Event) (posts : List DatagramView) (former : List Transfer) → IsLive r.end.live → PortsFit r.end former → AllInOrder r.end posts
+pub target_step_in_order : MovesPostInOrder → (accepts : Accepts) (r : TargetReading) (e : Event) (posts : List DatagramView) (former : List Transfer) → IsLive r.end.live → PortsFit r.end former → AllInOrder r.end posts
     → AllInOrder (target_extended accepts r e).end (posts ++ unless_tick e (target_due accepts r e))
 target_step_in_order in_order accepts r e posts former live ports h =
-    subst (λ (x : Reading). AllInOrder x (posts ++ unless_tick e (target_due accepts r e))) (sym (target_end_stays accepts (readings_after sides.Target r.end (target.target_decision accepts (target_view accepts r) e).moves) r (target.target_decision accepts (target_view accepts r) e).change)) (by e)
+    subst (λ (x : Reading). AllInOrder x (posts ++ unless_tick e (target_due accepts r e))) (sym (target_end_stays accepts (readings_after sides.Target r.end (target.target_decision accepts (target_view r) e).moves) r (target.target_decision accepts (target_view r) e).change)) (by e)
   where
-    other : (e : Event) → IsNoTick e → AllInOrder (readings_after sides.Target r.end (target.target_decision accepts (target_view accepts r) e).moves) (posts ++ target_due accepts r e)
-    other e none = in_order sides.Target e r.end (target.target_decision accepts (target_view accepts r) e).moves posts none (target_moves_fit accepts (target_view accepts r) e).0 live ports.counts ports.first h
+    other : (e : Event) → IsNoTick e → AllInOrder (readings_after sides.Target r.end (target.target_decision accepts (target_view r) e).moves) (posts ++ target_due accepts r e)
+    other e none = in_order sides.Target e r.end (target.target_decision accepts (target_view r) e).moves posts none (target_moves_fit accepts (target_view r) e).0 live ports.counts ports.first h
 
-    by : (e : Event) → AllInOrder (readings_after sides.Target r.end (target.target_decision accepts (target_view accepts r) e).moves) (posts ++ unless_tick e (target_due accepts r e))
-    by Ticks = tick_in_order sides.Target r.end (target.target_decision accepts (target_view accepts r) Ticks).moves posts (target_at_tick (target_view accepts r).end (target_view accepts r).live) h
+    by : (e : Event) → AllInOrder (readings_after sides.Target r.end (target.target_decision accepts (target_view r) e).moves) (posts ++ unless_tick e (target_due accepts r e))
+    by Ticks = tick_in_order sides.Target r.end (target.target_decision accepts (target_view r) Ticks).moves posts (target_at_tick (target_view r).end (target_view r).live) h
     by (Gets from to bytes) = other (Gets from to bytes) tt
     by (Learns size) = other (Learns size) tt
     by (Starts_info hw pos) = other (Starts_info hw pos) tt

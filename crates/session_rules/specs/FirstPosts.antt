@@ -1,7 +1,6 @@
 -- The order in which both sides first post the blocks of their files (docs/EXCHANGE.md, "Transfers").
-use Rattle.std.specs.Prelude.{◌≡◌, ℕ, ◌<◌, List, [], ◌∷◌, ◌++◌, Bool, Some}
+use Rattle.std.specs.Prelude.{◌≡◌, ℕ, ◌<◌, List, [], ◌∷◌, ◌++◌, Some}
 use Rattle.std.specs.List.{AllByRecursion}
-use Rattle.load_header.specs.Header.{HeaderView}
 use Rattle.disk_layout.specs.Holds.{StandingView}
 use Rattle.exchange_trace.specs.Happenings.{DatagramView}
 use Rattle.exchange_trace.specs.Logs.{Event, Ticks}
@@ -10,6 +9,7 @@ use Rattle.transfer_end.specs.Moves.{past_with}
 use Rattle.transfer_end.specs.OtherEnds.{Among}
 use Rattle.transfer_end.specs.Readings.{Reading}
 use Rattle.transfer_end.specs.Transfers.{Transfer}
+use Rattle.accept_rules.specs.Permissions.{Accepts}
 use Rattle.session_rules.specs.Loader.{LoaderView, loader_posts}
 use Rattle.session_rules.specs.LoaderLog.{loader_due, loader_reading}
 use Rattle.session_rules.specs.MediaFiles.{Media}
@@ -26,7 +26,7 @@ abbrev pub loader_first_posts : Media → List Event → List DatagramView
 loader_first_posts media [] = []
 loader_first_posts media (e ∷ log) = loader_first_posts media log ++ unless_tick e (loader_due media (loader_reading media log) e)
 
-abbrev pub target_first_posts : (accepts : HeaderView → Bool) → (first_port : ℕ) → StandingView → List Event → List DatagramView
+abbrev pub target_first_posts : Accepts → (first_port : ℕ) → StandingView → List Event → List DatagramView
 target_first_posts accepts first_port active [] = []
 target_first_posts accepts first_port active (e ∷ log) = target_first_posts accepts first_port active log ++ unless_tick e (target_due accepts (target_reading accepts first_port active log) e)
 
@@ -41,10 +41,10 @@ LoaderBlocksInOrder = (media : Media) (log : List Event) → BlocksInOrder (load
 
 -- So it is with the target, since it came up.
 abbrev pub TargetBlocksInOrder : Type 0
-TargetBlocksInOrder = (accepts : HeaderView → Bool) (first_port : ℕ) (active : StandingView) (log : List Event) → 59 < first_port
+TargetBlocksInOrder = (accepts : Accepts) (first_port : ℕ) (active : StandingView) (log : List Event) → 59 < first_port
     → BlocksInOrder (target_first_posts accepts first_port active log) (target_reading accepts first_port active log).end
 
 -- At a tick a side posts nothing but what it posted last.
 abbrev pub TicksRepeat : Type 0
 TicksRepeat = ((media : Media) (v : LoaderView) → AllByRecursion (λ (d : DatagramView). v.end.last ≡ Some d) (loader_posts media v Ticks))
-    × ((accepts : HeaderView → Bool) (v : TargetView) → AllByRecursion (λ (d : DatagramView). v.end.last ≡ Some d) (target_posts accepts v Ticks))
+    × ((accepts : Accepts) (v : TargetView) → AllByRecursion (λ (d : DatagramView). v.end.last ≡ Some d) (target_posts accepts v Ticks))

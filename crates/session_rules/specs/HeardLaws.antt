@@ -1,7 +1,6 @@
 -- Proofs that what is in the transfers of a log came, and of how many datagrams are posted.
 use Rattle.std.proofs.Common.{◌≡◌, ◌≤◌, ℕ, Bool, true, false, cond, eqb, List, [], ◌∷◌, ◌++◌, length, Option, Some, None, Result, Ok, Err, refl, sym, subst}
 use Rattle.std.specs.Prelude.{bytes_eq, nat_lt}
-use Rattle.load_header.specs.Header.{HeaderView}
 use Rattle.load_protocol_files.specs.declared.lur.Wanted.{Wanted}
 use Rattle.disk_layout.specs.Holds.{StandingView}
 use Rattle.tftp_packet.specs.declared.options.Options.{Options}
@@ -17,6 +16,7 @@ use Rattle.transfer_end.specs.PostedLaws.{moves_post_two}
 use Rattle.transfer_end.specs.Readings.{Reading}
 use Rattle.transfer_end.specs.Transfers.{Role, ServesRead, ServesWrite}
 use Rattle.transfer_end.specs.Views.{EndView}
+use Rattle.accept_rules.specs.Permissions.{Accepts}
 use Rattle.session_rules.specs.declared.outcome.FileKind.{FileKind}
 use Rattle.session_rules.specs.declared.outcome.FileKind.TheVariants as kinds
 use Rattle.session_rules.specs.declared.outcome.Outcome.TheVariants.{PeerError}
@@ -179,14 +179,14 @@ module _ (v : target.TargetView) where
         target_if (Gets from to bytes) (has_port v.end) _ _ (then_heard v.end from to bytes p (Asks role) is tt) (target_stops p is)
     target_next_heard p more move row None is = target_if (Gets from to bytes) (target.is_over row) _ _ (target_stops p is) (transfer_heard v.end from to bytes p is)
 
-    target_turn_heard : (accepts : HeaderView → Bool) (s : target.TargetSession) (p : PacketView) (more : List ℕ) (error : Option ℕ) → packet_in bytes ≡ Some p
+    target_turn_heard : (accepts : Accepts) (s : target.TargetSession) (p : PacketView) (more : List ℕ) (error : Option ℕ) → packet_in bytes ≡ Some p
         → TargetHeard (Gets from to bytes) (target.turn_decision accepts v s (transfer_moves v.end from to p) more error)
     target_turn_heard accepts s p more error is =
         let arriving : Arriving = with_bytes s.arriving more in
-        let move : RowMove = row_move accepts v.active.identity s.row (record { error = error; arriving = arriving }) in
+        let move : RowMove = row_move accepts v.active s.row (record { error = error; arriving = arriving }) in
         target_next_heard p more move (view_moved s.row arriving move) (target.row_request v (view_moved s.row arriving move)) is
 
-    target_answer_heard : (accepts : HeaderView → Bool) (s : target.TargetSession) (p : PacketView) (answer : Answer) → packet_in bytes ≡ Some p
+    target_answer_heard : (accepts : Accepts) (s : target.TargetSession) (p : PacketView) (answer : Answer) → packet_in bytes ≡ Some p
         → TargetHeard (Gets from to bytes) (target.answer_decision accepts v s (transfer_moves v.end from to p) answer)
     target_answer_heard accepts s p (TakesBlock payload) is = transfer_heard v.end from to bytes p is
     target_answer_heard accepts s p (TakesLast payload) is = target_turn_heard accepts s p payload None is
@@ -197,15 +197,15 @@ module _ (v : target.TargetView) where
     target_answer_heard accepts s p (Grants o) is = transfer_heard v.end from to bytes p is
     target_answer_heard accepts s p Proceeds is = transfer_heard v.end from to bytes p is
 
-    target_transfer_heard : (accepts : HeaderView → Bool) (live : Option target.TargetSession) (p : PacketView) → packet_in bytes ≡ Some p → TargetHeard (Gets from to bytes) (target.transfer_decision accepts v live from to p)
+    target_transfer_heard : (accepts : Accepts) (live : Option target.TargetSession) (p : PacketView) → packet_in bytes ≡ Some p → TargetHeard (Gets from to bytes) (target.transfer_decision accepts v live from to p)
     target_transfer_heard accepts None p is = transfer_heard v.end from to bytes p is
     target_transfer_heard accepts (Some s) p is = target_answer_heard accepts s p (heard_answer v.end from to p) is
 
-    target_got_heard : (accepts : HeaderView → Bool) (p : Option PacketView) → packet_in bytes ≡ p → TargetHeard (Gets from to bytes) (target.got_decision accepts v from to p)
+    target_got_heard : (accepts : Accepts) (p : Option PacketView) → packet_in bytes ≡ p → TargetHeard (Gets from to bytes) (target.got_decision accepts v from to p)
     target_got_heard accepts None is = tt
     target_got_heard accepts (Some p) is = target_if (Gets from to bytes) (eqb to 59) _ _ (target_request_heard p) (target_transfer_heard accepts v.live p is)
 
-pub target_moves_heard : (accepts : HeaderView → Bool) (v : target.TargetView) (e : Event) → MovesHeard e v.end.live (target.target_decision accepts v e).moves
+pub target_moves_heard : (accepts : Accepts) (v : target.TargetView) (e : Event) → MovesHeard e v.end.live (target.target_decision accepts v e).moves
 target_moves_heard accepts v (Gets from to bytes) = target_got_heard v from to bytes accepts (packet_in bytes) refl
 target_moves_heard accepts v Ticks = target_tick_heard v v.live
 target_moves_heard accepts v (Learns size) = (tt, tt)
@@ -222,13 +222,13 @@ loader_came media (e ∷ log) =
     subst (λ (x : Reading). PacketsCame (e ∷ log) x) (sym (loader_end_stays (readings_after sides.Loader r.end d.moves) r d.change))
     (moves_came sides.Loader e log r.end d.moves (loader_moves_heard media (loader_view r) e) (loader_came media log))
 
-pub target_extended_came : (accepts : HeaderView → Bool) (log : List Event) (r : TargetReading) (e : Event) → PacketsCame log r.end → PacketsCame (e ∷ log) (target_extended accepts r e).end
+pub target_extended_came : (accepts : Accepts) (log : List Event) (r : TargetReading) (e : Event) → PacketsCame log r.end → PacketsCame (e ∷ log) (target_extended accepts r e).end
 target_extended_came accepts log r e h =
-    let d = target.target_decision accepts (target_view accepts r) e in
+    let d = target.target_decision accepts (target_view r) e in
     subst (λ (x : Reading). PacketsCame (e ∷ log) x) (sym (target_end_stays accepts (readings_after sides.Target r.end d.moves) r d.change))
-    (moves_came sides.Target e log r.end d.moves (target_moves_heard accepts (target_view accepts r) e) h)
+    (moves_came sides.Target e log r.end d.moves (target_moves_heard accepts (target_view r) e) h)
 
-target_came : (accepts : HeaderView → Bool) (first_port : ℕ) (active : StandingView) (log : List Event) → PacketsCame log (target_reading accepts first_port active log).end
+target_came : (accepts : Accepts) (first_port : ℕ) (active : StandingView) (log : List Event) → PacketsCame log (target_reading accepts first_port active log).end
 target_came accepts first_port active [] = tt
 target_came accepts first_port active (e ∷ log) = target_extended_came accepts log (target_reading accepts first_port active log) e (target_came accepts first_port active log)
 
@@ -245,5 +245,5 @@ target_takes_what_came accepts first_port active log =
 pub loader_posts_two : (media : Media) (v : loader.LoaderView) (e : Event) → length (loader.loader_posts media v e) ≤ 2
 loader_posts_two media v e = moves_post_two sides.Loader e v.end (loader.loader_decision media v e).moves (loader_moves_heard media v e)
 
-pub target_posts_two : (accepts : HeaderView → Bool) (v : target.TargetView) (e : Event) → length (target.target_posts accepts v e) ≤ 2
+pub target_posts_two : (accepts : Accepts) (v : target.TargetView) (e : Event) → length (target.target_posts accepts v e) ≤ 2
 target_posts_two accepts v e = moves_post_two sides.Target e v.end (target.target_decision accepts v e).moves (target_moves_heard accepts v e)

@@ -45,3 +45,5 @@ pub mod Requests
 pub mod RequestLaws
 pub mod ArrivedRequestLaws
 pub mod OwnSessionLaws
+pub mod SessionRows
+pub mod SessionRowLaws

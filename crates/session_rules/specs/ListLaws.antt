@@ -2,8 +2,6 @@
 use Rattle.std.proofs.Common.{◌≡◌, ℕ, Bool, true, false, cond, eqb, List, [], ◌∷◌, ◌++◌, Option, Some, None, refl, sym, ap, subst, ◌∙◌}
 use Rattle.std.specs.Prelude.{bytes_eq}
 use Rattle.std.specs.List.{AllByRecursion}
-use Rattle.load_header.specs.Header.{HeaderView}
-use Rattle.disk_layout.specs.declared.identity.Identity.{Identity}
 use Rattle.disk_layout.specs.Holds.{outline_of}
 use Rattle.tftp_packet.specs.declared.options.Options.{Options}
 use Rattle.tftp_packet.specs.Packets.{Ack, Data, Error, Oack, PacketView, Rrq, Wrq}
@@ -15,7 +13,8 @@ use Rattle.transfer_end.specs.OtherEnds.{MoveFits, MoveHasRole, MovesFit, Serves
 use Rattle.transfer_end.specs.Readings.{Reading}
 use Rattle.transfer_end.specs.Views.{TransferView}
 use Rattle.transfer_end.specs.Packets.{belongs, has_port, heard_answer, is_busy, is_fresh, may_repeat, packet_in, transfer_moves}
-use Rattle.transfer_end.specs.Transfers.{Reads, Role, ServesRead, ServesWrite, Writes}
+use Rattle.transfer_end.specs.Transfers.{Reads, Role, ServesRead, ServesWrite, Writes, arriving_in}
+use Rattle.accept_rules.specs.Permissions.{Accepts}
 use Rattle.session_rules.specs.declared.outcome.FileKind.{FileKind}
 use Rattle.session_rules.specs.declared.outcome.FileKind.TheVariants as kinds
 use Rattle.session_rules.specs.Lists.{AskedInTurn, IsAskedRole, ListIsAsked, RowAsks, TargetAsksForItsFiles, TargetAsksInTurn}
@@ -24,9 +23,9 @@ use Rattle.session_rules.specs.BufferLaws.{SumsJoin}
 use Rattle.session_rules.specs.FairLaws.{target_moves_fit}
 use Rattle.session_rules.specs.LoaderLog.{newest}
 use Rattle.session_rules.specs.Target as target
-use Rattle.session_rules.specs.TargetLaws.{FitsChange, HasTurned, after, decision_fits, identity_stays, seen_row, turned_row, turned_view}
-use Rattle.session_rules.specs.TargetLog.{TargetReading, TargetSessionLog, log_turned, reading_turned, row_in, session_view, target_extended, target_reading_changed, target_view, with_done}
-use Rattle.session_rules.specs.TargetRows.{Awaits_lur, Gives_denial, Gives_lci, Gives_lui, Over, Reads_file, RowMove, RowView, WholeRow, Writes_completion, Writes_lcl, Writes_lcs, Writes_progress, Writes_ready, Writes_stop, row_move, row_view, view_moved, with_bytes}
+use Rattle.session_rules.specs.TargetLaws.{FitsChange, HasTurned, after, decision_fits, seen_row, turned_row, turned_view}
+use Rattle.session_rules.specs.TargetLog.{TargetReading, TargetSessionLog, log_turned, reading_turned, session_view, target_extended, target_reading_changed, target_view, with_done}
+use Rattle.session_rules.specs.TargetRows.{Arriving, Awaits_lur, Breaks_off, Gives_denial, Gives_lci, Gives_lui, Judges, Over, Passes, Reads_file, Refuses_request, Requests, RowMove, RowView, WholeRow, Writes_completion, Writes_lcl, Writes_lcs, Writes_progress, Writes_ready, Writes_stop, arriving_of, row_move, row_view, view_moved, with_bytes}
 
 module _ (v : target.TargetView) where
   abbrev Asked : target.TargetDecision → Type 0
@@ -107,12 +106,12 @@ module _ (v : target.TargetView) where
     next_asked s p more move None live is =
         asked_if (target.is_over (view_moved s.row (with_bytes s.arriving more) move)) _ _ (then_asked (target.Ends None) from to p Stops tt) (heard_asks_none (target.Turns move more) from to p)
 
-    turn_asked : (accepts : HeaderView → Bool) (s : target.TargetSession) (p : PacketView) (more : List ℕ) (error : Option ℕ) → v.live ≡ Some s → Asked (target.turn_decision accepts v s (transfer_moves v.end from to p) more error)
+    turn_asked : (accepts : Accepts) (s : target.TargetSession) (p : PacketView) (more : List ℕ) (error : Option ℕ) → v.live ≡ Some s → Asked (target.turn_decision accepts v s (transfer_moves v.end from to p) more error)
     turn_asked accepts s p more error live =
-        let move : RowMove = row_move accepts v.active.identity s.row (record { error = error; arriving = with_bytes s.arriving more }) in
+        let move : RowMove = row_move accepts v.active s.row (record { error = error; arriving = with_bytes s.arriving more }) in
         next_asked s p more move (target.row_request v (view_moved s.row (with_bytes s.arriving more) move)) live refl
 
-    answer_asked : (accepts : HeaderView → Bool) (s : target.TargetSession) (p : PacketView) (answer : Answer) → v.live ≡ Some s → Asked (target.answer_decision accepts v s (transfer_moves v.end from to p) answer)
+    answer_asked : (accepts : Accepts) (s : target.TargetSession) (p : PacketView) (answer : Answer) → v.live ≡ Some s → Asked (target.answer_decision accepts v s (transfer_moves v.end from to p) answer)
     answer_asked accepts s p (TakesBlock payload) live = heard_asks_none (target.Continues payload) from to p
     answer_asked accepts s p (TakesLast payload) live = turn_asked accepts s p payload None live
     answer_asked accepts s p Completes live = turn_asked accepts s p [] None live
@@ -122,11 +121,11 @@ module _ (v : target.TargetView) where
     answer_asked accepts s p (Grants o) live = heard_asks_none (target.Continues []) from to p
     answer_asked accepts s p Proceeds live = heard_asks_none (target.Continues []) from to p
 
-    transfer_asked : (accepts : HeaderView → Bool) (live : Option target.TargetSession) (p : PacketView) → v.live ≡ live → Asked (target.transfer_decision accepts v live from to p)
+    transfer_asked : (accepts : Accepts) (live : Option target.TargetSession) (p : PacketView) → v.live ≡ live → Asked (target.transfer_decision accepts v live from to p)
     transfer_asked accepts None p is = heard_asks_none (target.Continues []) from to p
     transfer_asked accepts (Some s) p is = answer_asked accepts s p (heard_answer v.end from to p) is
 
-    got_asked : (accepts : HeaderView → Bool) (p : Option PacketView) → Asked (target.got_decision accepts v from to p)
+    got_asked : (accepts : Accepts) (p : Option PacketView) → Asked (target.got_decision accepts v from to p)
     got_asked accepts None = tt
     got_asked accepts (Some p) = asked_if (eqb to 59) _ _ (request_asked p) (transfer_asked accepts v.live p refl)
 
@@ -178,53 +177,67 @@ is_list_row Gives_denial e = absurd cc
 is_list_row Awaits_lur e = absurd cc
 is_list_row Over e = absurd cc
 
+-- a session turns to the list once
+list_once : (arriving : Arriving) (move : RowMove) → view_moved Writes_lcl arriving move ≡ Writes_lcl → ⊥
+list_once arriving Passes e = absurd cc
+list_once arriving (Requests loads) e = absurd cc
+list_once arriving (Refuses_request fault) e = absurd cc
+list_once arriving (Judges judgement) e = absurd cc
+list_once arriving Breaks_off e = absurd cc
+
+not_yet : (live : Option TargetSessionLog) (s before : TargetSessionLog) (end : Reading) (move : RowMove) (more : List ℕ) → live ≡ Some s → turned_view end s move more ≡ Writes_lcl → live ≡ Some before → before.row ≡ Writes_lcl → ⊥
+not_yet live s before end move more is turns was listing =
+    let same : before ≡ s = let both : Some before ≡ Some s = sym was ∙ is in cc in
+    let row : seen_row s ≡ Writes_lcl = ap (λ (x : TargetSessionLog). row_view x.row) (sym same) ∙ ap (λ (x : WholeRow). row_view x) listing in
+    list_once (with_bytes (arriving_of Writes_lcl (arriving_in end.live)) more) move (subst (λ (x : RowView). view_moved x (with_bytes (arriving_of x (arriving_in end.live)) more) move ≡ Writes_lcl) row turns)
+
 -- ---- one event
 
-pub turned_reading : (accepts : HeaderView → Bool) (end : Reading) (r : TargetReading) (s : TargetSessionLog) (move : RowMove) (more : List ℕ) (change : target.TargetChange) → r.live ≡ Some s → change ≡ target.Turns move more
-    → target_reading_changed accepts end r change ≡ reading_turned accepts end r (with_done s (newest end.past))
+pub turned_reading : (accepts : Accepts) (end : Reading) (r : TargetReading) (s : TargetSessionLog) (move : RowMove) (more : List ℕ) (change : target.TargetChange) → r.live ≡ Some s → change ≡ target.Turns move more
+    → target_reading_changed accepts end r change ≡ reading_turned end r (with_done accepts r.active s (newest end.past))
 turned_reading accepts end r s move more change live is =
-    ap (λ (c : target.TargetChange). target_reading_changed accepts end r c) is ∙ ap (λ (l : Option TargetSessionLog). log_turned (reading_turned accepts) end r l) live
+    ap (λ (c : target.TargetChange). target_reading_changed accepts end r c) is ∙ ap (λ (l : Option TargetSessionLog). log_turned accepts reading_turned end r l) live
 
-module _ (joins : SumsJoin) (accepts : HeaderView → Bool) (r : TargetReading) (e : Event) (going : IsLive r.end.live) where
+module _ (joins : SumsJoin) (accepts : Accepts) (r : TargetReading) (e : Event) (going : IsLive r.end.live) where
   abbrev v_now : target.TargetView
-  v_now = target_view accepts r
+  v_now = target_view r
 
   abbrev d_now : target.TargetDecision
-  d_now = target.target_decision accepts (target_view accepts r) e
+  d_now = target.target_decision accepts (target_view r) e
 
   -- the row that is asked for is the session's row then
-  list_is_asked : (s : TargetSessionLog) (move : RowMove) (more : List ℕ) (file : List ℕ) → r.live ≡ Some s → d_now.change ≡ target.Turns move more → turned_view accepts r.active.identity r.end s move more ≡ Writes_lcl
+  list_is_asked : (s : TargetSessionLog) (move : RowMove) (more : List ℕ) (file : List ℕ) → r.live ≡ Some s → d_now.change ≡ target.Turns move more → turned_view r.end s move more ≡ Writes_lcl
       → file ≡ lcl_file (outline_of r.active) → ListIsAsked accepts r e file
   list_is_asked s move more file live is row lists =
       let end : Reading = after r.end d_now.moves in
-      let session : TargetSessionLog = with_done s (newest end.past) in
-      let same : target_extended accepts r e ≡ reading_turned accepts end r session = turned_reading accepts end r s move more d_now.change live is in
-      let turned : HasTurned accepts r.active.identity r.end s d_now.moves move more =
+      let session : TargetSessionLog = with_done accepts r.active s (newest end.past) in
+      let same : target_extended accepts r e ≡ reading_turned end r session = turned_reading accepts end r s move more d_now.change live is in
+      let turned : HasTurned accepts r.active r.end s d_now.moves move more =
       fits_turned r.live d_now.change live is (decision_fits joins accepts r e going) in
-      let view : seen_row accepts r.active.identity session ≡ Writes_lcl = turned_row joins accepts r.active.identity s r.end d_now.moves move more turned ∙ row in
-      let here : row_in accepts r.active.identity session ≡ Writes_lcl = is_list_row (row_in accepts r.active.identity session) view in
+      let view : seen_row session ≡ Writes_lcl = turned_row joins accepts r.active s r.end d_now.moves move more turned ∙ row in
       record {
         session = session;
         live = ap (λ (x : TargetReading). x.live) same;
-        row = ap (λ (x : TargetReading). row_in accepts x.active.identity session) same ∙ ap (λ (id : Identity). row_in accepts id session) (identity_stays r.active (row_in accepts r.active.identity session)) ∙ here;
+        row = is_list_row session.row view;
+        newly = λ before was listing. not_yet r.live s before r.end move more live row was listing;
         lists = lists;
       }
     where
-      fits_turned : (live : Option TargetSessionLog) (change : target.TargetChange) → live ≡ Some s → change ≡ target.Turns move more → FitsChange accepts r.active.identity r.end live d_now.moves change → HasTurned accepts r.active.identity r.end s d_now.moves move more
+      fits_turned : (live : Option TargetSessionLog) (change : target.TargetChange) → live ≡ Some s → change ≡ target.Turns move more → FitsChange accepts r.active r.end live d_now.moves change → HasTurned accepts r.active r.end s d_now.moves move more
       fits_turned live change is_some is_turn fits =
-          (subst (λ (x : Option TargetSessionLog). FitsChange accepts r.active.identity r.end x d_now.moves (target.Turns move more)) is_some
-          (subst (λ (c : target.TargetChange). FitsChange accepts r.active.identity r.end live d_now.moves c) is_turn fits)).0
+          (subst (λ (x : Option TargetSessionLog). FitsChange accepts r.active r.end x d_now.moves (target.Turns move more)) is_some
+          (subst (λ (c : target.TargetChange). FitsChange accepts r.active r.end live d_now.moves c) is_turn fits)).0
 
-  asked_by_row : (s : TargetSessionLog) (move : RowMove) (more : List ℕ) (role : Role) → r.live ≡ Some s → d_now.change ≡ target.Turns move more → target.row_request v_now (turned_view accepts r.active.identity r.end s move more) ≡ Some role
+  asked_by_row : (s : TargetSessionLog) (move : RowMove) (more : List ℕ) (role : Role) → r.live ≡ Some s → d_now.change ≡ target.Turns move more → target.row_request v_now (turned_view r.end s move more) ≡ Some role
       → IsAskedRole accepts r e role
   asked_by_row s move more (Writes name o file) live is asks =
-      let (kind, named, lists) = row_asks v_now (turned_view accepts r.active.identity r.end s move more) name o file asks in
+      let (kind, named, lists) = row_asks v_now (turned_view r.end s move more) name o file asks in
       (kind, named, λ k. list_is_asked s move more file live is (lists k).0 (lists k).1)
   asked_by_row s move more (Reads name o) live is asks = tt
   asked_by_row s move more (ServesRead name o file) live is asks = tt
   asked_by_row s move more (ServesWrite name o) live is asks = tt
 
-  asked_in_turn : (live : Option TargetSessionLog) (move : RowMove) (more : List ℕ) (role : Role) → r.live ≡ live → d_now.change ≡ target.Turns move more → RowAsks v_now (session_view accepts r live) move more role → IsAskedRole accepts r e role
+  asked_in_turn : (live : Option TargetSessionLog) (move : RowMove) (more : List ℕ) (role : Role) → r.live ≡ live → d_now.change ≡ target.Turns move more → RowAsks v_now (session_view r.end live) move more role → IsAskedRole accepts r e role
   asked_in_turn None move more role live is asks = absurd asks
   asked_in_turn (Some s) move more role live is asks = asked_by_row s move more role live is asks
 

@@ -8,6 +8,7 @@ use Rattle.load_header.specs.Header.{HeaderView}
 use Rattle.load_header.specs.HeaderFields.{HeaderSpells}
 use Rattle.load_protocol_files.specs.declared.lur.Wanted.{Wanted}
 use Rattle.disk_layout.specs.declared.identity.Identity.{Identity}
+use Rattle.disk_layout.specs.Holds.{StandingView}
 use Rattle.transfer_end.specs.Transfers.{Transfer, arrived_of, is_reading, name_of}
 use Rattle.accept_rules.specs.Permissions.{Permits}
 use Rattle.session_rules.specs.declared.reason.Reason.{Reason}
@@ -23,16 +24,17 @@ pub record IsAsSaid (entry : FileEntry) (file : FileView) : Type 0 where
   pub size : length file.bytes ≡ entry.length
   pub crc : crc16_of file.bytes ≡ entry.crc16
 
--- A load is good for a target: its header spells it, is for the target's hardware and position and accepted by its
--- interlock; each file is as the header says; and the load CRC is that of all of them.
-pub record IsGoodLoad (Accepts : HeaderView → Type 0) (id : Identity) (load : LoadView) : Type 0 where
+-- A load is good for a target: its header spells it, has its part number and its type id, is for the target's hardware and
+-- position and accepted by its interlock; each file is as the header says; and the load CRC is that of all of them.
+pub record IsGoodLoad (Accepted : HeaderView → Type 0) (id : Identity) (load : LoadView) : Type 0 where
   pub header : HeaderView
   pub bytes : List ℕ
   pub files : List FileView
   pub spelled : HeaderSpells header bytes
   pub part : load.part ≡ header.part
+  pub type_id : load.type_id ≡ Some header.type_id
   pub suits : is_for id.hw id.pos header ≡ true
-  pub accepted : Accepts header
+  pub accepted : Accepted header
   pub permitted : Permits header
   pub whole : load.files ≡ record { name = load.header_name; bytes = bytes } ∷ files
   pub each : AllZip IsAsSaid (files_of header) files
@@ -81,12 +83,12 @@ pub record IsWanted (wanted : Wanted) (load : LoadView) : Type 0 where
 abbrev pub files_in : List LoadView → List FileView
 files_in loads = flat_map (λ (load : LoadView). load.files) loads
 
--- Loads are the new configuration that follows from a request and from what was read: one for each that was asked for, in
--- their order; their files are exactly those that were read; and each is good.
-pub record IsNewConfig (Accepts : HeaderView → Type 0) (id : Identity) (request : List Wanted) (reads : List FileView) (loads : List LoadView) : Type 0 where
+-- Loads are the new configuration that follows, beside what is active, from a request and from what was read: one for each that
+-- was asked for, in their order; their files are exactly those that were read; and each is good for the target.
+pub record IsNewConfig (Accepted : HeaderView → Type 0) (active : StandingView) (request : List Wanted) (reads : List FileView) (loads : List LoadView) : Type 0 where
   pub each : AllZip IsWanted request loads
   pub files : files_in loads ≡ reads
-  pub good : AllByRecursion (IsGoodLoad Accepts id) loads
+  pub good : AllByRecursion (IsGoodLoad Accepted active.identity) loads
 
 -- each file of these loads is the media set's file of its name
 abbrev pub AreOfMedia : Media → List LoadView → Type 0

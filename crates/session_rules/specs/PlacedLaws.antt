@@ -2,7 +2,6 @@
 use Rattle.std.proofs.Common.{◌≡◌, ℕ, Bool, true, false, cond, eqb, List, [], ◌∷◌, ◌++◌, length, Option, Some, None, Result, Ok, Err, refl, sym, subst}
 use Rattle.std.specs.Prelude.{bytes_eq, nat_lt}
 use Rattle.std.proofs.lemmas.Bool.{eqb-true}
-use Rattle.load_header.specs.Header.{HeaderView}
 use Rattle.load_protocol_files.specs.declared.lur.Wanted.{Wanted}
 use Rattle.disk_layout.specs.Holds.{StandingView}
 use Rattle.tftp_packet.specs.declared.options.Options.{Options}
@@ -19,6 +18,7 @@ use Rattle.transfer_end.specs.Readings.{Reading}
 use Rattle.transfer_end.specs.RfcLaws.{moves_count_up}
 use Rattle.transfer_end.specs.Transfers.{Role, ServesRead, ServesWrite}
 use Rattle.transfer_end.specs.Views.{EndView}
+use Rattle.accept_rules.specs.Permissions.{Accepts}
 use Rattle.session_rules.specs.declared.outcome.FileKind.{FileKind}
 use Rattle.session_rules.specs.declared.outcome.FileKind.TheVariants as kinds
 use Rattle.session_rules.specs.declared.outcome.Outcome.TheVariants.{PeerError}
@@ -205,13 +205,13 @@ module _ (v : target.TargetView) where
         (target_stops p is)
     target_next_placed p more move row None is = target_if (Gets from to bytes) (target.is_over row) _ _ (target_stops p is) (transfer_placed sides.Target v.end from to bytes p is)
 
-    target_turn_placed : (accepts : HeaderView → Bool) (s : target.TargetSession) (p : PacketView) (more : List ℕ) (error : Option ℕ) → packet_in bytes ≡ Some p → TargetPlaced (Gets from to bytes) (target.turn_decision accepts v s (transfer_moves v.end from to p) more error)
+    target_turn_placed : (accepts : Accepts) (s : target.TargetSession) (p : PacketView) (more : List ℕ) (error : Option ℕ) → packet_in bytes ≡ Some p → TargetPlaced (Gets from to bytes) (target.turn_decision accepts v s (transfer_moves v.end from to p) more error)
     target_turn_placed accepts s p more error is =
         let arriving : Arriving = with_bytes s.arriving more in
-        let move : RowMove = row_move accepts v.active.identity s.row (record { error = error; arriving = arriving }) in
+        let move : RowMove = row_move accepts v.active s.row (record { error = error; arriving = arriving }) in
         target_next_placed p more move (view_moved s.row arriving move) (target.row_request v (view_moved s.row arriving move)) is
 
-    target_answer_placed : (accepts : HeaderView → Bool) (s : target.TargetSession) (p : PacketView) (answer : Answer) → packet_in bytes ≡ Some p → TargetPlaced (Gets from to bytes) (target.answer_decision accepts v s (transfer_moves v.end from to p) answer)
+    target_answer_placed : (accepts : Accepts) (s : target.TargetSession) (p : PacketView) (answer : Answer) → packet_in bytes ≡ Some p → TargetPlaced (Gets from to bytes) (target.answer_decision accepts v s (transfer_moves v.end from to p) answer)
     target_answer_placed accepts s p (TakesBlock payload) is = transfer_placed sides.Target v.end from to bytes p is
     target_answer_placed accepts s p (TakesLast payload) is = target_turn_placed accepts s p payload None is
     target_answer_placed accepts s p Completes is = target_turn_placed accepts s p [] None is
@@ -221,7 +221,7 @@ module _ (v : target.TargetView) where
     target_answer_placed accepts s p (Grants o) is = transfer_placed sides.Target v.end from to bytes p is
     target_answer_placed accepts s p Proceeds is = transfer_placed sides.Target v.end from to bytes p is
 
-    target_transfer_placed : (accepts : HeaderView → Bool) (live : Option target.TargetSession) (p : PacketView) → packet_in bytes ≡ Some p → TargetPlaced (Gets from to bytes) (target.transfer_decision accepts v live from to p)
+    target_transfer_placed : (accepts : Accepts) (live : Option target.TargetSession) (p : PacketView) → packet_in bytes ≡ Some p → TargetPlaced (Gets from to bytes) (target.transfer_decision accepts v live from to p)
     target_transfer_placed accepts None p is = transfer_placed sides.Target v.end from to bytes p is
     target_transfer_placed accepts (Some s) p is = target_answer_placed accepts s p (heard_answer v.end from to p) is
 
@@ -229,11 +229,11 @@ module _ (v : target.TargetView) where
     target_at_59 true x y e p q = p (eqb-true to 59 e)
     target_at_59 false x y e p q = q
 
-    target_got_placed : (accepts : HeaderView → Bool) (p : Option PacketView) → packet_in bytes ≡ p → TargetPlaced (Gets from to bytes) (target.got_decision accepts v from to p)
+    target_got_placed : (accepts : Accepts) (p : Option PacketView) → packet_in bytes ≡ p → TargetPlaced (Gets from to bytes) (target.got_decision accepts v from to p)
     target_got_placed accepts None is = tt
     target_got_placed accepts (Some p) is = target_at_59 (eqb to 59) _ _ refl (λ at. target_request_placed p at) (target_transfer_placed accepts v.live p is)
 
-pub target_posts_placed : (accepts : HeaderView → Bool) (v : target.TargetView) (e : Event) → ArePlaced sides.Target v.end e (target.target_posts accepts v e)
+pub target_posts_placed : (accepts : Accepts) (v : target.TargetView) (e : Event) → ArePlaced sides.Target v.end e (target.target_posts accepts v e)
 target_posts_placed accepts v (Gets from to bytes) = target_got_placed v from to bytes accepts (packet_in bytes) refl
 target_posts_placed accepts v Ticks = target_tick_placed v v.live
 target_posts_placed accepts v (Learns size) = tt
@@ -249,11 +249,11 @@ loader_ports_count_up media (e ∷ log) =
     let d = loader.loader_decision media (loader_view r) e in
     subst (λ (x : Reading). PortsCountUp x) (sym (loader_end_stays (readings_after sides.Loader r.end d.moves) r d.change)) (moves_count_up sides.Loader r.end d.moves (loader_ports_count_up media log))
 
-pub target_extended_counts : (accepts : HeaderView → Bool) (r : TargetReading) (e : Event) → PortsCountUp r.end → PortsCountUp (target_extended accepts r e).end
+pub target_extended_counts : (accepts : Accepts) (r : TargetReading) (e : Event) → PortsCountUp r.end → PortsCountUp (target_extended accepts r e).end
 target_extended_counts accepts r e h =
-    let d = target.target_decision accepts (target_view accepts r) e in
+    let d = target.target_decision accepts (target_view r) e in
     subst (λ (x : Reading). PortsCountUp x) (sym (target_end_stays accepts (readings_after sides.Target r.end d.moves) r d.change)) (moves_count_up sides.Target r.end d.moves h)
 
-pub target_ports_count_up : (accepts : HeaderView → Bool) (first_port : ℕ) (active : StandingView) (log : List Event) → PortsCountUp (target_reading accepts first_port active log).end
+pub target_ports_count_up : (accepts : Accepts) (first_port : ℕ) (active : StandingView) (log : List Event) → PortsCountUp (target_reading accepts first_port active log).end
 target_ports_count_up accepts first_port active [] = tt
 target_ports_count_up accepts first_port active (e ∷ log) = target_extended_counts accepts (target_reading accepts first_port active log) e (target_ports_count_up accepts first_port active log)

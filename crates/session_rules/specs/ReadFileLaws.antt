@@ -6,12 +6,10 @@ use Rattle.std.proofs.lemmas.Bool.{ltb-false}
 use Rattle.std.proofs.lemmas.List.{take_all}
 use Rattle.field_grammar.specs.Answers.{answer}
 use Rattle.field_grammar.specs.Grammar.{IsBytes, IsDecided, Spelled}
-use Rattle.load_header.specs.Header.{HeaderView}
 use Rattle.load_protocol_files.specs.declared.fault.FileFault.{FileFault}
 use Rattle.load_protocol_files.specs.declared.lur.Wanted.{Wanted}
 use Rattle.load_protocol_files.specs.Lur.{LurSpells, LurView, WantedFits, lur}
-use Rattle.disk_layout.specs.declared.identity.Identity.{Identity}
-use Rattle.disk_layout.specs.Holds.{StandingView}
+use Rattle.disk_layout.specs.Holds.{StandingView, outline_of}
 use Rattle.tftp_packet.specs.Packets.{PacketView}
 use Rattle.tftp_link.specs.declared.phase.Phase.{Phase}
 use Rattle.tftp_link.specs.declared.phase.Phase.TheVariants.{Waiting, Running, Finished, Failed}
@@ -29,6 +27,7 @@ use Rattle.transfer_end.specs.OtherEnds.{Among}
 use Rattle.transfer_end.specs.Readings.{Reading}
 use Rattle.transfer_end.specs.RfcLaws.{end_is_of_link}
 use Rattle.transfer_end.specs.Transfers.{LinkEnd, Reads, Receives, Role, ServesRead, ServesWrite, Transfer, Writes, arrived_of, end_answer, end_in, end_of, error_of, is_reading, is_received, phase_of}
+use Rattle.accept_rules.specs.Permissions.{Accepts}
 use Rattle.session_rules.specs.declared.reason.RequestFault.{RequestFault}
 use Rattle.session_rules.specs.declared.reason.RequestFault.TheVariants as requests
 use Rattle.session_rules.specs.Buffers.{buffer_size, buffered, is_too_long}
@@ -44,8 +43,8 @@ use Rattle.session_rules.specs.SoundLogLaws.{PayloadsAreBytes, begins_active, ne
 use Rattle.session_rules.specs.SoundLogs.{IsNewAt, LogIsBytes}
 use Rattle.session_rules.specs.SoundnessLaws.{read_is_spelled}
 use Rattle.session_rules.specs.Target.{Begins, Continues, Ends, TargetChange, Turns, Turns_without_port, target_decision}
-use Rattle.session_rules.specs.TargetLaws.{FitsChange, HasTurned, after, decision_fits, identity_stays, row_of_more, row_of_none}
-use Rattle.session_rules.specs.TargetLog.{TargetReading, TargetSessionLog, row_in, standing_in, target_extended, target_reading_changed, target_view, with_done}
+use Rattle.session_rules.specs.TargetLaws.{FitsChange, HasTurned, after, decision_fits, row_of_one}
+use Rattle.session_rules.specs.TargetLog.{TargetReading, TargetSessionLog, target_extended, target_reading_changed, target_view, with_done}
 use Rattle.session_rules.specs.TargetRows.{Arriving, Awaits_lur, Breaks_off, Gives_denial, Gives_lci, Gives_lui, Judges, Kept_bytes, Kept_sums, Over, Passes, Reads_file, Refuses_request, Requests, RowMove, RowView, WholeRow, Writes_completion, Writes_lcl, Writes_lcs, Writes_progress, Writes_ready, Writes_stop, arriving_of, error_move, file_move, first_row, header_move, placed_if, read_move, request_move, row_judged, row_move, row_move_by, row_moved, row_view, row_with, transfer_end, with_file, with_header}
 use Rattle.session_rules.specs.Uploads.{Accepts_file, Accepts_header, Complete, Judgement, More_files, Next, Next_load, OpenLoad, OpenLoadView, Stops_for, Upload, UploadView, is_load_count, judge_request, next_entry, next_name, next_wanted, request_read, upload_view}
 
@@ -130,13 +129,13 @@ as_move : (found : Result (List Wanted) RequestFault) → IsOkRequest found → 
 as_move (Ok loads) h = h
 as_move (Err fault) h = tt
 
-module _ (accepts : HeaderView → Bool) (id : Identity) where
-  header_asks_none : (u : UploadView) (wanted : Option Wanted) (arriving : Arriving) → MoveNamed (header_move accepts id u wanted arriving)
+module _ (accepts : Accepts) (active : StandingView) where
+  header_asks_none : (u : UploadView) (wanted : Option Wanted) (arriving : Arriving) → MoveNamed (header_move accepts (outline_of active) u wanted arriving)
   header_asks_none u None arriving = tt
   header_asks_none u (Some w) (Kept_bytes b) = tt
   header_asks_none u (Some w) (Kept_sums s) = tt
 
-  read_asks_none : (u : UploadView) (current : Option OpenLoadView) (arriving : Arriving) → MoveNamed (read_move accepts id u current arriving)
+  read_asks_none : (u : UploadView) (current : Option OpenLoadView) (arriving : Arriving) → MoveNamed (read_move accepts (outline_of active) u current arriving)
   read_asks_none u None arriving = header_asks_none u (next_wanted u) arriving
   read_asks_none u (Some l) (Kept_bytes b) = by (next_entry l)
     where
@@ -163,7 +162,7 @@ module _ (accepts : HeaderView → Bool) (id : Identity) where
   error_asks_none (Writes_completion e loads) code = tt
   error_asks_none Over code = tt
 
-  move_named : RequestsAreSpelled → (row : WholeRow) (bytes : List ℕ) (error : Option ℕ) → IsBytes bytes → MoveNamed (row_move_by accepts id (row_view row) (arriving_of (row_view row) bytes) error)
+  move_named : RequestsAreSpelled → (row : WholeRow) (bytes : List ℕ) (error : Option ℕ) → IsBytes bytes → MoveNamed (row_move_by accepts (outline_of active) (row_view row) (arriving_of (row_view row) bytes) error)
   move_named reads row bytes (Some code) fit = error_asks_none (row_view row) code
   move_named reads (Reads_file u) bytes None fit = read_asks_none (upload_view u) (upload_view u).current _
   move_named reads Awaits_lur bytes None fit = as_move (judge_request (buffered bytes)) (request_named reads bytes fit)
@@ -218,12 +217,12 @@ module _ (accepts : HeaderView → Bool) (id : Identity) where
   moved_named (Writes_completion e loads) bytes Passes named h = tt
   moved_named Over bytes Passes named h = tt
 
-  row_named : RequestsAreSpelled → (row : WholeRow) (t : Transfer) → IsBytes (arrived_of t) → AreNamed (request_in row) → AreNamed (request_in (row_with accepts id row t))
-  row_named reads row t fit h = moved_named row (arrived_of t) (row_move accepts id (row_view row) (transfer_end (row_view row) t)) (move_named reads row (arrived_of t) (error_of t) fit) h
+  row_named : RequestsAreSpelled → (row : WholeRow) (t : Transfer) → IsBytes (arrived_of t) → AreNamed (request_in row) → AreNamed (request_in (row_with accepts active row t))
+  row_named reads row t fit h = moved_named row (arrived_of t) (row_move accepts (outline_of active) (row_view row) (transfer_end (row_view row) t)) (move_named reads row (arrived_of t) (error_of t) fit) h
 
   -- ---- what is read whole
 
-  error_stops : (row : WholeRow) (t : Transfer) (code : ℕ) → error_of t ≡ Some code → is_stopped (row_with accepts id row t) ≡ true
+  error_stops : (row : WholeRow) (t : Transfer) (code : ℕ) → error_of t ≡ Some code → is_stopped (row_with accepts active row t) ≡ true
   error_stops Gives_lci t code e = rw e refl
   error_stops Writes_lcs t code e = rw e refl
   error_stops Writes_lcl t code e = rw e refl
@@ -237,7 +236,7 @@ module _ (accepts : HeaderView → Bool) (id : Identity) where
   error_stops (Writes_completion end loads) t code e = rw e refl
   error_stops Over t code e = rw e refl
 
-  stopped_by : (row : WholeRow) (t : Transfer) (error : Option ℕ) → error_of t ≡ error → is_stopped row ≡ true → is_stopped (row_with accepts id row t) ≡ true
+  stopped_by : (row : WholeRow) (t : Transfer) (error : Option ℕ) → error_of t ≡ error → is_stopped row ≡ true → is_stopped (row_with accepts active row t) ≡ true
   stopped_by row t (Some code) e stopped = error_stops row t code e
   stopped_by (Writes_stop end) t None e stopped = rw e refl
   stopped_by Over t None e stopped = rw e refl
@@ -271,30 +270,30 @@ read_is_whole (ServesRead name o f) got reads over none = absurd cc
 read_is_whole (ServesWrite name o) got reads over none = absurd cc
 
 -- a session turns to its next row
-pub turned_reads : RequestsAreSpelled → (accepts : HeaderView → Bool) (id : Identity) (end : Reading) (s : TargetSessionLog) (moves : List Move) (move : RowMove) (more : List ℕ) → (h : HasTurned accepts id end s moves move more) → IsBytes (arrived_of h.ended)
-    → IsReadBy (row_in accepts id s) end s.done → IsReadBy (row_in accepts id (with_done s (h.ended ∷ []))) (after end moves) (s.done ++ h.ended ∷ [])
-turned_reads reads accepts id end s moves move more h fit was = record {
+pub turned_reads : RequestsAreSpelled → (accepts : Accepts) (active : StandingView) (end : Reading) (s : TargetSessionLog) (moves : List Move) (move : RowMove) (more : List ℕ) → (h : HasTurned accepts active end s moves move more) → IsBytes (arrived_of h.ended)
+    → IsReadBy s.row end s.done → IsReadBy (with_done accepts active s (h.ended ∷ [])).row (after end moves) (s.done ++ h.ended ∷ [])
+turned_reads reads accepts active end s moves move more h fit was = record {
   past = λ t a. ⊎_elim (λ (b : Among t s.done). moves_past _ end moves t (was.past t b)) (λ (b : Among t (h.ended ∷ [])). only t b) (among_either t s.done (h.ended ∷ []) a);
   whole = whole_of;
-  named = subst (λ (row : WholeRow). AreNamed (request_in row)) (sym same) (row_named accepts id reads (row_in accepts id s) h.ended fit was.named);
+  named = subst (λ (row : WholeRow). AreNamed (request_in row)) (sym same) (row_named accepts active reads s.row h.ended fit was.named);
 }
   where
-    same : row_in accepts id (with_done s (h.ended ∷ [])) ≡ row_with accepts id (row_in accepts id s) h.ended
-    same = row_of_more accepts id s.first s.done h.ended
+    same : (with_done accepts active s (h.ended ∷ [])).row ≡ row_with accepts active s.row h.ended
+    same = row_of_one accepts active s.row h.ended
 
     only : (t : Transfer) → Among t (h.ended ∷ []) → Among t (after end moves).past
     only t (inl e) = subst (λ (x : Transfer). Among x (after end moves).past) e (newest_among (after end moves).past h.ended h.is_newest)
     only t (inr e) = absurd e
 
-    whole_of : is_stopped (row_in accepts id (with_done s (h.ended ∷ []))) ≡ false → AreReadWhole (s.done ++ h.ended ∷ [])
-    whole_of going = λ t a reading. by (error_of h.ended) refl (is_stopped (row_in accepts id s)) refl t reading (among_either t s.done (h.ended ∷ []) a)
+    whole_of : is_stopped (with_done accepts active s (h.ended ∷ [])).row ≡ false → AreReadWhole (s.done ++ h.ended ∷ [])
+    whole_of going = λ t a reading. by (error_of h.ended) refl (is_stopped s.row) refl t reading (among_either t s.done (h.ended ∷ []) a)
       where
-        now : is_stopped (row_with accepts id (row_in accepts id s) h.ended) ≡ false
+        now : is_stopped (row_with accepts active s.row h.ended) ≡ false
         now = ap is_stopped (sym same) ∙ going
 
-        by : (error : Option ℕ) → error_of h.ended ≡ error → (stopped : Bool) → is_stopped (row_in accepts id s) ≡ stopped → (t : Transfer) → is_reading t.role ≡ true → Among t s.done ⊎ Among t (h.ended ∷ []) → is_received (end_in t) ≡ true
-        by (Some code) e stopped f t reading a = true_is_false _ _ (error_stops accepts id (row_in accepts id s) h.ended code e) now
-        by None e true f t reading a = true_is_false _ _ (stopped_by accepts id (row_in accepts id s) h.ended None e f) now
+        by : (error : Option ℕ) → error_of h.ended ≡ error → (stopped : Bool) → is_stopped s.row ≡ stopped → (t : Transfer) → is_reading t.role ≡ true → Among t s.done ⊎ Among t (h.ended ∷ []) → is_received (end_in t) ≡ true
+        by (Some code) e stopped f t reading a = true_is_false _ _ (error_stops accepts active s.row h.ended code e) now
+        by None e true f t reading a = true_is_false _ _ (stopped_by accepts active s.row h.ended None e f) now
         by None e false f t reading (inl b) = was.whole f t b reading
         by None e false f t reading (inr (inl x)) =
             subst (λ (y : Transfer). is_received (end_in y) ≡ true) x (read_is_whole h.ended.role h.ended.got (subst (λ (y : Transfer). is_reading y.role ≡ true) (sym x) reading) h.over e)
@@ -315,7 +314,7 @@ first_named Lui sequence = by (eqb sequence 4294967295)
 first_named kind sequence = tt
 
 -- the configuration that stays is not a new one
-pub no_new : (A : Type 0) (accepts : HeaderView → Bool) (before after : TargetReading) → after.active ≡ before.active → IsNewAt accepts before after → A
+pub no_new : (A : Type 0) (accepts : Accepts) (before after : TargetReading) → after.active ≡ before.active → IsNewAt accepts before after → A
 no_new A accepts before after same new =
     let next : before.active.sequence + 1 ≡ before.active.sequence = sym (ap (λ (s : StandingView). s.sequence) new.next) ∙ ap (λ (s : StandingView). s.sequence) same in
     absurd (omega (arith, next))
@@ -327,60 +326,49 @@ pub session_is : (s t : TargetSessionLog) → Some s ≡ Some t → s ≡ t
 session_is s t e = cc
 
 -- what is installed was read
-turned_installs : (accepts : HeaderView → Bool) (before after : TargetReading) (s : TargetSessionLog) (t : Transfer) → before.live ≡ Some s → newest after.end.past ≡ t ∷ [] → IsReadBy (row_in accepts before.active.identity (with_done s (t ∷ []))) after.end (s.done ++ t ∷ [])
+turned_installs : (accepts : Accepts) (before after : TargetReading) (s : TargetSessionLog) (t : Transfer) → before.live ≡ Some s → newest after.end.past ≡ t ∷ [] → IsReadBy (with_done accepts before.active s (t ∷ [])).row after.end (s.done ++ t ∷ [])
     → (new : IsNewAt accepts before after) → InstallsWhatWasRead accepts before after new
 turned_installs accepts before after s t live one reads new =
     let same : s ≡ new.session = session_is s new.session (sym live ∙ new.live) in
     let last : t ≡ new.ended = one_is (newest after.end.past) t new.ended one new.is_newest in
-    let here : IsReadBy (row_in accepts before.active.identity (with_done new.session (new.ended ∷ []))) after.end (new.session.done ++ new.ended ∷ []) =
-    subst (λ (x : TargetSessionLog). IsReadBy (row_in accepts before.active.identity (with_done x (new.ended ∷ []))) after.end (x.done ++ new.ended ∷ [])) same
-    (subst (λ (x : Transfer). IsReadBy (row_in accepts before.active.identity (with_done s (x ∷ []))) after.end (s.done ++ x ∷ [])) last reads) in
+    let here : IsReadBy (with_done accepts before.active new.session (new.ended ∷ [])).row after.end (new.session.done ++ new.ended ∷ []) =
+    subst (λ (x : TargetSessionLog). IsReadBy (with_done accepts before.active x (new.ended ∷ [])).row after.end (x.done ++ new.ended ∷ [])) same
+    (subst (λ (x : Transfer). IsReadBy (with_done accepts before.active s (x ∷ [])).row after.end (s.done ++ x ∷ [])) last reads) in
     let row : IsReadBy (Writes_completion new.upload new.loads) after.end (new.session.done ++ new.ended ∷ []) = subst (λ (x : WholeRow). IsReadBy x after.end (new.session.done ++ new.ended ∷ [])) new.good here in
     record { past = row.past; whole = row.whole refl; named = row.named }
 
-abbrev EventReads : (accepts : HeaderView → Bool) → TargetReading → TargetReading → Type 0
-EventReads accepts before after = SessionReads accepts after × ((new : IsNewAt accepts before after) → InstallsWhatWasRead accepts before after new)
+abbrev EventReads : Accepts → TargetReading → TargetReading → Type 0
+EventReads accepts before after = SessionReads after × ((new : IsNewAt accepts before after) → InstallsWhatWasRead accepts before after new)
 
-module _ (reads : RequestsAreSpelled) (accepts : HeaderView → Bool) where
+module _ (reads : RequestsAreSpelled) (accepts : Accepts) where
   longer_past : (row : WholeRow) (end : Reading) (moves : List Move) (done : List Transfer) → IsReadBy row end done → IsReadBy row (after end moves) done
   longer_past row end moves done h = record { past = λ t a. moves_past _ end moves t (h.past t a); whole = h.whole; named = h.named }
 
-  for_identity : (active : StandingView) (row : WholeRow) (end : Reading) (s : TargetSessionLog) → IsReadBy (row_in accepts active.identity s) end s.done → IsReadBy (row_in accepts (standing_in active row).identity s) end s.done
-  for_identity active row end s h = subst (λ (id : Identity). IsReadBy (row_in accepts id s) end s.done) (sym (identity_stays active row)) h
-
-  changed_reads : (end : Reading) (live : Option TargetSessionLog) (active : StandingView) (reason : Option Reason) (moves : List Move) (change : TargetChange) → FitsChange accepts active.identity end live moves change → ReadsIn accepts active.identity end live
+  changed_reads : (end : Reading) (live : Option TargetSessionLog) (active : StandingView) (reason : Option Reason) (moves : List Move) (change : TargetChange) → FitsChange accepts active end live moves change → ReadsIn end live
       → ((t : Transfer) → newest (after end moves).past ≡ t ∷ [] → IsBytes (arrived_of t))
       → EventReads accepts (reading end live active reason) (target_reading_changed accepts (after end moves) (reading end live active reason) change)
-  changed_reads end live active reason moves (Begins kind) fits h bytes =
-      let s : TargetSessionLog = record { first = first_row kind active.sequence; done = [] } in
-      let row : row_in accepts active.identity s ≡ first_row kind active.sequence = row_of_none accepts active.identity (first_row kind active.sequence) in (
-        for_identity active (row_in accepts active.identity s) (after end moves) s (record {
-          past = λ t a. absurd a;
-          whole = λ going t a. absurd a;
-          named = subst (λ (x : WholeRow). AreNamed (request_in x)) (sym row) (first_named kind active.sequence);
-        }),
-        λ new. no_new _ accepts _ _ (ap (λ (x : WholeRow). standing_in active x) row ∙ begins_active active kind active.sequence) new,
-      )
+  changed_reads end live active reason moves (Begins kind) fits h bytes = (
+    record { past = λ t a. absurd a; whole = λ going t a. absurd a; named = first_named kind active.sequence },
+    λ new. no_new _ accepts _ _ (begins_active active kind active.sequence) new,
+  )
   changed_reads end live active reason moves (Ends why) fits h bytes = (tt, λ new. no_new _ accepts _ _ refl new)
   changed_reads end None active reason moves (Continues more) fits h bytes = (tt, λ new. no_new _ accepts _ _ refl new)
   changed_reads end None active reason moves (Turns move more) fits h bytes = (tt, λ new. no_new _ accepts _ _ refl new)
   changed_reads end None active reason moves (Turns_without_port move more) fits h bytes = (tt, λ new. no_new _ accepts _ _ refl new)
-  changed_reads end (Some s) active reason moves (Continues more) fits h bytes = (longer_past (row_in accepts active.identity s) end moves s.done h, λ new. no_new _ accepts _ _ refl new)
+  changed_reads end (Some s) active reason moves (Continues more) fits h bytes = (longer_past s.row end moves s.done h, λ new. no_new _ accepts _ _ refl new)
   changed_reads end (Some s) active reason moves (Turns move more) (turn, none, role) h bytes =
-      let now = turned_reads reads accepts active.identity end s moves move more turn (bytes turn.ended turn.is_newest) h in
-      let then = with_done s (newest (after end moves).past) in (
-        for_identity active (row_in accepts active.identity then) (after end moves) then
-            (subst (λ (ts : List Transfer). IsReadBy (row_in accepts active.identity (with_done s ts)) (after end moves) (s.done ++ ts)) (sym turn.is_newest) now),
+      let now = turned_reads reads accepts active end s moves move more turn (bytes turn.ended turn.is_newest) h in (
+        subst (λ (ts : List Transfer). IsReadBy (with_done accepts active s ts).row (after end moves) (s.done ++ ts)) (sym turn.is_newest) now,
         turned_installs accepts _ _ s turn.ended refl turn.is_newest now,
       )
   changed_reads end (Some s) active reason moves (Turns_without_port move more) turn h bytes =
-      (tt, turned_installs accepts _ _ s turn.ended refl turn.is_newest (turned_reads reads accepts active.identity end s moves move more turn (bytes turn.ended turn.is_newest) h))
+      (tt, turned_installs accepts _ _ s turn.ended refl turn.is_newest (turned_reads reads accepts active end s moves move more turn (bytes turn.ended turn.is_newest) h))
 
-  pub target_step_reads : SumsJoin → PayloadsAreBytes → (log : List Event) (r : TargetReading) (e : Event) → LogIsBytes (e ∷ log) → PacketsCame log r.end → IsLive r.end.live → SessionReads accepts r → EventReads accepts r (target_extended accepts r e)
+  pub target_step_reads : SumsJoin → PayloadsAreBytes → (log : List Event) (r : TargetReading) (e : Event) → LogIsBytes (e ∷ log) → PacketsCame log r.end → IsLive r.end.live → SessionReads r → EventReads accepts r (target_extended accepts r e)
   target_step_reads joins payloads log r e fit packets live h =
-      let d = target_decision accepts (target_view accepts r) e in
+      let d = target_decision accepts (target_view r) e in
       changed_reads r.end r.live r.active r.reason d.moves d.change (decision_fits joins accepts r e live) h
-      (λ t one. newest_bytes payloads (e ∷ log) (after r.end d.moves) t fit (moves_came sides.Target e log r.end d.moves (target_moves_heard accepts (target_view accepts r) e) packets) one)
+      (λ t one. newest_bytes payloads (e ∷ log) (after r.end d.moves) t fit (moves_came sides.Target e log r.end d.moves (target_moves_heard accepts (target_view r) e) packets) one)
 
 -- which load_protocol_files promises of its format (`protocol_file_laws`)
 pub requests_are_spelled : ((bytes : List ℕ) → IsBytes bytes → IsDecided lur bytes) → ((bytes : List ℕ) (v : LurView) → Spelled lur bytes v ↔ LurSpells v bytes) → RequestsAreSpelled

@@ -2,15 +2,14 @@
 use Rattle.std.specs.Prelude.{◌≡◌, List, [], ◌∷◌, ◌++◌, Bool, true, false, Option, Some, None, ⊤}
 use Rattle.std.specs.List.{AllByRecursion}
 use Rattle.load_base.specs.Name.{IsName}
-use Rattle.load_header.specs.Header.{HeaderView}
 use Rattle.load_protocol_files.specs.declared.lur.Wanted.{Wanted}
-use Rattle.disk_layout.specs.declared.identity.Identity.{Identity}
 use Rattle.transfer_end.specs.OtherEnds.{Among}
 use Rattle.transfer_end.specs.Readings.{Reading}
 use Rattle.transfer_end.specs.Transfers.{Transfer, end_in, is_reading, is_received}
+use Rattle.accept_rules.specs.Permissions.{Accepts}
 use Rattle.session_rules.specs.NewConfigs.{request_in}
 use Rattle.session_rules.specs.SoundLogs.{IsNewAt}
-use Rattle.session_rules.specs.TargetLog.{TargetReading, TargetSessionLog, row_in}
+use Rattle.session_rules.specs.TargetLog.{TargetReading, TargetSessionLog}
 use Rattle.session_rules.specs.TargetRows.{Over, WholeRow, Writes_stop}
 
 -- the upload was stopped, or the session is over
@@ -34,15 +33,15 @@ pub record IsReadBy (row : WholeRow) (end : Reading) (done : List Transfer) : Ty
   pub whole : is_stopped row ≡ false → AreReadWhole done
   pub named : AreNamed (request_in row)
 
-abbrev pub ReadsIn : (accepts : HeaderView → Bool) → Identity → Reading → Option TargetSessionLog → Type 0
-ReadsIn accepts id end None = ⊤
-ReadsIn accepts id end (Some s) = IsReadBy (row_in accepts id s) end s.done
+abbrev pub ReadsIn : Reading → Option TargetSessionLog → Type 0
+ReadsIn end None = ⊤
+ReadsIn end (Some s) = IsReadBy s.row end s.done
 
-abbrev pub SessionReads : (accepts : HeaderView → Bool) → TargetReading → Type 0
-SessionReads accepts r = ReadsIn accepts r.active.identity r.end r.live
+abbrev pub SessionReads : TargetReading → Type 0
+SessionReads r = ReadsIn r.end r.live
 
 -- What makes a new configuration are transfers that are over, each file of which arrived whole, for a request with names.
-pub record InstallsWhatWasRead (accepts : HeaderView → Bool) (before after : TargetReading) (new : IsNewAt accepts before after) : Type 0 where
+pub record InstallsWhatWasRead (accepts : Accepts) (before after : TargetReading) (new : IsNewAt accepts before after) : Type 0 where
   pub past : (t : Transfer) → Among t (new.session.done ++ new.ended ∷ []) → Among t after.end.past
   pub whole : AreReadWhole (new.session.done ++ new.ended ∷ [])
   pub named : AreNamed new.upload.request

@@ -1,19 +1,18 @@
 -- Which loads an upload asks for, at both sides (docs/EXCHANGE.md, "Upload").
-use Rattle.std.specs.Prelude.{◌≡◌, ◌≤◌, length, ℕ, List, ◌∷◌, ◌++◌, Bool, true, false, Option, Some, None, Ok, ⊤}
+use Rattle.std.specs.Prelude.{◌≡◌, ◌≤◌, length, ℕ, List, ◌∷◌, ◌++◌, true, false, Option, Some, None, Ok, ⊤}
 use Rattle.std.specs.List.{AllByRecursion}
-use Rattle.load_header.specs.Header.{HeaderView}
 use Rattle.load_protocol_files.specs.declared.lur.Wanted.{Wanted}
 use Rattle.load_protocol_files.specs.Lur.{LurSpells}
-use Rattle.disk_layout.specs.declared.identity.Identity.{Identity}
 use Rattle.exchange_trace.specs.Logs.{Event, Starts_upload}
 use Rattle.transfer_end.specs.OtherEnds.{Among, HaveRoles, is_asking, is_receiving}
 use Rattle.transfer_end.specs.Readings.{Reading}
 use Rattle.transfer_end.specs.Transfers.{Role, Transfer, Writes, arrived_of, end_in, is_received}
+use Rattle.accept_rules.specs.Permissions.{Accepts}
 use Rattle.session_rules.specs.LoaderLog.{loader_reading}
 use Rattle.session_rules.specs.MediaFiles.{Media, wanted_of}
 use Rattle.session_rules.specs.Reports.{lur_file}
 use Rattle.session_rules.specs.SoundLogs.{IsNewAt}
-use Rattle.session_rules.specs.TargetLog.{TargetReading, TargetSessionLog, row_in}
+use Rattle.session_rules.specs.TargetLog.{TargetReading, TargetSessionLog}
 use Rattle.session_rules.specs.TargetRows.{Reads_file, WholeRow, Writes_completion, Writes_progress}
 
 -- ---- the loader
@@ -58,13 +57,13 @@ HasRequest end (Writes_progress u) = RequestArrived end u.request
 HasRequest end (Writes_completion e loads) = RequestArrived end e.request
 HasRequest end row = ⊤
 
-abbrev pub RequestIn : (accepts : HeaderView → Bool) → Identity → Reading → Option TargetSessionLog → Type 0
-RequestIn accepts id end None = ⊤
-RequestIn accepts id end (Some s) = HasRequest end (row_in accepts id s)
+abbrev pub RequestIn : Reading → Option TargetSessionLog → Type 0
+RequestIn end None = ⊤
+RequestIn end (Some s) = HasRequest end s.row
 
-abbrev pub SessionHasRequest : (accepts : HeaderView → Bool) → TargetReading → Type 0
-SessionHasRequest accepts r = RequestIn accepts r.active.identity r.end r.live
+abbrev pub SessionHasRequest : TargetReading → Type 0
+SessionHasRequest r = RequestIn r.end r.live
 
 -- and of what a new configuration was asked for
-abbrev pub InstallsRequest : (accepts : HeaderView → Bool) → (before after : TargetReading) → Type 0
+abbrev pub InstallsRequest : Accepts → (before after : TargetReading) → Type 0
 InstallsRequest accepts before after = (new : IsNewAt accepts before after) → RequestArrived after.end new.upload.request

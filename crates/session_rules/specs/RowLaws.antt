@@ -10,9 +10,10 @@ use Rattle.load_header.specs.declared.header.FileEntry.{FileEntry}
 use Rattle.load_header.specs.Header.{HeaderView, header}
 use Rattle.field_grammar.specs.Answers.{answer}
 use Rattle.load_protocol_files.specs.declared.lur.Wanted.{Wanted}
-use Rattle.disk_layout.specs.declared.identity.Identity.{Identity}
+use Rattle.disk_layout.specs.Holds.{Outline}
 use Rattle.disk_layout.specs.declared.manifest.ManifestFile.{ManifestFile}
 use Rattle.disk_layout.specs.Contents.{file_entry_of, entry_of, entries_of, bytes_of}
+use Rattle.accept_rules.specs.Permissions.{Accepts}
 use Rattle.session_rules.specs.declared.reason.Reason.{Reason}
 use Rattle.session_rules.specs.declared.reason.RequestFault.{RequestFault}
 use Rattle.session_rules.specs.Buffers.{Buffer, Sums, buffered, summed, is_too_long, buffer_size}
@@ -72,26 +73,26 @@ short_if : (b : Bool) (reason : Reason) (n : ℕ) (other : Judgement) (h : Heade
 short_if true reason n other h next e = absurd cc
 short_if false reason n other h next e = refl
 
-accepted_is_short : (accepts : HeaderView → Bool) (id : Identity) (u : UploadView) (wanted : Wanted) (b : Buffer) (h : HeaderView) (next : Next) → judge_header accepts id u wanted b ≡ Accepts_header h next → is_too_long b ≡ false
+accepted_is_short : (accepts : Accepts) (active : Outline) (u : UploadView) (wanted : Wanted) (b : Buffer) (h : HeaderView) (next : Next) → judge_header accepts active u wanted b ≡ Accepts_header h next → is_too_long b ≡ false
 unfolding judge_header
-accepted_is_short accepts id u wanted b h next e = short_if (is_too_long b) _ _ _ h next e
+accepted_is_short accepts active u wanted b h next e = short_if (is_too_long b) _ _ _ h next e
 
 judged_no_file : (reason : Option Reason) (n : ℕ) (h : HeaderView) (m next : Next) → judged reason n (Accepts_header h m) ≡ Accepts_file next → ⊥
 judged_no_file None n h m next e = cc
 judged_no_file (Some reason) n h m next e = cc
 
-read_no_file : (accepts : HeaderView → Bool) (id : Identity) (u : UploadView) (wanted : Wanted) (b : Buffer) (found : Result HeaderView HeaderFault) (next : Next) → judge_read_header accepts id u wanted b found ≡ Accepts_file next → ⊥
-read_no_file accepts id u wanted b (Ok h) next e = judged_no_file _ _ h _ next e
-read_no_file accepts id u wanted b (Err fault) next e = cc
+read_no_file : (accepts : Accepts) (active : Outline) (u : UploadView) (wanted : Wanted) (b : Buffer) (found : Result HeaderView HeaderFault) (next : Next) → judge_read_header accepts active u wanted b found ≡ Accepts_file next → ⊥
+read_no_file accepts active u wanted b (Ok h) next e = judged_no_file _ _ h _ next e
+read_no_file accepts active u wanted b (Err fault) next e = cc
 
 if_no_file : (b : Bool) (reason : Reason) (n : ℕ) (other : Judgement) (next : Next) → (other ≡ Accepts_file next → ⊥) → cond b (Stops_for reason n) other ≡ Accepts_file next → ⊥
 if_no_file true reason n other next none e = cc
 if_no_file false reason n other next none e = none e
 
 -- a header is never accepted as another file
-pub header_no_file : (accepts : HeaderView → Bool) (id : Identity) (u : UploadView) (wanted : Wanted) (b : Buffer) (next : Next) → judge_header accepts id u wanted b ≡ Accepts_file next → ⊥
+pub header_no_file : (accepts : Accepts) (active : Outline) (u : UploadView) (wanted : Wanted) (b : Buffer) (next : Next) → judge_header accepts active u wanted b ≡ Accepts_file next → ⊥
 unfolding judge_header
-header_no_file accepts id u wanted b next e = if_no_file (is_too_long b) _ _ _ next (read_no_file accepts id u wanted b (answer header b.prefix) next) e
+header_no_file accepts active u wanted b next e = if_no_file (is_too_long b) _ _ _ next (read_no_file accepts active u wanted b (answer header b.prefix) next) e
 
 header_viewed : (wanted : Wanted) (h : HeaderView) (bytes : List ℕ) → is_too_long (buffered bytes) ≡ false
     → open_load_view (open_load wanted h bytes []) ≡ open_view wanted h (length bytes) [] (crc32_of (covered_header (take buffer_size bytes)))
@@ -99,12 +100,12 @@ header_viewed wanted h bytes short =
     let whole : take buffer_size bytes ≡ bytes = take_all buffer_size bytes (ltb-false buffer_size (length bytes) short) in
     rw (append-nil (covered_header bytes), whole) refl
 
-header_same : (accepts : HeaderView → Bool) (id : Identity) (u : Upload) (wanted : Wanted) (found : Option Wanted) (bytes : List ℕ) (judgement : Judgement) → found ≡ Some wanted → next_wanted (upload_view u) ≡ found
-    → judge_header accepts id (upload_view u) wanted (buffered bytes) ≡ judgement → row_view (row_judged u bytes judgement) ≡ view_judged (upload_view u) (Kept_bytes (buffered bytes)) judgement
-header_same accepts id u wanted found bytes (Stops_for reason n) a b e = refl
-header_same accepts id u wanted found bytes (Accepts_header h next) a b e =
-    rw (b, a) (placed_as u (open_load wanted h bytes []) _ next (header_viewed wanted h bytes (accepted_is_short accepts id (upload_view u) wanted (buffered bytes) h next e)))
-header_same accepts id u wanted found bytes (Accepts_file next) a b e = absurd (header_no_file accepts id (upload_view u) wanted (buffered bytes) next e)
+header_same : (accepts : Accepts) (active : Outline) (u : Upload) (wanted : Wanted) (found : Option Wanted) (bytes : List ℕ) (judgement : Judgement) → found ≡ Some wanted → next_wanted (upload_view u) ≡ found
+    → judge_header accepts active (upload_view u) wanted (buffered bytes) ≡ judgement → row_view (row_judged u bytes judgement) ≡ view_judged (upload_view u) (Kept_bytes (buffered bytes)) judgement
+header_same accepts active u wanted found bytes (Stops_for reason n) a b e = refl
+header_same accepts active u wanted found bytes (Accepts_header h next) a b e =
+    rw (b, a) (placed_as u (open_load wanted h bytes []) _ next (header_viewed wanted h bytes (accepted_is_short accepts active (upload_view u) wanted (buffered bytes) h next e)))
+header_same accepts active u wanted found bytes (Accepts_file next) a b e = absurd (header_no_file accepts active (upload_view u) wanted (buffered bytes) next e)
 
 -- ---- data and support files
 
@@ -152,17 +153,17 @@ file_same joins request loads l reports found entry bytes (Accepts_file next) a 
 
 -- ---- the end of a transfer
 
-abbrev pub RowFollows : (HeaderView → Bool) → Identity → WholeRow → Option ℕ → List ℕ → Type 0
-RowFollows accepts id row error bytes =
+abbrev pub RowFollows : Accepts → Outline → WholeRow → Option ℕ → List ℕ → Type 0
+RowFollows accepts active row error bytes =
     let end : TransferEnd = record { error = error; arriving = arriving_of (row_view row) bytes } in
-    row_view (row_moved row bytes (row_move accepts id (row_view row) end)) ≡ view_moved (row_view row) (arriving_of (row_view row) bytes) (row_move accepts id (row_view row) end)
+    row_view (row_moved row bytes (row_move accepts active (row_view row) end)) ≡ view_moved (row_view row) (arriving_of (row_view row) bytes) (row_move accepts active (row_view row) end)
 
-header_follows : (accepts : HeaderView → Bool) (id : Identity) (request : List Wanted) (loads : List LoadView) (reports : ℕ) (bytes : List ℕ) (found : Option Wanted) → next_wanted (upload_view (upload request loads None reports)) ≡ found
-    → row_view (row_moved (Reads_file (upload request loads None reports)) bytes (header_move accepts id (upload_view (upload request loads None reports)) found (Kept_bytes (buffered bytes))))
-    ≡ view_moved (Reads_file (upload_view (upload request loads None reports))) (Kept_bytes (buffered bytes)) (header_move accepts id (upload_view (upload request loads None reports)) found (Kept_bytes (buffered bytes)))
-header_follows accepts id request loads reports bytes None e = refl
-header_follows accepts id request loads reports bytes (Some wanted) e =
-    header_same accepts id (upload request loads None reports) wanted (Some wanted) bytes (judge_header accepts id (upload_view (upload request loads None reports)) wanted (buffered bytes)) refl e refl
+header_follows : (accepts : Accepts) (active : Outline) (request : List Wanted) (loads : List LoadView) (reports : ℕ) (bytes : List ℕ) (found : Option Wanted) → next_wanted (upload_view (upload request loads None reports)) ≡ found
+    → row_view (row_moved (Reads_file (upload request loads None reports)) bytes (header_move accepts active (upload_view (upload request loads None reports)) found (Kept_bytes (buffered bytes))))
+    ≡ view_moved (Reads_file (upload_view (upload request loads None reports))) (Kept_bytes (buffered bytes)) (header_move accepts active (upload_view (upload request loads None reports)) found (Kept_bytes (buffered bytes)))
+header_follows accepts active request loads reports bytes None e = refl
+header_follows accepts active request loads reports bytes (Some wanted) e =
+    header_same accepts active (upload request loads None reports) wanted (Some wanted) bytes (judge_header accepts active (upload_view (upload request loads None reports)) wanted (buffered bytes)) refl e refl
 
 file_follows : SumsJoin → (request : List Wanted) (loads : List LoadView) (l : OpenLoad) (reports : ℕ) (bytes : List ℕ) (found : Option FileEntry) → next_entry (open_load_view l) ≡ found
     → row_view (row_moved (Reads_file (upload request loads (Some l) reports)) bytes (file_move (upload_view (upload request loads (Some l) reports)) (open_load_view l) found (Kept_sums (summed (said_length (next_entry (open_load_view l))) (open_load_view l).crc bytes))))
@@ -172,37 +173,37 @@ file_follows joins request loads l reports bytes None e = refl
 file_follows joins request loads l reports bytes (Some f) e =
     file_same joins request loads l reports (Some f) f bytes (judge_file (upload_view (upload request loads (Some l) reports)) (open_load_view l) f (summed (said_length (next_entry (open_load_view l))) (open_load_view l).crc bytes)) refl e refl
 
-read_follows : SumsJoin → (accepts : HeaderView → Bool) (id : Identity) (request : List Wanted) (loads : List LoadView) (current : Option OpenLoad) (reports : ℕ) (bytes : List ℕ) → RowFollows accepts id (Reads_file (upload request loads current reports)) None bytes
-read_follows joins accepts id request loads None reports bytes = header_follows accepts id request loads reports bytes (next_wanted (upload_view (upload request loads None reports))) refl
-read_follows joins accepts id request loads (Some l) reports bytes = file_follows joins request loads l reports bytes (next_entry (open_load_view l)) refl
+read_follows : SumsJoin → (accepts : Accepts) (active : Outline) (request : List Wanted) (loads : List LoadView) (current : Option OpenLoad) (reports : ℕ) (bytes : List ℕ) → RowFollows accepts active (Reads_file (upload request loads current reports)) None bytes
+read_follows joins accepts active request loads None reports bytes = header_follows accepts active request loads reports bytes (next_wanted (upload_view (upload request loads None reports))) refl
+read_follows joins accepts active request loads (Some l) reports bytes = file_follows joins request loads l reports bytes (next_entry (open_load_view l)) refl
 
 lur_follows : (bytes : List ℕ) (found : Result (List Wanted) RequestFault)
     → row_view (row_moved Awaits_lur bytes (request_move found)) ≡ view_moved Awaits_lur (Kept_bytes (buffered bytes)) (request_move found)
 lur_follows bytes (Ok loads) = refl
 lur_follows bytes (Err fault) = refl
 
-pub row_follows : SumsJoin → (accepts : HeaderView → Bool) (id : Identity) (row : WholeRow) (error : Option ℕ) (bytes : List ℕ) → RowFollows accepts id row error bytes
-row_follows joins accepts id (Reads_file u) None bytes = read_follows joins accepts id u.request u.loads u.current u.reports bytes
-row_follows joins accepts id (Reads_file u) (Some code) bytes = refl
-row_follows joins accepts id Awaits_lur None bytes = lur_follows bytes _
-row_follows joins accepts id Awaits_lur (Some code) bytes = refl
-row_follows joins accepts id Gives_lci None bytes = refl
-row_follows joins accepts id Gives_lci (Some code) bytes = refl
-row_follows joins accepts id Writes_lcs None bytes = refl
-row_follows joins accepts id Writes_lcs (Some code) bytes = refl
-row_follows joins accepts id Writes_lcl None bytes = refl
-row_follows joins accepts id Writes_lcl (Some code) bytes = refl
-row_follows joins accepts id Gives_lui None bytes = refl
-row_follows joins accepts id Gives_lui (Some code) bytes = refl
-row_follows joins accepts id Gives_denial None bytes = refl
-row_follows joins accepts id Gives_denial (Some code) bytes = refl
-row_follows joins accepts id Writes_ready None bytes = refl
-row_follows joins accepts id Writes_ready (Some code) bytes = refl
-row_follows joins accepts id (Writes_progress u) None bytes = refl
-row_follows joins accepts id (Writes_progress u) (Some code) bytes = refl
-row_follows joins accepts id (Writes_stop e) None bytes = refl
-row_follows joins accepts id (Writes_stop e) (Some code) bytes = refl
-row_follows joins accepts id (Writes_completion e loads) None bytes = refl
-row_follows joins accepts id (Writes_completion e loads) (Some code) bytes = refl
-row_follows joins accepts id Over None bytes = refl
-row_follows joins accepts id Over (Some code) bytes = refl
+pub row_follows : SumsJoin → (accepts : Accepts) (active : Outline) (row : WholeRow) (error : Option ℕ) (bytes : List ℕ) → RowFollows accepts active row error bytes
+row_follows joins accepts active (Reads_file u) None bytes = read_follows joins accepts active u.request u.loads u.current u.reports bytes
+row_follows joins accepts active (Reads_file u) (Some code) bytes = refl
+row_follows joins accepts active Awaits_lur None bytes = lur_follows bytes _
+row_follows joins accepts active Awaits_lur (Some code) bytes = refl
+row_follows joins accepts active Gives_lci None bytes = refl
+row_follows joins accepts active Gives_lci (Some code) bytes = refl
+row_follows joins accepts active Writes_lcs None bytes = refl
+row_follows joins accepts active Writes_lcs (Some code) bytes = refl
+row_follows joins accepts active Writes_lcl None bytes = refl
+row_follows joins accepts active Writes_lcl (Some code) bytes = refl
+row_follows joins accepts active Gives_lui None bytes = refl
+row_follows joins accepts active Gives_lui (Some code) bytes = refl
+row_follows joins accepts active Gives_denial None bytes = refl
+row_follows joins accepts active Gives_denial (Some code) bytes = refl
+row_follows joins accepts active Writes_ready None bytes = refl
+row_follows joins accepts active Writes_ready (Some code) bytes = refl
+row_follows joins accepts active (Writes_progress u) None bytes = refl
+row_follows joins accepts active (Writes_progress u) (Some code) bytes = refl
+row_follows joins accepts active (Writes_stop e) None bytes = refl
+row_follows joins accepts active (Writes_stop e) (Some code) bytes = refl
+row_follows joins accepts active (Writes_completion e loads) None bytes = refl
+row_follows joins accepts active (Writes_completion e loads) (Some code) bytes = refl
+row_follows joins accepts active Over None bytes = refl
+row_follows joins accepts active Over (Some code) bytes = refl

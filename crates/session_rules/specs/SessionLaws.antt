@@ -18,7 +18,7 @@ use Rattle.session_rules.specs.declared.outcome.SessionKind.TheVariants.{Info, U
 use Rattle.session_rules.specs.Buffers.{buffered_more}
 use Rattle.session_rules.specs.FileNames.{file_name}
 use Rattle.session_rules.specs.Loader as Loader
-use Rattle.session_rules.specs.Loader.{Advances, Begins, Begins_over, Continues, EndedSession, Ends, LoaderChange, LoaderDecision, LoaderSession, LoaderView, Start, ended_by, loader_after, loader_changed, loader_decision}
+use Rattle.session_rules.specs.Loader.{Advances, Begins, Begins_over, Continues, EndedSession, Ends, LoaderChange, LoaderDecision, LoaderSession, LoaderView, Start, ended_by, loader_changed, loader_decision}
 use Rattle.session_rules.specs.LoaderLog.{loader_reading, loader_view}
 use Rattle.session_rules.specs.LoaderRows.{Comes_to, Goes_on, Turn, file_turn, kind_taken, row_after, serves_files}
 use Rattle.session_rules.specs.MediaFiles.{Media, wanted_of}

@@ -7,8 +7,6 @@ use Rattle.std.specs.Result.{result_ok}
 use Rattle.field_grammar.specs.Answers.{answer}
 use Rattle.field_grammar.specs.Grammar.{IsBytes, IsDecided, Spelled}
 use Rattle.load_base.specs.Config.{FileView}
-use Rattle.load_header.specs.Header.{HeaderView}
-use Rattle.disk_layout.specs.declared.identity.Identity.{Identity}
 use Rattle.disk_layout.specs.Holds.{StandingView}
 use Rattle.tftp_packet.specs.declared.options.Options.{Options}
 use Rattle.tftp_packet.specs.declared.fault.PacketFault.{PacketFault}
@@ -29,7 +27,7 @@ use Rattle.transfer_end.specs.Moves.{Move}
 use Rattle.transfer_end.specs.Packets.{packet_in}
 use Rattle.transfer_end.specs.Readings.{Reading}
 use Rattle.transfer_end.specs.Transfers.{LinkEnd, Receives, Role, Sends, Transfer, arrived_in, arrived_of, begin_of, end_after, end_answer, error_of, taken_from}
-use Rattle.accept_rules.specs.Permissions.{Permits}
+use Rattle.accept_rules.specs.Permissions.{Accepts, AcceptsPermitted}
 use Rattle.session_rules.specs.declared.outcome.FileKind.{FileKind}
 use Rattle.session_rules.specs.declared.outcome.FileKind.TheVariants.{Lci, Lui}
 use Rattle.session_rules.specs.declared.reason.Reason.{Reason}
@@ -40,10 +38,10 @@ use Rattle.session_rules.specs.NewConfigs.{reads_in}
 use Rattle.session_rules.specs.Roles.{HasRole, IsOfView, LiveFits, LiveReadsNothing}
 use Rattle.session_rules.specs.Soundness.{IsSoundRow}
 use Rattle.session_rules.specs.SoundnessLaws.{HeadersAreSpelled, read_is_spelled, verdict_is_sound}
-use Rattle.session_rules.specs.SoundLogs.{IsSoundSession, LogIsBytes, SessionIsSound, SoundIn, StaysOrIsNew}
+use Rattle.session_rules.specs.SoundLogs.{IsSoundOrInstalled, IsSoundSession, LogIsBytes, SessionIsSound, SoundIn, StaysOrIsNew}
 use Rattle.session_rules.specs.Target.{Begins, Continues, Ends, TargetChange, Turns, Turns_without_port, target_decision}
-use Rattle.session_rules.specs.TargetLaws.{FitsChange, HasTurned, after, decision_fits, identity_stays, row_of_more, row_of_none, turned_row}
-use Rattle.session_rules.specs.TargetLog.{TargetReading, TargetSessionLog, reading_turned, row_in, standing_in, target_extended, target_reading, target_reading_changed, target_view, with_done}
+use Rattle.session_rules.specs.TargetLaws.{FitsChange, HasTurned, after, decision_fits, row_of_one, turned_row}
+use Rattle.session_rules.specs.TargetLog.{TargetReading, TargetSessionLog, new_session, reading_turned, standing_in, target_extended, target_reading, target_reading_changed, target_view, with_done}
 use Rattle.session_rules.specs.TargetRows.{Awaits_lur, Gives_denial, Gives_lci, Gives_lui, Over, Reads_file, RowMove, RowView, WholeRow, Writes_completion, Writes_lcl, Writes_lcs, Writes_progress, Writes_ready, Writes_stop, first_row, row_of, row_view, row_with}
 use Rattle.session_rules.specs.ViewLaws.{target_live}
 
@@ -181,9 +179,9 @@ module _ (payloads : PayloadsAreBytes) where
 
 -- ---- rows
 
-module _ (accepts : HeaderView → Bool) (id : Identity) where
+module _ (accepts : Accepts) (active : StandingView) where
   -- an ERROR makes nothing that could be unsound
-  error_sound : (reads : List FileView) (row : WholeRow) (t : Transfer) (code : ℕ) → error_of t ≡ Some code → IsSoundRow accepts id reads (row_with accepts id row t)
+  error_sound : (reads : List FileView) (row : WholeRow) (t : Transfer) (code : ℕ) → error_of t ≡ Some code → IsSoundRow accepts active reads (row_with accepts active row t)
   error_sound reads Gives_lci t code e = rw e tt
   error_sound reads Writes_lcs t code e = rw e tt
   error_sound reads Writes_lcl t code e = rw e tt
@@ -201,26 +199,58 @@ module _ (accepts : HeaderView → Bool) (id : Identity) where
   of_row row None role fits has = absurd has
   of_row row (Some t) role fits same = subst (λ (x : Role). IsOfView row x) same fits
 
-  pub row_sound : SumsJoin → HeadersAreSpelled → ((h : HeaderView) → accepts h ≡ true → Permits h) → (live : Option Transfer) (s : TargetSessionLog) (t : Transfer) → IsSoundSession accepts id live s → HasRole live t.role → IsBytes (arrived_of t)
-      → IsSoundRow accepts id (reads_in (s.done ++ t ∷ [])) (row_of accepts id s.first (s.done ++ t ∷ []))
-  row_sound joins spells permits live s t sound has fit =
-      subst (λ (row : WholeRow). IsSoundRow accepts id (reads_in (s.done ++ t ∷ [])) row) (sym (row_of_more accepts id s.first s.done t)) (by (error_of t) refl)
-    where
-      by : (error : Option ℕ) → error_of t ≡ error → IsSoundRow accepts id (reads_in (s.done ++ t ∷ [])) (row_with accepts id (row_in accepts id s) t)
-      by None e = verdict_is_sound joins spells accepts id (row_in accepts id s) s.done t permits fit e (of_row (row_view (row_in accepts id s)) live t.role sound.role has) sound.row
-      by (Some code) e = error_sound (reads_in (s.done ++ t ∷ [])) (row_in accepts id s) t code e
+  -- a row that was sound where it was judged is sound beside what is active after it
+  as_active : (reads : List FileView) (row : WholeRow) → IsSoundRow accepts active reads row → IsSoundOrInstalled accepts (standing_in active row) reads row
+  as_active reads Gives_lci s = s
+  as_active reads Writes_lcs s = s
+  as_active reads Writes_lcl s = s
+  as_active reads Gives_lui s = s
+  as_active reads Gives_denial s = s
+  as_active reads Writes_ready s = s
+  as_active reads Awaits_lur s = s
+  as_active reads (Reads_file u) s = s
+  as_active reads (Writes_progress u) s = s
+  as_active reads (Writes_stop end) s = s
+  as_active reads (Writes_completion end loads) s = tt
+  as_active reads Over s = s
+
+  module _ (joins : SumsJoin) (spells : HeadersAreSpelled) (permits : AcceptsPermitted accepts) where
+    -- after an installation nothing more is judged
+    passed_sound : (row : WholeRow) (done : List Transfer) (t : Transfer) → IsBytes (arrived_of t) → error_of t ≡ None → IsOfView (row_view row) t.role → IsSoundOrInstalled accepts active (reads_in done) row
+        → IsSoundRow accepts active (reads_in (done ++ t ∷ [])) (row_with accepts active row t)
+    passed_sound (Writes_completion end loads) done t fit e of s = rw e tt
+    passed_sound Gives_lci done t fit e of s = verdict_is_sound joins spells accepts active Gives_lci done t permits fit e of s
+    passed_sound Writes_lcs done t fit e of s = verdict_is_sound joins spells accepts active Writes_lcs done t permits fit e of s
+    passed_sound Writes_lcl done t fit e of s = verdict_is_sound joins spells accepts active Writes_lcl done t permits fit e of s
+    passed_sound Gives_lui done t fit e of s = verdict_is_sound joins spells accepts active Gives_lui done t permits fit e of s
+    passed_sound Gives_denial done t fit e of s = verdict_is_sound joins spells accepts active Gives_denial done t permits fit e of s
+    passed_sound Writes_ready done t fit e of s = verdict_is_sound joins spells accepts active Writes_ready done t permits fit e of s
+    passed_sound Awaits_lur done t fit e of s = verdict_is_sound joins spells accepts active Awaits_lur done t permits fit e of s
+    passed_sound (Reads_file u) done t fit e of s = verdict_is_sound joins spells accepts active (Reads_file u) done t permits fit e of s
+    passed_sound (Writes_progress u) done t fit e of s = verdict_is_sound joins spells accepts active (Writes_progress u) done t permits fit e of s
+    passed_sound (Writes_stop end) done t fit e of s = verdict_is_sound joins spells accepts active (Writes_stop end) done t permits fit e of s
+    passed_sound Over done t fit e of s = verdict_is_sound joins spells accepts active Over done t permits fit e of s
+
+    pub row_sound : (live : Option Transfer) (s : TargetSessionLog) (t : Transfer) → IsSoundSession accepts active live s → HasRole live t.role → IsBytes (arrived_of t)
+        → IsSoundRow accepts active (reads_in (s.done ++ t ∷ [])) (row_of accepts active s.row (t ∷ []))
+    row_sound live s t sound has fit =
+        subst (λ (row : WholeRow). IsSoundRow accepts active (reads_in (s.done ++ t ∷ [])) row) (sym (row_of_one accepts active s.row t)) (by (error_of t) refl)
+      where
+        by : (error : Option ℕ) → error_of t ≡ error → IsSoundRow accepts active (reads_in (s.done ++ t ∷ [])) (row_with accepts active s.row t)
+        by None e = passed_sound s.row s.done t fit e (of_row (row_view s.row) live t.role sound.role has) sound.row
+        by (Some code) e = error_sound (reads_in (s.done ++ t ∷ [])) s.row t code e
 
 -- ---- one event more
 
 -- a session that begins
-begins_sound : (accepts : HeaderView → Bool) (id : Identity) (kind : FileKind) (sequence : ℕ) → IsSoundRow accepts id [] (first_row kind sequence)
-begins_sound accepts id Lci sequence = refl
-begins_sound accepts id Lui sequence = by (eqb sequence 4294967295)
+begins_sound : (accepts : Accepts) (active : StandingView) (kind : FileKind) (sequence : ℕ) → IsSoundRow accepts active [] (first_row kind sequence)
+begins_sound accepts active Lci sequence = refl
+begins_sound accepts active Lui sequence = by (eqb sequence 4294967295)
   where
-    by : (b : Bool) → IsSoundRow accepts id [] (cond b Gives_denial Gives_lui)
+    by : (b : Bool) → IsSoundRow accepts active [] (cond b Gives_denial Gives_lui)
     by true = refl
     by false = refl
-begins_sound accepts id kind sequence = tt
+begins_sound accepts active kind sequence = tt
 
 begins_role : (kind : FileKind) (sequence : ℕ) (live : Option Transfer) → LiveReadsNothing live → LiveFits (row_view (first_row kind sequence)) live
 begins_role kind sequence None none = tt
@@ -244,32 +274,23 @@ begins_active active kind sequence = refl
 abbrev reading : Reading → Option TargetSessionLog → StandingView → Option Reason → TargetReading
 reading end live active reason = record { end = end; live = live; active = active; reason = reason }
 
-abbrev first_session : FileKind → ℕ → TargetSessionLog
-first_session kind sequence = record { first = first_row kind sequence; done = [] }
-
-module _ (accepts : HeaderView → Bool) where
+module _ (accepts : Accepts) where
   abbrev Outcome : TargetReading → TargetReading → Type 0
   Outcome before later = SessionIsSound accepts later × StaysOrIsNew accepts before later
 
-  -- the identity stays, whatever the row
-  sound_for : (active : StandingView) (row : WholeRow) (live : Option Transfer) (s : TargetSessionLog) → IsSoundSession accepts active.identity live s → IsSoundSession accepts (standing_in active row).identity live s
-  sound_for active row live s sound = subst (λ (id : Identity). IsSoundSession accepts id live s) (sym (identity_stays active row)) sound
-
   begun : (end then : Reading) (live : Option TargetSessionLog) (active : StandingView) (reason : Option Reason) (kind : FileKind) → LiveReadsNothing then.live
-      → Outcome (reading end live active reason) (reading_turned accepts then (reading end live active reason) (first_session kind active.sequence))
-  begun end then live active reason kind none =
-      let s = first_session kind active.sequence in
-      let row : row_in accepts active.identity s ≡ first_row kind active.sequence = row_of_none accepts active.identity (first_row kind active.sequence) in (
-        sound_for active (row_in accepts active.identity s) then.live s (record {
-          row = subst (λ (x : WholeRow). IsSoundRow accepts active.identity [] x) (sym row) (begins_sound accepts active.identity kind active.sequence);
-          role = subst (λ (x : WholeRow). LiveFits (row_view x) then.live) (sym row) (begins_role kind active.sequence then.live none);
-        }),
-        inl (ap (λ (x : WholeRow). standing_in active x) row ∙ begins_active active kind active.sequence),
-      )
+      → Outcome (reading end live active reason) (reading_turned then (reading end live active reason) (new_session kind active.sequence))
+  begun end then live active reason kind none = (
+    record {
+      row = as_active accepts active [] (first_row kind active.sequence) (begins_sound accepts active kind active.sequence);
+      role = begins_role kind active.sequence then.live none;
+    },
+    inl (begins_active active kind active.sequence),
+  )
 
   -- what a row that was reached makes active
   installs : (end : Reading) (s : TargetSessionLog) (active : StandingView) (reason : Option Reason) (later : TargetReading) (t : Transfer) (row : WholeRow) → newest later.end.past ≡ t ∷ []
-      → row_in accepts active.identity (with_done s (t ∷ [])) ≡ row → later.active ≡ standing_in active row → IsSoundRow accepts active.identity (reads_in (s.done ++ t ∷ [])) row
+      → (with_done accepts active s (t ∷ [])).row ≡ row → later.active ≡ standing_in active row → IsSoundRow accepts active (reads_in (s.done ++ t ∷ [])) row
       → StaysOrIsNew accepts (reading end (Some s) active reason) later
   installs end s active reason later t (Writes_completion e loads) one at is sound =
       inr (record { session = s; live = refl; ended = t; is_newest = one; upload = e; loads = loads; good = at; new = sound; next = is })
@@ -285,21 +306,21 @@ module _ (accepts : HeaderView → Bool) where
   installs end s active reason later t (Writes_stop e) one at is sound = inl is
   installs end s active reason later t Over one at is sound = inl is
 
-  module _ (joins : SumsJoin) (spells : HeadersAreSpelled) (permits : (h : HeaderView) → accepts h ≡ true → Permits h) where
-    turn_sound : (id : Identity) (end : Reading) (s : TargetSessionLog) (moves : List Move) (move : RowMove) (more : List ℕ) (h : HasTurned accepts id end s moves move more) → IsSoundSession accepts id end.live s → IsBytes (arrived_of h.ended)
-        → IsSoundRow accepts id (reads_in (s.done ++ h.ended ∷ [])) (row_in accepts id (with_done s (h.ended ∷ [])))
-    turn_sound id end s moves move more h sound fit = row_sound accepts id joins spells permits end.live s h.ended sound h.was_live fit
+  module _ (joins : SumsJoin) (spells : HeadersAreSpelled) (permits : AcceptsPermitted accepts) where
+    turn_sound : (active : StandingView) (end : Reading) (s : TargetSessionLog) (moves : List Move) (move : RowMove) (more : List ℕ) (h : HasTurned accepts active end s moves move more) → IsSoundSession accepts active end.live s → IsBytes (arrived_of h.ended)
+        → IsSoundRow accepts active (reads_in (s.done ++ h.ended ∷ [])) (with_done accepts active s (h.ended ∷ [])).row
+    turn_sound active end s moves move more h sound fit = row_sound accepts active joins spells permits end.live s h.ended sound h.was_live fit
 
     -- the row that the session comes to, and what is active then
-    turn_installs : (end : Reading) (s : TargetSessionLog) (active : StandingView) (reason : Option Reason) (moves : List Move) (move : RowMove) (more : List ℕ) (h : HasTurned accepts active.identity end s moves move more) (later : TargetReading)
-        → later.end ≡ after end moves → later.active ≡ standing_in active (row_in accepts active.identity (with_done s (newest (after end moves).past)))
-        → IsSoundRow accepts active.identity (reads_in (s.done ++ h.ended ∷ [])) (row_in accepts active.identity (with_done s (h.ended ∷ []))) → StaysOrIsNew accepts (reading end (Some s) active reason) later
+    turn_installs : (end : Reading) (s : TargetSessionLog) (active : StandingView) (reason : Option Reason) (moves : List Move) (move : RowMove) (more : List ℕ) (h : HasTurned accepts active end s moves move more) (later : TargetReading)
+        → later.end ≡ after end moves → later.active ≡ standing_in active (with_done accepts active s (newest (after end moves).past)).row
+        → IsSoundRow accepts active (reads_in (s.done ++ h.ended ∷ [])) (with_done accepts active s (h.ended ∷ [])).row → StaysOrIsNew accepts (reading end (Some s) active reason) later
     turn_installs end s active reason moves move more h later same is sound =
-        installs end s active reason later h.ended (row_in accepts active.identity (with_done s (h.ended ∷ []))) (ap (λ (x : Reading). newest x.past) same ∙ h.is_newest) refl
-        (is ∙ ap (λ (ts : List Transfer). standing_in active (row_in accepts active.identity (with_done s ts))) h.is_newest) sound
+        installs end s active reason later h.ended (with_done accepts active s (h.ended ∷ [])).row (ap (λ (x : Reading). newest x.past) same ∙ h.is_newest) refl
+        (is ∙ ap (λ (ts : List Transfer). standing_in active (with_done accepts active s ts).row) h.is_newest) sound
 
-    changed_sound : (end : Reading) (live : Option TargetSessionLog) (active : StandingView) (reason : Option Reason) (moves : List Move) (change : TargetChange) → FitsChange accepts active.identity end live moves change
-        → SoundIn accepts active.identity end.live live → ((t : Transfer) → newest (after end moves).past ≡ t ∷ [] → IsBytes (arrived_of t))
+    changed_sound : (end : Reading) (live : Option TargetSessionLog) (active : StandingView) (reason : Option Reason) (moves : List Move) (change : TargetChange) → FitsChange accepts active end live moves change
+        → SoundIn accepts active end.live live → ((t : Transfer) → newest (after end moves).past ≡ t ∷ [] → IsBytes (arrived_of t))
         → Outcome (reading end live active reason) (target_reading_changed accepts (after end moves) (reading end live active reason) change)
     changed_sound end live active reason moves (Begins kind) fits sound bytes = begun end (after end moves) live active reason kind fits.1
     changed_sound end live active reason moves (Ends why) fits sound bytes = (tt, inl refl)
@@ -308,27 +329,27 @@ module _ (accepts : HeaderView → Bool) where
     changed_sound end None active reason moves (Turns_without_port move more) fits sound bytes = (tt, inl refl)
     changed_sound end (Some s) active reason moves (Continues more) fits sound bytes = (record { row = sound.row; role = fits.1 sound.role }, inl refl)
     changed_sound end (Some s) active reason moves (Turns move more) (turn, none, role) sound bytes =
-        let now = turn_sound active.identity end s moves move more turn sound (bytes turn.ended turn.is_newest) in
-        let then = with_done s (newest (after end moves).past) in (
-          sound_for active (row_in accepts active.identity then) (after end moves).live then (record {
-            row = subst (λ (ts : List Transfer). IsSoundRow accepts active.identity (reads_in (s.done ++ ts)) (row_in accepts active.identity (with_done s ts))) (sym turn.is_newest) now;
-            role = subst (λ (row : RowView). LiveFits row (after end moves).live) (sym (turned_row joins accepts active.identity s end moves move more turn)) role;
-          }),
+        let now = turn_sound active end s moves move more turn sound (bytes turn.ended turn.is_newest) in
+        let then = with_done accepts active s (newest (after end moves).past) in (
+          record {
+            row = as_active accepts active (reads_in then.done) then.row (subst (λ (ts : List Transfer). IsSoundRow accepts active (reads_in (s.done ++ ts)) (with_done accepts active s ts).row) (sym turn.is_newest) now);
+            role = subst (λ (row : RowView). LiveFits row (after end moves).live) (sym (turned_row joins accepts active s end moves move more turn)) role;
+          },
           turn_installs end s active reason moves move more turn (target_reading_changed accepts (after end moves) (reading end (Some s) active reason) (Turns move more)) refl refl now,
         )
     changed_sound end (Some s) active reason moves (Turns_without_port move more) turn sound bytes = (
       tt,
       turn_installs end s active reason moves move more turn (target_reading_changed accepts (after end moves) (reading end (Some s) active reason) (Turns_without_port move more)) refl refl
-          (turn_sound active.identity end s moves move more turn sound (bytes turn.ended turn.is_newest)),
+          (turn_sound active end s moves move more turn sound (bytes turn.ended turn.is_newest)),
     )
 
     module _ (payloads : PayloadsAreBytes) where
       -- one event more, where all packets of the transfers came
       pub target_step_sound : (log : List Event) (r : TargetReading) (e : Event) → LogIsBytes (e ∷ log) → PacketsCame log r.end → IsLive r.end.live → SessionIsSound accepts r → Outcome r (target_extended accepts r e)
       target_step_sound log r e fit packets live sound =
-          let d = target_decision accepts (target_view accepts r) e in
+          let d = target_decision accepts (target_view r) e in
           changed_sound r.end r.live r.active r.reason d.moves d.change (decision_fits joins accepts r e live) sound
-          (λ t one. newest_bytes payloads (e ∷ log) (after r.end d.moves) t fit (moves_came sides.Target e log r.end d.moves (target_moves_heard accepts (target_view accepts r) e) packets) one)
+          (λ t one. newest_bytes payloads (e ∷ log) (after r.end d.moves) t fit (moves_came sides.Target e log r.end d.moves (target_moves_heard accepts (target_view r) e) packets) one)
 
       target_sound : (first_port : ℕ) (active : StandingView) (log : List Event) → LogIsBytes log → SessionIsSound accepts (target_reading accepts first_port active log)
       target_sound first_port active [] fit = tt

@@ -17,11 +17,11 @@ use Rattle.load_header.specs.declared.header.FileEntry.{FileEntry}
 use Rattle.load_header.specs.Header.{HeaderView, header}
 use Rattle.load_header.specs.HeaderFields.{HeaderSpells}
 use Rattle.load_protocol_files.specs.declared.lur.Wanted.{Wanted}
-use Rattle.disk_layout.specs.declared.identity.Identity.{Identity}
 use Rattle.disk_layout.specs.Contents.{entry_of, entries_of, bytes_of, file_entry_of}
+use Rattle.disk_layout.specs.Holds.{Outline, StandingView, outline_of}
 use Rattle.tftp_packet.specs.Packets.{PacketView}
 use Rattle.transfer_end.specs.Transfers.{Reads, Role, ServesRead, ServesWrite, Transfer, Writes, arrived_of, is_reading}
-use Rattle.accept_rules.specs.Permissions.{Permits}
+use Rattle.accept_rules.specs.Permissions.{Accepts, AcceptsPermitted}
 use Rattle.session_rules.specs.declared.reason.Reason.{Reason}
 use Rattle.session_rules.specs.declared.reason.RequestFault.{RequestFault}
 use Rattle.session_rules.specs.Buffers.{Buffer, Sums, buffered, buffer_size, is_too_long, summed}
@@ -133,10 +133,10 @@ abbrev file : (name bytes : List ℕ) → FileView
 file name bytes = record { name = name; bytes = bytes }
 
 -- a load that is whole is good
-whole_is_good : (accepts : HeaderView → Bool) (id : Identity) (l : OpenLoad) → ((h : HeaderView) → accepts h ≡ true → Permits h) → IsGoodSoFar accepts id l
+whole_is_good : (accepts : Accepts) (active : StandingView) (l : OpenLoad) → AcceptsPermitted accepts → IsGoodSoFar accepts active l
     → length (files_of l.header) ≤ length l.files → l.header.load_crc ≡ crc32_of (covered l.bytes l.files)
-    → IsGoodLoad (λ h. accepts h ≡ true) id (load_of l)
-whole_is_good accepts id l permits g few crc =
+    → IsGoodLoad (λ h. accepts h ≡ true) active.identity (load_of l)
+whole_is_good accepts active l permits g few crc =
     let sizes : length g.came ≡ length l.files = zip_length IsAsSaid g.came l.files g.each in
     let both : length (files_of l.header) ≡ length g.came + length g.left = ap length g.entries ∙ length-append g.came g.left in
     let none : g.left ≡ [] = empty_if g.left (omega arith) in
@@ -147,6 +147,7 @@ whole_is_good accepts id l permits g few crc =
       files = l.files;
       spelled = g.spelled;
       part = sym g.part;
+      type_id = refl;
       suits = g.suits;
       accepted = g.accepted;
       permitted = permits l.header g.accepted;
@@ -161,23 +162,23 @@ is_wanted l wanted e = record { part = ap (λ (x : Wanted). x.part) e; header = 
 files_more : (loads : List LoadView) (l : OpenLoad) → files_in (loads ++ load_of l ∷ []) ≡ files_in loads ++ files_of_open (Some l)
 files_more loads l = flat_map-append (λ (x : LoadView). x.files) loads (load_of l ∷ []) ∙ ap (λ (x : List FileView). files_in loads ++ x) (append-nil (load_of l).files)
 
-placed_sound : (accepts : HeaderView → Bool) (id : Identity) (reads : List FileView) (u : Upload) (l : OpenLoad) (had left : List Wanted) (wanted : Wanted) → ((h : HeaderView) → accepts h ≡ true → Permits h)
-    → u.request ≡ had ++ wanted ∷ left → AllZip IsWanted had u.loads → AreGoodLoads accepts id u.loads → l.wanted ≡ wanted → IsGoodSoFar accepts id l → files_in u.loads ++ files_of_open (Some l) ≡ reads
+placed_sound : (accepts : Accepts) (active : StandingView) (reads : List FileView) (u : Upload) (l : OpenLoad) (had left : List Wanted) (wanted : Wanted) → AcceptsPermitted accepts
+    → u.request ≡ had ++ wanted ∷ left → AllZip IsWanted had u.loads → AreGoodLoads accepts active u.loads → l.wanted ≡ wanted → IsGoodSoFar accepts active l → files_in u.loads ++ files_of_open (Some l) ≡ reads
     → (next : Next) → HasLoadCrc l.header (crc32_of (covered l.bytes l.files)) next → NextMeans (length l.files) (length (files_of l.header)) (length u.loads) (length u.request) next
-    → IsSoundRow accepts id reads (placed u l next)
-placed_sound accepts id reads u l had left wanted permits request each good is so_far files More_files crc means =
+    → IsSoundRow accepts active reads (placed u l next)
+placed_sound accepts active reads u l had left wanted permits request each good is so_far files More_files crc means =
     record { had = had; left = wanted ∷ left; request = request; each = each; good = good; next = (is, so_far); files = files }
-placed_sound accepts id reads u l had left wanted permits request each good is so_far files Next_load crc few =
+placed_sound accepts active reads u l had left wanted permits request each good is so_far files Next_load crc few =
     record {
       had = had ++ wanted ∷ [];
       left = left;
       request = request ∙ sym (append_assoc had (wanted ∷ []) left);
       each = zip_more IsWanted had u.loads wanted (load_of l) each (is_wanted l wanted is);
-      good = all_more (IsGoodLoad (λ h. accepts h ≡ true) id) u.loads (load_of l) good (whole_is_good accepts id l permits so_far few crc);
+      good = all_more (IsGoodLoad (λ h. accepts h ≡ true) active.identity) u.loads (load_of l) good (whole_is_good accepts active l permits so_far few crc);
       next = tt;
       files = append-nil _ ∙ (files_more u.loads l ∙ files);
     }
-placed_sound accepts id reads u l had left wanted permits request each good is so_far files Complete crc (few, last) =
+placed_sound accepts active reads u l had left wanted permits request each good is so_far files Complete crc (few, last) =
     let sizes : length had ≡ length u.loads = zip_length IsWanted had u.loads each in
     let both : length u.request ≡ length had + suc (length left) = ap length request ∙ length-append had (wanted ∷ left) in
     let none : left ≡ [] = empty_if left (omega arith) in
@@ -185,7 +186,7 @@ placed_sound accepts id reads u l had left wanted permits request each good is s
     record {
       each = subst (λ (x : List Wanted). AllZip IsWanted x (u.loads ++ load_of l ∷ [])) (sym asked) (zip_more IsWanted had u.loads wanted (load_of l) each (is_wanted l wanted is));
       files = files_more u.loads l ∙ files;
-      good = all_more (IsGoodLoad (λ h. accepts h ≡ true) id) u.loads (load_of l) good (whole_is_good accepts id l permits so_far few crc);
+      good = all_more (IsGoodLoad (λ h. accepts h ≡ true) active.identity) u.loads (load_of l) good (whole_is_good accepts active l permits so_far few crc);
     }
 
 -- ---- a header that was accepted
@@ -195,34 +196,34 @@ accepted_header None n g m h next e = (refl, ap (header_in g) e, ap next_in e)
 accepted_header (Some r) n g m h next e = absurd cc
 
 -- what was tested of it
-pub record HeaderTested (accepts : HeaderView → Bool) (id : Identity) (u : UploadView) (wanted : Wanted) (b : Buffer) (h : HeaderView) (next : Next) : Type 0 where
-  pub tests : header_reason accepts id u wanted h b.count ≡ None
+pub record HeaderTested (accepts : Accepts) (active : Outline) (u : UploadView) (wanted : Wanted) (b : Buffer) (h : HeaderView) (next : Next) : Type 0 where
+  pub tests : header_reason accepts active u wanted h b.count ≡ None
   pub load : load_reason h (next_with u h 0) (crc32_of (covered_header b.prefix)) ≡ None
   pub next_is : next_with u h 0 ≡ next
 
-read_tested : (accepts : HeaderView → Bool) (id : Identity) (u : UploadView) (wanted : Wanted) (b : Buffer) (found : Result HeaderView HeaderFault) (h : HeaderView) (next : Next) → judge_read_header accepts id u wanted b found ≡ Accepts_header h next
-    → (found ≡ Ok h) × HeaderTested accepts id u wanted b h next
-read_tested accepts id u wanted b (Err fault) h next e = absurd cc
-read_tested accepts id u wanted b (Ok g) h next e =
+read_tested : (accepts : Accepts) (active : Outline) (u : UploadView) (wanted : Wanted) (b : Buffer) (found : Result HeaderView HeaderFault) (h : HeaderView) (next : Next) → judge_read_header accepts active u wanted b found ≡ Accepts_header h next
+    → (found ≡ Ok h) × HeaderTested accepts active u wanted b h next
+read_tested accepts active u wanted b (Err fault) h next e = absurd cc
+read_tested accepts active u wanted b (Ok g) h next e =
     let (passed, same, follows) = accepted_header _ _ g _ h next e in
     let both = both_none _ _ passed in
-    (ap Ok same, subst (λ (x : HeaderView). HeaderTested accepts id u wanted b x next) same (record { tests = both.0; load = both.1; next_is = follows }))
+    (ap Ok same, subst (λ (x : HeaderView). HeaderTested accepts active u wanted b x next) same (record { tests = both.0; load = both.1; next_is = follows }))
 
 short_read : (b : Bool) (reason : Reason) (n : ℕ) (other : Judgement) (h : HeaderView) (next : Next) → cond b (Stops_for reason n) other ≡ Accepts_header h next → (b ≡ false) × (other ≡ Accepts_header h next)
 short_read true reason n other h next e = absurd cc
 short_read false reason n other h next e = (refl, e)
 
-header_tested : (accepts : HeaderView → Bool) (id : Identity) (u : UploadView) (wanted : Wanted) (b : Buffer) (h : HeaderView) (next : Next) → judge_header accepts id u wanted b ≡ Accepts_header h next
-    → (is_too_long b ≡ false) × (answer header b.prefix ≡ Ok h) × HeaderTested accepts id u wanted b h next
+header_tested : (accepts : Accepts) (active : Outline) (u : UploadView) (wanted : Wanted) (b : Buffer) (h : HeaderView) (next : Next) → judge_header accepts active u wanted b ≡ Accepts_header h next
+    → (is_too_long b ≡ false) × (answer header b.prefix ≡ Ok h) × HeaderTested accepts active u wanted b h next
 unfolding judge_header
-header_tested accepts id u wanted b h next e =
+header_tested accepts active u wanted b h next e =
     let (short, read) = short_read (is_too_long b) _ _ _ h next e in
-    let (spelled, tests) = read_tested accepts id u wanted b (answer header b.prefix) h next read in
+    let (spelled, tests) = read_tested accepts active u wanted b (answer header b.prefix) h next read in
     (short, spelled, tests)
 
-header_is_good : (accepts : HeaderView → Bool) (id : Identity) (u : UploadView) (wanted : Wanted) (h : HeaderView) (bytes : List ℕ) (size : ℕ) → HeaderSpells h bytes → header_reason accepts id u wanted h size ≡ None
-    → IsGoodSoFar accepts id (open_load wanted h bytes [])
-header_is_good accepts id u wanted h bytes size spelled e =
+header_is_good : (accepts : Accepts) (active : StandingView) (u : UploadView) (wanted : Wanted) (h : HeaderView) (bytes : List ℕ) (size : ℕ) → HeaderSpells h bytes → header_reason accepts (outline_of active) u wanted h size ≡ None
+    → IsGoodSoFar accepts active (open_load wanted h bytes [])
+header_is_good accepts active u wanted h bytes size spelled e =
     let (part, rest) = both_none _ _ e in
     let (suits, later) = both_none _ _ rest in
     let (accepted, room) = both_none _ _ later in
@@ -237,13 +238,13 @@ header_is_good accepts id u wanted h bytes size spelled e =
       each = tt;
     }
 
-header_sound : HeadersAreSpelled → (accepts : HeaderView → Bool) (id : Identity) (reads : List FileView) (request : List Wanted) (loads : List LoadView) (reports : ℕ) (wanted : Wanted) (h : HeaderView) (name bytes : List ℕ) (next : Next)
-    → ((x : HeaderView) → accepts x ≡ true → Permits x) → IsBytes bytes → name ≡ wanted.header → next_wanted (upload_view (upload request loads None reports)) ≡ Some wanted
-    → judge_header accepts id (upload_view (upload request loads None reports)) wanted (buffered bytes) ≡ Accepts_header h next → IsSoundUpload accepts id reads (upload request loads None reports)
-    → IsSoundRow accepts id (reads ++ file name bytes ∷ []) (placed (upload request loads None reports) (open_load wanted h bytes []) next)
-header_sound spells accepts id reads request loads reports wanted h name bytes next permits fit named found judgement s =
+header_sound : HeadersAreSpelled → (accepts : Accepts) (active : StandingView) (reads : List FileView) (request : List Wanted) (loads : List LoadView) (reports : ℕ) (wanted : Wanted) (h : HeaderView) (name bytes : List ℕ) (next : Next)
+    → AcceptsPermitted accepts → IsBytes bytes → name ≡ wanted.header → next_wanted (upload_view (upload request loads None reports)) ≡ Some wanted
+    → judge_header accepts (outline_of active) (upload_view (upload request loads None reports)) wanted (buffered bytes) ≡ Accepts_header h next → IsSoundUpload accepts active reads (upload request loads None reports)
+    → IsSoundRow accepts active (reads ++ file name bytes ∷ []) (placed (upload request loads None reports) (open_load wanted h bytes []) next)
+header_sound spells accepts active reads request loads reports wanted h name bytes next permits fit named found judgement s =
     let u = upload_view (upload request loads None reports) in
-    let (short, spelled, tests) = header_tested accepts id u wanted (buffered bytes) h next judgement in
+    let (short, spelled, tests) = header_tested accepts (outline_of active) u wanted (buffered bytes) h next judgement in
     let whole : take buffer_size bytes ≡ bytes = take_all buffer_size bytes (ltb-false buffer_size (length bytes) short) in
     let sizes : length s.had ≡ length (entries_of loads) = zip_length IsWanted s.had loads s.each ∙ sym (length-map loads entry_of) in
     let (left, is) = first_left s.had s.left (length (entries_of loads)) wanted sizes (subst (λ (x : List Wanted). slice_get x (length (entries_of loads)) ≡ Some wanted) s.request found) in
@@ -252,8 +253,8 @@ header_sound spells accepts id reads request loads reports wanted h name bytes n
     let means : NextMeans 0 (length (files_of h)) (length (entries_of loads)) (length request) next = next_means 0 (length (files_of h)) (length (entries_of loads)) (length request) _ _ next refl refl tests.next_is in
     let files : files_in loads ++ file wanted.header bytes ∷ [] ≡ reads ++ file name bytes ∷ [] =
     ap (λ (x : List FileView). x ++ file wanted.header bytes ∷ []) (sym (append-nil (files_in loads)) ∙ s.files) ∙ ap (λ (x : List ℕ). reads ++ file x bytes ∷ []) (sym named) in
-    placed_sound accepts id (reads ++ file name bytes ∷ []) (upload request loads None reports) (open_load wanted h bytes []) s.had left wanted permits (s.request ∙ ap (λ (x : List Wanted). s.had ++ x) is) s.each s.good refl
-    (header_is_good accepts id u wanted h bytes (length bytes) spelling tests.tests) files next
+    placed_sound accepts active (reads ++ file name bytes ∷ []) (upload request loads None reports) (open_load wanted h bytes []) s.had left wanted permits (s.request ∙ ap (λ (x : List Wanted). s.had ++ x) is) s.each s.good refl
+    (header_is_good accepts active u wanted h bytes (length bytes) spelling tests.tests) files next
     (subst (λ (x : Next). HasLoadCrc h (crc32_of (covered bytes [])) x) tests.next_is (subst (λ (x : ℕ). HasLoadCrc h x (next_with u h 0)) crc (has_load_crc h (next_with u h 0) _ tests.load)))
     (subst (λ (x : ℕ). NextMeans 0 (length (files_of h)) x (length request) next) (length-map loads entry_of) means)
 
@@ -282,9 +283,9 @@ covered_more : SumsJoin → (head : List ℕ) (files : List FileView) (name byte
 covered_more joins head files name bytes =
     joins.crc32 (covered head files) bytes ∙ ap crc32_of (append_assoc (covered_header head) (bytes_of files) bytes ∙ ap (λ (x : List ℕ). covered_header head ++ x) (sym (bytes_more files name bytes)))
 
-file_is_good : (accepts : HeaderView → Bool) (id : Identity) (wanted : Wanted) (h : HeaderView) (head : List ℕ) (files : List FileView) (entry : FileEntry) (left : List FileEntry) (name bytes : List ℕ) (g : IsGoodSoFar accepts id (open_load wanted h head files))
-    → g.left ≡ entry ∷ left → name ≡ entry.name → length bytes ≡ entry.length → crc16_of bytes ≡ entry.crc16 → IsGoodSoFar accepts id (open_load wanted h head (files ++ file name bytes ∷ []))
-file_is_good accepts id wanted h head files entry left name bytes g is named size crc = record {
+file_is_good : (accepts : Accepts) (active : StandingView) (wanted : Wanted) (h : HeaderView) (head : List ℕ) (files : List FileView) (entry : FileEntry) (left : List FileEntry) (name bytes : List ℕ) (g : IsGoodSoFar accepts active (open_load wanted h head files))
+    → g.left ≡ entry ∷ left → name ≡ entry.name → length bytes ≡ entry.length → crc16_of bytes ≡ entry.crc16 → IsGoodSoFar accepts active (open_load wanted h head (files ++ file name bytes ∷ []))
+file_is_good accepts active wanted h head files entry left name bytes g is named size crc = record {
   spelled = g.spelled;
   part = g.part;
   suits = g.suits;
@@ -295,18 +296,18 @@ file_is_good accepts id wanted h head files entry left name bytes g is named siz
   each = zip_more IsAsSaid g.came files entry (file name bytes) g.each (record { name = named; size = size; crc = crc });
 }
 
-file_sound : SumsJoin → (accepts : HeaderView → Bool) (id : Identity) (reads : List FileView) (request : List Wanted) (loads : List LoadView) (reports : ℕ) (wanted : Wanted) (h : HeaderView) (head : List ℕ) (files : List FileView) (entry : FileEntry) (read name bytes : List ℕ) (next : Next) (had left : List Wanted)
-    → ((x : HeaderView) → accepts x ≡ true → Permits x) → read ≡ name → name ≡ entry.name → next_entry (open_load_view (open_load wanted h head files)) ≡ Some entry
+file_sound : SumsJoin → (accepts : Accepts) (active : StandingView) (reads : List FileView) (request : List Wanted) (loads : List LoadView) (reports : ℕ) (wanted : Wanted) (h : HeaderView) (head : List ℕ) (files : List FileView) (entry : FileEntry) (read name bytes : List ℕ) (next : Next) (had left : List Wanted)
+    → AcceptsPermitted accepts → read ≡ name → name ≡ entry.name → next_entry (open_load_view (open_load wanted h head files)) ≡ Some entry
     → judge_file (upload_view (upload request loads (Some (open_load wanted h head files)) reports)) (open_load_view (open_load wanted h head files)) entry (summed entry.length (crc32_of (covered head files)) bytes) ≡ Accepts_file next
-    → request ≡ had ++ wanted ∷ left → AllZip IsWanted had loads → AreGoodLoads accepts id loads → IsGoodSoFar accepts id (open_load wanted h head files) → files_in loads ++ files_of_open (Some (open_load wanted h head files)) ≡ reads
-    → IsSoundRow accepts id (reads ++ file read bytes ∷ []) (placed (upload request loads (Some (open_load wanted h head files)) reports) (open_load wanted h head (files ++ file name bytes ∷ [])) next)
-file_sound joins accepts id reads request loads reports wanted h head files entry read name bytes next had left permits same named found judgement asked each good g all =
+    → request ≡ had ++ wanted ∷ left → AllZip IsWanted had loads → AreGoodLoads accepts active loads → IsGoodSoFar accepts active (open_load wanted h head files) → files_in loads ++ files_of_open (Some (open_load wanted h head files)) ≡ reads
+    → IsSoundRow accepts active (reads ++ file read bytes ∷ []) (placed (upload request loads (Some (open_load wanted h head files)) reports) (open_load wanted h head (files ++ file name bytes ∷ [])) next)
+file_sound joins accepts active reads request loads reports wanted h head files entry read name bytes next had left permits same named found judgement asked each good g all =
     let u = upload_view (upload request loads (Some (open_load wanted h head files)) reports) in
     let tests = file_tested u (open_load_view (open_load wanted h head files)) entry (summed entry.length (crc32_of (covered head files)) bytes) next judgement in
     let whole : take entry.length bytes ≡ bytes = take_all entry.length bytes (let size : length bytes ≡ entry.length = tests.size in omega arith) in
     let sizes : length g.came ≡ length (map file_entry_of files) = zip_length IsAsSaid g.came files g.each ∙ sym (length-map files file_entry_of) in
     let (rest, is) = first_left g.came g.left (length (map file_entry_of files)) entry sizes (subst (λ (x : List FileEntry). slice_get x (length (map file_entry_of files)) ≡ Some entry) g.entries found) in
-    let now = file_is_good accepts id wanted h head files entry rest name bytes g is named tests.size (ap crc16_of (sym whole) ∙ tests.crc) in
+    let now = file_is_good accepts active wanted h head files entry rest name bytes g is named tests.size (ap crc16_of (sym whole) ∙ tests.crc) in
     let crc : crc32_after (crc32_of (covered head files)) (take entry.length bytes) ≡ crc32_of (covered head (files ++ file name bytes ∷ [])) =
     ap (λ (x : List ℕ). crc32_after (crc32_of (covered head files)) x) whole ∙ covered_more joins head files name bytes in
     let count : length (map file_entry_of files) + 1 ≡ length (files ++ file name bytes ∷ []) = ap (λ (n : ℕ). n + 1) (length-map files file_entry_of) ∙ sym (length-append files (file name bytes ∷ [])) in
@@ -314,7 +315,7 @@ file_sound joins accepts id reads request loads reports wanted h head files entr
     next_means (length (map file_entry_of files) + 1) (length (files_of h)) (length (entries_of loads)) (length request) _ _ next refl refl tests.next_is in
     let read_all : files_in loads ++ files_of_open (Some (open_load wanted h head (files ++ file name bytes ∷ []))) ≡ reads ++ file read bytes ∷ [] =
     sym (append_assoc (files_in loads) (files_of_open (Some (open_load wanted h head files))) (file name bytes ∷ [])) ∙ (ap (λ (x : List FileView). x ++ file name bytes ∷ []) all ∙ ap (λ (x : List ℕ). reads ++ file x bytes ∷ []) (sym same)) in
-    placed_sound accepts id (reads ++ file read bytes ∷ []) (upload request loads (Some (open_load wanted h head files)) reports) (open_load wanted h head (files ++ file name bytes ∷ [])) had left wanted permits asked each good refl now read_all next
+    placed_sound accepts active (reads ++ file read bytes ∷ []) (upload request loads (Some (open_load wanted h head files)) reports) (open_load wanted h head (files ++ file name bytes ∷ [])) had left wanted permits asked each good refl now read_all next
     (subst (λ (x : Next). HasLoadCrc h (crc32_of (covered head (files ++ file name bytes ∷ []))) x) tests.next_is
     (subst (λ (x : ℕ). HasLoadCrc h x (next_with u h (length (map file_entry_of files) + 1))) crc (has_load_crc h (next_with u h (length (map file_entry_of files) + 1)) _ tests.load)))
     (subst (λ (x : ℕ). NextMeans (length (files ++ file name bytes ∷ [])) (length (files_of h)) x (length request) next) (length-map loads entry_of)
@@ -345,90 +346,90 @@ written_no_read (ServesWrite name o) h = absurd h
 
 -- ---- row by row
 
-asked_sound : (accepts : HeaderView → Bool) (id : Identity) (reads : List FileView) (bytes : List ℕ) (found : Result (List Wanted) RequestFault) → reads ≡ [] → IsSoundRow accepts id reads (row_moved Awaits_lur bytes (request_move found))
-asked_sound accepts id reads bytes (Ok loads) none = record { had = []; left = loads; request = refl; each = tt; good = tt; next = tt; files = sym none }
-asked_sound accepts id reads bytes (Err fault) none = tt
+asked_sound : (accepts : Accepts) (active : StandingView) (reads : List FileView) (bytes : List ℕ) (found : Result (List Wanted) RequestFault) → reads ≡ [] → IsSoundRow accepts active reads (row_moved Awaits_lur bytes (request_move found))
+asked_sound accepts active reads bytes (Ok loads) none = record { had = []; left = loads; request = refl; each = tt; good = tt; next = tt; files = sym none }
+asked_sound accepts active reads bytes (Err fault) none = tt
 
-header_by : HeadersAreSpelled → (accepts : HeaderView → Bool) (id : Identity) (reads : List FileView) (request : List Wanted) (loads : List LoadView) (reports : ℕ) (wanted : Wanted) (name bytes : List ℕ) (judgement : Judgement)
-    → ((x : HeaderView) → accepts x ≡ true → Permits x) → IsBytes bytes → name ≡ wanted.header → next_wanted (upload_view (upload request loads None reports)) ≡ Some wanted
-    → judge_header accepts id (upload_view (upload request loads None reports)) wanted (buffered bytes) ≡ judgement → IsSoundUpload accepts id reads (upload request loads None reports)
-    → IsSoundRow accepts id (reads ++ file name bytes ∷ []) (row_judged (upload request loads None reports) bytes judgement)
-header_by spells accepts id reads request loads reports wanted name bytes (Stops_for r n) permits fit named found e s = tt
-header_by spells accepts id reads request loads reports wanted name bytes (Accepts_header h next) permits fit named found e s =
-    subst (λ (x : Option Wanted). IsSoundRow accepts id (reads ++ file name bytes ∷ []) (placed_if (upload request loads None reports) (with_header x h bytes) next)) (sym found)
-    (header_sound spells accepts id reads request loads reports wanted h name bytes next permits fit named found e s)
-header_by spells accepts id reads request loads reports wanted name bytes (Accepts_file next) permits fit named found e s =
-    absurd (header_no_file accepts id (upload_view (upload request loads None reports)) wanted (buffered bytes) next e)
+header_by : HeadersAreSpelled → (accepts : Accepts) (active : StandingView) (reads : List FileView) (request : List Wanted) (loads : List LoadView) (reports : ℕ) (wanted : Wanted) (name bytes : List ℕ) (judgement : Judgement)
+    → AcceptsPermitted accepts → IsBytes bytes → name ≡ wanted.header → next_wanted (upload_view (upload request loads None reports)) ≡ Some wanted
+    → judge_header accepts (outline_of active) (upload_view (upload request loads None reports)) wanted (buffered bytes) ≡ judgement → IsSoundUpload accepts active reads (upload request loads None reports)
+    → IsSoundRow accepts active (reads ++ file name bytes ∷ []) (row_judged (upload request loads None reports) bytes judgement)
+header_by spells accepts active reads request loads reports wanted name bytes (Stops_for r n) permits fit named found e s = tt
+header_by spells accepts active reads request loads reports wanted name bytes (Accepts_header h next) permits fit named found e s =
+    subst (λ (x : Option Wanted). IsSoundRow accepts active (reads ++ file name bytes ∷ []) (placed_if (upload request loads None reports) (with_header x h bytes) next)) (sym found)
+    (header_sound spells accepts active reads request loads reports wanted h name bytes next permits fit named found e s)
+header_by spells accepts active reads request loads reports wanted name bytes (Accepts_file next) permits fit named found e s =
+    absurd (header_no_file accepts (outline_of active) (upload_view (upload request loads None reports)) wanted (buffered bytes) next e)
 
-header_row : HeadersAreSpelled → (accepts : HeaderView → Bool) (id : Identity) (reads : List FileView) (request : List Wanted) (loads : List LoadView) (reports : ℕ) (name bytes : List ℕ) (found : Option Wanted)
-    → ((x : HeaderView) → accepts x ≡ true → Permits x) → IsBytes bytes → name ≡ next_name (upload_view (upload request loads None reports)) → next_wanted (upload_view (upload request loads None reports)) ≡ found → IsSoundUpload accepts id reads (upload request loads None reports)
-    → IsSoundRow accepts id (reads ++ file name bytes ∷ []) (row_moved (Reads_file (upload request loads None reports)) bytes (header_move accepts id (upload_view (upload request loads None reports)) found (Kept_bytes (buffered bytes))))
-header_row spells accepts id reads request loads reports name bytes None permits fit named e s = tt
-header_row spells accepts id reads request loads reports name bytes (Some wanted) permits fit named e s =
-    header_by spells accepts id reads request loads reports wanted name bytes _ permits fit (named ∙ ap header_name e) e refl s
+header_row : HeadersAreSpelled → (accepts : Accepts) (active : StandingView) (reads : List FileView) (request : List Wanted) (loads : List LoadView) (reports : ℕ) (name bytes : List ℕ) (found : Option Wanted)
+    → AcceptsPermitted accepts → IsBytes bytes → name ≡ next_name (upload_view (upload request loads None reports)) → next_wanted (upload_view (upload request loads None reports)) ≡ found → IsSoundUpload accepts active reads (upload request loads None reports)
+    → IsSoundRow accepts active (reads ++ file name bytes ∷ []) (row_moved (Reads_file (upload request loads None reports)) bytes (header_move accepts (outline_of active) (upload_view (upload request loads None reports)) found (Kept_bytes (buffered bytes))))
+header_row spells accepts active reads request loads reports name bytes None permits fit named e s = tt
+header_row spells accepts active reads request loads reports name bytes (Some wanted) permits fit named e s =
+    header_by spells accepts active reads request loads reports wanted name bytes _ permits fit (named ∙ ap header_name e) e refl s
 
-file_by : SumsJoin → (accepts : HeaderView → Bool) (id : Identity) (reads : List FileView) (request : List Wanted) (loads : List LoadView) (l : OpenLoad) (reports : ℕ) (entry : FileEntry) (name bytes : List ℕ) (judgement : Judgement) (had left : List Wanted)
-    → ((x : HeaderView) → accepts x ≡ true → Permits x) → name ≡ next_name (upload_view (upload request loads (Some l) reports)) → next_entry (open_load_view l) ≡ Some entry
+file_by : SumsJoin → (accepts : Accepts) (active : StandingView) (reads : List FileView) (request : List Wanted) (loads : List LoadView) (l : OpenLoad) (reports : ℕ) (entry : FileEntry) (name bytes : List ℕ) (judgement : Judgement) (had left : List Wanted)
+    → AcceptsPermitted accepts → name ≡ next_name (upload_view (upload request loads (Some l) reports)) → next_entry (open_load_view l) ≡ Some entry
     → judge_file (upload_view (upload request loads (Some l) reports)) (open_load_view l) entry (summed entry.length (open_load_view l).crc bytes) ≡ judgement
-    → request ≡ had ++ left → AllZip IsWanted had loads → AreGoodLoads accepts id loads → IsNextWanted accepts id left (Some l) → files_in loads ++ files_of_open (Some l) ≡ reads
-    → IsSoundRow accepts id (reads ++ file name bytes ∷ []) (row_judged (upload request loads (Some l) reports) bytes judgement)
-file_by joins accepts id reads request loads l reports entry name bytes (Stops_for r n) had left permits named found e asked each good next all = tt
-file_by joins accepts id reads request loads l reports entry name bytes (Accepts_header h m) had left permits named found e asked each good next all = absurd (file_no_header _ _ entry _ h m e)
-file_by joins accepts id reads request loads l reports entry name bytes (Accepts_file m) had [] permits named found e asked each good next all = absurd next
-file_by joins accepts id reads request loads l reports entry name bytes (Accepts_file m) had (wanted ∷ left) permits named found e asked each good (is, so_far) all =
-    file_sound joins accepts id reads request loads reports l.wanted l.header l.bytes l.files entry name (next_name (upload_view (upload request loads (Some l) reports))) bytes m had left permits named (ap entry_name found) found e
+    → request ≡ had ++ left → AllZip IsWanted had loads → AreGoodLoads accepts active loads → IsNextWanted accepts active left (Some l) → files_in loads ++ files_of_open (Some l) ≡ reads
+    → IsSoundRow accepts active (reads ++ file name bytes ∷ []) (row_judged (upload request loads (Some l) reports) bytes judgement)
+file_by joins accepts active reads request loads l reports entry name bytes (Stops_for r n) had left permits named found e asked each good next all = tt
+file_by joins accepts active reads request loads l reports entry name bytes (Accepts_header h m) had left permits named found e asked each good next all = absurd (file_no_header _ _ entry _ h m e)
+file_by joins accepts active reads request loads l reports entry name bytes (Accepts_file m) had [] permits named found e asked each good next all = absurd next
+file_by joins accepts active reads request loads l reports entry name bytes (Accepts_file m) had (wanted ∷ left) permits named found e asked each good (is, so_far) all =
+    file_sound joins accepts active reads request loads reports l.wanted l.header l.bytes l.files entry name (next_name (upload_view (upload request loads (Some l) reports))) bytes m had left permits named (ap entry_name found) found e
     (asked ∙ ap (λ (x : Wanted). had ++ x ∷ left) (sym is)) each good so_far all
 
-file_row : SumsJoin → (accepts : HeaderView → Bool) (id : Identity) (reads : List FileView) (request : List Wanted) (loads : List LoadView) (l : OpenLoad) (reports : ℕ) (name bytes : List ℕ) (found : Option FileEntry)
-    → ((x : HeaderView) → accepts x ≡ true → Permits x) → name ≡ next_name (upload_view (upload request loads (Some l) reports)) → next_entry (open_load_view l) ≡ found → IsSoundUpload accepts id reads (upload request loads (Some l) reports)
-    → IsSoundRow accepts id (reads ++ file name bytes ∷ [])
+file_row : SumsJoin → (accepts : Accepts) (active : StandingView) (reads : List FileView) (request : List Wanted) (loads : List LoadView) (l : OpenLoad) (reports : ℕ) (name bytes : List ℕ) (found : Option FileEntry)
+    → AcceptsPermitted accepts → name ≡ next_name (upload_view (upload request loads (Some l) reports)) → next_entry (open_load_view l) ≡ found → IsSoundUpload accepts active reads (upload request loads (Some l) reports)
+    → IsSoundRow accepts active (reads ++ file name bytes ∷ [])
     (row_moved (Reads_file (upload request loads (Some l) reports)) bytes (file_move (upload_view (upload request loads (Some l) reports)) (open_load_view l) found (Kept_sums (summed (said_length found) (open_load_view l).crc bytes))))
-file_row joins accepts id reads request loads l reports name bytes None permits named e s = tt
-file_row joins accepts id reads request loads l reports name bytes (Some f) permits named e s =
-    file_by joins accepts id reads request loads l reports f name bytes _ s.had s.left permits named e refl s.request s.each s.good s.next s.files
+file_row joins accepts active reads request loads l reports name bytes None permits named e s = tt
+file_row joins accepts active reads request loads l reports name bytes (Some f) permits named e s =
+    file_by joins accepts active reads request loads l reports f name bytes _ s.had s.left permits named e refl s.request s.each s.good s.next s.files
 
-abbrev Moved : (HeaderView → Bool) → Identity → WholeRow → List FileView → List ℕ → Option ℕ → Type 0
-Moved accepts id row reads bytes error = IsSoundRow accepts id reads (row_moved row bytes (row_move accepts id (row_view row) (record { error = error; arriving = arriving_of (row_view row) bytes })))
+abbrev Moved : Accepts → (active : StandingView) → WholeRow → List FileView → List ℕ → Option ℕ → Type 0
+Moved accepts active row reads bytes error = IsSoundRow accepts active reads (row_moved row bytes (row_move accepts (outline_of active) (row_view row) (record { error = error; arriving = arriving_of (row_view row) bytes })))
 
-read_row : SumsJoin → HeadersAreSpelled → (accepts : HeaderView → Bool) (id : Identity) (reads : List FileView) (request : List Wanted) (loads : List LoadView) (current : Option OpenLoad) (reports : ℕ) (name bytes : List ℕ)
-    → ((x : HeaderView) → accepts x ≡ true → Permits x) → IsBytes bytes → name ≡ next_name (upload_view (upload request loads current reports)) → IsSoundUpload accepts id reads (upload request loads current reports)
-    → Moved accepts id (Reads_file (upload request loads current reports)) (reads ++ file name bytes ∷ []) bytes None
-read_row joins spells accepts id reads request loads None reports name bytes permits fit named s =
-    header_row spells accepts id reads request loads reports name bytes (next_wanted (upload_view (upload request loads None reports))) permits fit named refl s
-read_row joins spells accepts id reads request loads (Some l) reports name bytes permits fit named s =
-    file_row joins accepts id reads request loads l reports name bytes (next_entry (open_load_view l)) permits named refl s
+read_row : SumsJoin → HeadersAreSpelled → (accepts : Accepts) (active : StandingView) (reads : List FileView) (request : List Wanted) (loads : List LoadView) (current : Option OpenLoad) (reports : ℕ) (name bytes : List ℕ)
+    → AcceptsPermitted accepts → IsBytes bytes → name ≡ next_name (upload_view (upload request loads current reports)) → IsSoundUpload accepts active reads (upload request loads current reports)
+    → Moved accepts active (Reads_file (upload request loads current reports)) (reads ++ file name bytes ∷ []) bytes None
+read_row joins spells accepts active reads request loads None reports name bytes permits fit named s =
+    header_row spells accepts active reads request loads reports name bytes (next_wanted (upload_view (upload request loads None reports))) permits fit named refl s
+read_row joins spells accepts active reads request loads (Some l) reports name bytes permits fit named s =
+    file_row joins accepts active reads request loads l reports name bytes (next_entry (open_load_view l)) permits named refl s
 
 abbrev transfer : Role → ℕ → Option ℕ → List PacketView → Transfer
 transfer role own peer got = record { role = role; own = own; peer = peer; got = got }
 
-role_row : SumsJoin → HeadersAreSpelled → (accepts : HeaderView → Bool) (id : Identity) (u : Upload) (done : List Transfer) (role : Role) (own : ℕ) (peer : Option ℕ) (got : List PacketView)
-    → ((x : HeaderView) → accepts x ≡ true → Permits x) → IsBytes (arrived_of (transfer role own peer got)) → ReadsFile (next_name (upload_view u)) role → IsSoundUpload accepts id (reads_in done) u
-    → Moved accepts id (Reads_file u) (reads_in (done ++ transfer role own peer got ∷ [])) (arrived_of (transfer role own peer got)) None
-role_row joins spells accepts id u done (Reads name o) own peer got permits fit named s =
-    subst (λ (x : List FileView). Moved accepts id (Reads_file u) x (arrived_of (transfer (Reads name o) own peer got)) None) (sym (reads_more done (transfer (Reads name o) own peer got) refl))
-    (read_row joins spells accepts id (reads_in done) u.request u.loads u.current u.reports name (arrived_of (transfer (Reads name o) own peer got)) permits fit named s)
-role_row joins spells accepts id u done (Writes name o f) own peer got permits fit named s = absurd named
-role_row joins spells accepts id u done (ServesRead name o f) own peer got permits fit named s = absurd named
-role_row joins spells accepts id u done (ServesWrite name o) own peer got permits fit named s = absurd named
+role_row : SumsJoin → HeadersAreSpelled → (accepts : Accepts) (active : StandingView) (u : Upload) (done : List Transfer) (role : Role) (own : ℕ) (peer : Option ℕ) (got : List PacketView)
+    → AcceptsPermitted accepts → IsBytes (arrived_of (transfer role own peer got)) → ReadsFile (next_name (upload_view u)) role → IsSoundUpload accepts active (reads_in done) u
+    → Moved accepts active (Reads_file u) (reads_in (done ++ transfer role own peer got ∷ [])) (arrived_of (transfer role own peer got)) None
+role_row joins spells accepts active u done (Reads name o) own peer got permits fit named s =
+    subst (λ (x : List FileView). Moved accepts active (Reads_file u) x (arrived_of (transfer (Reads name o) own peer got)) None) (sym (reads_more done (transfer (Reads name o) own peer got) refl))
+    (read_row joins spells accepts active (reads_in done) u.request u.loads u.current u.reports name (arrived_of (transfer (Reads name o) own peer got)) permits fit named s)
+role_row joins spells accepts active u done (Writes name o f) own peer got permits fit named s = absurd named
+role_row joins spells accepts active u done (ServesRead name o f) own peer got permits fit named s = absurd named
+role_row joins spells accepts active u done (ServesWrite name o) own peer got permits fit named s = absurd named
 
-row_sound : SumsJoin → HeadersAreSpelled → (accepts : HeaderView → Bool) (id : Identity) (row : WholeRow) (done : List Transfer) (t : Transfer)
-    → ((x : HeaderView) → accepts x ≡ true → Permits x) → IsBytes (arrived_of t) → IsOfRow row t.role → IsSoundRow accepts id (reads_in done) row → Moved accepts id row (reads_in (done ++ t ∷ [])) (arrived_of t) None
-row_sound joins spells accepts id (Reads_file u) done t permits fit of_row s = role_row joins spells accepts id u done t.role t.own t.peer t.got permits fit of_row s
-row_sound joins spells accepts id Awaits_lur done t permits fit of_row s = asked_sound accepts id (reads_in (done ++ t ∷ [])) (arrived_of t) _ (reads_same done t (no_read t.role of_row) ∙ s)
-row_sound joins spells accepts id Gives_lci done t permits fit of_row s = reads_same done t (no_read t.role of_row) ∙ s
-row_sound joins spells accepts id Writes_lcs done t permits fit of_row s = reads_same done t (no_read t.role of_row) ∙ s
-row_sound joins spells accepts id Writes_lcl done t permits fit of_row s = tt
-row_sound joins spells accepts id Gives_lui done t permits fit of_row s = reads_same done t (no_read t.role of_row) ∙ s
-row_sound joins spells accepts id Gives_denial done t permits fit of_row s = tt
-row_sound joins spells accepts id Writes_ready done t permits fit of_row s = reads_same done t (no_read t.role of_row) ∙ s
-row_sound joins spells accepts id (Writes_progress u) done t permits fit of_row s = subst (λ (x : List FileView). IsSoundUpload accepts id x u) (sym (reads_same done t (written_no_read t.role of_row))) s
-row_sound joins spells accepts id (Writes_stop e) done t permits fit of_row s = tt
-row_sound joins spells accepts id (Writes_completion e loads) done t permits fit of_row s = tt
-row_sound joins spells accepts id Over done t permits fit of_row s = tt
+row_sound : SumsJoin → HeadersAreSpelled → (accepts : Accepts) (active : StandingView) (row : WholeRow) (done : List Transfer) (t : Transfer)
+    → AcceptsPermitted accepts → IsBytes (arrived_of t) → IsOfRow row t.role → IsSoundRow accepts active (reads_in done) row → Moved accepts active row (reads_in (done ++ t ∷ [])) (arrived_of t) None
+row_sound joins spells accepts active (Reads_file u) done t permits fit of_row s = role_row joins spells accepts active u done t.role t.own t.peer t.got permits fit of_row s
+row_sound joins spells accepts active Awaits_lur done t permits fit of_row s = asked_sound accepts active (reads_in (done ++ t ∷ [])) (arrived_of t) _ (reads_same done t (no_read t.role of_row) ∙ s)
+row_sound joins spells accepts active Gives_lci done t permits fit of_row s = reads_same done t (no_read t.role of_row) ∙ s
+row_sound joins spells accepts active Writes_lcs done t permits fit of_row s = reads_same done t (no_read t.role of_row) ∙ s
+row_sound joins spells accepts active Writes_lcl done t permits fit of_row s = tt
+row_sound joins spells accepts active Gives_lui done t permits fit of_row s = reads_same done t (no_read t.role of_row) ∙ s
+row_sound joins spells accepts active Gives_denial done t permits fit of_row s = tt
+row_sound joins spells accepts active Writes_ready done t permits fit of_row s = reads_same done t (no_read t.role of_row) ∙ s
+row_sound joins spells accepts active (Writes_progress u) done t permits fit of_row s = subst (λ (x : List FileView). IsSoundUpload accepts active x u) (sym (reads_same done t (written_no_read t.role of_row))) s
+row_sound joins spells accepts active (Writes_stop e) done t permits fit of_row s = tt
+row_sound joins spells accepts active (Writes_completion e loads) done t permits fit of_row s = tt
+row_sound joins spells accepts active Over done t permits fit of_row s = tt
 
 pub verdict_is_sound : SumsJoin → HeadersAreSpelled → VerdictIsSound
-verdict_is_sound joins spells accepts id row done t permits fit none of_row s =
-    subst (λ (x : Option ℕ). Moved accepts id row (reads_in (done ++ t ∷ [])) (arrived_of t) x) (sym none) (row_sound joins spells accepts id row done t permits fit of_row s)
+verdict_is_sound joins spells accepts active row done t permits fit none of_row s =
+    subst (λ (x : Option ℕ). Moved accepts active row (reads_in (done ++ t ∷ [])) (arrived_of t) x) (sym none) (row_sound joins spells accepts active row done t permits fit of_row s)
 
 -- ---- headers that are read
 

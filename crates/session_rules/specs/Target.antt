@@ -1,6 +1,5 @@
 -- What the target does (docs/EXCHANGE.md, "The target").
 use Rattle.std.specs.Prelude.{ℕ, ◌+◌, ◌-◌, List, [], ◌∷◌, ◌++◌, length, Bool, true, false, bytes_eq, ◌==◌, Option, Some, None, if◌then◌else◌}
-use Rattle.load_header.specs.Header.{HeaderView}
 use Rattle.disk_layout.specs.Manifest.{LoadEntry}
 use Rattle.disk_layout.specs.Holds.{Outline}
 use Rattle.tftp_packet.specs.declared.options.Options.{Options}
@@ -13,6 +12,7 @@ use Rattle.transfer_end.specs.Transfers.{Role, Reads, Writes, ServesRead, Serves
 use Rattle.transfer_end.specs.Views.{EndView, new_end}
 use Rattle.transfer_end.specs.Moves.{Move, Asks, Serves, Refuses, Repeats, Stops, Asks_size, views_after, all_posts}
 use Rattle.transfer_end.specs.Packets.{packet_in, heard_answer, transfer_moves, is_busy, has_port, is_fresh, may_repeat, wanted_options}
+use Rattle.accept_rules.specs.Permissions.{Accepts}
 use Rattle.session_rules.specs.declared.outcome.FileKind.{FileKind}
 use Rattle.session_rules.specs.declared.outcome.FileKind.TheVariants.{Lci, Lcl, Lcs, Lui, Lur, Lus}
 use Rattle.session_rules.specs.declared.reason.Reason.{Reason}
@@ -147,27 +147,27 @@ abbrev pub moved_decision : TargetView → RowView → List Move → (more : Lis
 moved_decision v row heard more arriving move = next_decision v.end heard more move (view_moved row arriving move) (row_request v (view_moved row arriving move))
 
 -- a transfer is over, with these bytes as the last of its file, or by an ERROR
-abbrev pub turn_decision : (accepts : HeaderView → Bool) → TargetView → TargetSession → List Move → (more : List ℕ) → (error : Option ℕ) → TargetDecision
+abbrev pub turn_decision : Accepts → TargetView → TargetSession → List Move → (more : List ℕ) → (error : Option ℕ) → TargetDecision
 turn_decision accepts v s heard more error =
     moved_decision v s.row heard more (with_bytes s.arriving more)
-    (row_move accepts v.active.identity s.row (record { error = error; arriving = with_bytes s.arriving more }))
+    (row_move accepts v.active s.row (record { error = error; arriving = with_bytes s.arriving more }))
 
 -- by what a packet is to the live transfer
-abbrev pub answer_decision : (accepts : HeaderView → Bool) → TargetView → TargetSession → List Move → Answer → TargetDecision
+abbrev pub answer_decision : Accepts → TargetView → TargetSession → List Move → Answer → TargetDecision
 answer_decision accepts v s heard (TakesBlock payload) = record { moves = heard; change = Continues payload }
 answer_decision accepts v s heard (TakesLast payload) = turn_decision accepts v s heard payload None
 answer_decision accepts v s heard Completes = turn_decision accepts v s heard [] None
 answer_decision accepts v s heard (Fails code) = turn_decision accepts v s heard [] (Some code)
 answer_decision accepts v s heard other = doing heard
 
-abbrev pub transfer_decision : (accepts : HeaderView → Bool) → TargetView → Option TargetSession → (from to : ℕ) → PacketView → TargetDecision
+abbrev pub transfer_decision : Accepts → TargetView → Option TargetSession → (from to : ℕ) → PacketView → TargetDecision
 transfer_decision accepts v None from to packet = doing (transfer_moves v.end from to packet)
 transfer_decision accepts v (Some s) from to packet = answer_decision accepts v s (transfer_moves v.end from to packet) (heard_answer v.end from to packet)
 
 -- ---- events
 
 -- bytes that spell no packet are dropped
-abbrev pub got_decision : (accepts : HeaderView → Bool) → TargetView → (from to : ℕ) → Option PacketView → TargetDecision
+abbrev pub got_decision : Accepts → TargetView → (from to : ℕ) → Option PacketView → TargetDecision
 got_decision accepts v from to None = nothing
 got_decision accepts v from to (Some packet) = if to == 59 then request_decision v from packet else transfer_decision accepts v v.live from to packet
 
@@ -177,14 +177,14 @@ tick_decision v None = nothing
 tick_decision v (Some s) = if may_repeat v then doing (Repeats ∷ []) else ending (Some reasons.GaveUp)
 
 -- what the target does at an event, where the interlock accepts these headers
-abbrev pub target_decision : (accepts : HeaderView → Bool) → TargetView → Event → TargetDecision
+abbrev pub target_decision : Accepts → TargetView → Event → TargetDecision
 target_decision accepts v (Gets from to bytes) = got_decision accepts v from to (packet_in bytes)
 target_decision accepts v Ticks = tick_decision v.end v.live
 target_decision accepts v (Learns size) = doing (Asks_size size ∷ [])
 target_decision accepts v event = nothing
 
 -- what it posts
-abbrev pub target_posts : (accepts : HeaderView → Bool) → TargetView → Event → List DatagramView
+abbrev pub target_posts : Accepts → TargetView → Event → List DatagramView
 target_posts accepts v e = all_posts sides.Target v.end (target_decision accepts v e).moves
 
 -- ---- what it keeps then
@@ -235,5 +235,5 @@ target_changed end v (Turns_without_port move more) = session_turned view_withou
 target_changed end v (Ends reason) = record { end = end; live = None; active = v.active; reason = later_reason v.reason reason }
 
 -- what the target keeps after an event
-abbrev pub target_after : (accepts : HeaderView → Bool) → TargetView → Event → TargetView
+abbrev pub target_after : Accepts → TargetView → Event → TargetView
 target_after accepts v e = target_changed (views_after sides.Target v.end (target_decision accepts v e).moves) v (target_decision accepts v e).change

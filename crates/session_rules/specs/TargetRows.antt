@@ -1,14 +1,15 @@
 -- The rows of the two operations as the target goes through them (docs/EXCHANGE.md, "Operations").
-use Rattle.std.specs.Prelude.{ℕ, ◌+◌, List, [], ◌∷◌, ◌++◌, fold, length, Bool, ◌==◌, Option, Some, None, Result, Ok, Err, if◌then◌else◌}
+use Rattle.std.specs.Prelude.{ℕ, ◌+◌, List, [], ◌∷◌, ◌++◌, fold, length, ◌==◌, Option, Some, None, Result, Ok, Err, if◌then◌else◌}
 use Rattle.load_base.specs.Config.{LoadView}
 use Rattle.crc_fields.specs.CheckSums.{crc32_of}
 use Rattle.load_header.specs.declared.header.FileEntry.{FileEntry}
 use Rattle.load_header.specs.Header.{HeaderView}
 use Rattle.load_protocol_files.specs.declared.lur.Wanted.{Wanted}
-use Rattle.disk_layout.specs.declared.identity.Identity.{Identity}
+use Rattle.disk_layout.specs.Holds.{Outline, StandingView, outline_of}
 use Rattle.disk_layout.specs.Manifest.{LoadEntry}
 use Rattle.disk_layout.specs.Contents.{entries_of}
 use Rattle.transfer_end.specs.Transfers.{Transfer, arrived_of, error_of}
+use Rattle.accept_rules.specs.Permissions.{Accepts}
 use Rattle.session_rules.specs.declared.outcome.FileKind.{FileKind}
 use Rattle.session_rules.specs.declared.outcome.FileKind.TheVariants.{Lci, Lui}
 use Rattle.session_rules.specs.declared.reason.Reason.{Reason}
@@ -105,41 +106,41 @@ abbrev pub request_move : Result (List Wanted) RequestFault → RowMove
 request_move (Ok loads) = Requests loads
 request_move (Err fault) = Refuses_request fault
 
-abbrev pub header_move : (accepts : HeaderView → Bool) → Identity → UploadView → Option Wanted → Arriving → RowMove
-header_move accepts id u (Some wanted) (Kept_bytes b) = Judges (judge_header accepts id u wanted b)
-header_move accepts id u wanted arriving = Breaks_off
+abbrev pub header_move : Accepts → (active : Outline) → UploadView → Option Wanted → Arriving → RowMove
+header_move accepts active u (Some wanted) (Kept_bytes b) = Judges (judge_header accepts active u wanted b)
+header_move accepts active u wanted arriving = Breaks_off
 
 abbrev pub file_move : UploadView → OpenLoadView → Option FileEntry → Arriving → RowMove
 file_move u l (Some entry) (Kept_sums s) = Judges (judge_file u l entry s)
 file_move u l entry arriving = Breaks_off
 
 -- a file of a load, its header or a later one
-abbrev pub read_move : (accepts : HeaderView → Bool) → Identity → UploadView → Option OpenLoadView → Arriving → RowMove
-read_move accepts id u None arriving = header_move accepts id u (next_wanted u) arriving
-read_move accepts id u (Some l) arriving = file_move u l (next_entry l) arriving
+abbrev pub read_move : Accepts → (active : Outline) → UploadView → Option OpenLoadView → Arriving → RowMove
+read_move accepts active u None arriving = header_move accepts active u (next_wanted u) arriving
+read_move accepts active u (Some l) arriving = file_move u l (next_entry l) arriving
 
 abbrev pub lur_move : Arriving → RowMove
 lur_move (Kept_bytes b) = request_move (judge_request b)
 lur_move (Kept_sums s) = Breaks_off
 
 -- a transfer that no ERROR ended
-abbrev pub done_move : (accepts : HeaderView → Bool) → Identity → RowView → Arriving → RowMove
-done_move accepts id (Reads_file u) arriving = read_move accepts id u u.current arriving
-done_move accepts id Awaits_lur arriving = lur_move arriving
-done_move accepts id row arriving = Passes
+abbrev pub done_move : Accepts → (active : Outline) → RowView → Arriving → RowMove
+done_move accepts active (Reads_file u) arriving = read_move accepts active u u.current arriving
+done_move accepts active Awaits_lur arriving = lur_move arriving
+done_move accepts active row arriving = Passes
 
 -- an ERROR stops an upload that reads a file, and ends every other session
 abbrev pub error_move : RowView → (code : ℕ) → RowMove
 error_move (Reads_file u) code = Judges (Stops_for (reasons.FileNotServed code) (length u.loads))
 error_move row code = Breaks_off
 
-abbrev pub row_move_by : (accepts : HeaderView → Bool) → Identity → RowView → Arriving → Option ℕ → RowMove
-row_move_by accepts id row arriving None = done_move accepts id row arriving
-row_move_by accepts id row arriving (Some code) = error_move row code
+abbrev pub row_move_by : Accepts → (active : Outline) → RowView → Arriving → Option ℕ → RowMove
+row_move_by accepts active row arriving None = done_move accepts active row arriving
+row_move_by accepts active row arriving (Some code) = error_move row code
 
 -- what a transfer that is over comes to in its row
-abbrev pub row_move : (accepts : HeaderView → Bool) → Identity → RowView → TransferEnd → RowMove
-row_move accepts id row end = row_move_by accepts id row end.arriving end.error
+abbrev pub row_move : Accepts → (active : Outline) → RowView → TransferEnd → RowMove
+row_move accepts active row end = row_move_by accepts active row end.arriving end.error
 
 -- ---- the row after it
 
@@ -171,7 +172,7 @@ new_upload loads = record { request = loads; loads = []; current = None; reports
 
 -- a load that is whole
 abbrev pub load_of : OpenLoad → LoadView
-load_of l = record { part = l.wanted.part; header_name = l.wanted.header; files = record { name = l.wanted.header; bytes = l.bytes } ∷ l.files }
+load_of l = record { part = l.wanted.part; type_id = Some l.header.type_id; header_name = l.wanted.header; files = record { name = l.wanted.header; bytes = l.bytes } ∷ l.files }
 
 -- the open load has its files so far, and this comes next
 abbrev pub placed : Upload → OpenLoad → Next → WholeRow
@@ -214,12 +215,12 @@ abbrev pub transfer_end : RowView → Transfer → TransferEnd
 transfer_end row t = record { error = error_of t; arriving = arriving_of row (arrived_of t) }
 
 -- the row after a transfer of its
-abbrev pub row_with : (accepts : HeaderView → Bool) → Identity → WholeRow → Transfer → WholeRow
-row_with accepts id row t = row_moved row (arrived_of t) (row_move accepts id (row_view row) (transfer_end (row_view row) t))
+abbrev pub row_with : Accepts → (active : StandingView) → WholeRow → Transfer → WholeRow
+row_with accepts active row t = row_moved row (arrived_of t) (row_move accepts (outline_of active) (row_view row) (transfer_end (row_view row) t))
 
--- the next row after these transfers of a session
-unfoldable pub row_of : (accepts : HeaderView → Bool) → Identity → WholeRow → List Transfer → WholeRow
-row_of accepts id first done = fold (row_with accepts id) first done
+-- the next row after these transfers of a session, beside what is active as they end
+unfoldable pub row_of : Accepts → (active : StandingView) → WholeRow → List Transfer → WholeRow
+row_of accepts active first done = fold (row_with accepts active) first done
 
 -- ---- as it is kept
 
@@ -227,7 +228,7 @@ abbrev pub new_upload_view : List Wanted → UploadView
 new_upload_view loads = record { request = loads; loads = []; current = None; reports = 1 }
 
 abbrev pub load_entry_of : OpenLoadView → LoadEntry
-load_entry_of l = record { part = l.wanted.part; files = record { name = l.wanted.header; length = l.size } ∷ l.files }
+load_entry_of l = record { part = l.wanted.part; type_id = Some l.header.type_id; files = record { name = l.wanted.header; length = l.size } ∷ l.files }
 
 abbrev pub placed_view : UploadView → OpenLoadView → Next → RowView
 placed_view u l More_files = Reads_file (record { request = u.request; loads = u.loads; current = Some l; reports = u.reports })

@@ -11,10 +11,12 @@ use Rattle.load_header.specs.Header.{HardwareAtView, HeaderView, header}
 use Rattle.load_protocol_files.specs.declared.fault.FileFault.{FileFault}
 use Rattle.load_protocol_files.specs.declared.lur.Wanted.{Wanted}
 use Rattle.load_protocol_files.specs.Lur.{LurView, lur}
-use Rattle.disk_layout.specs.declared.identity.Identity.{Identity}
+use Rattle.disk_layout.specs.declared.manifest.Layout.TheVariants as layouts
 use Rattle.disk_layout.specs.declared.manifest.ManifestFile.{ManifestFile}
 use Rattle.disk_layout.specs.Manifest.{LoadEntry, total_length, manifest_fields}
 use Rattle.disk_layout.specs.Contents.{file_entry_of, entries_of, bytes_of}
+use Rattle.disk_layout.specs.Holds.{Outline}
+use Rattle.accept_rules.specs.Permissions.{Accepts}
 use Rattle.session_rules.specs.declared.reason.Reason.{Reason}
 use Rattle.session_rules.specs.declared.reason.Reason.TheVariants as reasons
 use Rattle.session_rules.specs.declared.reason.RequestFault.{RequestFault}
@@ -160,35 +162,35 @@ judged (Some reason) arrived judgement = Stops_for reason arrived
 -- the load with this header, of this length, as it will stand in the manifest
 abbrev pub planned_load : Wanted → HeaderView → (size : ℕ) → LoadEntry
 planned_load wanted h size =
-    record { part = h.part; files = record { name = wanted.header; length = size } ∷ map (λ (entry : FileEntry). record { name = entry.name; length = entry.length }) (files_of h) }
+    record { part = h.part; type_id = Some h.type_id; files = record { name = wanted.header; length = size } ∷ map (λ (entry : FileEntry). record { name = entry.name; length = entry.length }) (files_of h) }
 
--- how many bytes of a bank these loads and their manifest need
+-- how many bytes of a bank these loads and their manifest need, which is written in layout 2
 unfoldable pub need_of : List LoadEntry → ℕ
-need_of loads = total_length loads + length (concat (manifest_fields loads))
+need_of loads = total_length loads + length (concat (manifest_fields layouts.Two loads))
 
--- the tests on a header, in their order
-abbrev pub header_reason : (accepts : HeaderView → Bool) → Identity → UploadView → Wanted → HeaderView → (size : ℕ) → Option Reason
-header_reason accepts id u wanted h size =
+-- the tests on a header beside what is active, in their order
+abbrev pub header_reason : Accepts → (active : Outline) → UploadView → Wanted → HeaderView → (size : ℕ) → Option Reason
+header_reason accepts active u wanted h size =
     or_else (unless (bytes_eq h.part wanted.part) reasons.PartDiffers)
-    (or_else (unless (is_for id.hw id.pos h) reasons.NotThisHardware)
+    (or_else (unless (is_for active.identity.hw active.identity.pos h) reasons.NotThisHardware)
     (or_else (unless (accepts h) reasons.RuleRefused)
-    (unless (nat_le (need_of (u.loads ++ planned_load wanted h size ∷ [])) id.bank)
-    (reasons.BankFull (need_of (u.loads ++ planned_load wanted h size ∷ [])) id.bank))))
+    (unless (nat_le (need_of (u.loads ++ planned_load wanted h size ∷ [])) active.identity.bank)
+    (reasons.BankFull (need_of (u.loads ++ planned_load wanted h size ∷ [])) active.identity.bank))))
 
 -- a load without data and support files is whole with its header
-abbrev pub judge_spelled_header : (accepts : HeaderView → Bool) → Identity → UploadView → Wanted → Buffer → HeaderView → Judgement
-judge_spelled_header accepts id u wanted b h =
-    judged (or_else (header_reason accepts id u wanted h b.count) (load_reason h (next_with u h 0) (crc32_of (covered_header b.prefix))))
+abbrev pub judge_spelled_header : Accepts → (active : Outline) → UploadView → Wanted → Buffer → HeaderView → Judgement
+judge_spelled_header accepts active u wanted b h =
+    judged (or_else (header_reason accepts active u wanted h b.count) (load_reason h (next_with u h 0) (crc32_of (covered_header b.prefix))))
     (arrived_with u h 0) (Accepts_header h (next_with u h 0))
 
-abbrev pub judge_read_header : (accepts : HeaderView → Bool) → Identity → UploadView → Wanted → Buffer → Result HeaderView HeaderFault → Judgement
-judge_read_header accepts id u wanted b (Ok h) = judge_spelled_header accepts id u wanted b h
-judge_read_header accepts id u wanted b (Err fault) = Stops_for (reasons.HeaderRefused fault) (length u.loads)
+abbrev pub judge_read_header : Accepts → (active : Outline) → UploadView → Wanted → Buffer → Result HeaderView HeaderFault → Judgement
+judge_read_header accepts active u wanted b (Ok h) = judge_spelled_header accepts active u wanted b h
+judge_read_header accepts active u wanted b (Err fault) = Stops_for (reasons.HeaderRefused fault) (length u.loads)
 
-unfoldable pub judge_header : (accepts : HeaderView → Bool) → Identity → UploadView → Wanted → Buffer → Judgement
-judge_header accepts id u wanted b =
+unfoldable pub judge_header : Accepts → (active : Outline) → UploadView → Wanted → Buffer → Judgement
+judge_header accepts active u wanted b =
     if is_too_long b then Stops_for (reasons.HeaderRefused headers.TooLong) (length u.loads)
-    else judge_read_header accepts id u wanted b (answer header b.prefix)
+    else judge_read_header accepts active u wanted b (answer header b.prefix)
 
 -- ---- data and support files
 

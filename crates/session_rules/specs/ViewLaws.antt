@@ -1,9 +1,9 @@
 -- Proofs that both ends follow their logs.
-use Rattle.std.proofs.Common.{ℕ, Bool, List, [], ◌∷◌}
-use Rattle.load_header.specs.Header.{HeaderView}
+use Rattle.std.proofs.Common.{ℕ, List, [], ◌∷◌}
 use Rattle.disk_layout.specs.Holds.{StandingView}
 use Rattle.exchange_trace.specs.Logs.{Event}
 use Rattle.transfer_end.specs.Laws.{IsLive}
+use Rattle.accept_rules.specs.Permissions.{Accepts}
 use Rattle.session_rules.specs.BufferLaws.{SumsJoin}
 use Rattle.session_rules.specs.LoaderLog.{loader_reading}
 use Rattle.session_rules.specs.LoaderLaws.{loader_follows}
@@ -17,7 +17,7 @@ pub loader_live : (media : Media) (log : List Event) → IsLive (loader_reading 
 loader_live media [] = tt
 loader_live media (e ∷ log) = (loader_follows media (loader_reading media log) e (loader_live media log)).1
 
-pub target_live : SumsJoin → (accepts : HeaderView → Bool) (first_port : ℕ) (active : StandingView) (log : List Event) → IsLive (target_reading accepts first_port active log).end.live
+pub target_live : SumsJoin → (accepts : Accepts) (first_port : ℕ) (active : StandingView) (log : List Event) → IsLive (target_reading accepts first_port active log).end.live
 target_live joins accepts first_port active [] = tt
 target_live joins accepts first_port active (e ∷ log) = (target_follows joins accepts (target_reading accepts first_port active log) e (target_live joins accepts first_port active log)).1
 

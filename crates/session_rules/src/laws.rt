@@ -12,6 +12,7 @@ ghost use Rattle.session_rules.specs.Lists.{TargetAsksForItsFiles, TargetAsksInT
 ghost use Rattle.session_rules.specs.LoaderRoles.{CompletedListsArrived, LoaderRolesFit};
 ghost use Rattle.session_rules.specs.OwnSessions.{SessionsAreOfNewestStarts};
 ghost use Rattle.session_rules.specs.Requests.{LoaderWritesRequests};
+ghost use Rattle.session_rules.specs.SessionRows.{RowsAreOfAllTransfers};
 ghost use Rattle.session_rules.specs.Sessions.{OneSessionAStart};
 ghost use Rattle.session_rules.specs.Soundness.{VerdictIsSound};
 ghost use Rattle.session_rules.specs.SoundLogs.{ChangesByVerdict};
@@ -150,4 +151,10 @@ pub fn a_loader_writes_requests()
 /// its own transfers, and once it serves files it has written the request for its start's loads.
 pub fn a_session_is_of_the_newest_start()
     ensures { SessionsAreOfNewestStarts }
+{}
+
+/// In each log of a target the live session's row is what all its transfers come to, one after the
+/// other, beside what was active as it began.
+pub fn a_row_is_that_of_all_transfers()
+    ensures { RowsAreOfAllTransfers }
 {}

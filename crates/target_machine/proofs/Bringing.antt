@@ -3,8 +3,8 @@ use Rattle.std.proofs.Common.{◌≡◌, ◌⊎◌, inl, inr, ℕ, List, [], ◌
 use Rattle.std.proofs.lemmas.List.{append-nil}
 use Rattle.disk_model.specs.Image.{Image}
 use Rattle.disk_model.specs.State.{DiskState}
-use Rattle.load_header.specs.Header.{HeaderView}
 use Rattle.disk_layout.specs.Holds.{HoldsConfig, StandingView}
+use Rattle.accept_rules.specs.Permissions.{Accepts}
 use Rattle.bank_store.specs.declared.store.Store.{Store}
 use Rattle.bank_store.specs.Fits.{HoldsFor, InstallsBeside}
 use Rattle.bank_store.specs.Keeps.{Continues}
@@ -42,9 +42,9 @@ abbrev whole : StandingView → Option SessionContents → TargetContents
 whole active live = record { active = active; live = live }
 
 -- the row that a session comes to, with these bytes as the last of its file
-abbrev pub row_turned : (accepts : HeaderView → Bool) → TargetView → SessionContents → (payload : List ℕ) → (error : Option ℕ) → WholeRow
+abbrev pub row_turned : Accepts → TargetView → SessionContents → (payload : List ℕ) → (error : Option ℕ) → WholeRow
 row_turned accepts v x payload error =
-    row_moved x.row (x.arrived ++ payload) (row_move accepts v.active.identity (row_view x.row) (record { error = error; arriving = arriving_of (row_view x.row) (x.arrived ++ payload) }))
+    row_moved x.row (x.arrived ++ payload) (row_move accepts v.active (row_view x.row) (record { error = error; arriving = arriving_of (row_view x.row) (x.arrived ++ payload) }))
 
 -- A change turns a session to this row, in which nothing has arrived, or ends it.
 pub record TurnsContents (v : TargetView) (c : TargetContents) (row : WholeRow) (change : TargetChange) : Type 0 where
@@ -94,22 +94,22 @@ module _ (v : TargetView) (active : StandingView) (x : SessionContents) (payload
       (turns_to (Asks role ∷ [])) (record { active = ap (standing_in active) is; live = inl refl })
   by_role None = over_if (is_over kept) refl (Stops ∷ []) []
 
-turns_whole : ContentsAreKept → (accepts : HeaderView → Bool) (v : TargetView) (active : StandingView) (x : SessionContents) (payload : List ℕ) (error : Option ℕ) → v.live ≡ Some (session_kept x)
+turns_whole : ContentsAreKept → (accepts : Accepts) (v : TargetView) (active : StandingView) (x : SessionContents) (payload : List ℕ) (error : Option ℕ) → v.live ≡ Some (session_kept x)
     → TurnsContents v (whole active (Some x)) (row_turned accepts v x payload error) (turn_decision accepts v (session_kept x) [] payload error).change
 turns_whole k accepts v active x payload error live = at_arriving (with_bytes (session_kept x).arriving payload) refl (k.more x.row x.arrived payload)
   where
     at_arriving : (a : Arriving) → with_bytes (session_kept x).arriving payload ≡ a → a ≡ arriving_of (row_view x.row) (x.arrived ++ payload)
-        → TurnsContents v (whole active (Some x)) (row_turned accepts v x payload error) (Target.moved_decision v (row_view x.row) [] payload a (row_move accepts v.active.identity (row_view x.row) (record { error = error; arriving = a }))).change
+        → TurnsContents v (whole active (Some x)) (row_turned accepts v x payload error) (Target.moved_decision v (row_view x.row) [] payload a (row_move accepts v.active (row_view x.row) (record { error = error; arriving = a }))).change
     at_arriving a e f =
         let b = arriving_of (row_view x.row) (x.arrived ++ payload) in
-        let m = row_move accepts v.active.identity (row_view x.row) (record { error = error; arriving = b }) in
+        let m = row_move accepts v.active (row_view x.row) (record { error = error; arriving = b }) in
         let kept = view_moved (row_view x.row) b m in
         let row = row_turned accepts v x payload error in
-        let seen : kept ≡ row_view row = k.moved accepts v.active.identity x.row error (x.arrived ++ payload) in
-        subst (λ (y : Arriving). TurnsContents v (whole active (Some x)) row (Target.moved_decision v (row_view x.row) [] payload y (row_move accepts v.active.identity (row_view x.row) (record { error = error; arriving = y }))).change) (sym f)
+        let seen : kept ≡ row_view row = k.moved accepts v.active x.row error (x.arrived ++ payload) in
+        subst (λ (y : Arriving). TurnsContents v (whole active (Some x)) row (Target.moved_decision v (row_view x.row) [] payload y (row_move accepts v.active (row_view x.row) (record { error = error; arriving = y }))).change) (sym f)
         (by_role v active x payload m kept row live refl (ap (λ (y : Arriving). view_moved (row_view x.row) y m) (e ∙ f) ∙ seen) seen (row_request v kept))
 
-pub turns_contents : ContentsAreKept → (accepts : HeaderView → Bool) (v : TargetView) (c : TargetContents) (x : SessionContents) (payload : List ℕ) (error : Option ℕ) → c.live ≡ Some x → v.live ≡ Some (session_kept x)
+pub turns_contents : ContentsAreKept → (accepts : Accepts) (v : TargetView) (c : TargetContents) (x : SessionContents) (payload : List ℕ) (error : Option ℕ) → c.live ≡ Some x → v.live ≡ Some (session_kept x)
     → TurnsContents v c (row_turned accepts v x payload error) (turn_decision accepts v (session_kept x) [] payload error).change
 turns_contents k accepts v c x payload error is live =
     subst (λ (y : Option SessionContents). TurnsContents v (whole c.active y) (row_turned accepts v x payload error) (turn_decision accepts v (session_kept x) [] payload error).change) (sym is) (turns_whole k accepts v c.active x payload error live)
@@ -296,31 +296,31 @@ pub take_live : {T : Type 0} (before : Store) (old : DiskState) (after : Store) 
     → BringsContents old after new c (contents_changed c (Target.Continues more)) r
 take_live before old after new c v seen more r kept is holds brings = take_live_in before old after new c.active c.live seen more r (sym kept.live ∙ is) holds brings
 
-row_same : (accepts : HeaderView → Bool) (v : TargetView) (x : SessionContents) (error : Option ℕ) → row_turned accepts v x [] error ≡ whole_row_then accepts v.active.identity x error
+row_same : (accepts : Accepts) (v : TargetView) (x : SessionContents) (error : Option ℕ) → row_turned accepts v x [] error ≡ whole_row_then accepts v.active x error
 row_same accepts v x error =
-    ap (λ (bytes : List ℕ). row_moved x.row bytes (row_move accepts v.active.identity (row_view x.row) (record { error = error; arriving = arriving_of (row_view x.row) bytes }))) (append-nil x.arrived)
+    ap (λ (bytes : List ℕ). row_moved x.row bytes (row_move accepts v.active (row_view x.row) (record { error = error; arriving = arriving_of (row_view x.row) bytes }))) (append-nil x.arrived)
 
-abbrev turn_change : (accepts : HeaderView → Bool) → TargetView → SessionContents → Option ℕ → TargetChange
+abbrev turn_change : Accepts → TargetView → SessionContents → Option ℕ → TargetChange
 turn_change accepts v x error = (turn_decision accepts v (session_kept x) [] [] error).change
 
-module _ (k : ContentsAreKept) (accepts : HeaderView → Bool) (v : TargetView) (error : Option ℕ) where
-  turns_here : (active : StandingView) (x : SessionContents) → v.live ≡ Some (session_kept x) → TurnsContents v (whole active (Some x)) (whole_row_then accepts v.active.identity x error) (turn_change accepts v x error)
+module _ (k : ContentsAreKept) (accepts : Accepts) (v : TargetView) (error : Option ℕ) where
+  turns_here : (active : StandingView) (x : SessionContents) → v.live ≡ Some (session_kept x) → TurnsContents v (whole active (Some x)) (whole_row_then accepts v.active x error) (turn_change accepts v x error)
   turns_here active x live =
       subst (λ (row : WholeRow). TurnsContents v (whole active (Some x)) row (turn_change accepts v x error)) (row_same accepts v x error) (turns_contents k accepts v (whole active (Some x)) x [] error refl live)
 
   turn_ok_in : {S T : Type 0} (active : StandingView) (live : Option SessionContents) (before : Store) (old : DiskState) (mid after : Store) (new : DiskState) (now : Option TargetSession) (x : S) (y : T)
       → v.live ≡ option_map session_kept live → is_none v.live ≡ false → HoldsContents before old (whole active live)
-      → ((z : SessionContents) → v.live ≡ Some (session_kept z) → InstallsRow before old active z.row z.arrived → BringsRow {E = Down} old mid new active (whole_row_then accepts v.active.identity z error) (Ok x))
+      → ((z : SessionContents) → v.live ≡ Some (session_kept z) → InstallsRow before old active z.row z.arrived → BringsRow {E = Down} old mid new active (whole_row_then accepts v.active z error) (Ok x))
       → Continues mid after → (after ≡ mid) ⊎ IsAtRest now → ((z : SessionContents) → v.live ≡ Some (session_kept z) → (end : EndView) × (now ≡ (target_changed end v (turn_change accepts v z error)).live))
       → BringsContents {E = Down} old after new (whole active live) (contents_changed (whole active live) (change_turned accepts v (option_map session_kept live) error)) (Ok y)
   turn_ok_in active None before old mid after new now x y is some holds brings cont work turned = absurd (let wrong : true ≡ false = sym (ap is_none is) ∙ some in cc)
   turn_ok_in active (Some z) before old mid after new now x y is some holds brings cont work turned =
       let (end, seen) = turned z is in
-      turn_brings v (whole active (Some z)) (whole_row_then accepts v.active.identity z error) (turn_change accepts v z error) old mid after new now x y end (turns_here active z is) (brings z is holds) cont work seen
+      turn_brings v (whole active (Some z)) (whole_row_then accepts v.active z error) (turn_change accepts v z error) old mid after new now x y end (turns_here active z is) (brings z is holds) cont work seen
 
   pub turn_ok : {S T : Type 0} (c : TargetContents) (before : Store) (old : DiskState) (mid after : Store) (new : DiskState) (now : Option TargetSession) (x : S) (y : T)
       → AreKept c v → is_none v.live ≡ false → HoldsContents before old c
-      → ((z : SessionContents) → v.live ≡ Some (session_kept z) → InstallsRow before old c.active z.row z.arrived → BringsRow {E = Down} old mid new c.active (whole_row_then accepts v.active.identity z error) (Ok x))
+      → ((z : SessionContents) → v.live ≡ Some (session_kept z) → InstallsRow before old c.active z.row z.arrived → BringsRow {E = Down} old mid new c.active (whole_row_then accepts v.active z error) (Ok x))
       → Continues mid after → (after ≡ mid) ⊎ IsAtRest now → ((z : SessionContents) → v.live ≡ Some (session_kept z) → (end : EndView) × (now ≡ (target_changed end v (turn_change accepts v z error)).live))
       → BringsContents {E = Down} old after new c (contents_changed c (change_turned accepts v v.live error)) (Ok y)
   turn_ok c before old mid after new now x y kept some holds brings cont work turned =
@@ -329,20 +329,20 @@ module _ (k : ContentsAreKept) (accepts : HeaderView → Bool) (v : TargetView) 
 
   turn_err_in : {S T : Type 0} (active : StandingView) (live : Option SessionContents) (before : Store) (old : DiskState) (mid after : Store) (new : DiskState) (one : Result S Down) (r : Result T Down) → IsErr r
       → v.live ≡ option_map session_kept live → is_none v.live ≡ false → HoldsContents before old (whole active live)
-      → ((z : SessionContents) → v.live ≡ Some (session_kept z) → InstallsRow before old active z.row z.arrived → BringsRow old mid new active (whole_row_then accepts v.active.identity z error) one)
+      → ((z : SessionContents) → v.live ≡ Some (session_kept z) → InstallsRow before old active z.row z.arrived → BringsRow old mid new active (whole_row_then accepts v.active z error) one)
       → BringsContents old after new (whole active live) (contents_changed (whole active live) (change_turned accepts v (option_map session_kept live) error)) r
   turn_err_in active None before old mid after new one r err is some holds brings = absurd (let wrong : true ≡ false = sym (ap is_none is) ∙ some in cc)
   turn_err_in active (Some z) before old mid after new one r err is some holds brings =
-      turn_fails v (whole active (Some z)) (whole_row_then accepts v.active.identity z error) (turn_change accepts v z error) old mid after new one r err (turns_here active z is) (brings z is holds)
+      turn_fails v (whole active (Some z)) (whole_row_then accepts v.active z error) (turn_change accepts v z error) old mid after new one r err (turns_here active z is) (brings z is holds)
 
   pub turn_err : {S T : Type 0} (c : TargetContents) (before : Store) (old : DiskState) (mid after : Store) (new : DiskState) (one : Result S Down) (r : Result T Down) → IsErr r → AreKept c v → is_none v.live ≡ false → HoldsContents before old c
-      → ((z : SessionContents) → v.live ≡ Some (session_kept z) → InstallsRow before old c.active z.row z.arrived → BringsRow old mid new c.active (whole_row_then accepts v.active.identity z error) one)
+      → ((z : SessionContents) → v.live ≡ Some (session_kept z) → InstallsRow before old c.active z.row z.arrived → BringsRow old mid new c.active (whole_row_then accepts v.active z error) one)
       → BringsContents old after new c (contents_changed c (change_turned accepts v v.live error)) r
   turn_err c before old mid after new one r err kept some holds brings =
       subst (λ (live : Option TargetSession). BringsContents old after new c (contents_changed c (change_turned accepts v live error)) r) (sym kept.live) (turn_err_in c.active c.live before old mid after new one r err kept.live some holds brings)
 
 -- where no session is live, the end of a transfer changes nothing
-pub turn_idle : {T : Type 0} (accepts : HeaderView → Bool) (store : Store) (disk : DiskState) (c : TargetContents) (v : TargetView) (error : Option ℕ) (x : T) → AreKept c v → v.live ≡ None → HoldsContents store disk c
+pub turn_idle : {T : Type 0} (accepts : Accepts) (store : Store) (disk : DiskState) (c : TargetContents) (v : TargetView) (error : Option ℕ) (x : T) → AreKept c v → v.live ≡ None → HoldsContents store disk c
     → BringsContents {E = Down} disk store disk c (contents_changed c (change_turned accepts v v.live error)) (Ok x)
 turn_idle accepts store disk c v error x kept none holds =
     subst (λ (live : Option TargetSession). BringsContents {E = Down} disk store disk c (contents_changed c (change_turned accepts v live error)) (Ok x)) (sym none) (take_idle store disk c v [] x kept none holds)
@@ -352,15 +352,15 @@ turn_idle accepts store disk c v error x kept none holds =
 pub same_heard : {T : Type 0} (old : DiskState) (after : Store) (new : DiskState) (c : TargetContents) (one other : TargetChange) (r : Result T Down) → one ≡ other → BringsContents old after new c (contents_changed c one) r → BringsContents old after new c (contents_changed c other) r
 same_heard old after new c one other r same brings = subst (λ (change : TargetChange). BringsContents old after new c (contents_changed c change) r) same brings
 
-nothing_heard : (accepts : HeaderView → Bool) (v : TargetView) (live : Option TargetSession) → Target.Continues [] ≡ change_heard accepts v live Nothing
+nothing_heard : (accepts : Accepts) (v : TargetView) (live : Option TargetSession) → Target.Continues [] ≡ change_heard accepts v live Nothing
 nothing_heard accepts v None = refl
 nothing_heard accepts v (Some s) = refl
 
-pub hears_nothing : {T : Type 0} (accepts : HeaderView → Bool) (store : Store) (disk : DiskState) (c : TargetContents) (v : TargetView) (x : T) → HoldsContents store disk c → BringsContents {E = Down} disk store disk c (contents_changed c (change_heard accepts v v.live Nothing)) (Ok x)
+pub hears_nothing : {T : Type 0} (accepts : Accepts) (store : Store) (disk : DiskState) (c : TargetContents) (v : TargetView) (x : T) → HoldsContents store disk c → BringsContents {E = Down} disk store disk c (contents_changed c (change_heard accepts v v.live Nothing)) (Ok x)
 hears_nothing accepts store disk c v x holds =
     same_heard disk store disk c (Target.Continues []) (change_heard accepts v v.live Nothing) (Ok x) (nothing_heard accepts v v.live) (record { adds = adds_nothing disk _ _; ok = quiet_contents store disk c.active c.live holds })
 
-block_heard : (accepts : HeaderView → Bool) (v : TargetView) (c : TargetContents) (payload : List ℕ) → v.live ≡ option_map session_kept c.live → contents_changed c (Target.Continues payload) ≡ contents_changed c (change_heard accepts v v.live (Block payload))
+block_heard : (accepts : Accepts) (v : TargetView) (c : TargetContents) (payload : List ℕ) → v.live ≡ option_map session_kept c.live → contents_changed c (Target.Continues payload) ≡ contents_changed c (change_heard accepts v v.live (Block payload))
 block_heard accepts v c payload is = by_live c.active c.live v.live is
   where
     by_live : (active : StandingView) (live : Option SessionContents) (seen : Option TargetSession) → seen ≡ option_map session_kept live
@@ -370,23 +370,23 @@ block_heard accepts v c payload is = by_live c.active c.live v.live is
     by_live active (Some x) None e = absurd cc
     by_live active (Some x) (Some s) e = refl
 
-pub hears_block : {T : Type 0} (accepts : HeaderView → Bool) (old : DiskState) (after : Store) (new : DiskState) (c : TargetContents) (v : TargetView) (payload : List ℕ) (r : Result T Down) → AreKept c v → BringsContents old after new c (contents_changed c (Target.Continues payload)) r
+pub hears_block : {T : Type 0} (accepts : Accepts) (old : DiskState) (after : Store) (new : DiskState) (c : TargetContents) (v : TargetView) (payload : List ℕ) (r : Result T Down) → AreKept c v → BringsContents old after new c (contents_changed c (Target.Continues payload)) r
     → BringsContents old after new c (contents_changed c (change_heard accepts v v.live (Block payload))) r
 hears_block accepts old after new c v payload r kept brings = subst (λ (next : TargetContents). BringsContents old after new c next r) (block_heard accepts v c payload kept.live) brings
 
-turned_heard : (accepts : HeaderView → Bool) (v : TargetView) (live : Option TargetSession) → change_turned accepts v live None ≡ change_heard accepts v live Done
+turned_heard : (accepts : Accepts) (v : TargetView) (live : Option TargetSession) → change_turned accepts v live None ≡ change_heard accepts v live Done
 turned_heard accepts v None = refl
 turned_heard accepts v (Some s) = refl
 
-error_heard : (accepts : HeaderView → Bool) (v : TargetView) (live : Option TargetSession) (code : ℕ) → change_turned accepts v live (Some code) ≡ change_heard accepts v live (PeerError code)
+error_heard : (accepts : Accepts) (v : TargetView) (live : Option TargetSession) (code : ℕ) → change_turned accepts v live (Some code) ≡ change_heard accepts v live (PeerError code)
 error_heard accepts v None code = refl
 error_heard accepts v (Some s) code = refl
 
-pub hears_done : {T : Type 0} (accepts : HeaderView → Bool) (old : DiskState) (after : Store) (new : DiskState) (c : TargetContents) (v : TargetView) (r : Result T Down) → BringsContents old after new c (contents_changed c (change_turned accepts v v.live None)) r
+pub hears_done : {T : Type 0} (accepts : Accepts) (old : DiskState) (after : Store) (new : DiskState) (c : TargetContents) (v : TargetView) (r : Result T Down) → BringsContents old after new c (contents_changed c (change_turned accepts v v.live None)) r
     → BringsContents old after new c (contents_changed c (change_heard accepts v v.live Done)) r
 hears_done accepts old after new c v r brings = same_heard old after new c _ _ r (turned_heard accepts v v.live) brings
 
-pub hears_error : {T : Type 0} (accepts : HeaderView → Bool) (old : DiskState) (after : Store) (new : DiskState) (c : TargetContents) (v : TargetView) (code : ℕ) (r : Result T Down) → BringsContents old after new c (contents_changed c (change_turned accepts v v.live (Some code))) r
+pub hears_error : {T : Type 0} (accepts : Accepts) (old : DiskState) (after : Store) (new : DiskState) (c : TargetContents) (v : TargetView) (code : ℕ) (r : Result T Down) → BringsContents old after new c (contents_changed c (change_turned accepts v v.live (Some code))) r
     → BringsContents old after new c (contents_changed c (change_heard accepts v v.live (PeerError code))) r
 hears_error accepts old after new c v code r brings = same_heard old after new c _ _ r (error_heard accepts v v.live code) brings
 
@@ -437,17 +437,17 @@ module _ (v : TargetView) (active : StandingView) (x : SessionContents) (payload
 abbrev session_with : SessionContents → List ℕ → TargetSession
 session_with x payload = record { row = row_view x.row; arriving = with_bytes (arriving_of (row_view x.row) x.arrived) payload }
 
-last_same : ContentsAreKept → (accepts : HeaderView → Bool) (v : TargetView) (active : StandingView) (x : SessionContents) (payload : List ℕ)
+last_same : ContentsAreKept → (accepts : Accepts) (v : TargetView) (active : StandingView) (x : SessionContents) (payload : List ℕ)
     → contents_changed (with_last v active x payload) (turn_decision accepts (with_live v (Some (session_with x payload))) (session_with x payload) [] [] None).change
     ≡ contents_changed (before_last v active x payload) (turn_decision accepts v (session_kept x) [] payload None).change
 last_same k accepts v active x payload =
     let a = with_bytes (arriving_of (row_view x.row) x.arrived) payload in
     let all = x.arrived ++ payload in
     let calm : with_bytes a [] ≡ a = ap (λ (y : Arriving). with_bytes y []) (k.more x.row x.arrived payload) ∙ (k.more x.row all [] ∙ (ap (λ (bytes : List ℕ). arriving_of (row_view x.row) bytes) (append-nil all) ∙ sym (k.more x.row x.arrived payload))) in
-    let m = row_move accepts v.active.identity (row_view x.row) (record { error = None; arriving = a }) in
+    let m = row_move accepts v.active (row_view x.row) (record { error = None; arriving = a }) in
     let kept = view_moved (row_view x.row) a m in
     let w = with_live v (Some (session_with x payload)) in
-    subst (λ (y : Arriving). contents_changed (with_last v active x payload) (Target.moved_decision w (row_view x.row) [] [] y (row_move accepts v.active.identity (row_view x.row) (record { error = None; arriving = y }))).change
+    subst (λ (y : Arriving). contents_changed (with_last v active x payload) (Target.moved_decision w (row_view x.row) [] [] y (row_move accepts v.active (row_view x.row) (record { error = None; arriving = y }))).change
     ≡ contents_changed (before_last v active x payload) (Target.moved_decision v (row_view x.row) [] payload a m).change) (sym calm)
     (subst (λ (role : Option Role). contents_changed (with_last v active x payload) (next_decision v.end [] [] m kept role).change ≡ contents_changed (before_last v active x payload) (next_decision v.end [] payload m kept (row_request v kept)).change) (sym (live_request v (Some (session_with x payload)) kept))
     (next_same v active x payload kept m (row_request v kept)))
@@ -463,20 +463,20 @@ kept_with k c v w payload kept is = record {
   live = ap (λ (y : TargetView). y.live) is ∙ (ap (λ (y : Option TargetSession). Target.continued y payload) kept.live ∙ continued_kept k c.live payload);
 }
 
-last_heard_in : ContentsAreKept → (accepts : HeaderView → Bool) (v : TargetView) (active : StandingView) (live : Option SessionContents) (payload : List ℕ)
+last_heard_in : ContentsAreKept → (accepts : Accepts) (v : TargetView) (active : StandingView) (live : Option SessionContents) (payload : List ℕ)
     → contents_changed (whole active (contents_continued live payload)) (change_turned accepts (with_live v (Target.continued (option_map session_kept live) payload)) (Target.continued (option_map session_kept live) payload) None)
     ≡ contents_changed (whole active live) (change_heard accepts v (option_map session_kept live) (Last payload))
 last_heard_in k accepts v active None payload = refl
 last_heard_in k accepts v active (Some x) payload = last_same k accepts v active x payload
 
-last_heard : ContentsAreKept → (accepts : HeaderView → Bool) (v w : TargetView) (c : TargetContents) (payload : List ℕ) → AreKept c v → w ≡ with_live v (Target.continued v.live payload)
+last_heard : ContentsAreKept → (accepts : Accepts) (v w : TargetView) (c : TargetContents) (payload : List ℕ) → AreKept c v → w ≡ with_live v (Target.continued v.live payload)
     → contents_changed (contents_changed c (Target.Continues payload)) (change_turned accepts w w.live None) ≡ contents_changed c (change_heard accepts v v.live (Last payload))
 last_heard k accepts v w c payload kept is =
     ap (λ (y : TargetView). contents_changed (contents_changed c (Target.Continues payload)) (change_turned accepts y y.live None)) is
     ∙ (ap (λ (live : Option TargetSession). contents_changed (contents_changed c (Target.Continues payload)) (change_turned accepts (with_live v (Target.continued live payload)) (Target.continued live payload) None)) kept.live
     ∙ (last_heard_in k accepts v c.active c.live payload ∙ ap (λ (live : Option TargetSession). contents_changed c (change_heard accepts v live (Last payload))) (sym kept.live)))
 
-pub hears_last : {S T : Type 0} → ContentsAreKept → (accepts : HeaderView → Bool) (v w : TargetView) (c : TargetContents) (payload : List ℕ) (old : DiskState) (mid : Store) (there : DiskState) (after : Store) (new : DiskState) (x : S) (r : Result T Down) → AreKept c v
+pub hears_last : {S T : Type 0} → ContentsAreKept → (accepts : Accepts) (v w : TargetView) (c : TargetContents) (payload : List ℕ) (old : DiskState) (mid : Store) (there : DiskState) (after : Store) (new : DiskState) (x : S) (r : Result T Down) → AreKept c v
     → w ≡ with_live v (Target.continued v.live payload) → BringsContents {E = Down} old mid there c (contents_changed c (Target.Continues payload)) (Ok x)
     → (AreKept (contents_changed c (Target.Continues payload)) w → HoldsContents mid there (contents_changed c (Target.Continues payload))
     → BringsContents there after new (contents_changed c (Target.Continues payload)) (contents_changed (contents_changed c (Target.Continues payload)) (change_turned accepts w w.live None)) r)
@@ -496,7 +496,7 @@ last_fails old after other new c next payload one (Err e) err brings = record { 
 
 -- ---- a packet of a transfer
 
-transfer_change : (accepts : HeaderView → Bool) (v : TargetView) (end : EndView) (from to : ℕ) (p : PacketView) (news : NewsView) (live : Option TargetSession) → KeepsPorts v.end end → news ≡ news_by (heard_answer v.end from to p)
+transfer_change : (accepts : Accepts) (v : TargetView) (end : EndView) (from to : ℕ) (p : PacketView) (news : NewsView) (live : Option TargetSession) → KeepsPorts v.end end → news ≡ news_by (heard_answer v.end from to p)
     → change_heard accepts (end_with v end) live news ≡ (Target.transfer_decision accepts v live from to p).change
 transfer_change accepts v end from to p news None keeps is = refl
 transfer_change accepts v end from to p news (Some s) keeps is =
@@ -505,7 +505,7 @@ transfer_change accepts v end from to p news (Some s) keeps is =
 pub kept_end : (c : TargetContents) (v w : TargetView) (end : EndView) → AreKept c v → w ≡ end_with v end → AreKept c w
 kept_end c v w end kept is = record { active = ap (λ (y : TargetView). y.active) is ∙ kept.active; live = ap (λ (y : TargetView). y.live) is ∙ kept.live }
 
-pub transfer_brings : {T : Type 0} (accepts : HeaderView → Bool) (v w : TargetView) (from to : ℕ) (p : PacketView) (news : NewsView) (posts : List DatagramView) (old : DiskState) (after : Store) (new : DiskState) (c : TargetContents) (r : Result T Down) → w ≡ end_with v w.end
+pub transfer_brings : {T : Type 0} (accepts : Accepts) (v w : TargetView) (from to : ℕ) (p : PacketView) (news : NewsView) (posts : List DatagramView) (old : DiskState) (after : Store) (new : DiskState) (c : TargetContents) (r : Result T Down) → w ≡ end_with v w.end
     → Makes sides.Target (transfer_moves v.end from to p) v.end w.end posts → news ≡ news_by (heard_answer v.end from to p)
     → BringsContents old after new c (contents_changed c (change_heard accepts w w.live news)) r → BringsContents old after new c (contents_changed c (Target.transfer_decision accepts v v.live from to p).change) r
 transfer_brings accepts v w from to p news posts old after new c r is makes n brings =
@@ -516,14 +516,14 @@ transfer_brings accepts v w from to p news posts old after new c r is makes n br
 
 -- ---- a datagram
 
-pub got_request : (accepts : HeaderView → Bool) (v : TargetView) (from to : ℕ) (found : Option PacketView) (p : PacketView) → found ≡ Some p → (to == 59) ≡ true → request_decision v from p ≡ Target.got_decision accepts v from to found
+pub got_request : (accepts : Accepts) (v : TargetView) (from to : ℕ) (found : Option PacketView) (p : PacketView) → found ≡ Some p → (to == 59) ≡ true → request_decision v from p ≡ Target.got_decision accepts v from to found
 got_request accepts v from to found p is port = rw (is, port) refl
 
-pub got_transfer : (accepts : HeaderView → Bool) (v : TargetView) (from to : ℕ) (found : Option PacketView) (p : PacketView) → found ≡ Some p → (to == 59) ≡ false
+pub got_transfer : (accepts : Accepts) (v : TargetView) (from to : ℕ) (found : Option PacketView) (p : PacketView) → found ≡ Some p → (to == 59) ≡ false
     → Target.transfer_decision accepts v v.live from to p ≡ Target.got_decision accepts v from to found
 got_transfer accepts v from to found p is port = rw (is, port) refl
 
-pub got_nothing : (accepts : HeaderView → Bool) (v : TargetView) (from to : ℕ) (found : Option PacketView) → found ≡ None → Target.Continues [] ≡ (Target.got_decision accepts v from to found).change
+pub got_nothing : (accepts : Accepts) (v : TargetView) (from to : ℕ) (found : Option PacketView) → found ≡ None → Target.Continues [] ≡ (Target.got_decision accepts v from to found).change
 got_nothing accepts v from to found is = rw is refl
 
 -- what came is dropped

@@ -4,11 +4,11 @@ use Rattle.load_base.specs.declared.list.NoMemory.{NoMemory}
 use Rattle.exchange_trace.specs.declared.trace.Datagram.{Datagram}
 use Rattle.exchange_trace.specs.declared.trace.Side.TheVariants as sides
 use Rattle.exchange_trace.specs.Happenings.{DatagramView}
-use Rattle.load_header.specs.Header.{HeaderView}
 use Rattle.transfer_end.specs.Calls.{Makes, posted}
 use Rattle.transfer_end.specs.Moves.{Asks, Stops, all_posts, views_after}
 use Rattle.transfer_end.specs.Packets.{has_port}
 use Rattle.transfer_end.specs.Transfers.{Role}
+use Rattle.accept_rules.specs.Permissions.{Accepts}
 use Rattle.session_rules.specs.declared.reason.Reason.TheVariants as reasons
 use Rattle.session_rules.specs.Target.{TargetSession, TargetView, active_in, in_row, is_over, later_reason, reason_in, row_request}
 use Rattle.session_rules.specs.TargetRows.{RowView, Gives_lci, Writes_lcs, Writes_lcl, Gives_lui, Gives_denial, Writes_ready, Awaits_lur, Reads_file, Writes_progress, Writes_stop, Writes_completion, Over}
@@ -28,22 +28,22 @@ some_one x s e = ap (unwrapped x) e
     unwrapped x None = x
     unwrapped x (Some y) = y
 
-module _ {R : Type 0} (accepts : HeaderView → Bool) (st now after : TargetState R) (error : Option ℕ) (x s : TargetSession) (old new : InstalledState) (e : st ≡ now) (live : now.view.live ≡ Some x) (kept : st.view.live ≡ Some s)
+module _ {R : Type 0} (accepts : Accepts) (st now after : TargetState R) (error : Option ℕ) (x s : TargetSession) (old new : InstalledState) (e : st ≡ now) (live : now.view.live ≡ Some x) (kept : st.view.live ≡ Some s)
     (same : old.active ≡ st.view.active) (rule : after.rule ≡ st.rule) (end : after.view.end ≡ st.view.end) (active : after.view.active ≡ new.active) where
   -- the row to which the session turns
   abbrev turned : RowView
-  turned = row_then accepts st.view.active.identity s error
+  turned = row_then accepts st.view.active s error
 
   x_is : x ≡ s
   x_is = some_one x s (sym live ∙ ap (λ (y : TargetState R). y.view.live) (sym e) ∙ kept)
 
-  as_decided : Keeps st after (in_next_row st.view turned) → Keeps now after (in_next_row now.view (row_then accepts now.view.active.identity x error))
+  as_decided : Keeps st after (in_next_row st.view turned) → Keeps now after (in_next_row now.view (row_then accepts now.view.active x error))
   as_decided keeps =
-      subst (λ (y : TargetSession). Keeps now after (in_next_row now.view (row_then accepts now.view.active.identity y error))) (sym x_is)
-      (subst (λ (y : TargetState R). Keeps y after (in_next_row y.view (row_then accepts y.view.active.identity s error))) e keeps)
+      subst (λ (y : TargetSession). Keeps now after (in_next_row now.view (row_then accepts now.view.active y error))) (sym x_is)
+      (subst (λ (y : TargetState R). Keeps y after (in_next_row y.view (row_then accepts y.view.active s error))) e keeps)
 
   pub turns_row : (row : Row) → TurnsTo (Some row) turned old new → after.view.live ≡ Some (in_row (row_seen new.active.loads row)) → after.view.reason ≡ later_reason st.view.reason (reason_in (row_seen new.active.loads row))
-      → Keeps now after (in_next_row now.view (row_then accepts now.view.active.identity x error))
+      → Keeps now after (in_next_row now.view (row_then accepts now.view.active x error))
   turns_row row turns seen reason =
       as_decided (record {
         rule = rule;
@@ -54,7 +54,7 @@ module _ {R : Type 0} (accepts : HeaderView → Bool) (st now after : TargetStat
       })
 
   pub ends_row : TurnsTo None turned old new → after.view.live ≡ None → after.view.reason ≡ st.view.reason
-      → Keeps now after (in_next_row now.view (row_then accepts now.view.active.identity x error))
+      → Keeps now after (in_next_row now.view (row_then accepts now.view.active x error))
   ends_row turns seen reason =
       as_decided (record {
         rule = rule;

@@ -2,10 +2,10 @@
 use Rattle.std.proofs.Common.{◌≡◌, ℕ, List, [], ◌∷◌, ◌++◌, Bool, true, false, Option, Some, None, is_none, Result, Ok, Err, IfOk, refl, sym, ap, subst, ◌∙◌, if◌then◌else◌}
 use Rattle.std.proofs.lemmas.List.{append-nil}
 use Rattle.exchange_trace.specs.declared.trace.Datagram.{Datagram}
+use Rattle.accept_rules.specs.Permissions.{Accepts}
 use Rattle.load_intake.specs.declared.down.Down.{Down}
 use Rattle.exchange_trace.specs.declared.trace.Side.TheVariants as sides
 use Rattle.exchange_trace.specs.Happenings.{DatagramView}
-use Rattle.load_header.specs.Header.{HeaderView}
 use Rattle.disk_layout.specs.Holds.{Outline}
 use Rattle.tftp_packet.specs.Packets.{PacketView}
 use Rattle.tftp_link.specs.Answers.{Answer, Dropped, Again, Grants, TakesBlock, TakesLast, Proceeds, Completes, Fails, NewsView, news_by}
@@ -40,7 +40,7 @@ pub record Continues_with (heard : List Move) (whole rest : TargetDecision) : Ty
   pub moves : whole.moves ≡ heard ++ rest.moves
   pub change : whole.change ≡ rest.change
 
-module _ (accepts : HeaderView → Bool) (v : TargetView) (end : EndView) (heard : List Move) (keeps : KeepsPorts v.end end) where
+module _ (accepts : Accepts) (v : TargetView) (end : EndView) (heard : List Move) (keeps : KeepsPorts v.end end) where
   asked_after : (role : Role) (more : List ℕ) (move : RowMove) (port : Bool)
       → Continues_with heard (if port then record { moves = heard ++ Asks role ∷ []; change = Turns move more } else record { moves = heard ++ Stops ∷ []; change = Turns_without_port move more })
       (if port then record { moves = Asks role ∷ []; change = Turns move more } else record { moves = Stops ∷ []; change = Turns_without_port move more })
@@ -80,7 +80,7 @@ module _ (accepts : HeaderView → Bool) (v : TargetView) (end : EndView) (heard
   moved_after row more arriving move = rw (same_request (view_moved row arriving move)) (next_after (row_request v (view_moved row arriving move)) more move (view_moved row arriving move))
 
   turn_after : (s : TargetSession) (more : List ℕ) (error : Option ℕ) → Continues_with heard (turn_decision accepts v s heard more error) (turn_decision accepts (end_with v end) s [] more error)
-  turn_after s more error = moved_after s.row more (with_bytes s.arriving more) (row_move accepts v.active.identity s.row (record { error = error; arriving = with_bytes s.arriving more }))
+  turn_after s more error = moved_after s.row more (with_bytes s.arriving more) (row_move accepts v.active s.row (record { error = error; arriving = with_bytes s.arriving more }))
 
   pub answer_after : (s : TargetSession) (answer : Answer) → Continues_with heard (answer_decision accepts v s heard answer) (following accepts (end_with v end) s (news_by answer))
   answer_after s Dropped = record { moves = sym (append-nil heard); change = refl }
@@ -127,7 +127,7 @@ does_both st mid heard end whole rest after first second makes rule is both does
 }
 
 -- a packet of a transfer, in a session or in none
-transfers : {R : Type 0} (accepts : HeaderView → Bool) (st mid : TargetState R) (from to : ℕ) (p : PacketView) (live : Option TargetSession) (news : NewsView) (after : TargetState R) (first second : List DatagramView)
+transfers : {R : Type 0} (accepts : Accepts) (st mid : TargetState R) (from to : ℕ) (p : PacketView) (live : Option TargetSession) (news : NewsView) (after : TargetState R) (first second : List DatagramView)
     → st.view.live ≡ live → Makes sides.Target (transfer_moves st.view.end from to p) st.view.end mid.view.end first → mid.rule ≡ st.rule → mid.view ≡ end_with st.view mid.view.end
     → news ≡ news_by (heard_answer st.view.end from to p)
     → ((s : TargetSession) → live ≡ Some s → Does (following accepts mid.view s news) mid after second) → (live ≡ None → (second ≡ []) × (after ≡ mid))
@@ -142,7 +142,7 @@ transfers accepts st mid from to p (Some s) news after first second is makes rul
     (subst (λ x. Does (following accepts (end_with st.view mid.view.end) s x) mid after second) n
     (subst (λ (x : TargetView). Does (following accepts x s news) mid after second) same (does s refl)))
 
-pub hears : {R : Type 0} (accepts : HeaderView → Bool) (st mid : TargetState R) (from to : ℕ) (p : PacketView) (news : NewsView) (after : TargetState R) (first second sent : List DatagramView)
+pub hears : {R : Type 0} (accepts : Accepts) (st mid : TargetState R) (from to : ℕ) (p : PacketView) (news : NewsView) (after : TargetState R) (first second sent : List DatagramView)
     → Makes sides.Target (transfer_moves st.view.end from to p) st.view.end mid.view.end first → mid.rule ≡ st.rule → mid.view ≡ end_with st.view mid.view.end
     → news ≡ news_by (heard_answer st.view.end from to p)
     → ((s : TargetSession) → st.view.live ≡ Some s → Does (following accepts mid.view s news) mid after second) → (st.view.live ≡ None → (second ≡ []) × (after ≡ mid))
@@ -183,10 +183,10 @@ module _ (v : TargetView) (s : TargetSession) (payload : List ℕ) (calm : with_
   moved_one : (move : RowMove) → AreOne (moved_decision v s.row [] [] (with_bytes s.arriving payload) move) (moved_decision v s.row [] payload (with_bytes s.arriving payload) move)
   moved_one move = next_one (view_moved s.row (with_bytes s.arriving payload) move) move (row_request v (view_moved s.row (with_bytes s.arriving payload) move))
 
-  pub turns_so : (accepts : HeaderView → Bool) → AreOne (turn_decision accepts (with_live v (Some (whole s payload))) (whole s payload) [] [] None) (turn_decision accepts v s [] payload None)
+  pub turns_so : (accepts : Accepts) → AreOne (turn_decision accepts (with_live v (Some (whole s payload))) (whole s payload) [] [] None) (turn_decision accepts v s [] payload None)
   turns_so accepts =
-      subst (λ (x : Arriving). AreOne (moved_decision v s.row [] [] x (row_move accepts v.active.identity s.row (record { error = None; arriving = x }))) (turn_decision accepts v s [] payload None)) (sym calm)
-      (moved_one (row_move accepts v.active.identity s.row (record { error = None; arriving = with_bytes s.arriving payload })))
+      subst (λ (x : Arriving). AreOne (moved_decision v s.row [] [] x (row_move accepts v.active s.row (record { error = None; arriving = x }))) (turn_decision accepts v s [] payload None)) (sym calm)
+      (moved_one (row_move accepts v.active s.row (record { error = None; arriving = with_bytes s.arriving payload })))
 
 calm_of : (s : TargetSession) → IsCalm (Some s) → with_bytes s.arriving [] ≡ s.arriving
 calm_of s e = ap arriving_in e
@@ -196,7 +196,7 @@ calm_of s e = ap arriving_in e
     arriving_in (Some x) = x.arriving
 
 -- what the last bytes of a file come to
-pub takes_last : {R : Type 0} (accepts : HeaderView → Bool) (now mid after : TargetState R) (s : TargetSession) (payload : List ℕ) (posts : List DatagramView) → now.view.live ≡ Some s
+pub takes_last : {R : Type 0} (accepts : Accepts) (now mid after : TargetState R) (s : TargetSession) (payload : List ℕ) (posts : List DatagramView) → now.view.live ≡ Some s
     → mid.rule ≡ now.rule → mid.view ≡ with_live now.view (continued now.view.live payload) → IsCalm mid.view.live
     → ((t : TargetSession) → mid.view.live ≡ Some t → Does (turn_decision accepts mid.view t [] [] None) mid after posts)
     → Does (turn_decision accepts now.view s [] payload None) now after posts
@@ -297,15 +297,15 @@ next_end v row true = refl
 next_end v row false = refl
 
 -- A transfer of the live session is over: its row turns, and then asks for what it asks for.
-pub turns : {R : Type 0} (accepts : HeaderView → Bool) (now mid after : TargetState R) (s : TargetSession) (error : Option ℕ) (sent : List DatagramView) → now.view.live ≡ Some s → IsCalm now.view.live
-    → Keeps now mid (in_next_row now.view (row_then accepts now.view.active.identity s error)) → Enters mid after sent
+pub turns : {R : Type 0} (accepts : Accepts) (now mid after : TargetState R) (s : TargetSession) (error : Option ℕ) (sent : List DatagramView) → now.view.live ≡ Some s → IsCalm now.view.live
+    → Keeps now mid (in_next_row now.view (row_then accepts now.view.active s error)) → Enters mid after sent
     → Does (turn_decision accepts now.view s [] [] error) now after sent
 turns accepts now mid after s error sent live calm turned enters =
     let still = calm_of s (subst (λ x. IsCalm x) live calm) in
-    let move = row_move accepts now.view.active.identity s.row (record { error = error; arriving = s.arriving }) in
+    let move = row_move accepts now.view.active s.row (record { error = error; arriving = s.arriving }) in
     let v : now.view ≡ with_live now.view (Some s) = ap (with_live now.view) live in
     let d : turn_decision accepts now.view s [] [] error ≡ moved_decision now.view s.row [] [] s.arriving move =
-    ap (λ (x : Arriving). moved_decision now.view s.row [] [] x (row_move accepts now.view.active.identity s.row (record { error = error; arriving = x }))) still in
+    ap (λ (x : Arriving). moved_decision now.view s.row [] [] x (row_move accepts now.view.active s.row (record { error = error; arriving = x }))) still in
     let comes : ComesTo now.view (moved_decision now.view s.row [] [] s.arriving move) (in_next_row now.view (view_moved s.row s.arriving move)) =
     subst (λ (x : TargetView). ComesTo x (moved_decision x s.row [] [] s.arriving move) (in_next_row x (view_moved s.row s.arriving move))) (sym v)
     (by_role now.view s still move (row_request (with_live now.view (Some s)) (view_moved s.row s.arriving move)) refl) in
@@ -352,7 +352,7 @@ closes st now after same rule live active reason makes =
     (record { rule = rule; view_is = same_view _ _ _ _ _ _ _ _ makes.keeps live active reason })
 
 -- an event of the session's own is heard as it was sent
-pub hears_so : {R : Type 0} (accepts : HeaderView → Bool) (st now mid after : TargetState R) (from to : ℕ) (p : PacketView) (news : NewsView) (first second sent : List DatagramView)
+pub hears_so : {R : Type 0} (accepts : Accepts) (st now mid after : TargetState R) (from to : ℕ) (p : PacketView) (news : NewsView) (first second sent : List DatagramView)
     → st ≡ now → Makes sides.Target (transfer_moves st.view.end from to p) st.view.end mid.view.end first → mid.rule ≡ st.rule → mid.view ≡ end_with st.view mid.view.end
     → news ≡ news_by (heard_answer st.view.end from to p)
     → ((s : TargetSession) → mid.view.live ≡ Some s → Does (following accepts mid.view s news) mid after second) → (mid.view.live ≡ None → (second ≡ []) × (after ≡ mid))
@@ -375,7 +375,7 @@ pub turned_over : (v : TargetView) (row : RowView) (end : EndView) (live : Optio
 turned_over v row end live active reason over e l a r =
     same_view _ _ _ _ _ _ _ _ e l (a ∙ ap (active_in v.active) over) r ∙ sym (ap (λ x. if is_over x then with_live v None else view_turned v.end v x) over)
 
-pub ends_with_last : {R : Type 0} (accepts : HeaderView → Bool) (now mid after : TargetState R) (s : TargetSession) (payload : List ℕ) (result : Result (Option Datagram) Down) → now.view.live ≡ Some s
+pub ends_with_last : {R : Type 0} (accepts : Accepts) (now mid after : TargetState R) (s : TargetSession) (payload : List ℕ) (result : Result (Option Datagram) Down) → now.view.live ≡ Some s
     → Keeps now mid (with_live now.view (continued now.view.live payload)) → IsCalm mid.view.live
     → ((t : TargetSession) → mid.view.live ≡ Some t → IfOk result (λ post. Does (turn_decision accepts mid.view t [] [] None) mid after (posted post)))
     → IfOk result (λ post. Does (turn_decision accepts now.view s [] payload None) now after (posted post))

@@ -1,10 +1,9 @@
 -- What calls of the target leave on its disk.
-use Rattle.std.proofs.Common.{◌≡◌, ℕ, List, [], ◌++◌, Bool, true, false, Option, Some, None, Result, Ok, Err, IsErr, refl, sym, subst}
+use Rattle.std.proofs.Common.{◌≡◌, ℕ, List, [], ◌++◌, true, false, Option, Some, None, Result, Ok, Err, IsErr, refl, sym, subst}
 use Rattle.disk_model.specs.Image.{Image}
 use Rattle.disk_model.specs.State.{DiskState}
-use Rattle.load_header.specs.Header.{HeaderView}
-use Rattle.disk_layout.specs.Holds.{StandingView}
-use Rattle.disk_layout.specs.declared.identity.Identity.{Identity}
+use Rattle.disk_layout.specs.Holds.{Outline, StandingView}
+use Rattle.accept_rules.specs.Permissions.{Accepts}
 use Rattle.bank_store.specs.declared.store.Store.{Store}
 use Rattle.bank_store.specs.Fits.{InstallsBeside}
 use Rattle.bank_store.specs.Keeps.{Continues}
@@ -97,10 +96,10 @@ pub error_brings : {T : Type 0} (before after : Store) (disk : DiskState) (s : S
 error_brings before after disk s row arrived code f c installs =
     rests_at before after disk s (row_moved row arrived (error_move (row_view row) code)) f (error_stays s row arrived code) (error_rests row arrived code) c installs.beside
 
-module _ (accepts : HeaderView → Bool) (id : Identity) where
+module _ (accepts : Accepts) (active : Outline) where
   -- the row after a transfer that no ERROR ended
   abbrev pub moved_to : (row : WholeRow) (arrived : List ℕ) → WholeRow
-  moved_to row arrived = row_moved row arrived (done_move accepts id (row_view row) (arriving_of (row_view row) arrived))
+  moved_to row arrived = row_moved row arrived (done_move accepts active (row_view row) (arriving_of (row_view row) arrived))
 
   -- a row that no file decides
   pub passed_brings : {T : Type 0} (store : Store) (disk : DiskState) (s : StandingView) (row : WholeRow) (arrived : List ℕ) (f : T) → ((u : UploadView) → row_view row ≡ Reads_file u → ⊥) → (row_view row ≡ Awaits_lur → ⊥) → InstallsRow store disk s row arrived
@@ -136,12 +135,12 @@ module _ (accepts : HeaderView → Bool) (id : Identity) where
   -- a file of a load
   pub reads_brings : {T : Type 0} (old : DiskState) (after : Store) (new : DiskState) (s : StandingView) (row : WholeRow) (arrived : List ℕ) (intake : IntakeState) (r : Result T Down) → row_view row ≡ Reads_file intake.upload → arriving_of (row_view row) arrived ≡ intake.arriving
       → (before : Store) → InstallsRow before old s row arrived
-      → ((u : Upload) → IsOf intake u arrived → InstallsRow before old s (Reads_file u) arrived → BringsRow old after new s (row_moved (Reads_file u) arrived (done_move accepts id (Reads_file intake.upload) intake.arriving)) r)
+      → ((u : Upload) → IsOf intake u arrived → InstallsRow before old s (Reads_file u) arrived → BringsRow old after new s (row_moved (Reads_file u) arrived (done_move accepts active (Reads_file intake.upload) intake.arriving)) r)
       → BringsRow old after new s (moved_to row arrived) r
   reads_brings old after new s (Reads_file u) arrived intake r is kept before installs brings =
       let same : intake.upload ≡ upload_view u = cc in
-      subst (λ (a : Arriving). BringsRow old after new s (row_moved (Reads_file u) arrived (done_move accepts id (Reads_file (upload_view u)) a)) r) (sym kept)
-      (subst (λ (v : UploadView). BringsRow old after new s (row_moved (Reads_file u) arrived (done_move accepts id (Reads_file v) intake.arriving)) r) same (brings u (record { upload = same; arriving = sym kept }) installs))
+      subst (λ (a : Arriving). BringsRow old after new s (row_moved (Reads_file u) arrived (done_move accepts active (Reads_file (upload_view u)) a)) r) (sym kept)
+      (subst (λ (v : UploadView). BringsRow old after new s (row_moved (Reads_file u) arrived (done_move accepts active (Reads_file v) intake.arriving)) r) same (brings u (record { upload = same; arriving = sym kept }) installs))
   reads_brings old after new s Gives_lci arrived intake r is kept before installs brings = absurd cc
   reads_brings old after new s Writes_lcs arrived intake r is kept before installs brings = absurd cc
   reads_brings old after new s Writes_lcl arrived intake r is kept before installs brings = absurd cc
@@ -156,8 +155,8 @@ module _ (accepts : HeaderView → Bool) (id : Identity) where
 
   -- the request
   pub awaits_brings : {T : Type 0} (old : DiskState) (after : Store) (new : DiskState) (s : StandingView) (row : WholeRow) (arrived : List ℕ) (file : Buffer) (r : Result T Down) → row_view row ≡ Awaits_lur → arriving_of (row_view row) arrived ≡ Kept_bytes file
-      → BringsRow old after new s (row_moved Awaits_lur arrived (done_move accepts id Awaits_lur (Kept_bytes file))) r → BringsRow old after new s (moved_to row arrived) r
-  awaits_brings old after new s Awaits_lur arrived file r is kept brings = subst (λ (a : Arriving). BringsRow old after new s (row_moved Awaits_lur arrived (done_move accepts id Awaits_lur a)) r) (sym kept) brings
+      → BringsRow old after new s (row_moved Awaits_lur arrived (done_move accepts active Awaits_lur (Kept_bytes file))) r → BringsRow old after new s (moved_to row arrived) r
+  awaits_brings old after new s Awaits_lur arrived file r is kept brings = subst (λ (a : Arriving). BringsRow old after new s (row_moved Awaits_lur arrived (done_move accepts active Awaits_lur a)) r) (sym kept) brings
   awaits_brings old after new s Gives_lci arrived file r is kept brings = absurd cc
   awaits_brings old after new s Writes_lcs arrived file r is kept brings = absurd cc
   awaits_brings old after new s Writes_lcl arrived file r is kept brings = absurd cc

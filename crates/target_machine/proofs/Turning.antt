@@ -1,13 +1,13 @@
 -- What the end of a transfer comes to, of what is installed.
-use Rattle.std.proofs.Common.{◌≡◌, List, Bool, Option, Some, Result, Ok, Err, IfOk, OnOk, refl, sym, ap, subst, ◌∙◌}
+use Rattle.std.proofs.Common.{◌≡◌, List, Option, Some, Result, Ok, Err, IfOk, OnOk, refl, sym, ap, subst, ◌∙◌}
 use Rattle.disk_model.specs.State.{DiskState}
-use Rattle.load_header.specs.Header.{HeaderView}
 use Rattle.disk_layout.specs.Holds.{Outline}
 use Rattle.disk_layout.specs.Manifest.{LoadEntry, manifest_view}
 use Rattle.disk_layout.specs.Slots.{bank_number}
 use Rattle.disk_layout.specs.declared.active.Active.{Active}
 use Rattle.disk_layout.specs.declared.identity.Identity.{Identity}
 use Rattle.disk_layout.specs.declared.manifest.Manifest.{Manifest}
+use Rattle.accept_rules.specs.Permissions.{Accepts}
 use Rattle.bank_store.specs.Fits.{Fits, Works}
 use Rattle.bank_store.specs.Store.{SameActive, bank_size_of}
 use Rattle.bank_store.specs.declared.store.Store.{Store}
@@ -38,10 +38,10 @@ pub still_installed : (id : Identity) (m : Manifest) (before after : Store) → 
 still_installed id m before after size is = record { size = size ∙ is.size; few = is.few }
 
 -- a row in which what is active stays
-pub turns_same : (now : InstalledState) (id : Identity) (m : Manifest) (before after : Store) (next : Row) (row : Identity → RowView) (kept : RowView) → state id m before ≡ now → SameActive before after
-    → row_seen (manifest_view m) next ≡ kept → ((o : Outline) → active_in o kept ≡ o) → StartsFresh (Some next) → kept ≡ row id → TurnsTo (Some next) (row now.active.identity) now (state id m after)
+pub turns_same : (now : InstalledState) (id : Identity) (m : Manifest) (before after : Store) (next : Row) (row : Outline → RowView) (kept : RowView) → state id m before ≡ now → SameActive before after
+    → row_seen (manifest_view m) next ≡ kept → ((o : Outline) → active_in o kept ≡ o) → StartsFresh (Some next) → kept ≡ row (outline_kept id m before) → TurnsTo (Some next) (row now.active) now (state id m after)
 turns_same now id m before after next row kept e same seen stays fresh is =
-    subst (λ (x : InstalledState). TurnsTo (Some next) (row x.active.identity) x (state id m after)) e
+    subst (λ (x : InstalledState). TurnsTo (Some next) (row x.active) x (state id m after)) e
     (record {
       active = same_outline id m before after same ∙ sym (stays (outline_kept id m before)) ∙ ap (active_in (outline_kept id m before)) is;
       is = seen ∙ is;
@@ -49,11 +49,11 @@ turns_same now id m before after next row kept e same seen stays fresh is =
     })
 
 -- the row in which a new configuration is installed
-pub turns_new : (now : InstalledState) (id : Identity) (m loads : Manifest) (before after : Store) (old new : DiskState) (end : UploadEnd) (row : Identity → RowView) → state id m before ≡ now
-    → Installs before after old new → Writes_completion (end_view end) (manifest_view loads) ≡ row id
-    → TurnsTo (Some (rows.WritesCompletion end)) (row now.active.identity) now (state id loads after)
+pub turns_new : (now : InstalledState) (id : Identity) (m loads : Manifest) (before after : Store) (old new : DiskState) (end : UploadEnd) (row : Outline → RowView) → state id m before ≡ now
+    → Installs before after old new → Writes_completion (end_view end) (manifest_view loads) ≡ row (outline_kept id m before)
+    → TurnsTo (Some (rows.WritesCompletion end)) (row now.active) now (state id loads after)
 turns_new now id m loads before after old new end row e installs is =
-    subst (λ (x : InstalledState). TurnsTo (Some (rows.WritesCompletion end)) (row x.active.identity) x (state id loads after)) e
+    subst (λ (x : InstalledState). TurnsTo (Some (rows.WritesCompletion end)) (row x.active) x (state id loads after)) e
     (record {
       active = new_outline ∙ ap (active_in (outline_kept id m before)) is;
       is = is;
@@ -85,9 +85,9 @@ stays_too_ok before mid after old new (Ok x) stays fits works = stays_too before
 
 -- ---- rows that no file decides
 
-module _ (accepts : HeaderView → Bool) (id : Identity) (active : List LoadEntry) where
+module _ (accepts : Accepts) (o : Outline) (active : List LoadEntry) where
   passed_so : (row : Row) (buffer : Buffer) → ((intake : IntakeState) → row ≡ rows.ReadsFile intake → ⊥) → (row ≡ rows.AwaitsLur → ⊥)
-      → row_after (row_seen active row) ≡ view_moved (row_seen active row) (arriving_in row buffer) (done_move accepts id (row_seen active row) (arriving_in row buffer))
+      → row_after (row_seen active row) ≡ view_moved (row_seen active row) (arriving_in row buffer) (done_move accepts o (row_seen active row) (arriving_in row buffer))
   passed_so rows.GivesLci buffer reads awaits = refl
   passed_so rows.WritesLcs buffer reads awaits = refl
   passed_so rows.WritesLcl buffer reads awaits = refl
@@ -114,20 +114,20 @@ passed_stays o active (rows.WritesStop end) = refl
 passed_stays o active (rows.WritesCompletion end) = refl
 
 -- the row is finished
-pub passes : (accepts : HeaderView → Bool) (now : InstalledState) (session row : Row) (buffer : Buffer) (next : Option Row) → session ≡ row → ((intake : IntakeState) → row ≡ rows.ReadsFile intake → ⊥) → (row ≡ rows.AwaitsLur → ⊥)
+pub passes : (accepts : Accepts) (now : InstalledState) (session row : Row) (buffer : Buffer) (next : Option Row) → session ≡ row → ((intake : IntakeState) → row ≡ rows.ReadsFile intake → ⊥) → (row ≡ rows.AwaitsLur → ⊥)
     → next_seen now.active.loads next ≡ row_after (row_seen now.active.loads row) → StartsFresh next
-    → TurnsTo next (view_moved (row_seen now.active.loads session) (arriving_in session buffer) (done_move accepts now.active.identity (row_seen now.active.loads session) (arriving_in session buffer))) now now
+    → TurnsTo next (view_moved (row_seen now.active.loads session) (arriving_in session buffer) (done_move accepts now.active (row_seen now.active.loads session) (arriving_in session buffer))) now now
 passes accepts now session row buffer next e reads awaits seen fresh =
-    subst (λ (x : Row). TurnsTo next (view_moved (row_seen now.active.loads x) (arriving_in x buffer) (done_move accepts now.active.identity (row_seen now.active.loads x) (arriving_in x buffer))) now now) (sym e)
-    (subst (λ (x : RowView). TurnsTo next x now now) (passed_so accepts now.active.identity now.active.loads row buffer reads awaits)
+    subst (λ (x : Row). TurnsTo next (view_moved (row_seen now.active.loads x) (arriving_in x buffer) (done_move accepts now.active (row_seen now.active.loads x) (arriving_in x buffer))) now now) (sym e)
+    (subst (λ (x : RowView). TurnsTo next x now now) (passed_so accepts now.active now.active.loads row buffer reads awaits)
     (record { active = sym (passed_stays now.active now.active.loads row); is = seen; fresh = fresh }))
 
 -- a row that a file decides
-pub decides : (accepts : HeaderView → Bool) (now after : InstalledState) (session row : Row) (buffer : Buffer) (next : Option Row) → session ≡ row
-    → TurnsTo next (view_moved (row_seen now.active.loads row) (arriving_in row buffer) (done_move accepts now.active.identity (row_seen now.active.loads row) (arriving_in row buffer))) now after
-    → TurnsTo next (view_moved (row_seen now.active.loads session) (arriving_in session buffer) (done_move accepts now.active.identity (row_seen now.active.loads session) (arriving_in session buffer))) now after
+pub decides : (accepts : Accepts) (now after : InstalledState) (session row : Row) (buffer : Buffer) (next : Option Row) → session ≡ row
+    → TurnsTo next (view_moved (row_seen now.active.loads row) (arriving_in row buffer) (done_move accepts now.active (row_seen now.active.loads row) (arriving_in row buffer))) now after
+    → TurnsTo next (view_moved (row_seen now.active.loads session) (arriving_in session buffer) (done_move accepts now.active (row_seen now.active.loads session) (arriving_in session buffer))) now after
 decides accepts now after session row buffer next e turns =
-    subst (λ (x : Row). TurnsTo next (view_moved (row_seen now.active.loads x) (arriving_in x buffer) (done_move accepts now.active.identity (row_seen now.active.loads x) (arriving_in x buffer))) now after) (sym e) turns
+    subst (λ (x : Row). TurnsTo next (view_moved (row_seen now.active.loads x) (arriving_in x buffer) (done_move accepts now.active (row_seen now.active.loads x) (arriving_in x buffer))) now after) (sym e) turns
 
 pub stays_on_ok : {T : Type 0} (before mid after : Store) (old between new : DiskState) (result : Result T Down) → StaysOn before mid old between → OnOk result (StaysOn mid after between new) → OnOk result (StaysOn before after old new)
 stays_on_ok before mid after old between new (Err down) first later = tt

@@ -3,8 +3,8 @@ use Rattle.std.specs.Prelude.{◌≡◌, ℕ, List, [], ◌∷◌, Bool, true, f
 use Rattle.exchange_trace.specs.declared.trace.Side.TheVariants as sides
 use Rattle.exchange_trace.specs.Happenings.{DatagramView}
 use Rattle.exchange_trace.specs.Logs.{Event}
-use Rattle.load_header.specs.Header.{HeaderView}
-use Rattle.disk_layout.specs.declared.identity.Identity.{Identity}
+use Rattle.disk_layout.specs.Holds.{Outline}
+use Rattle.accept_rules.specs.Permissions.{Accepts}
 use Rattle.bank_store.specs.declared.store.Store.{Store}
 use Rattle.tftp_packet.specs.declared.options.Options.{Options}
 use Rattle.tftp_link.specs.Answers.{NewsView, Nothing, Block, Last, Done, PeerError}
@@ -35,7 +35,7 @@ pub record Does {R : Type 0} (decision : TargetDecision) (before after : TargetS
   pub posts : sent ≡ all_posts sides.Target before.view.end decision.moves
 
 -- A call takes an event: it does what the target's rules decide then, where the interlock accepts these headers.
-abbrev pub Takes : {R : Type 0} → (accepts : HeaderView → Bool) → Event → (before after : TargetState R) → List DatagramView → Type 0
+abbrev pub Takes : {R : Type 0} → Accepts → Event → (before after : TargetState R) → List DatagramView → Type 0
 Takes accepts e before after sent = Does (target_decision accepts before.view e) before after sent
 
 -- ---- how a call does it, piece by piece
@@ -54,7 +54,7 @@ pub record Keeps {R : Type 0} (before after : TargetState R) (view : TargetView)
   pub view_is : after.view ≡ view
 
 -- What follows from what is told of a packet that the live transfer got, beside the moves of the transfer.
-abbrev pub following : (accepts : HeaderView → Bool) → TargetView → TargetSession → NewsView → TargetDecision
+abbrev pub following : Accepts → TargetView → TargetSession → NewsView → TargetDecision
 following accepts v s Nothing = nothing
 following accepts v s (Block payload) = record { moves = []; change = Continues payload }
 following accepts v s (Last payload) = turn_decision accepts v s [] payload None
@@ -64,8 +64,8 @@ following accepts v s (PeerError code) = turn_decision accepts v s [] [] (Some c
 -- ---- rows
 
 -- the row to which a session turns once a transfer of it is over, perhaps by an ERROR
-abbrev pub row_then : (accepts : HeaderView → Bool) → Identity → TargetSession → (error : Option ℕ) → RowView
-row_then accepts id s error = view_moved s.row s.arriving (row_move accepts id s.row (record { error = error; arriving = s.arriving }))
+abbrev pub row_then : Accepts → (active : Outline) → TargetSession → (error : Option ℕ) → RowView
+row_then accepts active s error = view_moved s.row s.arriving (row_move accepts active s.row (record { error = error; arriving = s.arriving }))
 
 -- the row to which a session turns at an ERROR
 abbrev pub broken_to : RowView → Arriving → (code : ℕ) → RowView

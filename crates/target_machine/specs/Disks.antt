@@ -1,10 +1,9 @@
 -- What the target's disk has, and what a power loss may leave on it (docs/EXCHANGE.md, "The target"; docs/DISK.md).
-use Rattle.std.specs.Prelude.{◌≡◌, ◌⊎◌, ℕ, List, [], Bool, Option, Some, None, Result, IfOk, OnOk}
-use Rattle.load_header.specs.Header.{HeaderView}
+use Rattle.std.specs.Prelude.{◌≡◌, ◌⊎◌, ℕ, List, [], Option, Some, None, Result, IfOk, OnOk}
 use Rattle.disk_model.specs.Image.{Image}
 use Rattle.disk_model.specs.State.{DiskState}
-use Rattle.disk_layout.specs.Holds.{HoldsConfig, StandingView}
-use Rattle.disk_layout.specs.declared.identity.Identity.{Identity}
+use Rattle.disk_layout.specs.Holds.{HoldsConfig, Outline, StandingView}
+use Rattle.accept_rules.specs.Permissions.{Accepts}
 use Rattle.bank_store.specs.DiskWrites.{AddsOnly}
 use Rattle.bank_store.specs.Keeps.{IsOldOrNew}
 use Rattle.bank_store.specs.declared.store.Store.{Store}
@@ -57,8 +56,8 @@ abbrev pub BringsContents : {T E : Type 0} → DiskState → Store → DiskState
 BringsContents old after new c next result = BringsTo old after new c.active next.active (live_row next.live) (live_arrived next.live) result
 
 -- the row that a session comes to, once a transfer of it is over, perhaps by an ERROR
-abbrev pub whole_row_then : (accepts : HeaderView → Bool) → Identity → SessionContents → (error : Option ℕ) → WholeRow
-whole_row_then accepts id x error = row_moved x.row x.arrived (row_move accepts id (row_view x.row) (record { error = error; arriving = (session_kept x).arriving }))
+abbrev pub whole_row_then : Accepts → (active : Outline) → SessionContents → (error : Option ℕ) → WholeRow
+whole_row_then accepts active x error = row_moved x.row x.arrived (row_move accepts active (row_view x.row) (record { error = error; arriving = (session_kept x).arriving }))
 
 -- the row reads no file of a load, and none is next
 abbrev pub IsResting : RowView → Type 0
@@ -81,11 +80,11 @@ abbrev pub KeepsWork : {R : Type 0} → (before after : TargetState R) → Type 
 KeepsWork before after = (after.store ≡ before.store) ⊎ IsAtRest after.view.live
 
 -- what a transfer of the live session that is over changes, perhaps by an ERROR
-abbrev pub change_turned : (accepts : HeaderView → Bool) → TargetView → Option TargetSession → (error : Option ℕ) → TargetChange
+abbrev pub change_turned : Accepts → TargetView → Option TargetSession → (error : Option ℕ) → TargetChange
 change_turned accepts v None error = Continues []
 change_turned accepts v (Some s) error = (turn_decision accepts v s [] [] error).change
 
 -- what the news of a transfer change
-abbrev pub change_heard : (accepts : HeaderView → Bool) → TargetView → Option TargetSession → NewsView → TargetChange
+abbrev pub change_heard : Accepts → TargetView → Option TargetSession → NewsView → TargetChange
 change_heard accepts v None news = Continues []
 change_heard accepts v (Some s) news = (following accepts v s news).change

@@ -1,14 +1,14 @@
 //! What is installed at a target, and how it changes.
 ghost use Rattle.std.specs.Option.{ForSome};
-ghost use Rattle.std.specs.Prelude.{◌≡◌, ℕ, List, Bool, None, Some, IfOk, OnErr, OnOk};
+ghost use Rattle.std.specs.Prelude.{◌≡◌, ℕ, List, None, Some, IfOk, OnErr, OnOk};
 ghost use Rattle.accept_rules.specs.Interlocks.{Follows};
+ghost use Rattle.accept_rules.specs.Permissions.{Accepts};
 ghost use Rattle.bank_store.specs.DiskWrites.{IsRunning};
 ghost use Rattle.bank_store.specs.Fits.{InstallsBeside};
 ghost use Rattle.bank_store.specs.Keeps.{Continues};
 ghost use Rattle.bank_store.specs.Store.{IsIdle, IsPrepared};
 ghost use Rattle.disk_layout.specs.Holds.{StandingView};
 ghost use Rattle.disk_layout.specs.Manifest.{LoadEntry};
-ghost use Rattle.load_header.specs.Header.{HeaderView};
 ghost use Rattle.session_rules.specs.Buffers.{Buffer};
 ghost use Rattle.session_rules.specs.TargetRows.{Awaits_lur, Kept_bytes, Reads_file, done_move};
 ghost use Rattle.session_rules.specs.TargetRows.{error_move, first_row as first_of, row_after};
@@ -136,20 +136,20 @@ impl Installed {
     ) -> Result<Option<Row>, Down>
         requires stage { IsRowStage row self.old.store }
         requires running { IsRunning (K.state disk.old) }
-        ensures row { (accepts : HeaderView → Bool) → Follows R.may_say interlock.now accepts
-            → IfOk result (λ next. TurnsTo next (row_then accepts self.old.active.identity
+        ensures row { (accepts : Accepts) → Follows R.may_say interlock.now accepts
+            → IfOk result (λ next. TurnsTo next (row_then accepts self.old.active
             (seen_at self.old.active.loads row arriving.old) error)
             self.old self.new) }
         ensures stage { IfOk result (λ next. IsNextStage next self.new.store) }
         ensures failed { OnErr result (IsIdle self.new.store) }
         ensures goes_on { OnOk result (StaysOn self.old.store self.new.store (K.state disk.old)
             (K.state disk.new)) }
-        ensures brings { (accepts : HeaderView → Bool) → Follows R.may_say interlock.now accepts
+        ensures brings { (accepts : Accepts) → Follows R.may_say interlock.now accepts
             → (s : StandingView) (x : SessionContents)
             → seen_at self.old.active.loads row arriving.old ≡ session_kept x
             → InstallsRow self.old.store (K.state disk.old) s x.row x.arrived
             → BringsRow (K.state disk.old) self.new.store (K.state disk.new) s
-            (whole_row_then accepts self.old.active.identity x error) result }
+            (whole_row_then accepts self.old.active x error) result }
         ensures writes { Writes (K.state disk.old) (K.state disk.new) result }
     {
         a_store_goes_on_fitting::<K>();
@@ -174,19 +174,19 @@ impl Installed {
     ) -> Result<Option<Row>, Down>
         requires stage { IsRowStage row self.old.store }
         requires running { IsRunning (K.state disk.old) }
-        ensures row { (accepts : HeaderView → Bool) → Follows R.may_say interlock.now accepts
-            → IfOk result (λ next. TurnsTo next (row_then accepts self.old.active.identity
+        ensures row { (accepts : Accepts) → Follows R.may_say interlock.now accepts
+            → IfOk result (λ next. TurnsTo next (row_then accepts self.old.active
             (seen_at self.old.active.loads row arriving.old) error)
             self.old self.new) }
         ensures stage { IfOk result (λ next. ForSome next (λ row. IsRowStage row self.new.store)) }
         ensures goes_on { OnOk result (StaysOn self.old.store self.new.store (K.state disk.old)
             (K.state disk.new)) }
-        ensures brings { (accepts : HeaderView → Bool) → Follows R.may_say interlock.now accepts
+        ensures brings { (accepts : Accepts) → Follows R.may_say interlock.now accepts
             → (s : StandingView) (x : SessionContents)
             → seen_at self.old.active.loads row arriving.old ≡ session_kept x
             → InstallsRow self.old.store (K.state disk.old) s x.row x.arrived
             → TurnsDisk (K.state disk.old) self.new.store (K.state disk.new) s
-            (whole_row_then accepts self.old.active.identity x error) result }
+            (whole_row_then accepts self.old.active x error) result }
         ensures writes { Writes (K.state disk.old) (K.state disk.new) result }
     {
         a_store_goes_on_fitting::<K>();
@@ -229,19 +229,19 @@ impl Installed {
     ) -> Result<Option<Row>, Down>
         requires stage { IsRowStage row self.old.store }
         requires running { IsRunning (K.state disk.old) }
-        ensures row { (accepts : HeaderView → Bool) → Follows R.may_say interlock.now accepts
-            → IfOk result (λ next. TurnsTo next (row_then accepts self.old.active.identity
+        ensures row { (accepts : Accepts) → Follows R.may_say interlock.now accepts
+            → IfOk result (λ next. TurnsTo next (row_then accepts self.old.active
             (seen_at self.old.active.loads row arriving.old) None)
             self.old self.new) }
         ensures stage { IfOk result (λ next. ForSome next (λ row. IsRowStage row self.new.store)) }
         ensures goes_on { OnOk result (StaysOn self.old.store self.new.store (K.state disk.old)
             (K.state disk.new)) }
-        ensures brings { (accepts : HeaderView → Bool) → Follows R.may_say interlock.now accepts
+        ensures brings { (accepts : Accepts) → Follows R.may_say interlock.now accepts
             → (s : StandingView) (x : SessionContents)
             → seen_at self.old.active.loads row arriving.old ≡ session_kept x
             → InstallsRow self.old.store (K.state disk.old) s x.row x.arrived
             → TurnsDisk (K.state disk.old) self.new.store (K.state disk.new) s
-            (whole_row_then accepts self.old.active.identity x None) result }
+            (whole_row_then accepts self.old.active x None) result }
         ensures writes { Writes (K.state disk.old) (K.state disk.new) result }
     {
         match row {
@@ -260,18 +260,18 @@ impl Installed {
     ) -> Result<Row, Down>
         requires stage { IsReading intake self.old.store }
         requires running { IsRunning (K.state disk.old) }
-        ensures row { (accepts : HeaderView → Bool) → Follows R.may_say interlock.now accepts
+        ensures row { (accepts : Accepts) → Follows R.may_say interlock.now accepts
             → IfOk result (λ row. TurnsTo (Some row) (view_moved (Reads_file intake.upload)
-            intake.arriving (done_move accepts self.old.active.identity (Reads_file intake.upload)
+            intake.arriving (done_move accepts self.old.active (Reads_file intake.upload)
             intake.arriving)) self.old self.new) }
         ensures stage { IfOk result (λ row. IsRowStage row self.new.store) }
         ensures goes_on { OnOk result (StaysOn self.old.store self.new.store (K.state disk.old)
             (K.state disk.new)) }
-        ensures brings { (accepts : HeaderView → Bool) → Follows R.may_say interlock.now accepts
+        ensures brings { (accepts : Accepts) → Follows R.may_say interlock.now accepts
             → (s : StandingView) (u : Upload) (arrived : List ℕ) → IsOf intake u arrived
             → InstallsRow self.old.store (K.state disk.old) s (Reads_file u) arrived
             → BringsRow (K.state disk.old) self.new.store (K.state disk.new) s
-            (row_moved (Reads_file u) arrived (done_move accepts self.old.active.identity
+            (row_moved (Reads_file u) arrived (done_move accepts self.old.active
             (Reads_file intake.upload) intake.arriving)) result }
         ensures writes { Writes (K.state disk.old) (K.state disk.new) result }
     {
@@ -302,16 +302,16 @@ impl Installed {
     ) -> Result<Row, Down>
         requires stage { CanBegin self.old.store }
         requires running { IsRunning (K.state disk.old) }
-        ensures row { (accepts : HeaderView → Bool) → IfOk result (λ row. TurnsTo (Some row)
+        ensures row { (accepts : Accepts) → IfOk result (λ row. TurnsTo (Some row)
             (view_moved Awaits_lur (Kept_bytes file.old) (done_move accepts
-            self.old.active.identity Awaits_lur (Kept_bytes file.old))) self.old self.new) }
+            self.old.active Awaits_lur (Kept_bytes file.old))) self.old self.new) }
         ensures stage { IfOk result (λ row. IsRowStage row self.new.store) }
         ensures goes_on { OnOk result (StaysOn self.old.store self.new.store (K.state disk.old)
             (K.state disk.new)) }
-        ensures brings { (accepts : HeaderView → Bool) (s : StandingView) (arrived : List ℕ)
+        ensures brings { (accepts : Accepts) (s : StandingView) (arrived : List ℕ)
             → InstallsBeside self.old.store (K.state disk.old) s
             → BringsRow (K.state disk.old) self.new.store (K.state disk.new) s
-            (row_moved Awaits_lur arrived (done_move accepts self.old.active.identity Awaits_lur
+            (row_moved Awaits_lur arrived (done_move accepts self.old.active Awaits_lur
             (Kept_bytes file.old))) result }
         ensures writes { Writes (K.state disk.old) (K.state disk.new) result }
     {

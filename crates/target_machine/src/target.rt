@@ -1,8 +1,9 @@
 //! The target.
 ghost use Rattle.std.specs.Option.{ForSome};
-ghost use Rattle.std.specs.Prelude.{◌≡◌, ◌≤◌, ◌∷◌, [], Bool, List, ℕ, None, Some, true, IfErr, IfOk};
+ghost use Rattle.std.specs.Prelude.{◌≡◌, ◌≤◌, ◌∷◌, [], List, ℕ, None, Some, true, IfErr, IfOk};
 ghost use Rattle.std.specs.Prelude.{IsErrOf, OnOk, bytes_eq, is_some, option_map};
 ghost use Rattle.accept_rules.specs.Interlocks.{Follows};
+ghost use Rattle.accept_rules.specs.Permissions.{Accepts};
 ghost use Rattle.bank_store.specs.DiskWrites.{IsRunning};
 ghost use Rattle.bank_store.specs.Fits.{Fits, LosesOnlyWork, Works};
 ghost use Rattle.bank_store.specs.Keeps.{Continues};
@@ -10,7 +11,6 @@ ghost use Rattle.bank_store.specs.Store.{IsIdle};
 ghost use Rattle.disk_layout.specs.DiskReads.{HasDiskCause};
 ghost use Rattle.disk_layout.specs.Holds.{StandingView};
 ghost use Rattle.exchange_trace.specs.Logs.{Gets, Learns, Ticks};
-ghost use Rattle.load_header.specs.Header.{HeaderView};
 ghost use Rattle.tftp_packet.specs.Options.{AreInRange};
 ghost use Rattle.tftp_packet.specs.Packets.{IsInRange, packet_view};
 ghost use Rattle.tftp_link.specs.Answers.{news_view};
@@ -144,11 +144,11 @@ impl<'i, R: Rule> Target<'i, R> {
         bytes: &[u8],
     ) -> Result<Posts, Down>
         requires { IsRunning (K.state disk.old) }
-        ensures takes { (accepts : HeaderView → Bool) → Follows R.may_say self.old.rule accepts
+        ensures takes { (accepts : Accepts) → Follows R.may_say self.old.rule accepts
             → IfOk result (λ posts. Takes accepts (Gets from to bytes.now)
             self.old self.new (posts_view posts)) }
         // What the disk has then, and what a power loss may have left.
-        ensures keeps_disk { (accepts : HeaderView → Bool)
+        ensures keeps_disk { (accepts : Accepts)
             → Follows R.may_say self.old.rule accepts
             → (c : TargetContents) → AreKept c self.old.view
             → HoldsContents self.old.store (K.state disk.old) c
@@ -181,9 +181,9 @@ impl<'i, R: Rule> Target<'i, R> {
     /// after five retries.
     pub fn on_tick<K: Disk>(&mut self, _disk: &mut K) -> Result<Posts, Down>
         requires { IsRunning (K.state _disk.old) }
-        ensures takes { (accepts : HeaderView → Bool) → IfOk result (λ posts.
+        ensures takes { (accepts : Accepts) → IfOk result (λ posts.
             Takes accepts Ticks self.old self.new (posts_view posts)) }
-        ensures keeps_disk { (accepts : HeaderView → Bool) (c : TargetContents)
+        ensures keeps_disk { (accepts : Accepts) (c : TargetContents)
             → AreKept c self.old.view → HoldsContents self.old.store (K.state _disk.old) c
             → KeepsDisk (K.state _disk.old) self.new.store (K.state _disk.new) c
             (contents_after accepts self.old.view Ticks c) result }
@@ -216,7 +216,7 @@ impl<'i, R: Rule> Target<'i, R> {
 
     /// From now on requests ask for this block size, or for none.
     pub fn ask_blocks(&mut self, size: Option<u16>)
-        ensures takes { (accepts : HeaderView → Bool)
+        ensures takes { (accepts : Accepts)
             → Takes accepts (Learns size) self.old self.new [] }
         ensures store { self.new.store ≡ self.old.store }
     {
@@ -455,11 +455,11 @@ impl<'i, R: Rule> Target<'i, R> {
     ) -> Result<Posts, Down>
         requires in_range { IsInRange (packet_view packet.now) }
         requires running { IsRunning (K.state disk.old) }
-        ensures does { (accepts : HeaderView → Bool) → Follows R.may_say self.old.rule accepts
+        ensures does { (accepts : Accepts) → Follows R.may_say self.old.rule accepts
             → IfOk result (λ posts. Does (transfer_decision accepts self.old.view
             self.old.view.live from to (packet_view packet.now))
             self.old self.new (posts_view posts)) }
-        ensures brings { (accepts : HeaderView → Bool) → Follows R.may_say self.old.rule accepts
+        ensures brings { (accepts : Accepts) → Follows R.may_say self.old.rule accepts
             → (c : TargetContents) → AreKept c self.old.view
             → HoldsContents self.old.store (K.state disk.old) c
             → BringsContents (K.state disk.old) self.new.store (K.state disk.new) c
@@ -477,13 +477,13 @@ impl<'i, R: Rule> Target<'i, R> {
     /// What follows from the news of the live transfer.
     fn follow<K: Disk>(&mut self, disk: &mut K, news: &News<'_>) -> Result<Option<Datagram>, Down>
         requires running { IsRunning (K.state disk.old) }
-        ensures session { (accepts : HeaderView → Bool) → Follows R.may_say self.old.rule accepts
+        ensures session { (accepts : Accepts) → Follows R.may_say self.old.rule accepts
             → ForSome self.old.view.live (λ s. IfOk result (λ post. Does
             (following accepts self.old.view s (news_view news.now))
             self.old self.new (posted post))) }
         ensures idle { self.old.view.live ≡ None → IfOk result (λ post.
             (posted post ≡ []) × (self.new ≡ self.old)) }
-        ensures brings { (accepts : HeaderView → Bool) → Follows R.may_say self.old.rule accepts
+        ensures brings { (accepts : Accepts) → Follows R.may_say self.old.rule accepts
             → (c : TargetContents) → AreKept c self.old.view
             → HoldsContents self.old.store (K.state disk.old) c
             → BringsContents (K.state disk.old) self.new.store (K.state disk.new) c
@@ -554,13 +554,13 @@ impl<'i, R: Rule> Target<'i, R> {
     /// A transfer of the live session is over, perhaps by an ERROR.
     fn turn<K: Disk>(&mut self, disk: &mut K, error: Option<u16>) -> Result<Option<Datagram>, Down>
         requires running { IsRunning (K.state disk.old) }
-        ensures session { (accepts : HeaderView → Bool) → Follows R.may_say self.old.rule accepts
+        ensures session { (accepts : Accepts) → Follows R.may_say self.old.rule accepts
             → ForSome self.old.view.live (λ s. IfOk result (λ post. Does
             (turn_decision accepts self.old.view s [] [] error)
             self.old self.new (posted post))) }
         ensures idle { self.old.view.live ≡ None → IfOk result (λ post.
             (posted post ≡ []) × (self.new ≡ self.old)) }
-        ensures brings { (accepts : HeaderView → Bool) → Follows R.may_say self.old.rule accepts
+        ensures brings { (accepts : Accepts) → Follows R.may_say self.old.rule accepts
             → (c : TargetContents) → AreKept c self.old.view
             → HoldsContents self.old.store (K.state disk.old) c
             → BringsContents (K.state disk.old) self.new.store (K.state disk.new) c
@@ -582,15 +582,15 @@ impl<'i, R: Rule> Target<'i, R> {
     /// The live session turns to its next row, for which nothing is asked yet, or is over.
     fn turn_row<K: Disk>(&mut self, disk: &mut K, error: Option<u16>) -> Result<(), Down>
         requires running { IsRunning (K.state disk.old) }
-        ensures session { (accepts : HeaderView → Bool) → Follows R.may_say self.old.rule accepts
+        ensures session { (accepts : Accepts) → Follows R.may_say self.old.rule accepts
             → ForSome self.old.view.live (λ s. OnOk result (Keeps self.old self.new
-            (in_next_row self.old.view (row_then accepts self.old.view.active.identity s error)))) }
-        ensures brings { (accepts : HeaderView → Bool) → Follows R.may_say self.old.rule accepts
+            (in_next_row self.old.view (row_then accepts self.old.view.active s error)))) }
+        ensures brings { (accepts : Accepts) → Follows R.may_say self.old.rule accepts
             → (s : StandingView) (x : SessionContents)
             → self.old.view.live ≡ Some (session_kept x)
             → InstallsRow self.old.store (K.state disk.old) s x.row x.arrived
             → BringsRow (K.state disk.old) self.new.store (K.state disk.new) s
-            (whole_row_then accepts self.old.view.active.identity x error) result }
+            (whole_row_then accepts self.old.view.active x error) result }
         ensures stays_on { OnOk result (StaysOn self.old.store self.new.store (K.state disk.old)
             (K.state disk.new)) }
         ensures writes { Writes (K.state disk.old) (K.state disk.new) result }

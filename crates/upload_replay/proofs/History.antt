@@ -13,10 +13,11 @@ use Rattle.exchange_trace.specs.Logs.{event_for}
 use Rattle.exchange_trace.specs.Posts.{posted_in}
 use Rattle.exchange_trace.specs.Steps.{Step}
 use Rattle.link_net.specs.Links.{LinkState}
+use Rattle.accept_rules.specs.Permissions.{AcceptsPermitted}
 use Rattle.replay_rules.specs.BothEnds.{Setting, reached, target_at}
 use Rattle.replay_rules.specs.Changes.{AllCarryBytes, InjectsBytes}
 use Rattle.replay_rules.specs.FirstOrGood.{ActiveIsFirstOrGood, IsFirstOrGood}
-use Rattle.run_promises.specs.Promises.{AcceptsPermitted, HoldsFirstOrGood}
+use Rattle.run_promises.specs.Promises.{HoldsFirstOrGood}
 use Rattle.replay_rules.specs.Histories.{may_be_active}
 use Rattle.replay_rules.specs.Promises.{AllMoments, HoldsOneOf}
 use Rattle.target_machine.specs.Decisions as machine
@@ -227,19 +228,19 @@ good_one set [] image all is = absurd is
 good_one set (s ∷ others) image (now, rest) (inl here) = record { active = s; holds = here; good = now }
 good_one set (s ∷ others) image (now, rest) (inr other) = good_one set others image rest other
 
-all_good : ActiveIsFirstOrGood → (set : Setting) → AcceptsPermitted set → (steps : List Step) → AllCarryBytes steps → (image : Image) → HoldsOneOf (all_active set steps) image → HoldsFirstOrGood set image
+all_good : ActiveIsFirstOrGood → (set : Setting) → AcceptsPermitted set.accepts → (steps : List Step) → AllCarryBytes steps → (image : Image) → HoldsOneOf (all_active set steps) image → HoldsFirstOrGood set image
 all_good active set accepts [] carries image is = good_one set (may_be_active (target_at set [])) image (active set [] accepts tt) is
 all_good active set accepts (s ∷ earlier) carries image is = elim (one_of_either image (may_be_active (target_at set (s ∷ earlier))) (all_active set earlier) is) [
   | inl now ↦ good_one set (may_be_active (target_at set (s ∷ earlier))) image (active set (s ∷ earlier) accepts carries) now
   | inr before ↦ all_good active set accepts earlier carries.1 image before
 ]
 
-last_good : ActiveIsFirstOrGood → (set : Setting) → AcceptsPermitted set → (steps : List Step) (last : Option HappeningView) → AllCarryBytes steps → LastInjectsBytes last → (image : Image) → HoldsOneOf (brought_last set steps last) image → HoldsFirstOrGood set image
+last_good : ActiveIsFirstOrGood → (set : Setting) → AcceptsPermitted set.accepts → (steps : List Step) (last : Option HappeningView) → AllCarryBytes steps → LastInjectsBytes last → (image : Image) → HoldsOneOf (brought_last set steps last) image → HoldsFirstOrGood set image
 last_good active set accepts steps None carries injects image is = absurd is
 last_good active set accepts steps (Some h) carries injects image is =
     good_one set (brought_last set steps (Some h)) image (active set (record { given = h; posts = []; notes = [] } ∷ steps) accepts ((tt, injects), carries)) is
 
-pub history_good : {T : Type 0} → ActiveIsFirstOrGood → (set : Setting) → AcceptsPermitted set → (began link : LinkState) (since : ℕ) (disk : DiskState) (result : Result T DriveFault) → LeavesHistory set began link since disk result → LeavesGood set since disk
+pub history_good : {T : Type 0} → ActiveIsFirstOrGood → (set : Setting) → AcceptsPermitted set.accepts → (began link : LinkState) (since : ℕ) (disk : DiskState) (result : Result T DriveFault) → LeavesHistory set began link since disk result → LeavesGood set since disk
 history_good active set accepts began link since disk result left = record {
   tells = left.tells;
   only = record {

@@ -1,7 +1,7 @@
 -- A target lives on, whatever is known of its disk.
 use Rattle.std.proofs.Common.{◌≡◌, List, [], ◌∷◌, ◌++◌, Bool, Option, Some, None, refl, sym, ap, subst, ◌∙◌}
+use Rattle.accept_rules.specs.Permissions.{Accepts}
 use Rattle.load_header.specs.declared.header.LoadHeader.{LoadHeader}
-use Rattle.load_header.specs.Header.{HeaderView}
 use Rattle.disk_layout.specs.declared.identity.Identity.{Identity}
 use Rattle.disk_model.specs.State.{DiskState}
 use Rattle.exchange_trace.specs.declared.trace.Side.TheVariants as sides
@@ -25,12 +25,12 @@ use Rattle.upload_replay.specs.Lives.{HasLived, LivesInStep, LivesThrough}
 use Rattle.upload_replay.proofs.Turning.{loader_turned, set_stays}
 
 -- it came up, and nothing has happened
-pub born : {R : Type 0} (accepts : HeaderView → Bool) (rule : R) (media : Media) (steps : List Step) (target : machine.TargetState R) (disk : DiskState) → steps ≡ [] → ComesUp rule 1024 target disk
+pub born : {R : Type 0} (accepts : Accepts) (rule : R) (media : Media) (steps : List Step) (target : machine.TargetState R) (disk : DiskState) → steps ≡ [] → ComesUp rule 1024 target disk
     → HasLived media accepts steps (Some target.view)
 born accepts rule media steps target disk none up = rw none (target.view.active.sequence, record { found = target.view.active; is = ap (λ (v : TargetView). Some v) up.view_is; numbered = refl })
 
 -- A setting with these media and headers; what its target holds at first plays no part in it.
-abbrev pub some_setting : Media → (accepts : HeaderView → Bool) → Identity → Setting
+abbrev pub some_setting : Media → (accepts : Accepts) → Identity → Setting
 some_setting media accepts identity = record { media = media; accepts = accepts; start = record { identity = identity; bank = 0; sequence = 0; loads = [] } }
 
 -- a step more
@@ -55,15 +55,15 @@ lived_on may_say set state before after h posts old new said on lived =
     (subst (λ (steps : List Step). HasLived media set.accepts steps (target_kept after.target)) (sym moved.recorded) (target_kept before.target, lived, here))
 
 -- the end is no event for it
-stays_same : (accepts : HeaderView → Bool) (target : Option TargetView) → target ≡ target_next accepts target None
+stays_same : (accepts : Accepts) (target : Option TargetView) → target ≡ target_next accepts target None
 stays_same accepts None = refl
 stays_same accepts (Some v) = refl
 
-none_said : (accepts : HeaderView → Bool) (target : Option TargetView) → [] ≡ target_says accepts target None
+none_said : (accepts : Accepts) (target : Option TargetView) → [] ≡ target_says accepts target None
 none_said accepts None = refl
 none_said accepts (Some v) = refl
 
-pub lived_to_end : (media : Media) (accepts : HeaderView → Bool) (steps before : List Step) (target : Option TargetView) → steps ≡ end_step ∷ before → HasLived media accepts before target → LivesThrough media accepts steps
+pub lived_to_end : (media : Media) (accepts : Accepts) (steps before : List Step) (target : Option TargetView) → steps ≡ end_step ∷ before → HasLived media accepts before target → LivesThrough media accepts steps
 lived_to_end media accepts steps before target ended lived = rw ended (
   target,
   (target, lived, record { target_posts = []; posts = refl; lives = (stays_same accepts target, none_said accepts target) }),

@@ -5,7 +5,7 @@ use Rattle.std.specs.List.{AllByRecursion}
 use Rattle.disk_model.specs.Image.{Image}
 use Rattle.disk_model.specs.Moments.{LeavesOnly}
 use Rattle.disk_model.specs.State.{DiskState}
-use Rattle.disk_layout.specs.Holds.{HoldsConfig, StandingView}
+use Rattle.disk_layout.specs.Holds.{StandingView}
 use Rattle.exchange_trace.specs.declared.trace.Side.TheVariants as sides
 use Rattle.exchange_trace.specs.Happenings.{HappeningView}
 use Rattle.exchange_trace.specs.Logs.{Event, event_for}
@@ -67,7 +67,7 @@ changed c (Target.Ends reason) = itself c.active
 
 module _ (follows : ContentsFollowTraces) (set : Setting) where
   extended : (r : TargetReading) (e : Event) → ContentsFollowAt set (Is_up r) → IsNoOlder r.active (target_extended set.accepts r e).active
-  extended r e follow = subst (λ (s : StandingView). IsNoOlder r.active s) (sym (ap (λ (c : TargetContents). c.active) (follow.contents e))) (changed (contents_of set.accepts r) (target_decision set.accepts (target_view set.accepts r) e).change)
+  extended r e follow = subst (λ (s : StandingView). IsNoOlder r.active s) (sym (ap (λ (c : TargetContents). c.active) (follow.contents e))) (changed (contents_of r) (target_decision set.accepts (target_view r) e).change)
 
   abbrev AreNoOlder : List StandingView → Type 0
   AreNoOlder members = AllByRecursion (IsNoOlder set.start) members

@@ -41,15 +41,15 @@ loader_waits_is r = by r.live
     by None = refl
     by (Some s) = refl
 
-target_waits_is : (set : Setting) (state : TargetState) → has_session (kept_by set state) ≡ waits_in state
+target_waits_is : (set : Setting) (state : TargetState) → has_session (kept_by state) ≡ waits_in state
 target_waits_is set (Is_up r) = by r.live
   where
-    by : (o : Option TargetSessionLog) → is_some (target_session set.accepts r o) ≡ is_some o
+    by : (o : Option TargetSessionLog) → is_some (target_session r.end o) ≡ is_some o
     by None = refl
     by (Some s) = refl
 target_waits_is set (Is_down active interrupted) = refl
 
-up_is : (set : Setting) (state : TargetState) → is_some (kept_by set state) ≡ is_up state
+up_is : (set : Setting) (state : TargetState) → is_some (kept_by state) ≡ is_up state
 up_is set (Is_up r) = refl
 up_is set (Is_down active interrupted) = refl
 

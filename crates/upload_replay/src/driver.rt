@@ -1,7 +1,8 @@
 //! A loader and the target of one disk, happening by happening.
-ghost use Rattle.std.specs.Prelude.{◌≡◌, ◌∷◌, [], ℕ, Bool, IfErr, IfOk, Some, map, option_map};
+ghost use Rattle.std.specs.Prelude.{◌≡◌, ◌∷◌, [], ℕ, IfErr, IfOk, Some, map, option_map};
 ghost use Rattle.std.specs.Prelude.{OnOk, is_some, false, true};
 ghost use Rattle.accept_rules.specs.Interlocks.{Follows};
+ghost use Rattle.accept_rules.specs.Permissions.{Accepts};
 ghost use Rattle.bank_store.specs.DiskWrites.{IsRunning};
 ghost use Rattle.bank_store.specs.Fits.{LosesOnlyWork};
 ghost use Rattle.disk_layout.specs.Holds.{standing_view};
@@ -12,7 +13,6 @@ ghost use Rattle.exchange_trace.specs.Happenings.{Booted, happening_view};
 ghost use Rattle.exchange_trace.specs.Logs.{event_for};
 ghost use Rattle.exchange_trace.specs.Posts.{IsHonest, posted_in};
 ghost use Rattle.exchange_trace.specs.Steps.{steps_of};
-ghost use Rattle.load_header.specs.Header.{HeaderView};
 ghost use Rattle.loader_machine.specs.Machine.{all_sessions, media_of, session_view};
 ghost use Rattle.media_check.specs.Sets.{set_view};
 ghost use Rattle.replay_rules.specs.BothEnds.{Setting, target_at};
@@ -97,7 +97,7 @@ impl<'m, R: Rule> Driver<'m, R> {
             (set_view media.now) image → (K.state disk.old).reads ≡ Some image
             → LosesOnlyWork (K.state disk.old) → IfOk result (λ driver. HoldsUnit set
             (K.state disk.old).clock [] driver (K.state disk.new)) }
-        ensures lives { (accepts : HeaderView → Bool) → Follows R.may_say interlock.now accepts
+        ensures lives { (accepts : Accepts) → Follows R.may_say interlock.now accepts
             → IfOk result (λ driver. LivesOn R.may_say accepts driver) }
         ensures stood { OnOk result (HoldsSome (K.state disk.old)) }
         // Refusals, and whatever it answers.
@@ -134,7 +134,7 @@ impl<'m, R: Rule> Driver<'m, R> {
         // With Ok.
         ensures stepped { IfOk result (λ posts. StepsUnit (happening_view happening)
             (posts_view posts) self.old self.new (K.state disk.old) (K.state disk.new)) }
-        ensures lives { (accepts : HeaderView → Bool) → LivesOn R.may_say accepts self.old
+        ensures lives { (accepts : Accepts) → LivesOn R.may_say accepts self.old
             → OnOk result (LivesOn R.may_say accepts self.new) }
         ensures stands { (set : Setting) → StandsOn R.may_say set self.old
             → OnOk result (StandsOn R.may_say set self.new) }
@@ -172,7 +172,7 @@ impl<'m, R: Rule> Driver<'m, R> {
         // With Ok.
         ensures ended { IfOk result (λ drive. EndsUnit self.entry.steps self.entry.loader drive
             (K.state disk.new)) }
-        ensures lives { (accepts : HeaderView → Bool) → LivesOn R.may_say accepts self.entry
+        ensures lives { (accepts : Accepts) → LivesOn R.may_say accepts self.entry
             → IfOk result (λ drive. LivesThrough (media_of self.entry.loader.set) accepts
             (steps_of drive.trace.items)) }
         ensures run { (set : Setting) → StandsOn R.may_say set self.entry

@@ -1,5 +1,5 @@
 //! A whole run.
-ghost use Rattle.std.specs.Prelude.{◌≡◌, ◌⊎◌, ℕ, [], Bool, List, Some, map, option_map};
+ghost use Rattle.std.specs.Prelude.{◌≡◌, ◌⊎◌, ℕ, [], List, Some, map, option_map};
 ghost use Rattle.std.specs.Prelude.{true, is_some, IfOk};
 ghost use Rattle.accept_rules.specs.Interlocks.{Follows};
 ghost use Rattle.bank_store.specs.DiskWrites.{IsRunning};
@@ -7,7 +7,6 @@ ghost use Rattle.bank_store.specs.Fits.{LosesOnlyWork};
 ghost use Rattle.disk_layout.specs.Holds.{standing_view};
 ghost use Rattle.disk_model.specs.Image.{Image};
 ghost use Rattle.exchange_trace.specs.Steps.{steps_of};
-ghost use Rattle.load_header.specs.Header.{HeaderView};
 ghost use Rattle.loader_machine.specs.Machine.{media_of, session_view};
 ghost use Rattle.media_check.specs.Sets.{set_view};
 ghost use Rattle.replay_rules.specs.BothEnds.{Setting};
@@ -16,7 +15,7 @@ ghost use Rattle.upload_replay.specs.Drives.{IsRun, IsSet, NeverBoots};
 ghost use Rattle.upload_replay.specs.Endings.{EndsRun, IsRefused};
 ghost use Rattle.upload_replay.specs.Leaves.{LeavesHistory};
 ghost use Rattle.upload_replay.specs.Lives.{LivesThrough};
-ghost use Rattle.run_promises.specs.Promises.{AcceptsPermitted};
+ghost use Rattle.accept_rules.specs.Permissions.{Accepts, AcceptsPermitted};
 ghost use Rattle.upload_replay.specs.Moments.{HoldsAllAlong, LeavesGood};
 
 use crate::driver::Driver;
@@ -45,7 +44,7 @@ pub fn drive<L: Link, K: Power, R: Rule>(
     ensures ended { IfOk result (λ drive. EndsRun (media_of (set_view media.now))
         (L.state link.old) (L.state link.new) drive (K.state disk.old) (K.state disk.new)) }
     // Both ends posted what was due, in each of the target's lives.
-    ensures lives { (accepts : HeaderView → Bool) → Follows R.may_say interlock.now accepts
+    ensures lives { (accepts : Accepts) → Follows R.may_say interlock.now accepts
         → IfOk result (λ drive. LivesThrough (media_of (set_view media.now)) accepts
         (steps_of drive.trace.items)) }
     // The same on a disk that tells its content.
@@ -75,7 +74,7 @@ pub fn drive<L: Link, K: Power, R: Rule>(
         (L.state link.new) (K.state disk.old).clock (K.state disk.new) result }
     ensures good { (set : Setting) (image : Image) → IsSet R.may_say set interlock.now
         (set_view media.now) image → (K.state disk.old).reads ≡ Some image
-        → LosesOnlyWork (K.state disk.old) → AcceptsPermitted set
+        → LosesOnlyWork (K.state disk.old) → AcceptsPermitted set.accepts
         → LeavesGood set (K.state disk.old).clock (K.state disk.new) }
 {
     // For the proof: these do nothing.

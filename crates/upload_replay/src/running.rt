@@ -1,8 +1,8 @@
 //! A run over a link, turn by turn to its end.
 ghost use Rattle.std.specs.Prelude.{◌≡◌, ℕ, Bool, true, false, Err, IfErr, IfOk, OnOk};
+ghost use Rattle.accept_rules.specs.Permissions.{Accepts};
 ghost use Rattle.exchange_trace.specs.Happenings.{happening_view};
 ghost use Rattle.link_net.specs.Links.{LinkState};
-ghost use Rattle.load_header.specs.Header.{HeaderView};
 ghost use Rattle.media_check.specs.Sets.{SetView};
 ghost use Rattle.replay_rules.specs.BothEnds.{Setting};
 ghost use Rattle.upload_replay.specs.Armings.{ArmsAsGiven};
@@ -34,7 +34,7 @@ pub(crate) fn run_to_end<L: Link, K: Power, R: Rule>(
     ensures under_way { (began : LinkState) (faults : ℕ) (media : SetView) → IsUnderWay false
         began (L.state link.old) faults media driver.old (K.state disk.old) → OnOk result (IsUnderWay true
         began (L.state link.new) faults media driver.new (K.state disk.new)) }
-    ensures lives { (accepts : HeaderView → Bool) → LivesOn R.may_say accepts driver.old
+    ensures lives { (accepts : Accepts) → LivesOn R.may_say accepts driver.old
         → OnOk result (LivesOn R.may_say accepts driver.new) }
     ensures stands { (set : Setting) → StandsOn R.may_say set driver.old
         → OnOk result (StandsOn R.may_say set driver.new) }
@@ -85,7 +85,7 @@ fn turn<L: Link, K: Power, R: Rule>(
     ensures under_way { (began : LinkState) (faults : ℕ) (media : SetView) → IsUnderWay false
         began (L.state link.old) faults media driver.old (K.state disk.old) → IfOk result (λ ended.
         IsUnderWay ended began (L.state link.new) faults media driver.new (K.state disk.new)) }
-    ensures lives { (accepts : HeaderView → Bool) → LivesOn R.may_say accepts driver.old
+    ensures lives { (accepts : Accepts) → LivesOn R.may_say accepts driver.old
         → OnOk result (LivesOn R.may_say accepts driver.new) }
     ensures stands { (set : Setting) → StandsOn R.may_say set driver.old
         → OnOk result (StandsOn R.may_say set driver.new) }

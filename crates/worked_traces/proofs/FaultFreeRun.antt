@@ -1,5 +1,5 @@
 -- The definitions of a fault-free run computed on two runs.
-use Rattle.std.proofs.Common.{◌≡◌, ℕ, zero, suc, ◌+◌, ◌<◌, ◌≤◌, Bool, true, List, [], ◌∷◌, Ok, None, refl, arith, false}
+use Rattle.std.proofs.Common.{◌≡◌, ℕ, zero, suc, ◌+◌, ◌<◌, ◌≤◌, Bool, true, List, [], ◌∷◌, Ok, Some, None, refl, arith, false}
 use Rattle.std.specs.Prelude.{codes, nat_lt, take, ◌&&◌}
 use Rattle.std.proofs.lemmas.Bool.{ltb-true}
 use Rattle.std.specs.Fmt.{digits as f0}
@@ -100,7 +100,7 @@ abbrev app_data : FileView
 app_data = record { name = codes "APP.BIN"; bytes = hex (codes "313233343536373839") }
 
 abbrev app : LoadView
-app = record { part = codes "ABC41-0000-0001"; header_name = codes "APP.LUH"; files = record { name = codes "APP.LUH"; bytes = hex digits } ∷ app_data ∷ [] }
+app = record { part = codes "ABC41-0000-0001"; type_id = Some 7; header_name = codes "APP.LUH"; files = record { name = codes "APP.LUH"; bytes = hex digits } ∷ app_data ∷ [] }
 
 abbrev wanted : List Wanted
 wanted = record { header = codes "APP.LUH"; part = codes "ABC41-0000-0001" } ∷ []
@@ -129,6 +129,7 @@ app_is_good spells = record {
   files = app_data ∷ [];
   spelled = spells (hex digits) app_header (are_bytes (hex digits) header_bytes) header_read;
   part = refl;
+  type_id = refl;
   suits = refl;
   accepted = (refl, (le_test 1 7 refl, le_test 7 32767 refl));
   permitted = λ e. cc;

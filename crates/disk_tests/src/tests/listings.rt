@@ -18,6 +18,7 @@ fn load(alloc: Global) -> Result<Load, Fail> {
     files.push(file(alloc, b"APP.BIN", b"123456789")?)?;
     Ok(Load {
         part,
+        type_id: Some(7),
         header_name,
         files,
     })

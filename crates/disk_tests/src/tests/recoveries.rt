@@ -13,8 +13,8 @@ use std::fs;
 use std::test::Fail;
 
 // A disk for target HW1, position L, serial number SN1 with banks of 4096 bytes, of which bank 0
-// has one load of one file of three bytes, and bank 1 none. Slot A names bank 0 with sequence 7,
-// slot B bank 1 with sequence 8.
+// has one load of one file of three bytes, and bank 1 none, both in manifests of layout 1. Slot A
+// names bank 0 with sequence 7, slot B bank 1 with sequence 8.
 fn two_slots() -> [u8; 12_290] {
     let mut disk = [0; 12_290];
     put(
@@ -120,7 +120,7 @@ fn is_recovered(alloc: Global, disk: &mut MemDisk) -> Result<bool, RecoverFault>
     let loads = standing.config.loads.as_slice();
     let found = standing.sequence == 7
         && loads.len() == 1
-        && is_load(&loads[0], b"ABC41-0000-0001", &[(b"A.B", b"abc")]);
+        && is_load(&loads[0], None, b"ABC41-0000-0001", &[(b"A.B", b"abc")]);
     drop(standing);
     Ok(found)
 }
@@ -175,12 +175,13 @@ fn has_files(files: &[StoredFile], wanted: &[Wanted]) -> bool {
     true
 }
 
-// It has this part number and these files, of which the first is its header.
-fn is_load(load: &Load, part: &[u8], files: &[Wanted]) -> bool {
+// It has this type id, this part number and these files, of which the first is its header.
+fn is_load(load: &Load, type_id: Option<u16>, part: &[u8], files: &[Wanted]) -> bool {
     let Some((header, _)) = files.first() else {
         return false;
     };
-    load.part.as_slice() == part
+    load.type_id == type_id
+        && load.part.as_slice() == part
         && load.header_name.as_slice() == *header
         && has_files(load.files.as_slice(), files)
 }
@@ -195,12 +196,12 @@ fn is_active(standing: &Standing, bank: u8, sequence: u32) -> bool {
         && standing.sequence == sequence
 }
 
-// The configuration that is there first.
+// The configuration that is there first, whose manifest has layout 1.
 fn is_old(standing: &Standing) -> bool {
     let loads = standing.config.loads.as_slice();
     is_active(standing, 1, 2)
         && loads.len() == 1
-        && is_load(&loads[0], b"MMM12-0001-ABCD", &[(b"OLD.LUH", b"old")])
+        && is_load(&loads[0], None, b"MMM12-0001-ABCD", &[(b"OLD.LUH", b"old")])
 }
 
 // The configuration that is installed then.
@@ -210,11 +211,11 @@ fn is_new(standing: &Standing) -> bool {
     let second: [Wanted; 3] = [(b"B.LUH", b"two"), (b"B.BIN", b"data"), (b"B.TXT", b"")];
     is_active(standing, 0, 3)
         && loads.len() == 2
-        && is_load(&loads[0], b"ABC41-0000-0001", &first)
-        && is_load(&loads[1], b"ABC42-0000-0002", &second)
+        && is_load(&loads[0], Some(7), b"ABC41-0000-0001", &first)
+        && is_load(&loads[1], Some(0xA002), b"ABC42-0000-0002", &second)
 }
 
-// The disk of the target with the old configuration, installed beside none.
+// The disk of the target with the old configuration, installed beside none, in layout 1.
 fn old_disk() -> [u8; WHOLE] {
     let mut disk = [0; WHOLE];
     put(
@@ -269,10 +270,10 @@ fn install_new(
 {
     store.prepare()?;
     store.begin(disk)?;
-    store.start_load(parts[0], 2)?;
+    store.start_load(parts[0], 7, 2)?;
     put_file(store, disk, names[0], b"hea", b"der")?;
     put_file(store, disk, names[1], b"", b"")?;
-    store.start_load(parts[1], 3)?;
+    store.start_load(parts[1], 0xA002, 3)?;
     put_file(store, disk, names[2], b"two", b"")?;
     put_file(store, disk, names[3], b"", b"data")?;
     put_file(store, disk, names[4], b"", b"")?;

@@ -54,8 +54,8 @@ const STEPS: [(u32, &[u8]); 10] = [
     (0, &[]),
     (4096, &[0]),
     (0, &[]),
-    (8192, &[0, 0]),
-    (4112, &[0, 0, 0, 1, 0, 0, 0, 0, 0, 0, 0, 0, 2]),
+    (8192, &[0xA0, 2, 0, 0]),
+    (4112, &[0, 0, 0, 1, 0, 0, 0, 0, 0, 0, 0, 0, 4]),
     (0, &START),
     (0, &[]),
     (4096, &[0xA5]),
@@ -137,13 +137,13 @@ fn file_of(rt: &HostRuntime, name: &str) -> Result<(usize, bool, Option<u8>), Fa
 fn a_file_is_formatted(rt: HostRuntime) -> Result<(), Fail> {
     let name = "a_file_is_formatted.disk";
     assert!(rt; format_file(&rt, name)? == Ok(()));
-    assert!(rt; file_of(&rt, name)? == (8194, true, Some(0xA5)));
+    assert!(rt; file_of(&rt, name)? == (8196, true, Some(0xA5)));
     fs::remove_file(&rt, name)?;
     assert!(rt; format_file(&rt, ".")? == Err(StoreFault::DiskFailed));
     Ok(())
 }
 
-// Installs a load of one file.
+// Installs a load of type 7 and of one file.
 fn install_one(
     store: &mut Store,
     disk: &mut MemDisk,
@@ -155,7 +155,7 @@ fn install_one(
 {
     store.prepare()?;
     store.begin(disk)?;
-    store.start_load(part, 1)?;
+    store.start_load(part, 7, 1)?;
     store.append(disk, b"ab")?;
     store.append(disk, b"c")?;
     store.end_file(name)?;
@@ -176,7 +176,7 @@ fn install(alloc: Global, disk: &mut MemDisk) -> Result<(u32, u8), Fail>
         sequence: 1,
         manifest: ManifestRange {
             offset: 0,
-            length: 2,
+            length: 4,
         },
     };
     format(disk, &identity)?;
@@ -191,11 +191,11 @@ fn install(alloc: Global, disk: &mut MemDisk) -> Result<(u32, u8), Fail>
 const HELD: [(usize, &[u8]); 5] = [
     (4096, &[0xA5]),
     (4608, &[0xA5]),
-    (4624, &[0, 0, 0, 2, 1, 0, 0, 0, 3, 0, 0, 0, 29]),
-    (8192, &[0, 0]),
+    (4624, &[0, 0, 0, 2, 1, 0, 0, 0, 3, 0, 0, 0, 33]),
+    (8192, &[0xA0, 2, 0, 0]),
     (
         12288,
-        b"abc\x00\x01MMM12-0001-ABCD\x00\x01\x05H.LUH\x00\x00\x00\x03",
+        b"abc\xA0\x02\x00\x01MMM12-0001-ABCD\x00\x07\x00\x01\x05H.LUH\x00\x00\x00\x03",
     ),
 ];
 
@@ -205,7 +205,7 @@ fn is_installed(alloc: Global, disk: &mut MemDisk) -> Result<bool, Fail>
     requires { (state_of disk.old).stopped ≡ false }
 {
     let (sequence, bank) = install(alloc, disk)?;
-    let mut written = (sequence, bank, disk.as_slice().len()) == (2, 1, 12320);
+    let mut written = (sequence, bank, disk.as_slice().len()) == (2, 1, 12324);
     for &(at, bytes) in &HELD {
         let held = disk.as_slice().get(at..).unwrap_or(&[]);
         written = written && held.starts_with(bytes);

@@ -78,7 +78,7 @@ fn first_store(alloc: Global) -> Result<Store, Fail>
         sequence: 1,
         manifest: ManifestRange {
             offset: 0,
-            length: 2,
+            length: 4,
         },
     };
     let mut store = Store::new(alloc, 4096, active, false);
@@ -223,7 +223,7 @@ const FULL: Reason = Reason::BankFull {
 
 const SHORT: Reason = Reason::FileLength {
     file: 1,
-    said: 3931,
+    said: 3927,
     found: 9,
 };
 
@@ -280,14 +280,14 @@ const UPLOADS: [((u8, u8, u16, u16), (u16, u32), &[u8], Told); 10] = [
         (0, Some(Reason::RuleRefused), 0, false),
     ),
     (
-        (1, 1, 7, 3932),
-        (0xD7F1, RIGHT),
+        (1, 1, 7, 3928),
+        (0x6ADA, RIGHT),
         b"",
         (0, Some(FULL), 0, false),
     ),
     (
-        (1, 1, 7, 3931),
-        (0x665A, RIGHT),
+        (1, 1, 7, 3927),
+        (0xF28E, RIGHT),
         b"123456789",
         (1, Some(SHORT), 0, true),
     ),

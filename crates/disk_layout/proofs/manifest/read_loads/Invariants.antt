@@ -6,4 +6,4 @@ use Rattle.disk_layout.specs.Manifest.{load_entry, entry_view}
 use Rattle.disk_layout.proofs.manifest.read_loads.Given as goal
 
 abbrev pub invariant-loop : goal.invariant-loop
-invariant-loop l = with_prefix (map entry_view l.loads.items) (read (times (l.count - l.counter) load_entry) l.reader) ≡ read (times l.count load_entry) l.fn.reader
+invariant-loop l = with_prefix (map entry_view l.loads.items) (read (times (l.count - l.counter) (load_entry l.layout)) l.reader) ≡ read (times l.count (load_entry l.layout)) l.fn.reader

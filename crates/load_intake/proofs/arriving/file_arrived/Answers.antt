@@ -17,11 +17,11 @@ use Rattle.load_intake.proofs.Rows.{file_placed, file_stopped, moved}
 use Rattle.load_intake.proofs.arriving.file_arrived.Goals as goal
 
 pub returns-in-Some-clause-row : goal.returns-in-Some-clause-row
-returns-in-Some-clause-row g c accepts id =
+returns-in-Some-clause-row g c accepts active =
     let l = c.args.load in
     let entry = next_is l c.requires.arrived.keeps.next.left in
     ap (λ (e : UploadEnd). Writes_stop e) c.stop_before.ensures.end
-    ∙ file_stopped accepts id c.args.whole l c.args.sums (entry_after l) (next_seen c.next_in-next.result) c.in-Some.reason (arrived_at (length c.args.whole.loads) (next_seen c.next_in-next.result)) entry (c.next_in-next.ensures (Some l)) (sym c.in-Some.is ∙ c.verdict.ensures (entry_after l) entry)
+    ∙ file_stopped accepts active c.args.whole l c.args.sums (entry_after l) (next_seen c.next_in-next.result) c.in-Some.reason (arrived_at (length c.args.whole.loads) (next_seen c.next_in-next.result)) entry (c.next_in-next.ensures (Some l)) (sym c.in-Some.is ∙ c.verdict.ensures (entry_after l) entry)
     refl
 
 pub returns-in-Some-clause-ends : goal.returns-in-Some-clause-ends
@@ -57,7 +57,7 @@ pub go_on-requires-clause-next : goal.go_on-requires-clause-next
 go_on-requires-clause-next g c = next_after_one c.args.whole c.args.load c.in_ok-load.load c.next_file-file.result c.load_crc.result (next_seen c.next_in-next.result) c.in_ok-load.ensures (c.next_in-next.ensures None)
 
 pub returns-clause-row : goal.returns-clause-row
-returns-clause-row g c accepts id =
+returns-clause-row g c accepts active =
     let l = c.args.load in
     let w = c.args.whole in
     let one = c.in_ok-load.load in
@@ -68,23 +68,23 @@ returns-clause-row g c accepts id =
     let made = c.in_ok-load.ensures
     ∙ (ap (λ (f : ManifestFile). with_one l f c.load_crc.result) (c.next_file-file.ensures e entry ∙ ap (λ (n : ℕ). file_of e n) c.count.ensures)
     ∙ ap (λ (crc : ℕ). with_one l (file_of e c.args.sums.count) crc) c.load_crc.ensures) in
-    IfOk-weaker c.go_on.result (λ f. row_seen f ≡ placed_view (upload_of w None) one next) (λ f. row_seen f ≡ moved accepts id w l c.args.sums e)
-    (λ f h. h ∙ file_placed accepts id w l c.args.sums e next one entry (c.next_in-next.ensures (Some l)) none made) c.go_on.ensures.row
+    IfOk-weaker c.go_on.result (λ f. row_seen f ≡ placed_view (upload_of w None) one next) (λ f. row_seen f ≡ moved accepts active w l c.args.sums e)
+    (λ f h. h ∙ file_placed accepts active w l c.args.sums e next one entry (c.next_in-next.ensures (Some l)) none made) c.go_on.ensures.row
 
 pub returns-clause-ends : goal.returns-clause-ends
 returns-clause-ends g c = ends_after c.go_on.result _ _ _ _ _ _ (continued _ _ _ c.end_file.ensures.continues c.requires.arrived.running) c.go_on.ensures.ends
 
 pub returns-in-Some-clause-brings : goal.returns-in-Some-clause-brings
-returns-in-Some-clause-brings g c = λ accepts id s u arrived is installs.
+returns-in-Some-clause-brings g c = λ accepts active s u arrived is installs.
     let v = upload_of c.args.whole (Some c.args.load) in
-    brings_stop c.args.store.now c.stop_before.new.store (g.K.Disk.state c.args.disk.now) s u arrived _ _ (stops u v arrived (Kept_sums c.args.sums) (done_move accepts id (Reads_file v) (Kept_sums c.args.sums)) _ (returns-in-Some-clause-row g c accepts id)) c.stop_before.ensures.continues installs
+    brings_stop c.args.store.now c.stop_before.new.store (g.K.Disk.state c.args.disk.now) s u arrived _ _ (stops u v arrived (Kept_sums c.args.sums) (done_move accepts active (Reads_file v) (Kept_sums c.args.sums)) _ (returns-in-Some-clause-row g c accepts active)) c.stop_before.ensures.continues installs
 
 pub returns-clause-brings : goal.returns-clause-brings
-returns-clause-brings g c = λ accepts id s u arrived is installs.
+returns-clause-brings g c = λ accepts active s u arrived is installs.
     let l = c.args.load in
     let entry = next_is l c.requires.arrived.keeps.next.left in
     let e = entry_after l in
-    file_brings accepts id c.args.whole l c.args.sums e u arrived c.next_file-file.result.name (next_seen c.next_in-next.result) (g.K.Disk.state c.args.disk.now) c.go_on.new.store (g.K.Disk.state c.go_on.new.disk) s c.go_on.result is entry (c.next_in-next.ensures (Some l))
+    file_brings accepts active c.args.whole l c.args.sums e u arrived c.next_file-file.result.name (next_seen c.next_in-next.result) (g.K.Disk.state c.args.disk.now) c.go_on.new.store (g.K.Disk.state c.go_on.new.disk) s c.go_on.result is entry (c.next_in-next.ensures (Some l))
     (sym c.in_default.is ∙ c.verdict.ensures e entry) c.requires.arrived.keeps.next.left (ap (λ (f : ManifestFile). f.name) (c.next_file-file.ensures e entry)) installs.holds.headers
     (c.go_on.ensures.goes_to s _
     (gives_more c.args.store.now c.end_file.new.store (g.K.Disk.state c.args.disk.now) s (given_of u arrived) _ c.end_file.ensures.continues (λ image has. c.end_file.ensures.given image _ has) (record { beside = installs.beside; given = installs.holds.given })))

@@ -16,11 +16,11 @@ use Rattle.load_intake.proofs.Headers.{asked_is, asked_of, buffer_whole, header_
 use Rattle.load_intake.proofs.arriving.header_arrived.Goals as goal
 
 pub returns-then-count-bytes-clause-row : goal.returns-then-count-bytes-clause-row
-returns-then-count-bytes-clause-row g c accepts follows =
+returns-then-count-bytes-clause-row g c accepts follows active same =
     let b = c.args.buffer in
     let more : length b.prefix < b.count = omega (arith, c.if-count-bytes.true, c.count.ensures.is, ap length c.prefix-bytes.ensures) in
     let long = past_buffer b c.count.ensures.filled.filled more in
-    ap (λ (e : UploadEnd). Writes_stop e) c.refuse_header-end.ensures.end ∙ too_long_row accepts c.args.identity.now c.args.whole b c.requires.arrived.keeps long
+    ap (λ (e : UploadEnd). Writes_stop e) c.refuse_header-end.ensures.end ∙ too_long_row accepts active c.args.whole b c.requires.arrived.keeps long
 
 pub returns-then-count-bytes-clause-ends : goal.returns-then-count-bytes-clause-ends
 returns-then-count-bytes-clause-ends g c =
@@ -38,7 +38,7 @@ pub header_read-requires-clause-spelled : goal.header_read-requires-clause-spell
 header_read-requires-clause-spelled g c = subst (λ (bytes : List ℕ). HeaderSpells (header_view c.in-Ok.header) bytes) c.prefix-bytes.ensures c.in-Ok.ensures.found
 
 pub returns-in-Ok-clause-row : goal.returns-in-Ok-clause-row
-returns-in-Ok-clause-row g c accepts follows =
+returns-in-Ok-clause-row g c accepts follows active same =
     let b = c.args.buffer in
     let w = c.args.whole in
     let h = header_view c.in-Ok.header in
@@ -46,46 +46,45 @@ returns-in-Ok-clause-row g c accepts follows =
     let filled = c.count.ensures.filled.filled in
     let all : b.count ≤ length b.prefix = omega (arith, c.if-count-bytes.false, c.count.ensures.is, ap length c.prefix-bytes.ensures) in
     let is = rw c.prefix-bytes.ensures at (header_is_read bytes h ((c.header_laws.ensures.spelled h bytes).1 c.in-Ok.ensures.found)) in
-    let row = read_row accepts c.args.identity.now w b h c.requires.arrived.keeps (within_buffer b filled all) is (buffer_whole b filled all) in
-    IfOk-weaker c.header_read.result (λ f. row_seen f ≡ header_row accepts c.args.identity.now w h b.prefix) (λ f. row_seen f ≡ header_moved accepts c.args.identity.now w b)
-    (λ f e. e ∙ row) (c.header_read.ensures.row accepts follows)
+    let row = read_row accepts active w b h c.requires.arrived.keeps (within_buffer b filled all) is (buffer_whole b filled all) in
+    IfOk-weaker c.header_read.result (λ f. row_seen f ≡ header_row accepts active w h b.prefix) (λ f. row_seen f ≡ header_moved accepts active w b)
+    (λ f e. e ∙ row) (c.header_read.ensures.row accepts follows active same)
 
 pub returns-in-Err : goal.returns-in-Err
 returns-in-Err g c = record {
-  row = λ accepts follows.
+  row = λ accepts follows active same.
       let b = c.args.buffer in
       let filled = c.count.ensures.filled.filled in
       let all : b.count ≤ length b.prefix = omega (arith, c.if-count-bytes.false, c.count.ensures.is, ap length c.prefix-bytes.ensures) in
       let is = rw c.prefix-bytes.ensures at (header_is_refused c.prefix-bytes.result.now Memory c.in-Err.fault (search rules) c.in-Err.ensures.refused) in
       ap (λ (e : UploadEnd). Writes_stop e) c.refuse_header.ensures.end
-      ∙ refused_row accepts c.args.identity.now c.args.whole b c.in-Err.fault c.requires.arrived.keeps (within_buffer b filled all) is;
+      ∙ refused_row accepts active c.args.whole b c.in-Err.fault c.requires.arrived.keeps (within_buffer b filled all) is;
   ends = stops_there c.refuse_header.result c.args.store.now c.refuse_header.new.store _ c.refuse_header.ensures.continues c.refuse_header.ensures.prepared c.requires.arrived.running;
-  brings = λ accepts follows s u arrived is installs.
+  brings = λ accepts follows active same s u arrived is installs.
       let b = c.args.buffer in
       let filled = c.count.ensures.filled.filled in
       let all : b.count ≤ length b.prefix = omega (arith, c.if-count-bytes.false, c.count.ensures.is, ap length c.prefix-bytes.ensures) in
       let found = rw c.prefix-bytes.ensures at (header_is_refused c.prefix-bytes.result.now Memory c.in-Err.fault (search rules) c.in-Err.ensures.refused) in
       let v = upload_of c.args.whole None in
       brings_stop c.args.store.now c.refuse_header.new.store (g.K.Disk.state c.args.disk.now) s u arrived _ _
-      (stops u v arrived (Kept_bytes b) (done_move accepts c.args.identity.now (Reads_file v) (Kept_bytes b)) _
-      (ap (λ (e : UploadEnd). Writes_stop e) c.refuse_header.ensures.end ∙ refused_row accepts c.args.identity.now c.args.whole b c.in-Err.fault c.requires.arrived.keeps (within_buffer b filled all) found))
+      (stops u v arrived (Kept_bytes b) (done_move accepts active (Reads_file v) (Kept_bytes b)) _
+      (ap (λ (e : UploadEnd). Writes_stop e) c.refuse_header.ensures.end ∙ refused_row accepts active c.args.whole b c.in-Err.fault c.requires.arrived.keeps (within_buffer b filled all) found))
       c.refuse_header.ensures.continues installs;
   size = c.refuse_header.ensures.continues.active.size;
   writes = search rules;
 }
 
 pub returns-then-count-bytes-clause-brings : goal.returns-then-count-bytes-clause-brings
-returns-then-count-bytes-clause-brings g c = λ accepts follows s u arrived is installs.
+returns-then-count-bytes-clause-brings g c = λ accepts follows active same s u arrived is installs.
     let b = c.args.buffer in
     let v = upload_of c.args.whole None in
     brings_stop c.args.store.now c.refuse_header-end.new.store (g.K.Disk.state c.args.disk.now) s u arrived _ _
-    (stops u v arrived (Kept_bytes b) (done_move accepts c.args.identity.now (Reads_file v) (Kept_bytes b)) _ (returns-then-count-bytes-clause-row g c accepts follows)) c.refuse_header-end.ensures.continues installs
+    (stops u v arrived (Kept_bytes b) (done_move accepts active (Reads_file v) (Kept_bytes b)) _ (returns-then-count-bytes-clause-row g c accepts follows active same)) c.refuse_header-end.ensures.continues installs
 
 pub returns-in-Ok-clause-brings : goal.returns-in-Ok-clause-brings
-returns-in-Ok-clause-brings g c = λ accepts follows s u arrived is installs.
+returns-in-Ok-clause-brings g c = λ accepts follows active same s u arrived is installs.
     let b = c.args.buffer in
     let w = c.args.whole in
-    let id = c.args.identity.now in
     let h = header_view c.in-Ok.header in
     let bytes = c.prefix-bytes.result.now in
     let filled = c.count.ensures.filled.filled in
@@ -94,6 +93,6 @@ returns-in-Ok-clause-brings g c = λ accepts follows s u arrived is installs.
     let found = rw c.prefix-bytes.ensures at (header_is_read bytes h ((c.header_laws.ensures.spelled h bytes).1 c.in-Ok.ensures.found)) in
     let none : current_view u.current ≡ None = sym (ap (λ (v : UploadView). v.current) is.upload) in
     let kept = is.arriving ∙ ap (λ (o : Option OpenLoadView). arriving_load o arrived) none in
-    read_brings accepts id w b h (asked_of w) u arrived (g.K.Disk.state c.args.disk.now) c.header_read.new.store (g.K.Disk.state c.header_read.new.disk) s c.header_read.result is.upload (asked_is w b c.requires.arrived.keeps) short found (buffer_whole b filled all)
+    read_brings accepts active w b h (asked_of w) u arrived (g.K.Disk.state c.args.disk.now) c.header_read.new.store (g.K.Disk.state c.header_read.new.disk) s c.header_read.result is.upload (asked_is w b c.requires.arrived.keeps) short found (buffer_whole b filled all)
     (buffer_is b arrived kept short)
-    (c.header_read.ensures.brings accepts follows s u is.upload (header_takes c.args.store.now (g.K.Disk.state c.args.disk.now) s u arrived b.prefix none installs))
+    (c.header_read.ensures.brings accepts follows active same s u is.upload (header_takes c.args.store.now (g.K.Disk.state c.args.disk.now) s u arrived b.prefix none installs))

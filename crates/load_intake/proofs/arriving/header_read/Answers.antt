@@ -13,19 +13,19 @@ use Rattle.load_intake.proofs.Moving.{brings_stop, brings_stop_after, goes_then}
 use Rattle.load_intake.specs.Places.{arrived_at, next_seen}
 use Rattle.load_intake.specs.States.{upload_of}
 use Rattle.load_intake.proofs.Going.{ends_after, stops_after, stops_there, writes_after}
-use Rattle.load_intake.proofs.Headers.{fails_first, has_header, header_accepted, header_next, header_placed, header_stopped, need_is, passes_first, room_for_header}
+use Rattle.load_intake.proofs.Headers.{fails_first, has_header, header_accepted, header_next, header_placed, header_stopped, need_is, passes_first, refused_by, room_for_header}
 use Rattle.load_intake.proofs.arriving.header_read.Goals as goal
 
 pub returns-in-Some-clause-row : goal.returns-in-Some-clause-row
-returns-in-Some-clause-row g c accepts follows =
+returns-in-Some-clause-row g c accepts follows active same =
     let w = c.args.whole in
     let h = header_view c.args.header in
     let bytes = c.args.buffer.prefix in
     let wanted = c.next_wanted.result.now in
     let need = (rw c.prefix-bytes.ensures at c.need_with-need.ensures) ∙ need_is w (whole_buffer bytes) wanted h (length bytes) c.requires.arrived.keeps c.requires.spelled.0 in
     ap (λ (e : UploadEnd). Writes_stop e) c.stop_before.ensures.end
-    ∙ header_stopped accepts c.args.identity.now w wanted h bytes c.need_with-need.result (next_seen c.next_after-next.result) (crc32_of (covered_header bytes)) c.in-Some.reason (arrived_at (length w.loads) (next_seen c.next_after-next.result)) c.next_wanted.ensures need
-    (c.next_after-next.ensures None) refl (fails_first _ _ c.in-Some.reason (sym c.in-Some.is ∙ c.header_reason.ensures.is accepts follows)) refl
+    ∙ header_stopped accepts active w wanted h bytes c.need_with-need.result (next_seen c.next_after-next.result) (crc32_of (covered_header bytes)) c.in-Some.reason (arrived_at (length w.loads) (next_seen c.next_after-next.result)) c.next_wanted.ensures need
+    (c.next_after-next.ensures None) refl (fails_first _ _ c.in-Some.reason (sym c.in-Some.is ∙ refused_by accepts active c.args.identity.now c.next_wanted.result.now (header_view c.args.header) c.need_with-need.result c.header_reason.result same (c.header_reason.ensures.is accepts follows))) refl
 
 pub returns-in-Some-clause-ends : goal.returns-in-Some-clause-ends
 returns-in-Some-clause-ends g c = stops_there c.stop_before.result c.args.store.now c.stop_before.new.store _ c.stop_before.ensures.continues c.stop_before.ensures.prepared c.requires.arrived.running
@@ -60,7 +60,7 @@ go_on-requires-clause-next g c =
     c.with_need-whole.ensures (rw c.prefix-bytes.ensures at c.new-load.ensures) (c.next_after-next.ensures None)
 
 pub returns-clause-row : goal.returns-clause-row
-returns-clause-row g c accepts follows =
+returns-clause-row g c accepts follows active same =
     let w = c.args.whole in
     let new = c.with_need-whole.result in
     let l = c.new-load.result in
@@ -69,56 +69,56 @@ returns-clause-row g c accepts follows =
     let wanted = c.next_wanted.result.now in
     let next = next_seen c.next_after-next.result in
     let need = (rw c.prefix-bytes.ensures at c.need_with-need.ensures) ∙ need_is w (whole_buffer bytes) wanted h (length bytes) c.requires.arrived.keeps c.requires.spelled.0 in
-    let placed = header_placed accepts c.args.identity.now w wanted h bytes c.need_with-need.result next c.value-crc.result new l c.next_wanted.ensures need (c.next_after-next.ensures None)
-    (rw c.prefix-bytes.ensures at (c.value-crc.ensures ∙ c.header_sum-sum.ensures)) (passes_first _ _ None (sym c.in_default.is ∙ c.header_reason.ensures.is accepts follows) (sym c.in_default-load_reason.is ∙ c.load_reason.ensures)) c.with_need-whole.ensures (rw c.prefix-bytes.ensures at c.new-load.ensures) in
-    IfOk-weaker c.go_on.result (λ f. row_seen f ≡ placed_view (upload_of new None) l next) (λ f. row_seen f ≡ header_row accepts c.args.identity.now w h bytes) (λ f is. is ∙ placed) c.go_on.ensures.row
+    let placed = header_placed accepts active w wanted h bytes c.need_with-need.result next c.value-crc.result new l c.next_wanted.ensures need (c.next_after-next.ensures None)
+    (rw c.prefix-bytes.ensures at (c.value-crc.ensures ∙ c.header_sum-sum.ensures)) (passes_first _ _ None (sym c.in_default.is ∙ refused_by accepts active c.args.identity.now c.next_wanted.result.now (header_view c.args.header) c.need_with-need.result c.header_reason.result same (c.header_reason.ensures.is accepts follows)) (sym c.in_default-load_reason.is ∙ c.load_reason.ensures)) c.with_need-whole.ensures (rw c.prefix-bytes.ensures at c.new-load.ensures) in
+    IfOk-weaker c.go_on.result (λ f. row_seen f ≡ placed_view (upload_of new None) l next) (λ f. row_seen f ≡ header_row accepts active w h bytes) (λ f is. is ∙ placed) c.go_on.ensures.row
 
 pub returns-clause-ends : goal.returns-clause-ends
 returns-clause-ends g c = ends_after c.go_on.result _ _ _ _ _ _ c.in-Ok.ensures.goes_on c.go_on.ensures.ends
 
 pub returns-in-Some-clause-brings : goal.returns-in-Some-clause-brings
-returns-in-Some-clause-brings g c = λ accepts follows s u seen installs.
+returns-in-Some-clause-brings g c = λ accepts follows active same s u seen installs.
     let h = header_view c.args.header in
-    brings_stop c.args.store.now c.stop_before.new.store (g.K.Disk.state c.args.disk.now) s u c.args.buffer.prefix (whole_header_row accepts c.args.identity.now u h c.args.buffer.prefix) _
-    (header_stops accepts c.args.identity.now c.args.whole c.next_wanted.result.now h c.args.buffer.prefix u _ seen c.next_wanted.ensures (returns-in-Some-clause-row g c accepts follows)) c.stop_before.ensures.continues installs
+    brings_stop c.args.store.now c.stop_before.new.store (g.K.Disk.state c.args.disk.now) s u c.args.buffer.prefix (whole_header_row accepts active u h c.args.buffer.prefix) _
+    (header_stops accepts active c.args.whole c.next_wanted.result.now h c.args.buffer.prefix u _ seen c.next_wanted.ensures (returns-in-Some-clause-row g c accepts follows active same)) c.stop_before.ensures.continues installs
 
 pub returns-in-Err-clause-brings : goal.returns-in-Err-clause-brings
-returns-in-Err-clause-brings g c = λ accepts follows s u seen installs.
+returns-in-Err-clause-brings g c = λ accepts follows active same s u seen installs.
     begin_fails (g.K.Disk.state c.args.disk.now) c.write_header.new.store c.write_header.new.store (g.K.Disk.state c.write_header.new.disk) s _ _ _ [] c.write_header.result (Err c.in-Err.down) refl
     (c.write_header.ensures.gives s (given_of u c.args.buffer.prefix) (record { beside = installs.beside; given = installs.holds.given }))
 
 pub returns-in-Some-load_reason-clause-row : goal.returns-in-Some-load_reason-clause-row
-returns-in-Some-load_reason-clause-row g c accepts follows =
+returns-in-Some-load_reason-clause-row g c accepts follows active same =
     let w = c.args.whole in
     let h = header_view c.args.header in
     let bytes = c.args.buffer.prefix in
     let wanted = c.next_wanted.result.now in
     let need = (rw c.prefix-bytes.ensures at c.need_with-need.ensures) ∙ need_is w (whole_buffer bytes) wanted h (length bytes) c.requires.arrived.keeps c.requires.spelled.0 in
-    let found = passes_first _ _ (Some c.in-Some-load_reason.reason) (sym c.in_default.is ∙ c.header_reason.ensures.is accepts follows) (sym c.in-Some-load_reason.is ∙ c.load_reason.ensures) in
+    let found = passes_first _ _ (Some c.in-Some-load_reason.reason) (sym c.in_default.is ∙ refused_by accepts active c.args.identity.now c.next_wanted.result.now (header_view c.args.header) c.need_with-need.result c.header_reason.result same (c.header_reason.ensures.is accepts follows)) (sym c.in-Some-load_reason.is ∙ c.load_reason.ensures) in
     ap (λ (e : UploadEnd). Writes_stop e) c.stop_before-in-Some-load_reason.ensures.end
-    ∙ header_stopped accepts c.args.identity.now w wanted h bytes c.need_with-need.result (next_seen c.next_after-next.result) c.value-crc.result c.in-Some-load_reason.reason (arrived_at (length w.loads) (next_seen c.next_after-next.result)) c.next_wanted.ensures need
+    ∙ header_stopped accepts active w wanted h bytes c.need_with-need.result (next_seen c.next_after-next.result) c.value-crc.result c.in-Some-load_reason.reason (arrived_at (length w.loads) (next_seen c.next_after-next.result)) c.next_wanted.ensures need
     (c.next_after-next.ensures None) (rw c.prefix-bytes.ensures at (c.value-crc.ensures ∙ c.header_sum-sum.ensures)) found refl
 
 pub returns-in-Some-load_reason-clause-ends : goal.returns-in-Some-load_reason-clause-ends
 returns-in-Some-load_reason-clause-ends g c = stops_after c.stop_before-in-Some-load_reason.result c.args.store.now c.write_header.new.store c.stop_before-in-Some-load_reason.new.store _ _ c.in-Ok.ensures.goes_on c.stop_before-in-Some-load_reason.ensures.continues c.stop_before-in-Some-load_reason.ensures.prepared
 
 pub returns-in-Some-load_reason-clause-brings : goal.returns-in-Some-load_reason-clause-brings
-returns-in-Some-load_reason-clause-brings g c = λ accepts follows s u seen installs.
+returns-in-Some-load_reason-clause-brings g c = λ accepts follows active same s u seen installs.
     let h = header_view c.args.header in
-    brings_stop_after (g.K.Disk.state c.args.disk.now) c.write_header.new.store c.stop_before-in-Some-load_reason.new.store (g.K.Disk.state c.write_header.new.disk) s _ (whole_header_row accepts c.args.identity.now u h c.args.buffer.prefix) _ _
-    (header_stops accepts c.args.identity.now c.args.whole c.next_wanted.result.now h c.args.buffer.prefix u _ seen c.next_wanted.ensures (returns-in-Some-load_reason-clause-row g c accepts follows))
+    brings_stop_after (g.K.Disk.state c.args.disk.now) c.write_header.new.store c.stop_before-in-Some-load_reason.new.store (g.K.Disk.state c.write_header.new.disk) s _ (whole_header_row accepts active u h c.args.buffer.prefix) _ _
+    (header_stops accepts active c.args.whole c.next_wanted.result.now h c.args.buffer.prefix u _ seen c.next_wanted.ensures (returns-in-Some-load_reason-clause-row g c accepts follows active same))
     (rw c.prefix-bytes.ensures at (c.in-Ok.ensures.gives s (given_of u c.args.buffer.prefix) (record { beside = installs.beside; given = installs.holds.given }))) c.stop_before-in-Some-load_reason.ensures.continues
 
 pub returns-clause-brings : goal.returns-clause-brings
-returns-clause-brings g c = λ accepts follows s u seen installs.
+returns-clause-brings g c = λ accepts follows active same s u seen installs.
     let w = c.args.whole in
     let h = header_view c.args.header in
     let bytes = c.args.buffer.prefix in
     let wanted = c.next_wanted.result.now in
     let next = next_seen c.next_after-next.result in
     let need = (rw c.prefix-bytes.ensures at c.need_with-need.ensures) ∙ need_is w (whole_buffer bytes) wanted h (length bytes) c.requires.arrived.keeps c.requires.spelled.0 in
-    let judged = header_judged accepts c.args.identity.now w wanted h bytes c.need_with-need.result next c.value-crc.result need (c.next_after-next.ensures None) (rw c.prefix-bytes.ensures at (c.value-crc.ensures ∙ c.header_sum-sum.ensures)) (passes_first _ _ None (sym c.in_default.is ∙ c.header_reason.ensures.is accepts follows) (sym c.in_default-load_reason.is ∙ c.load_reason.ensures)) in
-    header_brings accepts c.args.identity.now w wanted h bytes u next (g.K.Disk.state c.args.disk.now) c.go_on.new.store (g.K.Disk.state c.go_on.new.disk) s c.go_on.result seen c.next_wanted.ensures judged (c.next_after-next.ensures None) installs.holds.headers
+    let judged = header_judged accepts active w wanted h bytes c.need_with-need.result next c.value-crc.result need (c.next_after-next.ensures None) (rw c.prefix-bytes.ensures at (c.value-crc.ensures ∙ c.header_sum-sum.ensures)) (passes_first _ _ None (sym c.in_default.is ∙ refused_by accepts active c.args.identity.now c.next_wanted.result.now (header_view c.args.header) c.need_with-need.result c.header_reason.result same (c.header_reason.ensures.is accepts follows)) (sym c.in_default-load_reason.is ∙ c.load_reason.ensures)) in
+    header_brings accepts active w wanted h bytes u next (g.K.Disk.state c.args.disk.now) c.go_on.new.store (g.K.Disk.state c.go_on.new.disk) s c.go_on.result seen c.next_wanted.ensures judged (c.next_after-next.ensures None) installs.holds.headers
     (goes_then next (g.K.Disk.state c.args.disk.now) c.write_header.new.store (g.K.Disk.state c.write_header.new.disk) c.go_on.new.store (g.K.Disk.state c.go_on.new.disk) s _ _ c.go_on.result
     (rw c.prefix-bytes.ensures at (c.in-Ok.ensures.gives s (given_of u bytes) (record { beside = installs.beside; given = installs.holds.given }))) (λ given. c.go_on.ensures.goes_to s _ given))
 

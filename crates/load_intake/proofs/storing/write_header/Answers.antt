@@ -1,4 +1,4 @@
-use Rattle.std.proofs.Common.{arith, [], ℕ, List, Ok, length, ◌+◌, ◌≡◌, length-append, subst}
+use Rattle.std.proofs.Common.{arith, [], ℕ, List, Some, Ok, length, ◌+◌, ◌≡◌, length-append, subst}
 use Rattle.bank_store.specs.Store.{bank_size_of}
 use Rattle.disk_layout.specs.Manifest.{LoadEntry}
 use Rattle.load_header.specs.Header.{header_view}
@@ -18,7 +18,7 @@ append-requires-clause-awaits g c = awaits_file c.start_load.new.store _ _ _ (c.
 pub append-requires-clause-room : goal.append-requires-clause-room
 append-requires-clause-room g c =
     let has = c.start_load.ensures.has c.args.whole.now.loads c.requires.has in
-    let begun : LoadEntry = record { part = c.text.result; files = [] } in
+    let begun : LoadEntry = record { part = c.text.result; type_id = Some c.args.header.now.type_id; files = [] } in
     let same : bank_size_of c.start_load.new.store ≡ bank_size_of c.args.store.now = c.start_load.ensures.continues.active.size in
     room c.start_load.new.store _ _ 0 (length c.args.bytes.now) has (omega (arith, same, c.requires.room, total_more c.args.whole.now.loads begun))
 
@@ -32,8 +32,8 @@ returns-clause-has g c =
     let has = c.in_ok-append.ensures.has _ _ _ (c.start_load.ensures.has c.args.whole.now.loads c.requires.has) in
     let few : c.len.result + c.len-2.result ≡ length (files_of (header_view c.args.header.now)) =
     omega (arith, c.len.ensures, c.len-2.ensures, length-append c.args.header.now.data_files.items c.args.header.now.support_files.items) in
-    header_there c.end_file.new.store c.args.whole.now.loads c.args.wanted.now c.text.result (length c.args.bytes.now) _ _ c.text.ensures few
-    (c.end_file.ensures.has c.args.whole.now.loads (record { part = c.text.result; files = [] }) (c.len.result + c.len-2.result) (0 + length c.args.bytes.now) has)
+    header_there c.end_file.new.store c.args.whole.now.loads c.args.wanted.now c.text.result c.args.header.now.type_id (length c.args.bytes.now) _ _ c.text.ensures few
+    (c.end_file.ensures.has c.args.whole.now.loads (record { part = c.text.result; type_id = Some c.args.header.now.type_id; files = [] }) (c.len.result + c.len-2.result) (0 + length c.args.bytes.now) has)
 
 pub returns-clause-goes_on : goal.returns-clause-goes_on
 returns-clause-goes_on g c =
@@ -52,6 +52,6 @@ returns-clause-gives g c = λ s given is.
     let begun = gives_more c.args.store.now c.start_load.new.store (g.K.Disk.state c.args.disk.now) s given _ c.start_load.ensures.continues (λ image has. c.start_load.ensures.given image given has) is in
     let wrote = c.in_ok-append.ensures.gives s _ begun in
     let ended = gives_more c.append.new.store c.end_file.new.store (g.K.Disk.state c.append.new.disk) s _ _ c.end_file.ensures.continues (λ image has. c.end_file.ensures.given image _ has) wrote.ok in
-    subst (λ (part : List ℕ). Gives {E = Down} (g.K.Disk.state c.args.disk.now) c.end_file.new.store (g.K.Disk.state c.append.new.disk) s (with_file c.args.wanted.now.header (with_bytes c.args.bytes.now (with_load part (n + 1) given))) (Ok tt)) c.text.ensures
-    (subst (λ (k : ℕ). Gives {E = Down} (g.K.Disk.state c.args.disk.now) c.end_file.new.store (g.K.Disk.state c.append.new.disk) s (with_file c.args.wanted.now.header (with_bytes c.args.bytes.now (with_load c.text.result k given))) (Ok tt)) few
+    subst (λ (part : List ℕ). Gives {E = Down} (g.K.Disk.state c.args.disk.now) c.end_file.new.store (g.K.Disk.state c.append.new.disk) s (with_file c.args.wanted.now.header (with_bytes c.args.bytes.now (with_load part c.args.header.now.type_id (n + 1) given))) (Ok tt)) c.text.ensures
+    (subst (λ (k : ℕ). Gives {E = Down} (g.K.Disk.state c.args.disk.now) c.end_file.new.store (g.K.Disk.state c.append.new.disk) s (with_file c.args.wanted.now.header (with_bytes c.args.bytes.now (with_load c.text.result c.args.header.now.type_id k given))) (Ok tt)) few
     (record { adds = wrote.adds; ok = ended }))

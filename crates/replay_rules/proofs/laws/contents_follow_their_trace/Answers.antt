@@ -9,7 +9,7 @@ use Rattle.replay_rules.proofs.laws.contents_follow_their_trace.Goals as goal
 
 at_state : SumsJoin → (set : Setting) (state : TargetState) → HasLive state → ContentsFollowAt set state
 at_state joins set (Is_up r) live = record {
-  kept = are_kept set.accepts r;
+  kept = are_kept r;
   view = λ e. sym (target_follows joins set.accepts r e live).0;
   contents = λ e. contents_extended joins set.accepts r e live;
 }

@@ -1,6 +1,5 @@
-use Rattle.std.proofs.Common.{◌≡◌, ◌≤◌, inr, ℕ, true, false, sym, ap, ◌∙◌, subst, arith}
+use Rattle.std.proofs.Common.{◌≡◌, ◌≤◌, true, false, sym, ◌∙◌, subst, arith}
 use Rattle.std.proofs.lemmas.Result.{IfErr-weaker}
-use Rattle.std.specs.Prelude.{is_err}
 use Rattle.disk_model.specs.State.{OnlyReads}
 use Rattle.replay_turns.specs.StepLaws.{reboots_read}
 use Rattle.upload_replay.proofs.Ended.{last_since}

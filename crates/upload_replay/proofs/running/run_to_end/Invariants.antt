@@ -1,6 +1,6 @@
-use Rattle.std.proofs.Common.{◌≡◌, ℕ, Bool, false}
+use Rattle.std.proofs.Common.{◌≡◌, ℕ, false}
+use Rattle.accept_rules.specs.Permissions.{Accepts}
 use Rattle.link_net.specs.Links.{LinkState}
-use Rattle.load_header.specs.Header.{HeaderView}
 use Rattle.media_check.specs.Sets.{SetView}
 use Rattle.replay_rules.specs.BothEnds.{Setting}
 use Rattle.upload_replay.specs.Armings.{ArmsAsGiven}
@@ -14,7 +14,7 @@ invariant-turns g l =
     record {
       ready : IsReady (g.L.Link.state l.link) l.driver (g.K.Disk.state l.disk);
       under_way : (began : LinkState) (faults : ℕ) (media : SetView) → IsUnderWay false began (g.L.Link.state l.fn.link) faults media l.fn.driver (g.K.Disk.state l.fn.disk) → IsUnderWay false began (g.L.Link.state l.link) faults media l.driver (g.K.Disk.state l.disk);
-      lives : (accepts : HeaderView → Bool) → LivesOn g.R.Rule.may_say accepts l.fn.driver → LivesOn g.R.Rule.may_say accepts l.driver;
+      lives : (accepts : Accepts) → LivesOn g.R.Rule.may_say accepts l.fn.driver → LivesOn g.R.Rule.may_say accepts l.driver;
       stands : (set : Setting) → StandsOn g.R.Rule.may_say set l.fn.driver → StandsOn g.R.Rule.may_say set l.driver;
       goes_on : (set : Setting) (began : LinkState) → StandsOn g.R.Rule.may_say set l.fn.driver → (NeverBoots l.fn.driver.steps → RunGoesOn set false began (g.L.Link.state l.fn.link) l.fn.driver)
           → NeverBoots l.driver.steps → RunGoesOn set false began (g.L.Link.state l.link) l.driver;

@@ -52,13 +52,13 @@ returns-clause-seals g c =
       sealed = search rules;
       written = λ image told other filling.
           c.in_ok-sync.ensures.kept ∙ c.in_ok-write_slot.ensures.written _ (c.in_ok-write_manifest.ensures.written image told)
-          ∙ seal_written store progress other image _ (ap (λ (n : ℕ). n + 2) c.len-length.ensures) c.in-Filling.is filling;
+          ∙ seal_written store progress other image _ (ap (λ (n : ℕ). n + 4) c.len-length.ensures) c.in-Filling.is filling;
       ready = λ image told now later s given was has.
           let is : now ≡ sealed_image store progress image =
           same_image now _ (sym later ∙ c.in_ok-sync.ensures.kept ∙ c.in_ok-write_slot.ensures.written _ (c.in_ok-write_manifest.ensures.written image told))
-          ∙ ap (λ (n : ℕ). with_slot store progress.end (n + 2) (with_manifest store progress image)) c.len-length.ensures in
-          is_ready store _ progress image now s given (record { offset = progress.end; length = c.len-length.result + 2 }) (record { size = refl; active = refl }) refl refl
-          (ap (λ (n : ℕ). n + 2) c.len-length.ensures) c.in-Filling.is
+          ∙ ap (λ (n : ℕ). with_slot store progress.end (n + 4) (with_manifest store progress image)) c.len-length.ensures in
+          is_ready store _ progress image now s given (record { offset = progress.end; length = c.len-length.result + 4 }) (record { size = refl; active = refl }) refl refl
+          (ap (λ (n : ℕ). n + 4) c.len-length.ensures) c.in-Filling.is
           (missing_none store progress c.requires.filling.0 c.in-Filling.is c.requires.filling.1 c.requires.filling.2) fits is was has;
       settled = c.in_ok-sync.ensures.settled;
     }
@@ -73,7 +73,7 @@ returns-clause-keeps g c =
     let is : (image now : Image) → disk.reads ≡ Some image → (g.K.Disk.state c.sync.new.self).reads ≡ Some now → now ≡ sealed_image store progress image =
     λ image now told later.
     same_image now _ (sym later ∙ c.in_ok-sync.ensures.kept ∙ c.in_ok-write_slot.ensures.written _ (c.in_ok-write_manifest.ensures.written image told))
-    ∙ ap (λ (n : ℕ). with_slot store progress.end (n + 2) (with_manifest store progress image)) c.len-length.ensures in
+    ∙ ap (λ (n : ℕ). with_slot store progress.end (n + 4) (with_manifest store progress image)) c.len-length.ensures in
     keeps_written store _ disk _ _ (record { size = refl; active = refl }) refl (search rules)
     (c.sync.ensures.elapses.tells ∙ c.write_slot.ensures.goes_on.tells ∙ c.write_manifest.ensures.goes_on.tells) (g.met.K.Disk.reads_now c.sync.new.self)
     (λ image works told. adds_sync disk _ _ (SameButForWork store image) _
@@ -83,7 +83,7 @@ returns-clause-keeps g c =
     let given = given_of store image progress c.in-Filling.is work in
     sealed_work _ now _ s given.0 refl
     (stands_sealed store _ progress image now s (record { size = refl; active = refl }) refl shut fits (is image now told later) was)
-    (is_ready store _ progress image now s given.0 (record { offset = progress.end; length = c.len-length.result + 2 }) (record { size = refl; active = refl }) refl refl
-    (ap (λ (n : ℕ). n + 2) c.len-length.ensures) c.in-Filling.is
+    (is_ready store _ progress image now s given.0 (record { offset = progress.end; length = c.len-length.result + 4 }) (record { size = refl; active = refl }) refl refl
+    (ap (λ (n : ℕ). n + 4) c.len-length.ensures) c.in-Filling.is
     (missing_none store progress c.requires.filling.0 c.in-Filling.is c.requires.filling.1 c.requires.filling.2) fits (is image now told later) was given.1))
     (λ sealed. c.in_ok-sync.ensures.settled)

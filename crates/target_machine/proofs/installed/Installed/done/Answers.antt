@@ -31,8 +31,8 @@ returns-in_default g c = record {
       let reads = λ (u : UploadView) (is : row_view x.row ≡ Reads_file u). not_reading loads c.args.row c.in_default.not-ReadsFile u (row ∙ is) in
       let awaits = λ (is : row_view x.row ≡ Awaits_lur). not_awaiting loads c.args.row c.in_default.not-AwaitsLur (row ∙ is) in
       record {
-        brings = passed_brings accepts c.args.self.now.active.identity c.args.self.now.store (g.K.Disk.state c.args.disk.now) s x.row x.arrived _ reads awaits installs;
-        rests = λ none. passed_rests accepts c.args.self.now.active.identity x.row x.arrived reads awaits (ap (λ (y : RowView). row_after y) (sym row) ∙ (sym (c.passed.ensures.row loads) ∙ ap (next_seen loads) none));
+        brings = passed_brings accepts c.args.self.now.active c.args.self.now.store (g.K.Disk.state c.args.disk.now) s x.row x.arrived _ reads awaits installs;
+        rests = λ none. passed_rests accepts c.args.self.now.active x.row x.arrived reads awaits (ap (λ (y : RowView). row_after y) (sym row) ∙ (sym (c.passed.ensures.row loads) ∙ ap (next_seen loads) none));
       };
   writes = search rules;
 }
@@ -40,23 +40,23 @@ returns-in_default g c = record {
 pub returns-in_ok-finish-in-ReadsFile-clause-brings : goal.returns-in_ok-finish-in-ReadsFile-clause-brings
 returns-in_ok-finish-in-ReadsFile-clause-brings g c = λ accepts follows s x kept installs.
     turns_with (g.K.Disk.state c.args.disk.now) c.finish.new.self.store (g.K.Disk.state c.finish.new.disk) s _ _ c.in_ok-finish-in-ReadsFile.field-0
-    (reads_brings accepts c.args.self.now.active.identity (g.K.Disk.state c.args.disk.now) c.finish.new.self.store (g.K.Disk.state c.finish.new.disk) s x.row x.arrived c.in-ReadsFile.intake _ (sym (ap (λ (y : TargetSession). y.row) kept) ∙ ap (row_seen c.args.self.now.active.loads) c.in-ReadsFile.is) (sym (ap (λ (y : TargetSession). y.arriving) kept) ∙ ap (λ (row : Row). arriving_in row c.args.arriving.now) c.in-ReadsFile.is) c.args.self.now.store installs
+    (reads_brings accepts c.args.self.now.active (g.K.Disk.state c.args.disk.now) c.finish.new.self.store (g.K.Disk.state c.finish.new.disk) s x.row x.arrived c.in-ReadsFile.intake _ (sym (ap (λ (y : TargetSession). y.row) kept) ∙ ap (row_seen c.args.self.now.active.loads) c.in-ReadsFile.is) (sym (ap (λ (y : TargetSession). y.arriving) kept) ∙ ap (λ (row : Row). arriving_in row c.args.arriving.now) c.in-ReadsFile.is) c.args.self.now.store installs
     (λ u is begun. c.in_ok-finish-in-ReadsFile.ensures.brings accepts follows s u x.arrived is begun))
 
 pub returns-in_err-finish-in-ReadsFile-clause-brings : goal.returns-in_err-finish-in-ReadsFile-clause-brings
 returns-in_err-finish-in-ReadsFile-clause-brings g c = λ accepts follows s x kept installs.
     turns_fail (g.K.Disk.state c.args.disk.now) c.finish.new.self.store c.finish.new.self.store (g.K.Disk.state c.finish.new.disk) s _ c.finish.result c.from_residual.result c.from_residual.ensures.0
-    (reads_brings accepts c.args.self.now.active.identity (g.K.Disk.state c.args.disk.now) c.finish.new.self.store (g.K.Disk.state c.finish.new.disk) s x.row x.arrived c.in-ReadsFile.intake c.finish.result (sym (ap (λ (y : TargetSession). y.row) kept) ∙ ap (row_seen c.args.self.now.active.loads) c.in-ReadsFile.is) (sym (ap (λ (y : TargetSession). y.arriving) kept) ∙ ap (λ (row : Row). arriving_in row c.args.arriving.now) c.in-ReadsFile.is) c.args.self.now.store installs
+    (reads_brings accepts c.args.self.now.active (g.K.Disk.state c.args.disk.now) c.finish.new.self.store (g.K.Disk.state c.finish.new.disk) s x.row x.arrived c.in-ReadsFile.intake c.finish.result (sym (ap (λ (y : TargetSession). y.row) kept) ∙ ap (row_seen c.args.self.now.active.loads) c.in-ReadsFile.is) (sym (ap (λ (y : TargetSession). y.arriving) kept) ∙ ap (λ (row : Row). arriving_in row c.args.arriving.now) c.in-ReadsFile.is) c.args.self.now.store installs
     (λ u is begun. c.finish.ensures.brings accepts follows s u x.arrived is begun))
 
 pub returns-in_ok-requested-in-AwaitsLur-clause-brings : goal.returns-in_ok-requested-in-AwaitsLur-clause-brings
 returns-in_ok-requested-in-AwaitsLur-clause-brings g c = λ accepts follows s x kept installs.
     turns_with (g.K.Disk.state c.args.disk.now) c.requested.new.self.store (g.K.Disk.state c.requested.new.disk) s _ _ c.in_ok-requested-in-AwaitsLur.field-0
-    (awaits_brings accepts c.args.self.now.active.identity (g.K.Disk.state c.args.disk.now) c.requested.new.self.store (g.K.Disk.state c.requested.new.disk) s x.row x.arrived c.args.arriving.now _ (sym (ap (λ (y : TargetSession). y.row) kept) ∙ ap (row_seen c.args.self.now.active.loads) c.in-AwaitsLur.is) (sym (ap (λ (y : TargetSession). y.arriving) kept) ∙ ap (λ (row : Row). arriving_in row c.args.arriving.now) c.in-AwaitsLur.is)
+    (awaits_brings accepts c.args.self.now.active (g.K.Disk.state c.args.disk.now) c.requested.new.self.store (g.K.Disk.state c.requested.new.disk) s x.row x.arrived c.args.arriving.now _ (sym (ap (λ (y : TargetSession). y.row) kept) ∙ ap (row_seen c.args.self.now.active.loads) c.in-AwaitsLur.is) (sym (ap (λ (y : TargetSession). y.arriving) kept) ∙ ap (λ (row : Row). arriving_in row c.args.arriving.now) c.in-AwaitsLur.is)
     (c.in_ok-requested-in-AwaitsLur.ensures.brings accepts s x.arrived installs.beside))
 
 pub returns-in_err-requested-in-AwaitsLur-clause-brings : goal.returns-in_err-requested-in-AwaitsLur-clause-brings
 returns-in_err-requested-in-AwaitsLur-clause-brings g c = λ accepts follows s x kept installs.
     turns_fail (g.K.Disk.state c.args.disk.now) c.requested.new.self.store c.requested.new.self.store (g.K.Disk.state c.requested.new.disk) s _ c.requested.result c.from_residual-in_err-requested-in-AwaitsLur.result c.from_residual-in_err-requested-in-AwaitsLur.ensures.0
-    (awaits_brings accepts c.args.self.now.active.identity (g.K.Disk.state c.args.disk.now) c.requested.new.self.store (g.K.Disk.state c.requested.new.disk) s x.row x.arrived c.args.arriving.now c.requested.result (sym (ap (λ (y : TargetSession). y.row) kept) ∙ ap (row_seen c.args.self.now.active.loads) c.in-AwaitsLur.is) (sym (ap (λ (y : TargetSession). y.arriving) kept) ∙ ap (λ (row : Row). arriving_in row c.args.arriving.now) c.in-AwaitsLur.is)
+    (awaits_brings accepts c.args.self.now.active (g.K.Disk.state c.args.disk.now) c.requested.new.self.store (g.K.Disk.state c.requested.new.disk) s x.row x.arrived c.args.arriving.now c.requested.result (sym (ap (λ (y : TargetSession). y.row) kept) ∙ ap (row_seen c.args.self.now.active.loads) c.in-AwaitsLur.is) (sym (ap (λ (y : TargetSession). y.arriving) kept) ∙ ap (λ (row : Row). arriving_in row c.args.arriving.now) c.in-AwaitsLur.is)
     (c.requested.ensures.brings accepts s x.arrived installs.beside))

@@ -17,12 +17,12 @@ returns-in-Some-clause-goes_on g c =
 
 pub returns-in-Some-clause-row : goal.returns-in-Some-clause-row
 returns-in-Some-clause-row g c = λ accepts follows.
-    subst (λ (x : Option ℕ). TurnsTo c.broken.result (row_then accepts c.args.self.now.active.identity (seen_at c.args.self.now.active.loads c.args.row c.args.arriving.now) x) c.args.self.now c.broken.new.self) (sym c.in-Some.is)
+    subst (λ (x : Option ℕ). TurnsTo c.broken.result (row_then accepts c.args.self.now.active (seen_at c.args.self.now.active.loads c.args.row c.args.arriving.now) x) c.args.self.now c.broken.new.self) (sym c.in-Some.is)
     (c.broken.ensures.row c.args.arriving.now)
 
 pub returns-in-Some-clause-brings : goal.returns-in-Some-clause-brings
 returns-in-Some-clause-brings g c = λ accepts follows s x kept installs.
-    subst (λ (e : Option ℕ). TurnsDisk (g.K.Disk.state c.args.disk.now) c.broken.new.self.store (g.K.Disk.state c.args.disk.now) s (whole_row_then accepts c.args.self.now.active.identity x e) (Ok c.broken.result)) (sym c.in-Some.is)
+    subst (λ (e : Option ℕ). TurnsDisk (g.K.Disk.state c.args.disk.now) c.broken.new.self.store (g.K.Disk.state c.args.disk.now) s (whole_row_then accepts c.args.self.now.active x e) (Ok c.broken.result)) (sym c.in-Some.is)
     (record {
       brings = error_brings c.args.self.now.store c.broken.new.self.store (g.K.Disk.state c.args.disk.now) s x.row x.arrived c.in-Some.code c.broken.result c.broken.ensures.continues installs;
       rests = λ none. error_rests x.row x.arrived c.in-Some.code;
@@ -30,5 +30,5 @@ returns-in-Some-clause-brings g c = λ accepts follows s x kept installs.
 
 pub returns-in-None-clause-brings : goal.returns-in-None-clause-brings
 returns-in-None-clause-brings g c = λ accepts follows s x kept installs.
-    subst (λ (e : Option ℕ). TurnsDisk (g.K.Disk.state c.args.disk.now) c.done.new.self.store (g.K.Disk.state c.done.new.disk) s (whole_row_then accepts c.args.self.now.active.identity x e) c.done.result) (sym c.in-None.is)
+    subst (λ (e : Option ℕ). TurnsDisk (g.K.Disk.state c.args.disk.now) c.done.new.self.store (g.K.Disk.state c.done.new.disk) s (whole_row_then accepts c.args.self.now.active x e) c.done.result) (sym c.in-None.is)
     (c.done.ensures.brings accepts follows s x kept installs)

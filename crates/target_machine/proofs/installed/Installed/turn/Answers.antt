@@ -12,7 +12,7 @@ use Rattle.target_machine.proofs.installed.Installed.turn.Goals as goal
 pub returns-then-not-matches-clause-row : goal.returns-then-not-matches-clause-row
 returns-then-not-matches-clause-row g c = λ accepts follows.
     turns_too_ok c.args.self.now c.next_row-result.new.self c.self.inside.identity c.self.inside.manifest c.self.inside.store c.abandon.new.self
-    (row_then accepts c.args.self.now.active.identity (seen_at c.args.self.now.active.loads c.args.row c.args.arriving.now) c.args.error) c.next_row-result.result c.self.view_is c.abandon.ensures.continues.active
+    (row_then accepts c.args.self.now.active (seen_at c.args.self.now.active.loads c.args.row c.args.arriving.now) c.args.error) c.next_row-result.result c.self.view_is c.abandon.ensures.continues.active
     (c.next_row-result.ensures.row accepts follows)
 
 pub returns-then-not-matches-clause-goes_on : goal.returns-then-not-matches-clause-goes_on
@@ -29,8 +29,8 @@ returns-then-not-matches-clause-brings g c = λ accepts follows s x kept install
       | in_default w ↦ no_more next (w.in_default.field-0) (search rules) (sym w.in_default.is ∙ is)
       | in_default-2 w ↦ no_failure next (w.in_default.field-0) (sym w.in_default.is ∙ is)
     ] in
-    turn_abandons (g.K.Disk.state c.args.disk.now) c.self.inside.store c.abandon.new.self (g.K.Disk.state c.next_row-result.new.disk) s (whole_row_then accepts c.args.self.now.active.identity x c.args.error) c.next_row-result.result ended c.abandon.ensures.continues
-    (subst (λ (i : InstalledState). TurnsDisk (g.K.Disk.state c.args.disk.now) i.store (g.K.Disk.state c.next_row-result.new.disk) s (whole_row_then accepts c.args.self.now.active.identity x c.args.error) c.next_row-result.result) (sym c.self.view_is) (c.next_row-result.ensures.brings accepts follows s x kept installs))
+    turn_abandons (g.K.Disk.state c.args.disk.now) c.self.inside.store c.abandon.new.self (g.K.Disk.state c.next_row-result.new.disk) s (whole_row_then accepts c.args.self.now.active x c.args.error) c.next_row-result.result ended c.abandon.ensures.continues
+    (subst (λ (i : InstalledState). TurnsDisk (g.K.Disk.state c.args.disk.now) i.store (g.K.Disk.state c.next_row-result.new.disk) s (whole_row_then accepts c.args.self.now.active x c.args.error) c.next_row-result.result) (sym c.self.view_is) (c.next_row-result.ensures.brings accepts follows s x kept installs))
 
 pub returns-else-not-matches-clause-brings : goal.returns-else-not-matches-clause-brings
 returns-else-not-matches-clause-brings g c = λ accepts follows s x kept installs. (c.next_row-result.ensures.brings accepts follows s x kept installs).brings
