@@ -79,6 +79,7 @@ def resident_kib(command, folder, statuses=(0,)):
 def replay_beside(name, programs, folder, words, runs, begins, statuses=(0,)):
     """Runs two programs in turn, each on a copy of the disk `formatted`, and prints the medians of their times, on the
     processor and by the clock, and the most memory of each. Both have to print the same, which begins with `begins`.
+    Gives the median time of the first by the clock, in seconds.
     """
     disk, formatted = os.path.join(folder, "target.disk"), os.path.join(folder, "formatted")
     processor, clock, memory = [[], []], [[], []], []
@@ -103,6 +104,7 @@ def replay_beside(name, programs, folder, words, runs, begins, statuses=(0,)):
     print(f"{name}: {ours * 1000:.0f} ms on the processor, {ours / other:.2f} times the other's {other * 1000:.0f} ms; "
           f"{clocked * 1000:.0f} ms by the clock, {clocked / other_clocked:.2f} times; "
           f"{memory[0] / 1e6:.1f} MB, {memory[0] / memory[1]:.2f} times the other's {memory[1] / 1e6:.1f} MB", flush=True)
+    return clocked
 
 
 def coding_speed(program, kind, file, times, runs):
@@ -183,11 +185,11 @@ def short(text):
     return bytes([len(text)]) + text
 
 
-def manifest_of(loads):
-    """A manifest of loads of type 1, each the names and lengths of its files, in layout 2."""
+def manifest_of(loads, types=None):
+    """A manifest of loads of these types, or else of type 1, each the names and lengths of its files, in layout 2."""
     parts = [struct.pack(">HH", 0xA002, len(loads))]
-    for files in loads:
-        parts.append(b"ABC41-0000-0001" + struct.pack(">HH", 1, len(files)))
+    for files, kind in zip(loads, types or [1] * len(loads)):
+        parts.append(b"ABC41-0000-0001" + struct.pack(">HH", kind, len(files)))
         parts += [short(name) + struct.pack(">I", size) for name, size in files]
     return b"".join(parts)
 

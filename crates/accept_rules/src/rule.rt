@@ -1,44 +1,48 @@
 //! What an interlock asks.
 ghost use Rattle.std.specs.Prelude.{◌≡◌};
 
+use crate::{KeptLoad, is_kept};
 use load_header::LoadHeader;
 
-/// A rule of the maker of a unit: whether it accepts a load with this header.
+/// A rule of the maker of a unit: whether it accepts a load with this header beside the loads that
+/// are kept.
 pub trait Rule {
-    ghost use Rattle.std.specs.Prelude.{Bool};
+    ghost use Rattle.std.specs.Prelude.{Bool, List};
     ghost use Rattle.load_header.specs.declared.header.LoadHeader.{LoadHeader};
+    ghost use Rattle.accept_rules.specs.declared.kept.KeptLoad.{KeptLoad};
 
-    /// It may be asked of this header.
-    ghost may_ask: { Self → LoadHeader → Type 0 };
+    /// It may be asked of this header beside these loads.
+    ghost may_ask: { Self → LoadHeader → List KeptLoad → Type 0 };
 
-    /// It may give this answer on this header.
-    ghost may_say: { Self → LoadHeader → Bool → Type 0 };
+    /// It may give this answer on this header beside these loads.
+    ghost may_say: { Self → LoadHeader → List KeptLoad → Bool → Type 0 };
 
-    /// Whether it accepts a load with this header. It takes no memory.
-    fn ask(&self, header: &LoadHeader) -> bool
-        requires { may_ask self.now header.now }
-        ensures { may_say self.now header.now result };
+    /// Whether it accepts a load with this header beside these loads. It takes no memory.
+    fn ask(&self, header: &LoadHeader, kept: &[KeptLoad]) -> bool
+        requires { may_ask self.now header.now kept.now }
+        ensures { may_say self.now header.now kept.now result };
 }
 
 /// The rule that a closure is.
 #[derive(Drop)]
-pub struct Asks<F: Fn(&LoadHeader) -> bool> {
+pub struct Asks<F: Fn(&LoadHeader, &[KeptLoad]) -> bool> {
     pub rule: F,
 }
 
-impl<F: Fn(&LoadHeader) -> bool> Rule for Asks<F> {
+impl<F: Fn(&LoadHeader, &[KeptLoad]) -> bool> Rule for Asks<F> {
     ghost use Rattle.accept_rules.specs.Closures.{MaySay, TakesHeader};
 
-    ghost may_ask = { λ asks header. TakesHeader F.Fn asks.rule header };
+    ghost may_ask = { λ asks header kept. TakesHeader F.Fn asks.rule header kept };
 
-    ghost may_say = { λ asks header answer. MaySay F.Fn asks.rule header answer };
+    ghost may_say = { λ asks header kept answer. MaySay F.Fn asks.rule header kept answer };
 
-    fn ask(&self, header: &LoadHeader) -> bool {
-        (self.rule)(header)
+    fn ask(&self, header: &LoadHeader, kept: &[KeptLoad]) -> bool {
+        (self.rule)(header, kept)
     }
 }
 
-/// The rule that accepts each load that a rule may accept: one whose type id isn't 0.
+/// The rule that accepts each load that a rule may accept: one whose type id isn't 0, and whose part
+/// number no kept load has.
 #[derive(Clone, Copy)]
 pub struct PermitsAll;
 
@@ -47,11 +51,11 @@ impl Rule for PermitsAll {
     ghost use Rattle.load_header.specs.Header.{header_view};
     ghost use Rattle.accept_rules.specs.Permissions.{permits};
 
-    ghost may_ask = { λ _ _. ⊤ };
+    ghost may_ask = { λ _ _ _. ⊤ };
 
-    ghost may_say = { λ _ header answer. answer ≡ permits (header_view header) };
+    ghost may_say = { λ _ header kept answer. answer ≡ permits (header_view header) kept };
 
-    fn ask(&self, header: &LoadHeader) -> bool {
-        header.type_id != 0
+    fn ask(&self, header: &LoadHeader, kept: &[KeptLoad]) -> bool {
+        header.type_id != 0 && !is_kept(header.part.as_slice(), kept)
     }
 }

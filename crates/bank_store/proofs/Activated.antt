@@ -8,14 +8,15 @@ use Rattle.disk_model.specs.Image.{Image, overlay, SameOutside}
 use Rattle.disk_model.specs.State.{DiskState, IsSettled, Elapses, Torn}
 use Rattle.disk_model.specs.declared.disk.DiskFault.{DiskFault}
 use Rattle.disk_model.specs.OverlayLaws.{overlay_is, overlay_outside}
-use Rattle.disk_layout.specs.Slots.{IsOpen, IsSlot, manifest_offset_of, manifest_length_of}
+use Rattle.disk_layout.specs.Slots.{IsOpen, IsSlot, bank_number, manifest_offset_of, manifest_length_of, slot_offset}
+use Rattle.disk_layout.specs.declared.active.Active.{Active}
 use Rattle.disk_layout.specs.declared.active.ManifestRange.{ManifestRange}
 use Rattle.disk_layout.specs.SlotLaws.{offset_is_slot}
 use Rattle.disk_layout.specs.Holds.{StandingView, HoldsBy, HoldsConfig}
 use Rattle.bank_store.specs.DiskWrites.{AddsOnly, IsRunning}
 use Rattle.disk_layout.specs.Slots.{other_slot}
 use Rattle.disk_layout.specs.Slots.{other_bank}
-use Rattle.bank_store.specs.Store.{active_slot, active_bank, active_sequence, IsSealed, IsSealedAt, IsPrepared, SameActive, Switches}
+use Rattle.bank_store.specs.Store.{active_slot, active_bank, active_sequence, IsSealed, IsSealedAt, IsPrepared, Switches}
 use Rattle.bank_store.specs.Given.{configured}
 use Rattle.bank_store.specs.Fits.{HoldsFor, IsReady, HoldsAt, HasWork, Fits, CanActivate}
 use Rattle.bank_store.specs.Keeps.{IsOldOrNew, Activates}
@@ -29,7 +30,6 @@ use Rattle.bank_store.proofs.Near.{shut_stands}
 use Rattle.bank_store.proofs.Premises.{idle_fits, settled_works}
 use Rattle.bank_store.proofs.Rests.{rest_gate}
 use Rattle.bank_store.proofs.Written.{told_as}
-use Rattle.bank_store.proofs.Carried.{same_slot, same_bank, same_sequence}
 
 opened_is : (image left : Image) (at : ℕ) → SameOutside at 1 image left → IsOpen left at → left ≡ overlay image at (0xA5 ∷ [])
 opened_is image left at same opened = λ i offset. overlay_is image left at (0xA5 ∷ []) inside same offset i
@@ -93,6 +93,7 @@ switched_stands old new image now s loads at switches is opened was ready =
       size = was.size ∙ sym switches.size;
       offset = ap₂ (λ (i : Image) (n : ℕ). manifest_offset_of i n) (opened ∙ ap (λ (n : ℕ). overlay image n (0xA5 ∷ [])) is) switches.slot ∙ ready.offset ∙ ap (λ (m : ManifestRange). m.offset) same_manifest;
       length = ap₂ (λ (i : Image) (n : ℕ). manifest_length_of i n) (opened ∙ ap (λ (n : ℕ). overlay image n (0xA5 ∷ [])) is) switches.slot ∙ ready.length ∙ ap (λ (m : ManifestRange). m.length) same_manifest;
+      known = switches.known ∙ ready.known;
       gate = record {
         open_there = λ _. subst (λ (n : ℕ). IsOpen now n) (sym back) old_gate;
         shut_there = λ shut. absurd (true_not_false (sym switches.opened ∙ shut));
@@ -123,17 +124,18 @@ opened_alone store before after s loads at is can opened settled left may = reco
 
 -- ---- the whole call
 
-pub activated : (old middle new : Store) (before after : DiskState) (slot : ℕ) (manifest : ManifestRange) → SameActive old middle → slot ≡ other_slot (active_slot old) → new.size ≡ middle.size
+pub activated : (old middle new : Store) (before after : DiskState) (slot : ℕ) (manifest : ManifestRange) → middle.size ≡ old.size → middle.active ≡ old.active → slot ≡ other_slot (active_slot old) → new.size ≡ middle.size
     → active_slot new ≡ other_slot (active_slot middle) → active_bank new ≡ other_bank (active_bank middle) → active_sequence new ≡ active_sequence middle + 1 → new.active.manifest ≡ manifest
-    → new.other_is_open ≡ true → IsPrepared new → IsSealedAt old manifest → is_some after.reads ≡ is_some before.reads
+    → new.known.items ≡ old.body.items → new.other_is_open ≡ true → IsPrepared new → IsSealedAt old manifest → is_some after.reads ≡ is_some before.reads
     → ((image : Image) → before.reads ≡ Some image → after.reads ≡ Some (overlay image slot (0xA5 ∷ []))) → IsSettled after → IsRunning after → Activates old new before after
-activated old middle new before after slot manifest same is size new_slot bank sequence named opened prepared sealed tells reads settled running =
+activated old middle new before after slot manifest same_size same_active is size new_slot bank sequence named known opened prepared sealed tells reads settled running =
     let switches : Switches old new = record {
-      size = size ∙ same.size;
-      slot = new_slot ∙ ap other_slot (same_slot same);
-      bank = bank ∙ ap (λ (b : ℕ). other_bank b) (same_bank same);
-      sequence = sequence ∙ ap (λ (n : ℕ). n + 1) (same_sequence same);
+      size = size ∙ same_size;
+      slot = new_slot ∙ ap (λ (a : Active). other_slot (slot_offset a.slot)) same_active;
+      bank = bank ∙ ap (λ (a : Active). other_bank (bank_number a.bank)) same_active;
+      sequence = sequence ∙ ap (λ (a : Active). a.sequence + 1) same_active;
       manifest = sealed ∙ ap (λ (m : ManifestRange). stages.Sealed m) (sym named);
+      known = known;
       opened = opened;
       idle = prepared.idle;
     } in

@@ -60,6 +60,7 @@ begun_stands old new image now s rules shut was is = record {
   size = was.size ∙ sym rules.size;
   offset = offset_carried old new now rules is.offset;
   length = length_carried old new now rules is.length;
+  known = rules.known ∙ was.known;
   gate = record {
     open_there = λ opened. absurd (true_not_false (sym opened ∙ shut));
     shut_there = λ _ there. is.shut (subst (λ (n : ℕ). IsOpen now (other_slot n)) (same_slot rules) there);

@@ -56,6 +56,7 @@ module _ (old new : Store) (rules : SameActive old new) (gate : new.other_is_ope
     size = was.size ∙ sym rules.size;
     offset = offset_carried old new image rules was.offset;
     length = length_carried old new image rules was.length;
+    known = rules.known ∙ was.known;
     gate = record {
       open_there = λ is. subst (λ (n : ℕ). IsOpen image (other_slot n)) (sym (same_slot rules)) (was.gate.open_there (sym gate ∙ is));
       shut_there = λ is there. was.gate.shut_there (sym gate ∙ is) (subst (λ (n : ℕ). IsOpen image (other_slot n)) (same_slot rules) there);

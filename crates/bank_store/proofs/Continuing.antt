@@ -82,8 +82,8 @@ given_same old new image g rules stage body was = record {
 gate_carried : (old new : Store) (image : Image) → SameActive old new → with_gate_open new image ≡ with_gate_open old image
 gate_carried old new image same = ap (λ (slot : ℕ). overlay image (other_slot slot) (0xA5 ∷ [])) (same_slot same)
 
-ready_same : (old new : Store) (image : Image) (s : StandingView) (loads : List LoadView) → SameActive old new → new.stage ≡ old.stage → IsReady old image s loads → IsReady new image s loads
-ready_same old new image s loads rules stage was =
+ready_same : (old new : Store) (image : Image) (s : StandingView) (loads : List LoadView) → SameActive old new → new.stage ≡ old.stage → new.body.items ≡ old.body.items → IsReady old image s loads → IsReady new image s loads
+ready_same old new image s loads rules stage body was =
     let opened = sym (gate_carried old new image rules) in
     let slot = sym (same_slot rules) in
     record {
@@ -92,6 +92,7 @@ ready_same old new image s loads rules stage was =
       opens = subst (λ (i : Image). HoldsBy i (other_slot (active_slot new)) (configured s loads)) opened (subst (λ (n : ℕ). HoldsBy (with_gate_open old image) (other_slot n) (configured s loads)) slot was.opens);
       offset = ap₂ (λ (i : Image) (n : ℕ). manifest_offset_of i (other_slot n)) (sym opened) (sym slot) ∙ was.offset;
       length = ap₂ (λ (i : Image) (n : ℕ). manifest_length_of i (other_slot n)) (sym opened) (sym slot) ∙ was.length;
+      known = body ∙ was.known;
     }
 
 work_same : (old new : Store) (image : Image) (stage : Stage) → SameActive old new → new.other_is_open ≡ old.other_is_open → new.stage ≡ old.stage → new.body.items ≡ old.body.items
@@ -99,7 +100,7 @@ work_same : (old new : Store) (image : Image) (stage : Stage) → SameActive old
 work_same old new image stages.Idle rules gate stage body work = tt
 work_same old new image (stages.Filling progress) rules gate stage body work = (work.0, given_same old new image work.0 rules stage body work.1)
 work_same old new image (stages.Sealed manifest) rules gate stage body work =
-    (work.0, work.1, stands_carried old new rules gate image work.0 work.2, ready_same old new image work.0 work.1 rules stage work.3)
+    (work.0, work.1, stands_carried old new rules gate image work.0 work.2, ready_same old new image work.0 work.1 rules stage body work.3)
 
 -- nothing changes but the memory that is there
 pub continues_same : (old new : Store) → SameActive old new → new.other_is_open ≡ old.other_is_open → new.stage ≡ old.stage → new.body.items ≡ old.body.items → Continues old new

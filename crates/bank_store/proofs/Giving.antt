@@ -29,12 +29,12 @@ use Rattle.bank_store.proofs.Carried.{work_carried}
 pub same_filling : (a b : Filling) → ◌≡◌ {A = Stage} (stages.Filling a) (stages.Filling b) → a ≡ b
 same_filling a b e = cc
 
-abbrev files_of : GivenLoad → List FileView
+abbrev pub files_of : GivenLoad → List FileView
 files_of load = load.files
 
 -- ---- a load begins
 
-fields_more : (loads : List GivenLoad) (load : GivenLoad) → concat (flat_map given_fields (loads ++ load ∷ [])) ≡ concat (flat_map given_fields loads) ++ concat (given_fields load)
+pub fields_more : (loads : List GivenLoad) (load : GivenLoad) → concat (flat_map given_fields (loads ++ load ∷ [])) ≡ concat (flat_map given_fields loads) ++ concat (given_fields load)
 fields_more loads load =
     ap concat (flat_map-append given_fields loads (load ∷ [])) ∙ concat-append (flat_map given_fields loads) (flat_map given_fields (load ∷ []))
     ∙ ap (λ (l : List (List ℕ)). concat (flat_map given_fields loads) ++ concat l) (append-nil (given_fields load))
@@ -42,7 +42,7 @@ fields_more loads load =
 new_fields : (part : List ℕ) (type_id announced : ℕ) → concat (given_fields (record { part = part; type_id = Some type_id; announced = announced; files = [] })) ≡ part ++ (number_bytes 2 type_id ++ number_bytes 2 announced)
 new_fields part type_id announced = ap (λ (l : List ℕ). part ++ (number_bytes 2 type_id ++ l)) (append-nil (number_bytes 2 announced))
 
-misses_more : (loads : List GivenLoad) (load : GivenLoad) (missing : ℕ) → Misses 0 loads → length load.files + missing ≡ load.announced → Misses missing (loads ++ load ∷ [])
+pub misses_more : (loads : List GivenLoad) (load : GivenLoad) (missing : ℕ) → Misses 0 loads → length load.files + missing ≡ load.announced → Misses missing (loads ++ load ∷ [])
 misses_more [] load missing was is = is
 misses_more (first ∷ []) load missing was is = (omega (arith, was), is)
 misses_more (first ∷ next ∷ loads) load missing was is = (was.0, misses_more (next ∷ loads) load missing was.1 is)

@@ -18,7 +18,7 @@ use Rattle.bank_store.proofs.Premises.{stands_now}
 use Rattle.bank_store.proofs.Rests.{rest_unread}
 
 pub same_active : (store : Store) → SameActive store store
-same_active store = record { size = refl; active = refl }
+same_active store = record { size = refl; active = refl; known = refl }
 
 pub leaves_same : (store : Store) (disk : DiskState) → LeavesActive store disk disk
 leaves_same store disk s beside = adds_none disk (λ left. HoldsConfig left s) (stands_now store disk s beside)

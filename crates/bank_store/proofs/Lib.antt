@@ -2,12 +2,15 @@ pub mod Activated
 pub mod Begun
 pub mod Carried
 pub mod Continuing
+mod Copying
 pub mod Footprint
 mod Formatted
 pub mod Gates
 pub mod Giving
 pub mod Images
 pub mod Keeping
+pub mod Kept
+mod KeptLoads
 pub mod Layouts
 pub mod Moments
 pub mod Near

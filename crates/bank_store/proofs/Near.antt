@@ -111,6 +111,7 @@ near_stands store one other s was same = record {
   size = was.size;
   offset = offset_same store one other s was (λ offset out apart. same offset out);
   length = length_same store one other s was (λ offset out apart. same offset out);
+  known = was.known;
   gate = record {
     open_there = λ is. gate_same store one other same ∙ was.gate.open_there is;
     shut_there = λ is there. was.gate.shut_there is (sym (gate_same store one other same) ∙ there);

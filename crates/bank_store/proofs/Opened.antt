@@ -218,7 +218,7 @@ module _ (store : Store) (progress : Filling) (image : Image) (s : StandingView)
   bank_at_work : bank_at s.identity.bank (other_bank s.bank) ≡ work_at store
   bank_at_work = ap₂ (λ (n : ℕ) (b : ℕ). bank_at n (other_bank b)) was.size was.bank
 
-  whole : All (λ (l : GivenLoad). IsWhole l) g.loads
+  pub whole : All (λ (l : GivenLoad). IsWhole l) g.loads
   whole = all_whole g.loads (subst (λ (n : ℕ). Misses n g.loads) (ap (λ (f : Filling). f.missing) same_far ∙ none) has.missing)
 
   given : bytes_given g ≡ bytes_of (flat_map (λ (l : GivenLoad). l.files) g.loads)

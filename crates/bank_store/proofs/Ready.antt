@@ -12,7 +12,8 @@ use Rattle.bank_store.specs.declared.stage.Stage.{Stage}
 use Rattle.bank_store.specs.declared.stage.Filling.{Filling}
 use Rattle.bank_store.proofs.Carried.{same_slot, stands_carried}
 use Rattle.bank_store.proofs.Near.{near_on, near_stands}
-use Rattle.bank_store.proofs.Opened.{head_length, slot_body_length, opened_stands, offset_is, length_is}
+use Rattle.bank_store.proofs.Opened.{head_length, slot_body_length, opened_stands, offset_is, length_is, whole}
+use Rattle.bank_store.proofs.Sealing.{body_bytes}
 use Rattle.bank_store.proofs.Working.{bank_is_work, slot_is_work, near_overlay}
 
 -- the image as it is sealed
@@ -37,10 +38,10 @@ pub stands_sealed : (old new : Store) (progress : Filling) (image now : Image) (
 stands_sealed old new progress image now s rules gate shut fits is was =
     stands_carried old new rules gate now s (near_stands old image now s was (subst (λ (i : Image). SameButForWork old image i) (sym is) (near_sealed old progress image shut fits)))
 
-pub is_ready : (old new : Store) (progress : Filling) (image now : Image) (s : StandingView) (g : Given) (manifest : ManifestRange) → SameActive old new → IsSealedAt new manifest → manifest.offset ≡ progress.end
+pub is_ready : (old new : Store) (progress : Filling) (image now : Image) (s : StandingView) (g : Given) (manifest : ManifestRange) → SameActive old new → new.body.items ≡ old.body.items → IsSealedAt new manifest → manifest.offset ≡ progress.end
     → manifest.length ≡ manifest_length old → IsFilling old progress
     → progress.missing ≡ 0 → progress.end + manifest_length old ≤ old.size → now ≡ sealed_image old progress image → HoldsFor old image s → HasGiven old image g → IsReady new now s (loads_of g)
-is_ready old new progress image now s g manifest rules sealed offset length filling none fits is was has =
+is_ready old new progress image now s g manifest rules body sealed offset length filling none fits is was has =
     let opened = opens_by old new (sealed_image old progress image) now rules is in
     let slot = sym (same_slot rules) in
     record {
@@ -50,6 +51,7 @@ is_ready old new progress image now s g manifest rules sealed offset length fill
           (subst (λ (n : ℕ). HoldsBy (with_gate_open old (sealed_image old progress image)) (other_slot n) (configured s (loads_of g))) slot (opened_stands old progress image s g was has filling none fits));
       offset = ap₂ (λ (i : Image) (n : ℕ). manifest_offset_of i (other_slot n)) (sym opened) (sym slot) ∙ offset_is old progress image s g was has filling none fits ∙ sym offset;
       length = ap₂ (λ (i : Image) (n : ℕ). manifest_length_of i (other_slot n)) (sym opened) (sym slot) ∙ length_is old progress image s g was has filling none fits ∙ sym length;
+      known = body ∙ has.body ∙ body_bytes g.loads (omega (arith, has.loads, has.few)) has.each (whole old progress image s g was has filling none fits);
     }
   where
     opens_by : (old new : Store) (image now : Image) → SameActive old new → now ≡ image → with_gate_open old image ≡ with_gate_open new now

@@ -10,6 +10,8 @@ use Rattle.load_base.specs.Config.{FileView, LoadView}
 use Rattle.field_grammar.specs.Fields.{number_bytes}
 use Rattle.disk_layout.specs.Offsets.{layout_mark, most_loads}
 use Rattle.disk_layout.specs.Manifest.{LoadEntry, file_entry_fields, load_entry_fields, manifest_fields, FileFits, LoadFits, ManifestFits, total_length, type_fields, entries_length}
+use Rattle.disk_layout.specs.Entries.{entry_bytes, typed_loads}
+use Rattle.disk_layout.specs.EntriesLaws.{all_are_typed}
 use Rattle.disk_layout.specs.Contents.{file_entry_of, entry_of, entries_of, bytes_of, contents_of_loads, HeaderIsFirst}
 use Rattle.disk_layout.specs.declared.manifest.Layout.TheVariants as layouts
 use Rattle.disk_layout.specs.declared.manifest.ManifestFile.{ManifestFile}
@@ -28,7 +30,7 @@ entry load = entry_of (load_of load)
 pub same_contents : (loads : List GivenLoad) → contents_of_loads (map load_of loads) ≡ bytes_of (flat_map (λ (l : GivenLoad). l.files) loads)
 same_contents loads = ap bytes_of (flat_map-map (λ (l : LoadView). l.files) load_of loads)
 
-size_of_files : (files : List FileView) → entries_length (map file_entry_of files) ≡ length (bytes_of files)
+pub size_of_files : (files : List FileView) → entries_length (map file_entry_of files) ≡ length (bytes_of files)
 size_of_files [] = refl
 size_of_files (file ∷ files) =
     sum_by-cons (λ (f : ManifestFile). f.length) (file_entry_of file) (map file_entry_of files) ∙ ap (λ (n : ℕ). length file.bytes + n) (size_of_files files)
@@ -67,7 +69,7 @@ entries_size loads = length-map (map load_of loads) entry_of ∙ length-map load
 pub given_fit : (loads : List GivenLoad) → length loads ≤ most_loads → All (λ (l : GivenLoad). IsLoad l) loads → All (λ (l : GivenLoad). IsWhole l) loads → ManifestFits layouts.Two (entries_of (map load_of loads))
 given_fit loads few each whole = record { count = omega (arith, few, entries_size loads); each = each_fits loads each whole }
 
-same_load_fields : (load : GivenLoad) → IsWhole load → load_entry_fields layouts.Two (entry load) ≡ given_fields load
+pub same_load_fields : (load : GivenLoad) → IsWhole load → load_entry_fields layouts.Two (entry load) ≡ given_fields load
 same_load_fields load whole =
     ap (λ (n : ℕ). load.part ∷ (type_fields layouts.Two load.type_id ++ number_bytes 2 n ∷ flat_map file_entry_fields (map file_entry_of load.files))) (length-map load.files file_entry_of ∙ whole)
 
@@ -83,6 +85,11 @@ pub manifest_bytes : (loads : List GivenLoad) (count : ℕ) (body : List ℕ) �
 manifest_bytes loads count body whole counts is =
     append_assoc (number_bytes 2 layout_mark) (number_bytes 2 count) body
     ∙ ap₂ (λ (n : ℕ) (l : List ℕ). number_bytes 2 layout_mark ++ (number_bytes 2 n ++ l)) (sym counts ∙ sym (entries_size loads)) (is ∙ sym (ap concat (same_fields loads whole)))
+
+-- and of these loads alone, as they are known once they are active
+pub body_bytes : (loads : List GivenLoad) → length loads ≤ most_loads → All (λ (l : GivenLoad). IsLoad l) loads → All (λ (l : GivenLoad). IsWhole l) loads
+    → concat (flat_map given_fields loads) ≡ entry_bytes (typed_loads (entries_of (map load_of loads)))
+body_bytes loads few each whole = sym (ap concat (same_fields loads whole)) ∙ ap entry_bytes (sym (all_are_typed (entries_of (map load_of loads)) (given_fit loads few each whole).each))
 
 pub headers_first : (loads : List GivenLoad) → All (λ (l : LoadView). HeaderIsFirst l) (map load_of loads)
 headers_first [] = All-nil (λ (l : LoadView). HeaderIsFirst l)

@@ -24,16 +24,21 @@ pub record IsFillingInRange (size : ℕ) (body : Listed ℕ) (progress : Filling
   pub end : progress.end ≤ size
   pub whole : progress.missing ≡ 0 → progress.start ≡ progress.end
 
--- a begun installation has shut the other gate, can count on, and has spare capacity for the rest of its manifest
-pub record HasBegun (sequence : ℕ) (other_is_open : Bool) (body : Listed ℕ) : Type 0 where
+-- these bytes can become those of a longest manifest without memory
+abbrev pub HasCapacity : Listed ℕ → Type 0
+HasCapacity bytes = longest_manifest ≤ bytes.spare + length bytes.items
+
+-- a begun installation has shut the other gate, can count on, and has capacity for its manifest, and for the next one
+pub record HasBegun (sequence : ℕ) (known : Listed ℕ) (other_is_open : Bool) (body : Listed ℕ) : Type 0 where
   pub shut : other_is_open ≡ false
   pub goes_on : sequence < 4294967295
-  pub spare : longest_manifest ≤ body.spare + length body.items
+  pub spare : HasCapacity body
+  pub known_spare : HasCapacity known
 
-pub record IsStore (size : ℕ) (active : Active) (other_is_open : Bool) (body : Listed ℕ) (stage : Stage) : Type 0 where
+pub record IsStore (size : ℕ) (active : Active) (known : Listed ℕ) (other_is_open : Bool) (body : Listed ℕ) (stage : Stage) : Type 0 where
   pub is_size : IsBankSize size
   pub manifest : IsManifestRange size active.manifest
   pub idle : stage ≡ stages.Idle → body.items ≡ []
-  pub begun : stage ≢ stages.Idle → HasBegun active.sequence other_is_open body
+  pub begun : stage ≢ stages.Idle → HasBegun active.sequence known other_is_open body
   pub in_range : (progress : Filling) → stage ≡ stages.Filling progress → IsFillingInRange size body progress
   pub sealed : (manifest : ManifestRange) → stage ≡ stages.Sealed manifest → IsManifestRange size manifest

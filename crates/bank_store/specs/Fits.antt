@@ -4,12 +4,14 @@ use Rattle.std.specs.Option.{ForSome}
 use Rattle.load_base.specs.Config.{LoadView}
 use Rattle.disk_model.specs.Image.{Image}
 use Rattle.disk_model.specs.State.{DiskState, IsSettled}
+use Rattle.disk_layout.specs.Contents.{entries_of}
+use Rattle.disk_layout.specs.Entries.{entry_bytes, typed_loads}
 use Rattle.disk_layout.specs.Offsets.{bank_at}
 use Rattle.disk_layout.specs.Slots.{IsOpen, other_bank, other_slot, manifest_offset_of, manifest_length_of}
 use Rattle.disk_layout.specs.Holds.{StandingView, HoldsBy}
 use Rattle.disk_layout.specs.declared.active.ManifestRange.{ManifestRange}
 use Rattle.bank_store.specs.DiskWrites.{IsRunning}
-use Rattle.bank_store.specs.Store.{active_slot, active_bank, active_sequence, work_at, IsSealed, IsSealedAt, with_gate_open}
+use Rattle.bank_store.specs.Store.{active_slot, active_bank, active_sequence, work_at, body_of, known_of, IsSealed, IsSealedAt, with_gate_open}
 use Rattle.bank_store.specs.Given.{Given, HasGiven, configured}
 use Rattle.bank_store.specs.declared.store.Store.{Store}
 use Rattle.bank_store.specs.declared.stage.Stage.{Stage}
@@ -20,8 +22,12 @@ pub record GateIsAsKept (store : Store) (image : Image) : Type 0 where
   pub open_there : store.other_is_open ≡ true → IsOpen image (other_slot (active_slot store))
   pub shut_there : store.other_is_open ≡ false → ¬ IsOpen image (other_slot (active_slot store))
 
+-- the bytes say those of the loads that have a type id
+abbrev pub KnowsLoads : List ℕ → List LoadView → Type 0
+KnowsLoads bytes loads = bytes ≡ entry_bytes (typed_loads (entries_of loads))
+
 -- by the slot that the store keeps as active the image holds this configuration; its bank, sequence number, manifest and
--- bank size are the store's, and the other slot's gate is as the store keeps it
+-- bank size are the store's, the store knows its loads, and the other slot's gate is as the store keeps it
 pub record HoldsFor (store : Store) (image : Image) (s : StandingView) : Type 0 where
   pub by : HoldsBy image (active_slot store) s
   pub bank : s.bank ≡ (active_bank store)
@@ -29,6 +35,7 @@ pub record HoldsFor (store : Store) (image : Image) (s : StandingView) : Type 0 
   pub size : s.identity.bank ≡ store.size
   pub offset : manifest_offset_of image (active_slot store) ≡ store.active.manifest.offset
   pub length : manifest_length_of image (active_slot store) ≡ store.active.manifest.length
+  pub known : KnowsLoads (known_of store) s.loads
   pub gate : GateIsAsKept store image
 
 -- the gate of the other slot is all that is missing: with it the image holds the new configuration, of these loads
@@ -38,6 +45,7 @@ pub record IsReady (store : Store) (image : Image) (s : StandingView) (loads : L
   pub opens : HoldsBy (with_gate_open store image) (other_slot (active_slot store)) (configured s loads)
   pub offset : manifest_offset_of (with_gate_open store image) (other_slot (active_slot store)) ≡ manifest.offset
   pub length : manifest_length_of (with_gate_open store image) (other_slot (active_slot store)) ≡ manifest.length
+  pub known : KnowsLoads (body_of store) loads
 
 -- what the disk holds of an installation at this stage: where contents are coming, all that was given; where it is
 -- sealed, all but the gate

@@ -52,6 +52,13 @@ file_to_last file (load ∷ next ∷ loads) = load ∷ file_to_last file (next �
 abbrev pub with_file : (name : List ℕ) → Given → Given
 with_file name g = record { loads = file_to_last (record { name = name; bytes = g.bytes }) g.loads; bytes = [] }
 
+-- a load is given with all its files
+abbrev pub whole_given : LoadView → GivenLoad
+whole_given load = record { part = load.part; type_id = load.type_id; announced = length load.files; files = load.files }
+
+abbrev pub with_whole : LoadView → Given → Given
+with_whole load g = record { loads = g.loads ++ whole_given load ∷ []; bytes = g.bytes }
+
 -- ---- what it comes to
 
 -- a load whose files are all there

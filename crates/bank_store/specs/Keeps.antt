@@ -1,14 +1,16 @@
 -- What the calls of a store do, and what they keep (docs/DISK.md).
-use Rattle.std.specs.Prelude.{◌≡◌, ◌⊎◌, ℕ, ◌+◌, ◌<◌, ◌≤◌, Result, List, Some, length}
+use Rattle.std.specs.Prelude.{◌≡◌, ◌⊎◌, ℕ, ◌+◌, ◌<◌, ◌≤◌, Result, List, [], ◌∷◌, ◌++◌, Some, length}
 use Rattle.std.specs.Option.{ForSome}
 use Rattle.load_base.specs.Config.{LoadView}
-use Rattle.disk_model.specs.Image.{Image}
+use Rattle.disk_model.specs.Image.{Image, range}
 use Rattle.disk_model.specs.State.{DiskState, IsSettled}
+use Rattle.disk_layout.specs.Entries.{entry_bytes}
+use Rattle.disk_layout.specs.Manifest.{entries_length, total_length}
 use Rattle.disk_layout.specs.Slots.{IsOpen, other_slot, manifest_offset_of, manifest_length_of}
 use Rattle.disk_layout.specs.Holds.{StandingView, HoldsConfig, HoldsBy}
 use Rattle.bank_store.specs.DiskWrites.{AddsOnly, IsAnswered, IsRunning}
-use Rattle.bank_store.specs.Store.{active_slot, work_at, IsSealed, IsFilling, IsPrepared, SameActive, Switches, nothing_filled, bytes_appended, manifest_length, with_gate_shut, with_piece, with_manifest, with_slot, with_gate_open}
-use Rattle.bank_store.specs.Given.{Given, HasGiven, nothing_given, with_bytes, loads_of, configured}
+use Rattle.bank_store.specs.Store.{active_at, active_slot, body_of, work_at, IsKept, IsSealed, IsFilling, IsPrepared, SameActive, load_kept, Switches, nothing_filled, bytes_appended, manifest_length, with_gate_shut, with_piece, with_manifest, with_slot, with_gate_open}
+use Rattle.bank_store.specs.Given.{Given, HasGiven, nothing_given, with_bytes, with_whole, loads_of, configured}
 use Rattle.bank_store.specs.Fits.{HoldsFor, HasWork, IsReady, SameButForWork, Fits, Works, InstallsBeside, CanActivate}
 use Rattle.bank_store.specs.declared.fault.StoreFault.{StoreFault}
 use Rattle.bank_store.specs.declared.store.Store.{Store}
@@ -79,7 +81,7 @@ pub record IsShutFor (store : Store) (image : Image) (s : StandingView) : Type 0
 -- An installation begins: nothing is given yet, and the other slot's gate is shut.
 pub record Begins (before after : Store) (old new : DiskState) : Type 0 where
   pub filling : IsFilling after nothing_filled
-  pub manifest : manifest_length after ≡ 4
+  pub manifest : body_of after ≡ []
   pub written : ForSome old.reads (λ image. new.reads ≡ Some (with_gate_shut before image))
   pub given : ForSome new.reads (λ image. HasGiven after image nothing_given)
   pub settled : IsSettled new
@@ -87,13 +89,25 @@ pub record Begins (before after : Store) (old new : DiskState) : Type 0 where
 -- These bytes stand after those that came.
 pub record Appends (before after : Store) (old new : DiskState) (bytes : List ℕ) : Type 0 where
   pub filling : (progress : Filling) → IsFilling before progress → IsFilling after (bytes_appended (length bytes) progress)
-  pub manifest : manifest_length after ≡ manifest_length before
+  pub manifest : body_of after ≡ body_of before
   pub written : ForSome old.reads (λ image. (progress : Filling) → IsFilling before progress → new.reads ≡ Some (with_piece before progress bytes image))
   pub given : ForSome old.reads (λ image. ForSome new.reads (λ now. (g : Given) → HasGiven before image g → HasGiven after now (with_bytes bytes g)))
+
+-- The files of a load of the active configuration stand after the contents, and the manifest says of it what the active one
+-- says.
+pub record KeepsLoad (before after : Store) (old new : DiskState) (load : ℕ) : Type 0 where
+  pub filling : (is : IsKept before load) (progress : Filling) → IsFilling before progress → IsFilling after (load_kept (entries_length is.kept.files) progress)
+  pub manifest : (is : IsKept before load) → body_of after ≡ body_of before ++ entry_bytes (is.kept ∷ [])
+  pub written : ForSome old.reads (λ image. (is : IsKept before load) (progress : Filling) → IsFilling before progress
+      → new.reads ≡ Some (with_piece before progress (range image (active_at before + total_length is.before) (entries_length is.kept.files)) image))
+  pub given : ForSome old.reads (λ image. ForSome new.reads (λ now. (s : StandingView) (g : Given) → HoldsFor before image s → HasGiven before image g
+      → (front back : List LoadView) (kept : LoadView) → s.loads ≡ front ++ kept ∷ back → length front + 1 ≡ load
+      → HasGiven after now (with_whole kept g)))
 
 -- The manifest stands after the contents, and all of the other slot but its gate.
 pub record Seals (before after : Store) (old new : DiskState) : Type 0 where
   pub sealed : IsSealed after
+  pub manifest : body_of after ≡ body_of before
   pub written : ForSome old.reads (λ image. (progress : Filling) → IsFilling before progress
       → new.reads ≡ Some (with_slot before progress.end (manifest_length before) (with_manifest before progress image)))
   pub ready : ForSome old.reads (λ image. ForSome new.reads (λ now. (s : StandingView) (g : Given) → HoldsFor before image s

@@ -5,4 +5,6 @@ pub mod Fits
 pub mod Formatting
 pub mod Given
 pub mod Keeps
+pub mod Known
+pub mod KnownLaws
 pub mod Store

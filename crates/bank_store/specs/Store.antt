@@ -1,12 +1,16 @@
 -- What a store keeps of the disk that it installs on (docs/DISK.md).
-use Rattle.std.specs.Prelude.{◌≡◌, ℕ, ◌+◌, ◌-◌, ◌<◌, ◌≤◌, Bool, true, if◌then◌else◌, List, [], ◌∷◌, ◌++◌, length}
+use Rattle.std.specs.Prelude.{◌≡◌, ℕ, ◌+◌, ◌-◌, ◌<◌, ◌≤◌, Bool, true, if◌then◌else◌, List, [], ◌∷◌, ◌++◌, length, take, drop}
 use Rattle.load_base.specs.Host.{longest_file}
 use Rattle.field_grammar.specs.Fields.{number_bytes}
 use Rattle.disk_model.specs.Image.{Image, overlay}
 use Rattle.disk_layout.specs.Offsets.{bank_at, layout_mark, longest_manifest, most_loads}
+use Rattle.disk_layout.specs.Entries.{SaysLoads}
+use Rattle.disk_layout.specs.Manifest.{LoadEntry, entries_length, total_length}
+use Rattle.disk_layout.specs.declared.entries.LoadPlace.{LoadPlace}
 use Rattle.disk_layout.specs.Slots.{slot_offset, other_slot, bank_number, other_bank, slot_body_bytes}
 use Rattle.disk_layout.specs.declared.active.Active.{Active}
 use Rattle.disk_layout.specs.declared.active.ManifestRange.{ManifestRange}
+use Rattle.bank_store.specs.Bounds.{HasCapacity}
 use Rattle.bank_store.specs.declared.store.Store.{Store}
 use Rattle.bank_store.specs.declared.stage.Stage.{Stage}
 use Rattle.bank_store.specs.declared.stage.Stage.TheVariants as stages
@@ -29,6 +33,14 @@ active_bank store = bank_number store.active.bank
 abbrev pub active_sequence : Store → ℕ
 active_sequence store = store.active.sequence
 
+-- what the active manifest says of its loads, where it says their type ids
+abbrev pub known_of : Store → List ℕ
+known_of store = store.known.items
+
+-- what the manifest says that is being made, after its first four bytes
+abbrev pub body_of : Store → List ℕ
+body_of store = store.body.items
+
 -- whether the other slot is open
 abbrev pub is_other_open : Store → Bool
 is_other_open store = store.other_is_open
@@ -37,7 +49,10 @@ is_other_open store = store.other_is_open
 abbrev pub stage_of : Store → Stage
 stage_of store = store.stage
 
--- where the other bank begins
+-- where the active bank begins, and the other
+abbrev pub active_at : Store → ℕ
+active_at store = bank_at store.size (active_bank store)
+
 abbrev pub work_at : Store → ℕ
 work_at store = bank_at store.size (other_bank (active_bank store))
 
@@ -56,15 +71,17 @@ IsSealedAt store manifest = store.stage ≡ stages.Sealed manifest
 abbrev pub IsSealed : Store → Type 0
 IsSealed store = (manifest : ManifestRange) × IsSealedAt store manifest
 
--- no installation has begun, and there is spare capacity for the longest manifest
+-- no installation has begun, and there is spare capacity for the longest manifest, and for the next one
 pub record IsPrepared (store : Store) : Type 0 where
   pub idle : IsIdle store
   pub spare : longest_manifest ≤ store.body.spare
+  pub known : HasCapacity store.known
 
 -- the same is active, on banks of the same size
 pub record SameActive (old new : Store) : Type 0 where
   pub size : new.size ≡ old.size
   pub active : new.active ≡ old.active
+  pub known : known_of new ≡ known_of old
 
 -- the other slot is active, with the other bank, the next sequence number and the manifest that was sealed, and no
 -- installation is begun
@@ -74,6 +91,7 @@ pub record Switches (old new : Store) : Type 0 where
   pub bank : active_bank new ≡ other_bank (active_bank old)
   pub sequence : active_sequence new ≡ active_sequence old + 1
   pub manifest : IsSealedAt old new.active.manifest
+  pub known : known_of new ≡ body_of old
   pub opened : new.other_is_open ≡ true
   pub idle : IsIdle new
 
@@ -102,6 +120,23 @@ abbrev pub PassesBank : Store → (n need have : ℕ) → Type 0
 PassesBank store n need have =
     (progress : Filling) × IsFilling store progress × (need ≡ progress.end + n) × (have ≡ store.size) × (have < need)
 
+-- the active configuration has a load of this number, counted from 1, with a type id, and its files lie in the bank
+pub record IsKept (store : Store) (load : ℕ) : Type 0 where
+  pub before : List LoadEntry
+  pub kept : LoadEntry
+  pub behind : List LoadEntry
+  pub says : SaysLoads (known_of store) (before ++ kept ∷ behind)
+  pub is_at : length before + 1 ≡ load
+  pub within : total_length before + entries_length kept.files ≤ store.size
+
+-- what the active manifest says of the load at this place
+abbrev pub knows_entry : Store → LoadPlace → List ℕ
+knows_entry store place = take place.entry_length (drop place.entry (known_of store))
+
+-- with its files after the contents the other bank would need this many bytes, more than it has
+abbrev pub PassesByKept : Store → (load need have : ℕ) → Type 0
+PassesByKept store load need have = (is : IsKept store load) × PassesBank store (entries_length is.kept.files) need have
+
 -- the active configuration has the last sequence number
 abbrev pub IsSpent : Store → Type 0
 IsSpent store = (active_sequence store) ≡ 4294967295
@@ -113,6 +148,10 @@ load_announced files progress = record { loads = progress.loads + 1; missing = f
 -- this many bytes more stand in the bank
 abbrev pub bytes_appended : ℕ → Filling → Filling
 bytes_appended n progress = record { loads = progress.loads; missing = progress.missing; end = progress.end + n; start = progress.start }
+
+-- a load stands in the bank that is kept, whose files have this many bytes
+abbrev pub load_kept : ℕ → Filling → Filling
+load_kept n progress = record { loads = progress.loads + 1; missing = progress.missing; end = progress.end + n; start = progress.end + n }
 
 -- the file in progress has ended
 abbrev pub file_ended : Filling → Filling

@@ -1,28 +1,34 @@
 //! Installs a configuration into the bank that isn't active.
-ghost use Rattle.std.specs.Prelude.{◌≡◌, ◌⊎◌, ℕ, ◌+◌, ◌-◌, ◌<◌, ◌≤◌, ◌↔◌, List, [], false, true};
+ghost use Rattle.std.specs.Prelude.{◌≡◌, ◌⊎◌, ℕ, ◌+◌, ◌-◌, ◌<◌, ◌≤◌, ◌↔◌, List, [], ◌++◌};
+ghost use Rattle.std.specs.Prelude.{false, true};
 ghost use Rattle.std.specs.Prelude.{Some, length, IsOk, IfErr, OnOk, IsErrOf};
 ghost use Rattle.std.specs.Option.{ForSome};
 ghost use Rattle.load_base.specs.Config.{LoadView};
-ghost use Rattle.disk_model.specs.Image.{Image};
+ghost use Rattle.field_grammar.specs.Fields.{number_bytes};
+ghost use Rattle.disk_model.specs.Image.{Image, overlay, range};
 ghost use Rattle.disk_model.specs.Moments.{LeavesOnly};
 ghost use Rattle.disk_model.specs.State.{HasCause};
-ghost use Rattle.disk_layout.specs.Offsets.{IsBankSize, most_files};
+ghost use Rattle.disk_layout.specs.Offsets.{IsBankSize, most_files, most_loads};
 ghost use Rattle.disk_layout.specs.Holds.{StandingView};
 ghost use Rattle.bank_store.specs.declared.fault.StoreFault.TheVariants.{BankFull, SequenceSpent};
 ghost use Rattle.bank_store.specs.declared.fault.StoreFault.TheVariants.{Memory};
 ghost use Rattle.bank_store.specs.declared.stage.Filling.{Filling};
 ghost use Rattle.disk_layout.specs.Slots.{IsManifestRange};
-ghost use Rattle.bank_store.specs.Bounds.{IsStore};
+ghost use Rattle.bank_store.specs.Bounds.{IsStore, longest_load};
 
 use crate::fault::StoreFault;
 use crate::head::head_of;
 use crate::stage::{Filling, Stage};
 use disk_layout::numbers::{u8_bytes, u16_bytes, u32_bytes};
 use disk_layout::offsets::{LONGEST_MANIFEST, OPEN, SEQUENCE_IN_SLOT};
-use disk_layout::{Active, ManifestRange, SlotFields};
+use disk_layout::{Active, LoadPlace, ManifestRange, SlotFields, find_load};
 use disk_model::{Disk, DiskFault};
 use load_base::{Bytes, Name, PartText};
 use std::alloc::Global;
+use std::mem;
+
+/// How many bytes of a load that is kept are copied at once, at most.
+const PIECE: usize = 512;
 
 /// The gate of a slot that is shut.
 const SHUT: u8 = 0;
@@ -30,30 +36,37 @@ const SHUT: u8 = 0;
 /// Installs a configuration into the bank that isn't active, while the active one stays whole. It
 /// holds no disk: each call that writes is lent the disk whose recovery gave the store.
 ///
-/// An installation goes `prepare`, `begin`, then for each load `start_load` and for each of its
-/// files `append` as often as pieces of it come and `end_file`, then `seal` and `activate`. The
-/// active slot and its bank are never written; the other slot's gate is the last byte that is.
+/// An installation goes `prepare`, `begin`, then for each new load `start_load` and for each of its
+/// files `append` as often as pieces of it come and `end_file`, and for each load of the active
+/// configuration that stays `keep`; then `seal` and `activate`. The active slot and its bank are
+/// never written; the other slot's gate is the last byte that is.
 #[derive(Drop)]
 pub struct Store {
     size: u32,
     active: Active,
+    /// What the active manifest says of its loads, where it says their type ids.
+    known: Bytes,
     other_is_open: bool,
+    /// What the manifest says that is being made, after its first four bytes.
     body: Bytes,
     stage: Stage,
-    ghost keeps: { IsStore size active other_is_open body stage },
+    ghost keeps: { IsStore size active known other_is_open body stage },
 }
 
 impl Store {
     ghost use Rattle.bank_store.specs.Store.{bank_size_of, active_of, active_slot, active_bank};
-    ghost use Rattle.bank_store.specs.Store.{active_sequence, is_other_open, stage_of, work_at};
+    ghost use Rattle.bank_store.specs.Store.{active_sequence, is_other_open, stage_of};
     ghost use Rattle.bank_store.specs.Store.{SameActive, IsIdle, IsFilling, IsSealed, IsPrepared};
     ghost use Rattle.bank_store.specs.Store.{IsSpent, IsBetweenLoads, AwaitsLoad, AwaitsFile};
     ghost use Rattle.bank_store.specs.Store.{AwaitsEnd, PassesBank, spare_of, load_announced};
     ghost use Rattle.bank_store.specs.Store.{file_ended, manifest_length, slot_body};
     ghost use Rattle.bank_store.specs.Store.{with_gate_shut, with_manifest, with_slot};
+    ghost use Rattle.bank_store.specs.Store.{IsKept, PassesByKept, active_at, body_of, known_of};
+    ghost use Rattle.bank_store.specs.Store.{knows_entry, load_kept, work_at};
     ghost use Rattle.bank_store.specs.Given.{Given, HasGiven, with_load, with_file, configured};
     ghost use Rattle.bank_store.specs.Fits.{HoldsFor, CanActivate};
     ghost use Rattle.bank_store.specs.Keeps.{Keeps, Continues, Begins, Appends, Seals, Activates};
+    ghost use Rattle.bank_store.specs.Keeps.{KeepsLoad};
     ghost use Rattle.bank_store.specs.Keeps.{LeavesActive, LeavesRest, IsShutFor, KeepsNear};
     ghost use Rattle.bank_store.specs.Keeps.{IsOldOrNew};
     ghost use Rattle.bank_store.specs.DiskWrites.{WritesDisk, AddsOnly, TimeGoesOn, IsAnswered};
@@ -61,25 +74,29 @@ impl Store {
     ghost use Rattle.disk_layout.specs.Slots.{other_slot};
 
     /// A store for a disk with banks of `size` bytes on which this is active, with a manifest that
-    /// lies in its bank, and whose other slot is open or not. It takes no memory yet.
-    pub fn new(alloc: Global, size: u32, active: Active, other_is_open: bool) -> Store
+    /// lies in its bank, and whose other slot is open or not. `known` is what the manifest says of
+    /// its loads, as [`disk_layout::typed_entries`] gives it. It takes no memory yet.
+    pub fn new(alloc: Global, size: u32, active: Active, other_is_open: bool, known: Bytes) -> Store
         requires size { IsBankSize size }
         requires manifest { IsManifestRange size active.manifest }
         ensures idle { IsIdle result }
         ensures size { bank_size_of result ≡ size }
         ensures active { active_of result ≡ active }
+        ensures known { known_of result ≡ known.items }
         ensures other { is_other_open result ≡ other_is_open }
     {
         Store {
             size,
             active,
+            known,
             other_is_open,
             body: Bytes::new(alloc),
             stage: Stage::Idle,
         }
     }
 
-    /// Reserves the memory that an installation takes, the 565,860 bytes of the longest manifest.
+    /// Reserves the memory that an installation takes: twice the 565,860 bytes of the longest
+    /// manifest, once for the one that is made, and once for the one that is active.
     pub fn prepare(&mut self) -> Result<(), StoreFault>
         ensures prepared { OnOk result (IsIdle self.old → IsPrepared self.new) }
         ensures again { IsPrepared self.old → IsOk result }
@@ -90,7 +107,10 @@ impl Store {
             → HasGiven self.new image g }
         ensures continues { Continues self.old self.new }
     {
-        self.body.reserve(LONGEST_MANIFEST as usize)?;
+        let longest = LONGEST_MANIFEST as usize;
+        self.body.reserve(longest)?;
+        self.known
+            .reserve(longest.saturating_sub(self.known.len()))?;
         Ok(())
     }
 
@@ -159,6 +179,8 @@ impl Store {
         ensures filling { (progress : Filling) → IsFilling self.old progress
             → IsFilling self.new (load_announced files progress) }
         ensures manifest { manifest_length self.new ≡ manifest_length self.old + 19 }
+        ensures body { body_of self.new ≡ ((body_of self.old ++ part) ++ number_bytes 2 type_id)
+            ++ number_bytes 2 files }
         ensures given { (image : Image) (g : Given) → HasGiven self.old image g
             → HasGiven self.new image (with_load part type_id files g) }
         ensures continues { Continues self.old self.new }
@@ -230,6 +252,9 @@ impl Store {
         ensures filling { (progress : Filling) → IsFilling self.old progress
             → IsFilling self.new (file_ended progress) }
         ensures manifest { manifest_length self.new ≡ manifest_length self.old + (5 + length name) }
+        ensures body { (progress : Filling) → IsFilling self.old progress → body_of self.new
+            ≡ ((body_of self.old ++ number_bytes 1 (length name)) ++ name)
+            ++ number_bytes 4 (progress.end - progress.start) }
         ensures given { (image : Image) (g : Given) → HasGiven self.old image g
             → HasGiven self.new image (with_file name g) }
         ensures continues { Continues self.old self.new }
@@ -247,6 +272,121 @@ impl Store {
             ..progress
         });
         Ok(())
+    }
+
+    /// Copies a load of the active configuration, counted from 1, after the contents: its files from
+    /// bank to bank, and what the manifest says of it. It takes no memory.
+    ///
+    /// BankFull where the contents would pass the bank; then nothing was written.
+    pub fn keep<K: Disk>(&mut self, disk: &mut K, load: u16) -> Result<(), StoreFault>
+        requires filling { AwaitsLoad self.old }
+        requires known { IsKept self.old load }
+        requires running { IsRunning (K.state disk.old) }
+        // With Ok.
+        ensures keeps_load { OnOk result (KeepsLoad self.old self.new (K.state disk.old)
+            (K.state disk.new) load) }
+        // Refusals.
+        ensures full { (need have : ℕ)
+            → IsErrOf result (BankFull need have)
+            ↔ PassesByKept self.old load need have }
+        ensures untouched { (need have : ℕ) → IsErrOf result (BankFull need have)
+            → disk.new ≡ disk.old }
+        ensures not_spent { ¬ IsErrOf result SequenceSpent }
+        ensures refused { IfErr result (λ fault. self.new ≡ self.old) }
+        // Whatever it answers.
+        ensures writes_disk { WritesDisk (K.state disk.old) (K.state disk.new) result }
+        ensures keeps { Keeps self.old self.new (K.state disk.old) (K.state disk.new) result }
+    {
+        let Stage::Filling(progress) = self.stage else {
+            unreachable!()
+        };
+        let place = find_load(self.known.as_slice(), load - 1);
+        let need = u64::from(progress.end) + place.files_length;
+        if need > u64::from(self.size) {
+            return Err(StoreFault::BankFull {
+                need,
+                have: self.size,
+            });
+        }
+        let from = self.bank_at() + place.files as u32;
+        let length = place.files_length as u32;
+        self.copy(disk, from, self.work() + progress.end, length)?;
+        self.add_entry(place, progress, length);
+        Ok(())
+    }
+
+    // A load of the active configuration, at this place, was copied after the contents: the manifest
+    // says of it what the active one says.
+    fn add_entry(&mut self, place: LoadPlace, progress: Filling, count: u32)
+        requires filling { IsFilling self.old progress }
+        requires between { (progress.loads < most_loads) × (progress.missing ≡ 0) }
+        requires room { progress.end + count ≤ bank_size_of self.old }
+        requires within { place.entry + place.entry_length ≤ length (known_of self.old) }
+        requires short { place.entry_length ≤ longest_load }
+        ensures filling { IsFilling self.new (load_kept count progress) }
+        ensures body { body_of self.new ≡ body_of self.old ++ knows_entry self.old place }
+        ensures active { SameActive self.old self.new }
+        ensures gate { is_other_open self.new ≡ is_other_open self.old }
+    {
+        let entry = &self.known.as_slice()[place.entry..][..place.entry_length];
+        match self.body.extend(entry) {
+            Ok(()) => {}
+            Err(_) => unreachable!(),
+        }
+        let end = progress.end + count;
+        self.stage = Stage::Filling(Filling {
+            loads: progress.loads + 1,
+            end,
+            start: end,
+            ..progress
+        });
+    }
+
+    // Copies bytes of the active bank into the other one, piece by piece.
+    fn copy<K: Disk>(&self, disk: &mut K, from: u32, to: u32, count: u32) -> Result<(), DiskFault>
+        requires source { (active_at self.now ≤ from)
+            × (from + count ≤ active_at self.now + bank_size_of self.now) }
+        requires target { (work_at self.now ≤ to)
+            × (to + count ≤ work_at self.now + bank_size_of self.now) }
+        requires running { IsRunning (K.state disk.old) }
+        ensures goes_on { TimeGoesOn (K.state disk.old) (K.state disk.new) }
+        ensures cause { HasCause (K.state disk.old) (K.state disk.new) result }
+        ensures near { KeepsNear self.now (K.state disk.old) (K.state disk.new) }
+        ensures written { OnOk result (ForSome (K.state disk.old).reads
+            (λ image. (K.state disk.new).reads ≡ Some (overlay image to (range image from count)))) }
+    {
+        let mut piece = [0; PIECE];
+        let mut done = 0;
+        while done < count {
+            let length = (count - done).min(PIECE as u32);
+            let piece = &mut piece[..length as usize];
+            self.copy_piece(disk, from + done, to + done, piece)?;
+            done += length;
+        }
+        Ok(())
+    }
+
+    // Copies as many bytes as the piece takes.
+    fn copy_piece<K: Disk>(
+        &self,
+        disk: &mut K,
+        from: u32,
+        to: u32,
+        piece: &mut [u8],
+    ) -> Result<(), DiskFault>
+        requires source { from + length piece.old ≤ active_at self.now + bank_size_of self.now }
+        requires target { (work_at self.now ≤ to)
+            × (to + length piece.old ≤ work_at self.now + bank_size_of self.now) }
+        requires running { IsRunning (K.state disk.old) }
+        ensures goes_on { TimeGoesOn (K.state disk.old) (K.state disk.new) }
+        ensures cause { HasCause (K.state disk.old) (K.state disk.new) result }
+        ensures near { KeepsNear self.now (K.state disk.old) (K.state disk.new) }
+        ensures written { OnOk result (ForSome (K.state disk.old).reads
+            (λ image. (K.state disk.new).reads
+            ≡ Some (overlay image to (range image from (length piece.old))))) }
+    {
+        disk.read(from, piece)?;
+        disk.write(to, piece)
     }
 
     /// Writes the manifest after the contents, and all of the other slot but its gate, and syncs.
@@ -372,6 +512,7 @@ impl Store {
         disk.write(slot, &[OPEN])?;
         // From here on the old configuration can't come back.
         disk.sync()?;
+        mem::swap(&mut self.known, &mut self.body);
         self.forget();
         self.active = Active {
             slot: self.active.slot.other(),
@@ -403,6 +544,7 @@ impl Store {
         ensures active { SameActive self.old self.new }
         ensures gate { is_other_open self.new ≡ is_other_open self.old }
         ensures spare { spare_of self.new ≡ spare_of self.old + (manifest_length self.old - 4) }
+        ensures known { self.new.known ≡ self.old.known }
     {
         self.body.clear();
         self.stage = Stage::Idle;
@@ -427,6 +569,14 @@ impl Store {
         ensures { result ≡ other_slot (active_slot self.now) }
     {
         self.active.slot.other().offset()
+    }
+
+    // The offset of the active bank.
+    fn bank_at(&self) -> u32
+        ensures offset { result ≡ active_at self.now }
+        ensures within { result + bank_size_of self.now ≤ 134225920 }
+    {
+        self.active.bank.offset(self.size)
     }
 
     // The offset of the other bank.

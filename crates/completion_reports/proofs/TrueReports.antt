@@ -1,7 +1,6 @@
 -- Proofs that what a target reports as installed is what it installed.
 use Rattle.std.proofs.Common.{◌≡◌, inl, inr, ℕ, ◌+◌, Bool, true, false, cond, List, [], ◌∷◌, Option, Some, None, refl, sym, ap, subst, ◌∙◌, arith}
 use Rattle.std.specs.Prelude.{◌==◌}
-use Rattle.std.specs.List.{AllZip}
 use Rattle.std.proofs.lemmas.Bool.{eqb-true}
 use Rattle.load_base.specs.Config.{LoadView}
 use Rattle.disk_layout.specs.Holds.{StandingView}
@@ -16,7 +15,6 @@ use Rattle.accept_rules.specs.Permissions.{Accepts}
 use Rattle.session_rules.specs.declared.reason.Reason.{Reason}
 use Rattle.session_rules.specs.BufferLaws.{SumsJoin}
 use Rattle.session_rules.specs.LoaderLog.{newest}
-use Rattle.session_rules.specs.NewConfigs.{IsWanted}
 use Rattle.session_rules.specs.ReadFileLaws.{session_is}
 use Rattle.session_rules.specs.SoundLogs.{IsNewAt, StaysOrIsNew}
 use Rattle.session_rules.specs.Target as target
@@ -153,6 +151,7 @@ module _ (set : Setting) (given : HappeningView) (posts : List DatagramView) (ea
     since = quiet_step ∷ h.since;
     install = h.install;
     before = h.before;
+    loads = h.loads;
     new = h.new;
     session = h.session;
     upload = h.upload;
@@ -163,6 +162,7 @@ module _ (set : Setting) (given : HappeningView) (posts : List DatagramView) (ea
     reports = subst (λ (state : TargetState). HasSession state h.session) (sym is) (live ∙ subst (λ (state : TargetState). HasSession state h.session) up h.reports);
     completes = h.completes;
     asked = h.asked;
+    made = h.made;
     only = ap may_be_active is ∙ (ap (λ (s : StandingView). s ∷ []) active ∙ (sym (ap may_be_active up) ∙ h.only));
   }
 
@@ -179,11 +179,11 @@ module _ (set : Setting) (given : HappeningView) (posts : List DatagramView) (ea
         let session : TargetSessionLog = with_done set.accepts r.active s (newest later.end.past) in
         let sessions : with_done set.accepts r.active new.session (new.ended ∷ []) ≡ session =
         ap (λ (x : TargetSessionLog). with_done set.accepts r.active x (new.ended ∷ [])) (session_is new.session s (sym new.live ∙ was)) ∙ ap (λ (ts : List Transfer). with_done set.accepts r.active s ts) (sym new.is_newest) in
-        let loads : new.loads ≡ later.active.loads = ap (λ (x : StandingView). x.loads) (sym new.next) in
         record {
           since = [];
           install = quiet_step;
           before = earlier;
+          loads = new.loads;
           new = later.active;
           session = session;
           upload = new.upload;
@@ -193,8 +193,9 @@ module _ (set : Setting) (given : HappeningView) (posts : List DatagramView) (ea
           stays_up = (refl, tt);
           installed = subst (λ (state : TargetState). HasSession state session) (sym state_is) live;
           reports = subst (λ (state : TargetState). HasSession state session) (sym state_is) live;
-          completes = sym (ap (λ (x : TargetSessionLog). x.row) sessions) ∙ (new.good ∙ ap (λ (x : List LoadView). Writes_completion new.upload x) loads);
-          asked = subst (λ (x : List LoadView). AllZip IsWanted new.upload.request x) loads new.new.each;
+          completes = sym (ap (λ (x : TargetSessionLog). x.row) sessions) ∙ new.good;
+          asked = new.new.each;
+          made = subst (λ (state : TargetState). later.active ≡ standing_after (active_in state) new.loads) (sym up) new.next;
           only = ap may_be_active state_is;
         }
 

@@ -1,17 +1,18 @@
 -- What a target reports as installed (docs/EXCHANGE.md, "Upload"; docs/POWER.md).
 use Rattle.std.specs.Prelude.{◌≡◌, List, [], ◌∷◌, ◌++◌, Option, Some, None, ⊤}
 use Rattle.std.specs.List.{AllByRecursion, AllZip}
+use Rattle.load_base.specs.Config.{LoadView}
 use Rattle.disk_layout.specs.Holds.{StandingView}
 use Rattle.exchange_trace.specs.Steps.{Step}
 use Rattle.accept_rules.specs.Permissions.{AcceptsPermitted}
 use Rattle.transfer_end.specs.Transfers.{Role, Transfer, Writes}
 use Rattle.session_rules.specs.Completions.{SaysCompleted}
 use Rattle.session_rules.specs.NewConfigs.{IsWanted}
-use Rattle.session_rules.specs.TargetLog.{TargetSessionLog}
+use Rattle.session_rules.specs.TargetLog.{TargetSessionLog, standing_after}
 use Rattle.session_rules.specs.TargetRows.{UploadEnd, Writes_completion}
 use Rattle.replay_rules.specs.BothEnds.{Is_down, Is_up, Setting, TargetState, target_at}
 use Rattle.replay_rules.specs.Changes.{AllCarryBytes}
-use Rattle.replay_rules.specs.Histories.{brings, may_be_active}
+use Rattle.replay_rules.specs.Histories.{active_at, brings, may_be_active}
 
 -- ---- a report of completion
 
@@ -38,11 +39,13 @@ HasSession (Is_up r) session = r.live ≡ Some session
 HasSession (Is_down active interrupted) session = ⊥
 
 -- One of these steps, the newest or one before it, brought a configuration of exactly the loads that were asked for, in their
--- order. The session that is live now installed it then, the target has stayed up since, and nothing else may be active now.
+-- order, and then of those that were kept of what was active before it. The session that is live now installed it then, the target
+-- has stayed up since, and nothing else may be active now.
 pub record ReportIsTrue (set : Setting) (steps : List Step) : Type 0 where
   pub since : List Step
   pub install : Step
   pub before : List Step
+  pub loads : List LoadView
   pub new : StandingView
   pub session : TargetSessionLog
   pub upload : UploadEnd
@@ -51,8 +54,9 @@ pub record ReportIsTrue (set : Setting) (steps : List Step) : Type 0 where
   pub stays_up : AllByRecursion (λ (s : Step). s.notes ≡ []) (since ++ install ∷ [])
   pub installed : HasSession (target_at set (install ∷ before)) session
   pub reports : HasSession (target_at set steps) session
-  pub completes : session.row ≡ Writes_completion upload new.loads
-  pub asked : AllZip IsWanted upload.request new.loads
+  pub completes : session.row ≡ Writes_completion upload loads
+  pub asked : AllZip IsWanted upload.request loads
+  pub made : new ≡ standing_after (active_at set before) loads
   pub only : may_be_active (target_at set steps) ≡ new ∷ []
 
 -- so it is after each of these steps

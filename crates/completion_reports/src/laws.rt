@@ -8,7 +8,7 @@ use replay_rules::laws::the_configuration_changes_by_good_verdicts;
 /// power fails: from the step in which a target posts the request of the LUS which says that all is
 /// installed, and as long as it sends that file, nothing may be active but the configuration that
 /// its own session brought, in this step or in one before, of exactly the loads that were asked
-/// for.
+/// for, and of those that were kept.
 pub fn what_a_target_reports_is_installed()
     ensures { ReportsAreTrue }
 {

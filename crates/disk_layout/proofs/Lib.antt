@@ -6,3 +6,4 @@ pub mod LoadReads
 pub mod ManifestReads
 pub mod Sizes
 pub mod SlotReads
+pub mod EntryReads

@@ -1,5 +1,7 @@
 pub mod Contents
 pub mod DiskReads
+pub mod Entries
+pub mod EntriesLaws
 pub mod Faults
 pub mod FieldLaws
 pub mod Fields
@@ -11,6 +13,7 @@ pub mod Manifest
 pub mod ManifestLaws
 pub mod ManifestSpelling
 pub mod Offsets
+pub mod PassedLoads
 pub mod RangeLaws
 pub mod Reading
 pub mod SlotBodyLaws

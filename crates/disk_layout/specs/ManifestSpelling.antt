@@ -135,7 +135,7 @@ files_fields files = number_fields 2 (length files) ++ flat_map file_entry_field
 abbrev FilesFit : List ManifestFile → Type 0
 FilesFit files = ((1 ≤ length files) × (length files ≤ most_files)) × AllByRecursion (λ f. FileFits f) files
 
-spelled-load : (layout : Layout) → IsSpelledBy (load_entry layout) (load_entry_fields layout) (λ l. LoadFits layout l)
+pub spelled-load : (layout : Layout) → IsSpelledBy (load_entry layout) (load_entry_fields layout) (λ l. LoadFits layout l)
 unfolding load_entry from_load
 spelled-load layout =
     spelled-as (load_entry layout) (load_entry_fields layout) (λ l. IsPartText l.part × (HasTypeOf layout l.type_id × FilesFit l.files)) (λ l. LoadFits layout l)
@@ -206,7 +206,7 @@ head_from before after layouts.Two n few = (
   (n, number_fields 2 n, [], sym (append-nil (number_fields 2 n)), spelled-load_count.from (before ++ concat (number_fields 2 layout_mark)) (0 + after) n few, (refl, refl)),
 )
 
-spelled-head : IsSpelledBy manifest_head (λ c. head_fields c.layout c.loads) (λ c. c.loads ≤ most_loads)
+pub spelled-head : IsSpelledBy manifest_head (λ c. head_fields c.layout c.loads) (λ c. c.loads ≤ most_loads)
 unfolding manifest_head
 spelled-head = record {
   to = λ before fields after value follows.

@@ -2,6 +2,7 @@
 #![tactic(auto)]
 
 mod active;
+mod entries;
 mod fault;
 mod identity;
 mod identity_bytes;
@@ -14,6 +15,7 @@ mod slot;
 mod standing;
 
 pub use active::{Active, Bank, ManifestRange, Slot};
+pub use entries::{LoadPlace, find_load, typed_entries};
 pub use fault::RecoverFault;
 pub use identity::Identity;
 pub use identity_bytes::IdentityBytes;

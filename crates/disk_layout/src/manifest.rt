@@ -200,8 +200,9 @@ fn read_type(layout: Layout, reader: &mut Reader) -> Result<Option<u16>, Manifes
 }
 
 #[tactic(auto, unfolding(crate::specs::Manifest::type_number))]
-fn read_type_number(reader: &mut Reader) -> Result<u16, ManifestFault>
-    ensures { Decodes Memory (λ id. id) type_number reader.old result reader.new }
+pub(crate) fn read_type_number(reader: &mut Reader) -> Result<u16, ManifestFault>
+    ensures reads { Decodes Memory (λ id. id) type_number reader.old result reader.new }
+    ensures no_want { ¬ IsErrOf result Memory }
 {
     let wrong = ManifestFault::Wrong(reader.place() as u64);
     match reader.take_u16() {
@@ -227,8 +228,9 @@ fn read_files(
 }
 
 #[tactic(auto, unfolding(crate::specs::Manifest::file_entry))]
-fn read_file(reader: &mut Reader) -> Result<ManifestFile, ManifestFault>
-    ensures { Decodes Memory (λ file. file) file_entry reader.old result reader.new }
+pub(crate) fn read_file(reader: &mut Reader) -> Result<ManifestFile, ManifestFault>
+    ensures reads { Decodes Memory (λ file. file) file_entry reader.old result reader.new }
+    ensures no_want { ¬ IsErrOf result Memory }
 {
     let name = read_name(reader)?;
     let length = read_length(reader)?;
@@ -237,13 +239,13 @@ fn read_file(reader: &mut Reader) -> Result<ManifestFile, ManifestFault>
 
 /// How a manifest begins: its layout, and how many loads it has.
 #[derive(Clone, Copy)]
-struct Head {
-    layout: Layout,
+pub(crate) struct Head {
+    pub(crate) layout: Layout,
     loads: u16,
 }
 
 #[tactic(auto, unfolding(crate::specs::Manifest::manifest_head))]
-fn read_head(reader: &mut Reader) -> Result<Head, ManifestFault>
+pub(crate) fn read_head(reader: &mut Reader) -> Result<Head, ManifestFault>
     ensures reads { Decodes Memory (λ head. in_layout head.layout head.loads) manifest_head
         reader.old result reader.new }
     ensures count { IfOk result (λ head. head.loads ≤ most_loads) }
@@ -290,8 +292,9 @@ fn read_load_count(reader: &mut Reader) -> Result<u16, ManifestFault>
 }
 
 #[tactic(auto, unfolding(crate::specs::Manifest::part))]
-fn read_part(reader: &mut Reader) -> Result<PartText, ManifestFault>
-    ensures { Decodes Memory (λ text. text) part reader.old result reader.new }
+pub(crate) fn read_part(reader: &mut Reader) -> Result<PartText, ManifestFault>
+    ensures reads { Decodes Memory (λ text. text) part reader.old result reader.new }
+    ensures no_want { ¬ IsErrOf result Memory }
 {
     let wrong = ManifestFault::Wrong(reader.place() as u64);
     let Ok(bytes) = reader.take_raw(15) else {
@@ -304,8 +307,9 @@ fn read_part(reader: &mut Reader) -> Result<PartText, ManifestFault>
 }
 
 #[tactic(auto, unfolding(crate::specs::Manifest::file_count))]
-fn read_file_count(reader: &mut Reader) -> Result<u16, ManifestFault>
-    ensures { Decodes Memory (λ count. count) file_count reader.old result reader.new }
+pub(crate) fn read_file_count(reader: &mut Reader) -> Result<u16, ManifestFault>
+    ensures reads { Decodes Memory (λ count. count) file_count reader.old result reader.new }
+    ensures no_want { ¬ IsErrOf result Memory }
 {
     let wrong = ManifestFault::Wrong(reader.place() as u64);
     match reader.take_u16() {
@@ -316,7 +320,8 @@ fn read_file_count(reader: &mut Reader) -> Result<u16, ManifestFault>
 
 #[tactic(auto, unfolding(crate::specs::Manifest::file_name))]
 fn read_name(reader: &mut Reader) -> Result<Name, ManifestFault>
-    ensures { Decodes Memory (λ name. name) file_name reader.old result reader.new }
+    ensures reads { Decodes Memory (λ name. name) file_name reader.old result reader.new }
+    ensures no_want { ¬ IsErrOf result Memory }
 {
     let wrong = ManifestFault::Wrong(reader.place() as u64);
     let Ok(bytes) = reader.take_short() else {
@@ -330,7 +335,8 @@ fn read_name(reader: &mut Reader) -> Result<Name, ManifestFault>
 
 #[tactic(auto, unfolding(crate::specs::Manifest::file_length))]
 fn read_length(reader: &mut Reader) -> Result<u32, ManifestFault>
-    ensures { Decodes Memory (λ length. length) file_length reader.old result reader.new }
+    ensures reads { Decodes Memory (λ length. length) file_length reader.old result reader.new }
+    ensures no_want { ¬ IsErrOf result Memory }
 {
     let wrong = ManifestFault::Wrong(reader.place() as u64);
     match reader.take_u32() {

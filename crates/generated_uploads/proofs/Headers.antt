@@ -100,7 +100,7 @@ module _ (file : List ℕ) (short : length file ≤ 16777215) where
     unfolding load_crc_of
     crc_is = ap (λ (before : List ℕ). crc32_of (before ++ (file ++ []))) (sym same_before)
 
-    pub load_is_good : (id : Identity) → id.hw ≡ codes "HW1" → IsGoodLoad Grants id (load_with file)
+    pub load_is_good : (id : Identity) → id.hw ≡ codes "HW1" → IsGoodLoad Grants id [] (load_with file)
     unfolding header_of header_start
     load_is_good id hardware = record {
       header = whole;
@@ -110,8 +110,8 @@ module _ (file : List ℕ) (short : length file ≤ 16777215) where
       part = refl;
       type_id = refl;
       suits = rw hardware refl;
-      accepted = (omega arith, omega arith);
-      permitted = λ none. absurd (omega (arith, none));
+      accepted = record { least = omega arith; most = omega arith; part = refl };
+      permitted = record { type_id = λ none. absurd (omega (arith, none)); part = refl };
       whole = refl;
       each = (record { name = refl; size = refl; crc = refl }, tt);
       crc = crc_is;

@@ -136,7 +136,7 @@ module _ (file : List ℕ) (built : Built) (made : built_view built ≡ recipe_s
             told = can_be_told tellable;
             on_media = subst (λ (m : Media). wanted_of m.loads (generated_part ∷ []) ≡ Ok generated_request) same on_media;
             files = subst (λ (f : List ℕ). AreOfMedia whole_media (load_with f ∷ [])) is (subst (λ (m : Media). AreOfMedia m (load_with file ∷ [])) same are_of_media);
-            good = λ id hardware. subst (λ (f : List ℕ). IsGoodLoad Grants id (load_with f)) is (load_is_good file short headers id hardware);
+            good = λ id hardware. subst (λ (f : List ℕ). IsGoodLoad Grants id [] (load_with f)) is (load_is_good file short headers id hardware);
             need = subst (λ (f : List ℕ). need_of (entries_of (load_with f ∷ [])) ≡ 4194475) is need;
           }
 

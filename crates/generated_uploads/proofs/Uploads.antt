@@ -24,7 +24,7 @@ use Rattle.session_completion.specs.FinishedRuns.{IsComplete}
 use Rattle.run_promises.specs.Promises.{RunsKeepPromises}
 use Rattle.generated_uploads.specs.GeneratedMedia.{AreGoodMedia, GeneratedMediaAreGood, generated_part}
 use Rattle.generated_uploads.specs.GeneratedUploads.{CompletesUpload, GeneratedUploadsComplete, IsGeneratedUpload, IsOneUpload, trial_script}
-use Rattle.generated_uploads.proofs.Starts.{free, left, start}
+use Rattle.generated_uploads.proofs.Starts.{alone, free, left, start}
 use Rattle.generated_uploads.proofs.Turns.{Began, began, first_starts, later_finish, one_start}
 
 -- ---- its first step
@@ -101,7 +101,7 @@ module _ (keeps : RunsKeepPromises) (media : GeneratedMediaAreGood) (one : OneSe
       let kinds_are = one set.media (loader_log steps) ∙ (ap (λ (list : List Step). starts_in (loader_log list)) run.split ∙ one_start set.start.identity.hw set.start.identity.pos (generated_part ∷ []) run.more first finish starts) in
       record {
         sessions = one_upload (loader_at set steps).ended (loader_view (loader_at set steps)).live kinds_are (none_live (loader_at set steps).end (loader_at set steps).live whole.quiet.loader) whole.outcome;
-        loads = λ last active. (completes last active).loads;
+        loads = λ last active. (completes last active).loads ∙ alone number set good is.granted is.can_take first.posts;
       }
 
 pub uploads_complete : RunsKeepPromises → GeneratedMediaAreGood → OneSessionAStart → GeneratedUploadsComplete

@@ -44,14 +44,14 @@ uploaded_load number = record {
 abbrev pub generated_request : List Wanted
 generated_request = record { header = codes "MAKE.LUH"; part = generated_part } ∷ []
 
--- What a loader serves of the generated set: its part is on the media, whose files are those of the load; the load is good for
--- each target of hardware HW1, whatever its position, and of a type that every interlock accepts; and with its manifest it
--- takes 4,194,475 bytes of a bank.
+-- What a loader serves of the generated set: its part is on the media, whose files are those of the load; where nothing is kept
+-- the load is good for each target of hardware HW1, whatever its position, and every interlock accepts it; and with its manifest
+-- it takes 4,194,475 bytes of a bank.
 pub record AreGoodMedia (number : ℕ) (media : Media) : Type 0 where
   pub told : CanBeTold media
   pub on_media : wanted_of media.loads (generated_part ∷ []) ≡ Ok generated_request
   pub files : AreOfMedia media (uploaded_load number ∷ [])
-  pub good : (id : Identity) → id.hw ≡ codes "HW1" → IsGoodLoad Grants id (uploaded_load number)
+  pub good : (id : Identity) → id.hw ≡ codes "HW1" → IsGoodLoad Grants id [] (uploaded_load number)
   pub need : need_of (entries_of (uploaded_load number ∷ [])) ≡ 4194475
 
 -- So it is of each number.

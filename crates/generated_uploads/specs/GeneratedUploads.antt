@@ -1,12 +1,14 @@
 -- The upload of a generated set to a target that can take it (docs/PROMISES.md).
-use Rattle.std.specs.Prelude.{◌≡◌, ℕ, ◌<◌, ◌≤◌, List, [], ◌∷◌, codes, true, Some, ⊤}
+use Rattle.std.specs.Prelude.{◌≡◌, ◌⊎◌, ℕ, ◌<◌, ◌≤◌, List, [], ◌∷◌, codes, true, Some, None, ⊤}
 use Rattle.std.specs.List.{AllByRecursion}
+use Rattle.load_base.specs.Config.{LoadView}
 use Rattle.load_header.specs.Header.{HeaderView}
 use Rattle.disk_layout.specs.Holds.{StandingView}
 use Rattle.disk_layout.specs.declared.identity.Identity.{Identity}
 use Rattle.exchange_trace.specs.Happenings.{Delivered, Ended, HappeningView, Ticked, Upload_started}
 use Rattle.exchange_trace.specs.Lines.{Finish, Line, Upload}
 use Rattle.exchange_trace.specs.Steps.{Step}
+use Rattle.accept_rules.specs.declared.kept.KeptLoad.{KeptLoad}
 use Rattle.accept_rules.specs.Permissions.{AcceptsPermitted, Grants}
 use Rattle.media_check.specs.Sets.{SetView}
 use Rattle.loader_machine.specs.Machine.{all_sessions, media_of}
@@ -26,12 +28,17 @@ use Rattle.generated_uploads.specs.GeneratedMedia.{IsGeneratedSet, uploaded_load
 abbrev pub trial_script : Identity → List Line
 trial_script id = Upload id.hw id.pos (generated_part ∷ []) ∷ Finish ∷ []
 
--- The target can take the generated set: it is of hardware HW1, a bank has room for the load and its manifest, and its sequence
--- number isn't the last.
+-- a load that isn't kept beside the generated one: it has no type id, or the same one
+abbrev pub GivesWay : LoadView → Type 0
+GivesWay l = (l.type_id ≡ None) ⊎ (l.type_id ≡ Some 1)
+
+-- The target can take the generated set: it is of hardware HW1, a bank has room for the load and its manifest, its sequence
+-- number isn't the last, and of what is active there no load is kept.
 pub record CanTakeGeneratedSet (s : StandingView) : Type 0 where
   pub hardware : s.identity.hw ≡ codes "HW1"
   pub bank : 4194475 ≤ s.identity.bank
   pub sequence : s.sequence < 4294967295
+  pub types : AllByRecursion GivesWay s.loads
 
 -- what happens in a run of this script: the upload is started, datagrams are delivered, sides are ticked, and the end
 abbrev pub IsOfTrial : HappeningView → Type 0
@@ -46,12 +53,12 @@ abbrev pub OnlyTrialHappens : Type 0
 OnlyTrialHappens = (set : Setting) (id : Identity) (steps : List Step) → Follows set (trial_script id) steps → AllByRecursion (λ (s : Step). IsOfTrial s.given) steps
 
 -- A run of this script on the generated set came to its end, at such a target, which didn't go down, and whose interlock
--- accepts each header that it has to, and none that it may not.
+-- accepts each header that it has to, whatever is kept, and none that it may not.
 pub record IsGeneratedUpload (number : ℕ) (shown : SetView) (set : Setting) (steps : List Step) : Type 0 where
   pub is_set : IsGeneratedSet number shown
   pub media : set.media ≡ media_of shown
   pub permitted : AcceptsPermitted set.accepts
-  pub granted : (h : HeaderView) → Grants h → set.accepts h ≡ true
+  pub granted : (h : HeaderView) (kept : List KeptLoad) → Grants h kept → set.accepts h kept ≡ true
   pub fits : StandingFits set.start
   pub can_take : CanTakeGeneratedSet set.start
   pub whole : IsWholeRun set steps

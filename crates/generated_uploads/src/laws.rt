@@ -26,8 +26,9 @@ pub fn only_a_trial_happens()
     ensures { OnlyTrialHappens }
 {}
 
-/// An upload of the generated set completes, on a target of its hardware whose bank has room for it
-/// and whose sequence number isn't the last, where the target doesn't go down.
+/// An upload of the generated set completes, on a target of its hardware whose bank has room for it,
+/// whose sequence number isn't the last and of whose loads none is kept beside it, where the target
+/// doesn't go down.
 pub fn a_generated_upload_completes()
     ensures { GeneratedUploadsComplete }
 {

@@ -13,18 +13,19 @@ use Rattle.load_protocol_files.specs.declared.lur.Wanted.{Wanted}
 use Rattle.field_grammar.specs.Answers.{answer}
 use Rattle.accept_rules.specs.Permissions.{Accepts}
 use Rattle.bank_store.specs.declared.store.Store.{Store}
-use Rattle.bank_store.specs.Given.{with_bytes, with_file, with_load}
+use Rattle.bank_store.specs.Given.{Given, loads_of, with_bytes, with_file, with_load}
+use Rattle.session_rules.specs.KeptLoads.{types_in, types_of}
 use Rattle.session_rules.specs.declared.reason.Reason.{Reason}
 use Rattle.session_rules.specs.Buffers.{Buffer, Sums, buffer_size, buffered, is_too_long, summed}
 use Rattle.session_rules.specs.TargetRows.{Judges, Kept_bytes, Kept_sums, Reads_file, RowMove, UploadEnd, WholeRow, Writes_stop, arriving_load, done_move, placed, placed_if, row_judged, row_moved, said_length, view_judged, with_header}
-use Rattle.session_rules.specs.Uploads.{Accepts_file, Accepts_header, Judgement, Next, OpenLoad, OpenLoadView, Upload, UploadView, covered_header, current_view, file_reason, files_of, judge_file, judge_header, judge_spelled_header, load_reason, entry_name, next_entry, next_name, next_number, next_wanted, next_with, open_load_view, or_else, planned_load, need_of, upload_view}
+use Rattle.session_rules.specs.Uploads.{Accepts_file, Accepts_header, Judgement, Next, OpenLoad, OpenLoadView, Upload, UploadView, covered_header, current_view, file_reason, files_of, header_reason, judge_file, judge_header, judge_spelled_header, load_reason, entry_name, next_entry, next_name, next_number, next_wanted, next_with, open_load_view, or_else, upload_view}
 use Rattle.load_intake.specs.declared.down.Down.{Down}
 use Rattle.load_intake.specs.Contents.{BringsRow, GoesTo, IsOf, given_of}
-use Rattle.load_intake.specs.Judging.{header_row, refused_for, whole_buffer, whole_header_row, whole_judged}
+use Rattle.load_intake.specs.Judging.{header_row, whole_buffer, whole_header_row, whole_judged}
 use Rattle.load_intake.specs.Kept.{intake_at}
 use Rattle.load_intake.specs.States.{WholeView, upload_of}
 use Rattle.load_intake.proofs.Files.{count_right}
-use Rattle.load_intake.proofs.Moving.{file_open, given_file, given_header, header_open, judged_stops, next_brings, whole_in, with_open}
+use Rattle.load_intake.proofs.Moving.{file_open, given_file, given_header, header_open, judged_stops, next_brings, types_given, whole_in, with_open}
 
 -- ---- data and support files
 
@@ -46,7 +47,8 @@ module _ (accepts : Accepts) (active : Outline) (w : WholeView) (l : OpenLoadVie
       rw (entry, here, is) refl
 
   pub file_brings : {T : Type 0} (u : Upload) (arrived name : List ℕ) (next : Next) (old : DiskState) (after : Store) (new : DiskState) (st : StandingView) (r : Result T Down) → IsOf (intake_at w (Some l) (Kept_sums s)) u arrived → next_entry l ≡ Some e
-      → next ≡ next_with view l.header (next_number l) → None ≡ verdict next → length l.files < length (files_of l.header) → name ≡ e.name → HeadersAreFirst u.loads → GoesTo next old after new st (with_file name (given_of u arrived)) r
+      → next ≡ next_with view l.header (next_number l) → None ≡ verdict next → length l.files < length (files_of l.header) → name ≡ e.name → HeadersAreFirst u.loads
+      → (types_in (loads_of (with_file name (given_of u arrived))) ≡ types_of w.loads ++ l.header.type_id ∷ [] → GoesTo next old after new st (with_file name (given_of u arrived)) r)
       → BringsRow old after new st (row_moved (Reads_file u) arrived move) r
   file_brings {T} u arrived name next old after new st r is entry comes found left called headers goes = by_current u.current refl
     where
@@ -65,8 +67,10 @@ module _ (accepts : Accepts) (active : Outline) (w : WholeView) (l : OpenLoadVie
           let more = file_open one name arrived in
           let grown : length l.files + 1 ≡ length more.files = omega (arith, ap (λ (x : OpenLoadView). length x.files) same, length-map one.files file_entry_of, length-append one.files (record { name = name; bytes = arrived } ∷ [])) in
           let whole = whole_in view l.header more (next_number l) next comes (ap (λ (x : OpenLoadView). x.header) same) grown (omega (arith, left)) in
-          let brought = next_brings u more next old after new st (with_file name (given_of u arrived)) r headers whole
-          (ap (λ (x : Upload). with_file name (given_of x arrived)) opened ∙ given_file u.request u.loads one u.reports name arrived all) goes in
+          let given : with_file name (given_of u arrived) ≡ given_of (with_open u more) [] = ap (λ (x : Upload). with_file name (given_of x arrived)) opened ∙ given_file u.request u.loads one u.reports name arrived all in
+          let typed : types_in (loads_of (with_file name (given_of u arrived))) ≡ types_of w.loads ++ l.header.type_id ∷ [] =
+          ap (λ (g : Given). types_in (loads_of g)) given ∙ (types_given u more w.loads (sym (ap (λ (v : UploadView). v.loads) is.upload)) ∙ ap (λ (x : OpenLoadView). types_of w.loads ++ x.header.type_id ∷ []) (sym same)) in
+          let brought = next_brings u more next old after new st (with_file name (given_of u arrived)) r headers whole given (goes typed) in
           subst (λ (m : RowMove). BringsRow old after new st (row_moved (Reads_file u) arrived m) r) (sym (file_moves next entry comes found))
           (subst (λ (x : Upload). BringsRow old after new st (row_moved (Reads_file x) arrived (Judges (Accepts_file next))) r) (sym opened)
           (subst (λ (n : List ℕ). BringsRow old after new st (placed (with_open u one) (file_open one n arrived) next) r) named brought))
@@ -77,23 +81,24 @@ module _ (accepts : Accepts) (active : Outline) (w : WholeView) (wanted : Wanted
   abbrev unopened : UploadView
   unopened = upload_of w None
 
-  abbrev planned : ℕ
-  planned = need_of (w.loads ++ planned_load wanted h (length bytes) ∷ [])
+  abbrev first_reason : Option Reason
+  first_reason = header_reason accepts active unopened wanted h (length bytes)
 
-  abbrev header_verdict : (need : ℕ) → Next → (crc : ℕ) → Option Reason
-  header_verdict need next crc = or_else (refused_for accepts active.identity wanted h need) (load_reason h next crc)
+  abbrev header_verdict : (first : Option Reason) → Next → (crc : ℕ) → Option Reason
+  header_verdict first next crc = or_else first (load_reason h next crc)
 
   -- no test fails
-  pub header_judged : (need : ℕ) (next : Next) (crc : ℕ) → need ≡ planned → next ≡ next_with unopened h 0 → crc ≡ crc32_of (covered_header bytes) → None ≡ header_verdict need next crc
+  pub header_judged : (first : Option Reason) (next : Next) (crc : ℕ) → first ≡ first_reason → next ≡ next_with unopened h 0 → crc ≡ crc32_of (covered_header bytes) → None ≡ header_verdict first next crc
       → judge_spelled_header accepts active unopened wanted (whole_buffer bytes) h ≡ Accepts_header h next
-  header_judged need next crc n x c found =
-      let same : header_verdict need next crc ≡ header_verdict planned (next_with unopened h 0) (crc32_of (covered_header bytes)) = rw (n, x, c) refl in
-      let here : header_verdict planned (next_with unopened h 0) (crc32_of (covered_header bytes)) ≡ None = sym same ∙ sym found in
+  header_judged first next crc f x c found =
+      let same : header_verdict first next crc ≡ header_verdict first_reason (next_with unopened h 0) (crc32_of (covered_header bytes)) = rw (f, x, c) refl in
+      let here : header_verdict first_reason (next_with unopened h 0) (crc32_of (covered_header bytes)) ≡ None = sym same ∙ sym found in
       rw (here, x) refl
 
   pub header_brings : {T : Type 0} (u : Upload) (next : Next) (old : DiskState) (after : Store) (new : DiskState) (st : StandingView) (r : Result T Down) → unopened ≡ upload_view u → slice_get w.request (length w.loads) ≡ Some wanted
       → judge_spelled_header accepts active unopened wanted (whole_buffer bytes) h ≡ Accepts_header h next → next ≡ next_with unopened h 0 → HeadersAreFirst u.loads
-      → GoesTo next old after new st (with_file wanted.header (with_bytes bytes (with_load wanted.part h.type_id (length (files_of h) + 1) (given_of u bytes)))) r
+      → (types_in (loads_of (with_file wanted.header (with_bytes bytes (with_load wanted.part h.type_id (length (files_of h) + 1) (given_of u bytes))))) ≡ types_of w.loads ++ h.type_id ∷ []
+      → GoesTo next old after new st (with_file wanted.header (with_bytes bytes (with_load wanted.part h.type_id (length (files_of h) + 1) (given_of u bytes)))) r)
       → BringsRow old after new st (whole_header_row accepts active u h bytes) r
   header_brings {T} u next old after new st r seen asked judged comes headers goes = by_current u.current refl
     where
@@ -106,7 +111,8 @@ module _ (accepts : Accepts) (active : Outline) (w : WholeView) (wanted : Wanted
           let whole = whole_in unopened h l 0 next comes refl refl (omega arith) in
           let given : with_file wanted.header (with_bytes bytes (with_load wanted.part h.type_id (length (files_of h) + 1) (given_of u bytes))) ≡ given_of (with_open u l) [] =
           ap (λ (x : Upload). with_file wanted.header (with_bytes bytes (with_load wanted.part h.type_id (length (files_of h) + 1) (given_of x bytes)))) opened ∙ given_header u.request u.loads u.reports wanted h bytes bytes in
-          let brought = next_brings u l next old after new st _ r headers whole given goes in
+          let typed = ap (λ (g : Given). types_in (loads_of g)) given ∙ types_given u l w.loads (sym (ap (λ (v : UploadView). v.loads) seen)) in
+          let brought = next_brings u l next old after new st _ r headers whole given (goes typed) in
           subst (λ (v : UploadView). BringsRow old after new st (whole_judged accepts active u v h bytes (next_wanted v)) r) seen
           (subst (λ (o : Option Wanted). BringsRow old after new st (whole_judged accepts active u unopened h bytes o) r) (sym found)
           (subst (λ (j : Judgement). BringsRow old after new st (row_judged u bytes j) r) (sym judged)

@@ -24,6 +24,14 @@ new_whole request loads = record { request = request; loads = map entry_view loa
 pub new_intake : (request : List Wanted) (loads : List ManifestLoad) (b : Buffer) → loads ≡ [] → 1 ≤ length request → length request ≤ 32 → IsIntake (intake_of (new_whole request loads) (places.Header b)) 4
 new_intake request loads b none some few = rw none (record { few = few; left = omega (arith, some); need = need_none; next = tt; holds = omega arith })
 
-pub begins_in_step : (request : List Wanted) (loads : List ManifestLoad) (b : Buffer) (before store : Store) (d e : DiskState) → loads ≡ [] → Has store [] 0 0 → StoreGoesOn before store d e
+pub begins_in_step : (request : List Wanted) (loads : List ManifestLoad) (b : Buffer) (before store : Store) (d e : DiskState) → loads ≡ [] → length request ≤ 32 → Has store [] 0 0 → StoreGoesOn before store d e
     → StaysInStep (intake_of (new_whole request loads) (places.Header b)) before store d e
-begins_in_step request loads b before store d e none has goes = rw none (record { in_step = record { has = has; fits = omega (arith, need_none, store.keeps.is_size.0) }; goes_on = goes })
+begins_in_step request loads b before store d e none few has goes =
+    rw none (record {
+      in_step = record {
+        has = has;
+        fits = omega (arith, need_none, store.keeps.is_size.0);
+        keeps = λ active knows. record { few = omega (arith, few); fits = omega (arith, need_none, store.keeps.is_size.0) };
+      };
+      goes_on = goes;
+    })

@@ -17,7 +17,9 @@ use Rattle.session_rules.specs.TargetRows.{Kept_sums, load_entry_of, said_length
 use Rattle.session_rules.specs.Uploads.{Next, OpenLoadView, file_reason, files_of, need_of, next_entry, next_number, next_with, or_else, planned_load, unless}
 use Rattle.load_intake.specs.Kept.{IsAccepted, IsIntake, IsOpen, intake_at, named_file, named_files}
 use Rattle.load_intake.specs.States.{WholeView, upload_of, with_one}
-use Rattle.load_intake.specs.Stores.{Has, HasAccepted, IsInStep, with_entry}
+use Rattle.load_intake.specs.Keeping.{kept_at}
+use Rattle.bank_store.specs.Known.{KnowsActive}
+use Rattle.load_intake.specs.Stores.{Has, HasAccepted, HasRoomToKeep, IsInStep, with_entry}
 use Rattle.load_intake.proofs.Steps.{awaits_end}
 
 no_entry : FileEntry
@@ -87,14 +89,16 @@ before_end w l s store o right step =
 
 pub has_one : (w : WholeView) (l one : OpenLoadView) (file : ManifestFile) (crc size : ℕ) (store : Store) → one ≡ with_one l file crc → file.length ≡ size
     → Has store (w.loads ++ with_entry (load_entry_of l) file.name size ∷ []) (length (files_of l.header) - (length l.files + 1)) 0
-    → need_of (w.loads ++ planned_load l.wanted l.header l.size ∷ []) ≤ bank_size_of store → HasAccepted w one store
-has_one w l one file crc size store is same has fits =
+    → need_of (w.loads ++ planned_load l.wanted l.header l.size ∷ []) ≤ bank_size_of store
+    → ((active : List LoadEntry) → KnowsActive store active → HasRoomToKeep store (length w.request) (w.loads ++ planned_load l.wanted l.header l.size ∷ []) (kept_at active (upload_of w None) l.header)) → HasAccepted w one store
+has_one w l one file crc size store is same has fits keeps =
     let more : length l.files + 1 ≡ length (l.files ++ file ∷ []) = sym (length-append l.files (file ∷ [])) in
     rw is (record {
       has =
           subst (λ (n : ℕ). Has store (w.loads ++ load_entry_of (with_one l file crc) ∷ []) (length (files_of l.header) - n) 0) more
           (subst (λ (n : ℕ). Has store (w.loads ++ with_entry (load_entry_of l) file.name n ∷ []) (length (files_of l.header) - (length l.files + 1)) 0) (sym same) has);
       fits = fits;
+      keeps = keeps;
     })
 
 -- ---- the load with the file

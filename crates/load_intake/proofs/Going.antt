@@ -7,6 +7,7 @@ use Rattle.bank_store.specs.declared.store.Store.{Store}
 use Rattle.bank_store.specs.DiskWrites.{IsRunning, TimeGoesOn}
 use Rattle.bank_store.specs.Fits.{Fits}
 use Rattle.bank_store.specs.Keeps.{Continues}
+use Rattle.bank_store.specs.KnownLaws.{knows_on}
 use Rattle.bank_store.specs.Store.{IsPrepared}
 use Rattle.session_rules.specs.TargetRows.{Writes_progress}
 use Rattle.session_rules.specs.Uploads.{UploadView}
@@ -40,7 +41,7 @@ continued before after disk c running =
 
 pub then_on : (a b c : Store) (d e f : DiskState) → StoreGoesOn a b d e → StoreGoesOn b c e f → StoreGoesOn a c d f
 then_on a b c d e f first next = record {
-  active = record { size = next.active.size ∙ first.active.size; active = next.active.active ∙ first.active.active };
+  active = record { size = next.active.size ∙ first.active.size; active = next.active.active ∙ first.active.active; known = next.active.known ∙ first.active.known };
   running = next.running;
   fits = λ x. next.fits (first.fits x);
   works = λ x. next.works (first.works x);
@@ -50,7 +51,7 @@ pub gives_up : (before after : Store) (disk : DiskState) → Continues before af
 gives_up before after disk c prepared running = record { prepared = prepared; goes_on = continued before after disk c running }
 
 same_on : (store : Store) (disk : DiskState) → IsRunning disk → StoreGoesOn store store disk disk
-same_on store disk running = record { active = record { size = refl; active = refl }; running = running; fits = λ f. f; works = λ w. w }
+same_on store disk running = record { active = record { size = refl; active = refl; known = refl }; running = running; fits = λ f. f; works = λ w. w }
 
 -- a load is whole, and nothing was written
 pub goes_on_here : (f : Finished) (u : UploadView) (store : Store) (disk : DiskState) → row_seen f ≡ Writes_progress u → BeginsNext f → GoesOnInStep f store → IsRunning disk → Ends f store store disk disk
@@ -61,7 +62,7 @@ goes_on_here (finished.Installed end loads) u store disk row begins step running
 
 -- ---- the end of a file after other calls
 
-later : (a b c : Store) (d e f : DiskState) → StoreGoesOn a b d e → Installs b c e f → Installs a c d f
+pub later : (a b c : Store) (d e f : DiskState) → StoreGoesOn a b d e → Installs b c e f → Installs a c d f
 later a b c d e f first next = record {
   size = next.size ∙ first.active.size;
   slot = next.slot ∙ ap (λ (x : Active). other_slot (slot_offset x.slot)) first.active.active;
@@ -77,7 +78,13 @@ leaves_after : (x : Finished) (a b c : Store) (d e f : DiskState) → StoreGoesO
 leaves_after (finished.MoreFiles intake) a b c d e f first next = record { in_step = next.in_step; goes_on = then_on a b c d e f first next.goes_on }
 leaves_after (finished.NextLoad intake) a b c d e f first next = record { in_step = next.in_step; goes_on = then_on a b c d e f first next.goes_on }
 leaves_after (finished.Stopped end) a b c d e f first next = record { prepared = next.prepared; goes_on = then_on a b c d e f first next.goes_on }
-leaves_after (finished.Installed end loads) a b c d e f first next = later a b c d e f first next
+leaves_after (finished.Installed end loads) a b c d e f first next = record {
+  all = next.all;
+  loads_are = record {
+    installs = later a b c d e f first next.loads_are.installs;
+    knows = λ active knows. next.loads_are.knows active (knows_on a b active first.active knows);
+  };
+}
 
 pub ends_after : (r : Result Finished Down) (a b c : Store) (d e f : DiskState) → StoreGoesOn a b d e → IfOk r (λ x. Ends x b c e f) → IfOk r (λ x. Ends x a c d f)
 ends_after r a b c d e f first ends = IfOk-weaker r (λ x. Ends x b c e f) (λ x. Ends x a c d f) (λ x h. record { begins = h.begins; leaves = leaves_after x a b c d e f first h.leaves }) ends

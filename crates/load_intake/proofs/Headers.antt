@@ -1,7 +1,7 @@
 -- A header is whole.
 use Rattle.std.proofs.Common.{◌≡◌, ◌≢◌, ℕ, ◌+◌, ◌-◌, ◌<◌, ◌≤◌, min, List, [], ◌∷◌, ◌++◌, length, get_or, Option, Some, None, Ok, Err, true, false, ◌⊎◌, inl, inr, refl, sym, ap, subst, ◌∙◌, arith, append-nil}
-use Rattle.std.specs.Prelude.{slice_get}
-use Rattle.std.proofs.lemmas.Bool.{lt-ltb, le-ltb}
+use Rattle.std.specs.Prelude.{Bool, nat_le, slice_get, if◌then◌else◌}
+use Rattle.std.proofs.lemmas.Bool.{le-leb, le-ltb, lt-ltb}
 use Rattle.std.proofs.lemmas.Option.{slice_get-get_or}
 use Rattle.field_grammar.specs.Answers.{answer}
 use Rattle.field_grammar.specs.ExactLaws.{answer-spelled, answer-fault, spelled_at_start}
@@ -12,26 +12,31 @@ use Rattle.accept_rules.specs.Permissions.{Accepts}
 use Rattle.session_rules.specs.declared.reason.Reason.TheVariants.{HeaderRefused}
 use Rattle.crc_fields.specs.CheckSums.{crc32_of}
 use Rattle.bank_store.specs.declared.store.Store.{Store}
-use Rattle.bank_store.specs.Store.{bank_size_of}
+use Rattle.bank_store.specs.Store.{SameActive, bank_size_of}
 use Rattle.load_header.specs.Header.{HeaderView, header}
 use Rattle.load_header.specs.HeaderFields.{IsHeader}
 use Rattle.load_protocol_files.specs.declared.lur.Wanted.{Wanted}
 use Rattle.part_number.specs.VerdictLaws.{part_size}
 use Rattle.disk_layout.specs.declared.identity.Identity.{Identity}
-use Rattle.disk_layout.specs.Manifest.{total_length}
+use Rattle.disk_layout.specs.Manifest.{FitsALayout, LoadEntry, total_length}
+use Rattle.session_rules.specs.KeptLoads.{told_loads, types_of}
 use Rattle.disk_layout.specs.Holds.{Outline}
 use Rattle.session_rules.specs.declared.reason.Reason.{Reason}
 use Rattle.session_rules.specs.Buffers.{Buffer, is_too_long}
 use Rattle.session_rules.specs.TargetRows.{Kept_bytes, Reads_file, RowView, Writes_stop, done_move, placed_view, stopped_upload, view_judged, view_moved}
-use Rattle.session_rules.specs.Uploads.{Next, OpenLoadView, UploadView, covered_header, files_of, judge_header, judge_spelled_header, load_reason, need_of, next_with, or_else, planned_load}
-use Rattle.load_intake.specs.Judging.{Passes, header_row, refused_for, whole_buffer}
+use Rattle.session_rules.specs.Uploads.{Next, OpenLoadView, UploadView, covered_header, files_of, judge_header, header_reason as reason_of, is_last, judge_spelled_header, load_reason, need_of, next_with, or_else, planned_load}
+use Rattle.load_intake.specs.Judging.{Passes, header_row, loads_known, need_known, refused_for, whole_buffer}
+use Rattle.load_intake.specs.Keeping.{IsActive, kept_at, kept_with}
 use Rattle.load_intake.specs.Kept.{IsAccepted, IsIntake, intake_at}
 use Rattle.load_intake.specs.Needs.{load_need}
 use Rattle.load_intake.specs.Places.{arrived_at}
 use Rattle.load_intake.specs.States.{WholeView, header_there, needing, upload_of}
-use Rattle.load_intake.specs.Stores.{Has, HasAccepted, header_alone}
+use Rattle.bank_store.specs.Known.{KnowsActive}
+use Rattle.load_intake.specs.Stores.{Has, HasAccepted, HasRoomToKeep, header_alone}
 use Rattle.load_intake.proofs.Rows.{arrived_is}
-use Rattle.load_intake.proofs.Sizes.{need_planned, total_within}
+use Rattle.load_intake.proofs.Sizes.{need_planned, needs_more, total_within}
+use Rattle.bank_store.specs.KnownLaws.{knows_on}
+use Rattle.load_intake.proofs.Staying.{all_listed, knows_same}
 
 -- ---- how many bytes are needed with it
 
@@ -44,9 +49,9 @@ room_for_header w b wanted h size need bank i is fits = omega (arith, i.need, ap
 
 -- ---- the load with it
 
-pub header_accepted : (w new : WholeView) (b : Buffer) (wanted : Wanted) (h : HeaderView) (size crc need : ℕ) (l : OpenLoadView) (id : Identity) → IsIntake (intake_at w None (Kept_bytes b)) w.need → IsHeader h → Passes id wanted h need
+pub header_accepted : (w new : WholeView) (b : Buffer) (wanted : Wanted) (h : HeaderView) (size crc need loads all : ℕ) (l : OpenLoadView) (id : Identity) → IsIntake (intake_at w None (Kept_bytes b)) w.need → IsHeader h → Passes id wanted h loads all
     → need ≡ w.need + load_need wanted h size → new ≡ needing w need → l ≡ header_there wanted h size crc → IsAccepted new l
-header_accepted w new b wanted h size crc need l id i is passes needs made there =
+header_accepted w new b wanted h size crc need loads all l id i is passes needs made there =
     rw (made, there) (record {
       few = i.few;
       left = i.left;
@@ -57,14 +62,32 @@ header_accepted w new b wanted h size crc need l id i is passes needs made there
       planned = refl;
     })
 
-pub has_header : (w new : WholeView) (b : Buffer) (wanted : Wanted) (h : HeaderView) (size crc need : ℕ) (l : OpenLoadView) (id : Identity) (old store : Store) → IsIntake (intake_at w None (Kept_bytes b)) w.need → IsHeader h
-    → Passes id wanted h need → need ≡ w.need + load_need wanted h size → new ≡ needing w need → l ≡ header_there wanted h size crc → id.bank ≡ bank_size_of old → bank_size_of store ≡ bank_size_of old
+-- what all loads need that are known of at this header
+pub need_at : (active : List LoadEntry) (w : WholeView) (wanted : Wanted) (h : HeaderView) (size need : ℕ) → FitsALayout active → need ≡ need_of (w.loads ++ planned_load wanted h size ∷ [])
+    → need_known active w h need ≡ need_of ((w.loads ++ planned_load wanted h size ∷ []) ++ kept_at active (upload_of w None) h)
+need_at active w wanted h size need fits is = by_last (is_last (upload_of w None)) refl
+  where
+    by_last : (last : Bool) → is_last (upload_of w None) ≡ last → need_known active w h need ≡ need_of ((w.loads ++ planned_load wanted h size ∷ []) ++ kept_at active (upload_of w None) h)
+    by_last true e = rw e (omega (arith, is, needs_more (w.loads ++ planned_load wanted h size ∷ []) (kept_with active w.loads h.type_id) (all_listed (types_of w.loads ++ h.type_id ∷ []) active fits)))
+    by_last false e = rw e (omega (arith, is, ap need_of (append-nil (w.loads ++ planned_load wanted h size ∷ []))))
+
+pub has_header : (active : List LoadEntry) (w new : WholeView) (b : Buffer) (wanted : Wanted) (h : HeaderView) (size crc need : ℕ) (l : OpenLoadView) (id : Identity) (old store : Store) → IsIntake (intake_at w None (Kept_bytes b)) w.need → IsHeader h
+    → KnowsActive old active → Passes id wanted h (loads_known active w h) (need_known active w h need) → need ≡ w.need + load_need wanted h size → new ≡ needing w need → l ≡ header_there wanted h size crc → id.bank ≡ bank_size_of old → SameActive old store
     → Has store (w.loads ++ header_alone wanted h.type_id size ∷ []) (length (files_of h)) 0 → HasAccepted new l store
-has_header w new b wanted h size crc need l id old store i is passes needs made there bank same has =
+has_header active w new b wanted h size crc need l id old store i is knows passes needs made there bank same has =
     let all : length (files_of h) ≡ length (files_of h) - 0 = omega arith in
+    let planned = w.loads ++ planned_load wanted h size ∷ [] in
+    let needed : need ≡ need_of planned = needs ∙ need_is w b wanted h size i is in
+    let room : HasRoomToKeep store (length w.request) planned (kept_at active (upload_of w None) h) = record {
+      few = passes.few;
+      fits = omega (arith, need_at active w wanted h size need knows.fits needed, passes.fits, bank, same.size);
+    } in
     rw (made, there) (record {
       has = subst (λ (n : ℕ). Has store (w.loads ++ header_alone wanted h.type_id size ∷ []) n 0) all has;
-      fits = omega (arith, need_is w b wanted h size i is, needs, passes.fits, bank, same);
+      fits = omega (arith, needed, passes.fits, bank, same.size);
+      keeps = λ other knows_other.
+          let one = knows_same store active other (types_of w.loads ++ h.type_id ∷ []) (knows_on old store active same knows) knows_other in
+          subst (λ (kept : List LoadEntry). HasRoomToKeep store (length w.request) planned kept) (ap (λ (kept : List LoadEntry). if is_last (upload_of w None) then kept else []) one) room;
     })
 
 pub header_next : (w new : WholeView) (h : HeaderView) (need crc size : ℕ) (wanted : Wanted) (l : OpenLoadView) (next : Next) → new ≡ needing w need → l ≡ header_there wanted h size crc → next ≡ next_with (upload_of w None) h 0
@@ -81,9 +104,28 @@ fails_first first later reason is = rw (sym is) refl
 pub passes_first : (first later found : Option Reason) → None ≡ first → found ≡ later → found ≡ or_else first later
 passes_first first later found none is = rw (sym none) is
 
--- what the identity that is lent says of a header is said beside what is active of that identity
-pub refused_by : (accepts : Accepts) (active : Outline) (id : Identity) (wanted : Wanted) (h : HeaderView) (need : ℕ) (found : Option Reason) → active.identity ≡ id → found ≡ refused_for accepts id wanted h need → found ≡ refused_for accepts active.identity wanted h need
-refused_by accepts active id wanted h need found same is = is ∙ ap (λ (x : Identity). refused_for accepts x wanted h need) (sym same)
+-- what is said of a header beside what is active, by its identity and its loads
+module _ (accepts : Accepts) (o : Outline) (w : WholeView) (wanted : Wanted) (h : HeaderView) (size : ℕ) where
+  abbrev reason_by : (id : Identity) (active : List LoadEntry) (need : ℕ) → Option Reason
+  reason_by id active need = refused_for accepts id wanted h (told_loads (kept_with active w.loads h.type_id)) (loads_known active w h) (need_known active w h need)
+
+  own_reason : (need : ℕ) → FitsALayout o.loads → length w.request ≤ 32 → need ≡ need_of (w.loads ++ planned_load wanted h size ∷ []) → reason_by o.identity o.loads need ≡ reason_of accepts o (upload_of w None) wanted h size
+  own_reason need fits few is = by_last (is_last (upload_of w None)) refl
+    where
+      needed : need_known o.loads w h need ≡ need_of ((w.loads ++ planned_load wanted h size ∷ []) ++ kept_at o.loads (upload_of w None) h)
+      needed = need_at o.loads w wanted h size need fits is
+
+      by_last : (last : Bool) → is_last (upload_of w None) ≡ last → reason_by o.identity o.loads need ≡ reason_of accepts o (upload_of w None) wanted h size
+      by_last true e = rw (needed, e) refl
+      by_last false e =
+          let few_enough : nat_le (length w.request + 0) 32 ≡ true = le-leb (length w.request + 0) 32 (omega (arith, few)) in
+          rw (needed, e, few_enough) refl
+
+  pub reason_is : (id : Identity) (active : List LoadEntry) (need : ℕ) → IsActive o id active → FitsALayout active → length w.request ≤ 32 → need ≡ need_of (w.loads ++ planned_load wanted h size ∷ []) → reason_by id active need ≡ reason_of accepts o (upload_of w None) wanted h size
+  reason_is id active need same fits few is =
+      subst (λ (x : Identity). reason_by x active need ≡ reason_of accepts o (upload_of w None) wanted h size) same.identity
+      (subst (λ (x : List LoadEntry). reason_by o.identity x need ≡ reason_of accepts o (upload_of w None) wanted h size) same.loads
+      (own_reason need (subst (λ (x : List LoadEntry). FitsALayout x) (sym same.loads) fits) few is))
 
 -- ---- the row after it
 
@@ -91,25 +133,25 @@ module _ (accepts : Accepts) (active : Outline) (w : WholeView) (wanted : Wanted
   abbrev u : UploadView
   u = upload_of w None
 
-  abbrev planned_need : ℕ
-  planned_need = need_of (w.loads ++ planned_load wanted h (length bytes) ∷ [])
+  abbrev first_reason : Option Reason
+  first_reason = reason_of accepts active u wanted h (length bytes)
 
-  abbrev verdict : (need : ℕ) → Next → (crc : ℕ) → Option Reason
-  verdict need next crc = or_else (refused_for accepts active.identity wanted h need) (load_reason h next crc)
+  abbrev verdict : (first : Option Reason) → Next → (crc : ℕ) → Option Reason
+  verdict first next crc = or_else first (load_reason h next crc)
 
-  same_verdict : (need : ℕ) (next : Next) (crc : ℕ) → need ≡ planned_need → next ≡ next_with u h 0 → crc ≡ crc32_of (covered_header bytes) → verdict need next crc ≡ verdict planned_need (next_with u h 0) (crc32_of (covered_header bytes))
-  same_verdict need next crc n x c = rw (n, x, c) refl
+  same_verdict : (first : Option Reason) (next : Next) (crc : ℕ) → first ≡ first_reason → next ≡ next_with u h 0 → crc ≡ crc32_of (covered_header bytes) → verdict first next crc ≡ verdict first_reason (next_with u h 0) (crc32_of (covered_header bytes))
+  same_verdict first next crc f x c = rw (f, x, c) refl
 
-  pub header_stopped : (need : ℕ) (next : Next) (crc : ℕ) (reason : Reason) (arrived : ℕ) → slice_get w.request (length w.loads) ≡ Some wanted → need ≡ planned_need → next ≡ next_with u h 0 → crc ≡ crc32_of (covered_header bytes)
-      → Some reason ≡ verdict need next crc → arrived ≡ arrived_at (length w.loads) next → Writes_stop (stopped_upload w.request arrived (length w.loads + 1) reason) ≡ header_row accepts active w h bytes
-  header_stopped need next crc reason arrived asked n x c found many =
-      let here : verdict planned_need (next_with u h 0) (crc32_of (covered_header bytes)) ≡ Some reason = sym (same_verdict need next crc n x c) ∙ sym found in
+  pub header_stopped : (first : Option Reason) (next : Next) (crc : ℕ) (reason : Reason) (arrived : ℕ) → slice_get w.request (length w.loads) ≡ Some wanted → first ≡ first_reason → next ≡ next_with u h 0 → crc ≡ crc32_of (covered_header bytes)
+      → Some reason ≡ verdict first next crc → arrived ≡ arrived_at (length w.loads) next → Writes_stop (stopped_upload w.request arrived (length w.loads + 1) reason) ≡ header_row accepts active w h bytes
+  header_stopped first next crc reason arrived asked f x c found many =
+      let here : verdict first_reason (next_with u h 0) (crc32_of (covered_header bytes)) ≡ Some reason = sym (same_verdict first next crc f x c) ∙ sym found in
       rw (asked, here, many, arrived_is w None h 0 next x) refl
 
-  pub header_placed : (need : ℕ) (next : Next) (crc : ℕ) (new : WholeView) (l : OpenLoadView) → slice_get w.request (length w.loads) ≡ Some wanted → need ≡ planned_need → next ≡ next_with u h 0 → crc ≡ crc32_of (covered_header bytes)
-      → None ≡ verdict need next crc → new ≡ needing w need → l ≡ header_there wanted h (length bytes) crc → placed_view (upload_of new None) l next ≡ header_row accepts active w h bytes
-  header_placed need next crc new l asked n x c found made there =
-      let here : verdict planned_need (next_with u h 0) (crc32_of (covered_header bytes)) ≡ None = sym (same_verdict need next crc n x c) ∙ sym found in
+  pub header_placed : (first : Option Reason) (next : Next) (crc need : ℕ) (new : WholeView) (l : OpenLoadView) → slice_get w.request (length w.loads) ≡ Some wanted → first ≡ first_reason → next ≡ next_with u h 0 → crc ≡ crc32_of (covered_header bytes)
+      → None ≡ verdict first next crc → new ≡ needing w need → l ≡ header_there wanted h (length bytes) crc → placed_view (upload_of new None) l next ≡ header_row accepts active w h bytes
+  header_placed first next crc need new l asked f x c found made there =
+      let here : verdict first_reason (next_with u h 0) (crc32_of (covered_header bytes)) ≡ None = sym (same_verdict first next crc f x c) ∙ sym found in
       rw (asked, here, made, there, x, c, asked) refl
 
 -- ---- all that may come of a header's bytes

@@ -8,8 +8,15 @@ pub mod Taking
 pub mod Beginning
 pub mod Placing
 pub mod Rows
+pub mod Entries
 pub mod Files
 pub mod Headers
 pub mod Filling
 pub mod Moving
 pub mod Accepting
+pub mod Kept
+pub mod Keeps
+pub mod KeepsAll
+pub mod Fits
+pub mod Installing
+pub mod Staying

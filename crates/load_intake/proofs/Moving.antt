@@ -2,20 +2,24 @@
 use Rattle.std.proofs.Common.{◌≡◌, ℕ, ◌+◌, ◌≤◌, List, [], ◌∷◌, ◌++◌, Bool, true, false, nat_lt, length, map, take, Option, Some, None, Result, Ok, Err, OnOk, refl, sym, ap, subst, ◌∙◌, arith, append-nil, if◌then◌else◌}
 use Rattle.std.proofs.lemmas.Bool.{ltb-false}
 use Rattle.std.proofs.lemmas.List.{map-append}
+use Rattle.std.proofs.lemmas.List.Concat.{flat_map-append}
 use Rattle.std.proofs.lemmas.List.Elements.{All-append, All-cons, All-head, All-nil, All-tail}
 use Rattle.std.proofs.Math.Seq.{take-nil}
 use Rattle.load_base.specs.Config.{FileView, LoadView}
 use Rattle.disk_model.specs.State.{DiskState}
-use Rattle.disk_layout.specs.Contents.{HeaderIsFirst, HeadersAreFirst}
+use Rattle.disk_layout.specs.Contents.{HeaderIsFirst, HeadersAreFirst, entries_of}
+use Rattle.disk_layout.specs.Manifest.{LoadEntry}
+use Rattle.session_rules.specs.KeptLaws.{types_same}
+use Rattle.session_rules.specs.KeptLoads.{said_type, types_in, types_of}
 use Rattle.disk_layout.specs.Holds.{StandingView}
 use Rattle.load_header.specs.Header.{HeaderView}
 use Rattle.load_protocol_files.specs.declared.lur.Wanted.{Wanted}
 use Rattle.bank_store.specs.declared.store.Store.{Store}
-use Rattle.bank_store.specs.Given.{Given, GivenLoad, HasGiven, configured, file_to_last, loads_of, with_bytes, with_file, with_load}
+use Rattle.bank_store.specs.Given.{Given, GivenLoad, HasGiven, file_to_last, loads_of, with_bytes, with_file, with_load}
 use Rattle.bank_store.specs.Given as Given
 use Rattle.bank_store.specs.Keeps.{Continues}
 use Rattle.session_rules.specs.TargetLog.{standing_after}
-use Rattle.session_rules.specs.TargetRows.{Arriving, Over, Reads_file, RowMove, WholeRow, Writes_stop, Passes, Requests, Refuses_request, Judges, Breaks_off, UploadEnd, load_of, placed, placed_view, placed_view_if, row_judged, row_moved, said_length, view_judged, view_moved, with_file_view, with_header_view}
+use Rattle.session_rules.specs.TargetRows.{Arriving, Over, Reads_file, RowMove, WholeRow, Writes_stop, Passes, Requests, Refuses_request, Judges, Breaks_off, UploadEnd, load_entry_of, load_of, placed, placed_view, placed_view_if, row_judged, row_moved, said_length, view_judged, view_moved, with_file_view, with_header_view}
 use Rattle.session_rules.specs.Uploads.{Accepts_file, Accepts_header, Complete, Judgement, More_files, Next, Next_load, OpenLoad, OpenLoadView, Stops_for, Upload, UploadView, files_of, next_entry, next_name, next_wanted, next_with, open_load_view}
 use Rattle.load_intake.specs.declared.down.Down.{Down}
 use Rattle.load_intake.specs.Contents.{BringsRow, BringsTo, Gives, GoesTo, InstallsRow, IsGiven, active_next, given_load, given_of, given_open}
@@ -151,6 +155,25 @@ headers_more : (loads : List LoadView) (l : OpenLoad) → HeadersAreFirst loads 
 headers_more loads l headers =
     All-append (λ (x : LoadView). HeaderIsFirst x) loads (load_of l ∷ []) headers (All-cons (λ (x : LoadView). HeaderIsFirst x) (load_of l) [] refl (All-nil (λ (x : LoadView). HeaderIsFirst x)))
 
+-- ---- the type ids of what is given
+
+types_whole : (loads : List LoadView) → types_in (map Given.load_of (map given_load loads)) ≡ types_in loads
+types_whole [] = refl
+types_whole (l ∷ ls) = ap (λ (types : List ℕ). said_type l.type_id ++ types) (types_whole ls)
+
+-- those of the loads that are whole and of the open one
+pub types_given : (u : Upload) (l : OpenLoad) (loads : List LoadEntry) → entries_of u.loads ≡ loads → types_in (loads_of (given_of (with_open u l) [])) ≡ types_of loads ++ l.header.type_id ∷ []
+types_given u l loads same =
+    ap types_in (map-append Given.load_of (map given_load u.loads) (given_open l ∷ []))
+    ∙ (flat_map-append (λ (x : LoadView). said_type x.type_id) (map Given.load_of (map given_load u.loads)) (Given.load_of (given_open l) ∷ [])
+    ∙ ap (λ (types : List ℕ). types ++ l.header.type_id ∷ []) (types_whole u.loads ∙ (types_same u.loads ∙ ap types_of same)))
+
+-- as a manifest lists them
+pub types_listed : (loads more : List LoadEntry) (h : HeaderView) (l : OpenLoadView) → more ≡ loads → l.header ≡ h → types_of loads ++ h.type_id ∷ [] ≡ types_of (more ++ load_entry_of l ∷ [])
+types_listed loads more h l same is =
+    ap (λ (x : HeaderView). types_of loads ++ x.type_id ∷ []) (sym is)
+    ∙ sym (flat_map-append (λ (x : LoadEntry). said_type x.type_id) more (load_entry_of l ∷ []) ∙ ap (λ (xs : List LoadEntry). types_of xs ++ l.header.type_id ∷ []) same)
+
 on_ok : {T E : Type 0} (r : Result T E) {P Q : Type 0} → OnOk r P → (P → Q) → OnOk r Q
 on_ok (Ok x) p more = more p
 on_ok (Err e) p more = tt
@@ -167,7 +190,7 @@ next_brings u l Next_load old after new s g r headers whole is goes = record {
 }
 next_brings u l Complete old after new s g r headers whole is goes =
     let loads : loads_of g ≡ u.loads ++ load_of l ∷ [] = ap loads_of is ∙ loads_whole u l headers in
-    let turned : configured s (loads_of g) ≡ standing_after s (u.loads ++ load_of l ∷ []) = ap (configured s) loads in
+    let turned : standing_after s (loads_of g) ≡ standing_after s (u.loads ++ load_of l ∷ []) = ap (standing_after s) loads in
     subst (λ (x : StandingView). BringsTo old after new s x (placed u l Complete) [] r) turned (record { adds = goes.adds; ok = on_ok r goes.ok (λ beside. record { beside = beside; holds = tt }) })
 
 -- ---- where a file was accepted
@@ -178,7 +201,7 @@ goes_more next store disk s g x is given = rw is (record { adds = adds_nothing d
 pub goes_next : {T : Type 0} (next : Next) (store : Store) (disk : DiskState) (s : StandingView) (g : Given) (x : T) → next ≡ Next_load → IsGiven store disk s g → GoesTo {E = Down} next disk store disk s g (Ok x)
 goes_next next store disk s g x is given = rw is (record { adds = adds_nothing disk _ _; ok = given })
 
-pub goes_complete : {T : Type 0} (next : Next) (old : DiskState) (after : Store) (new : DiskState) (s : StandingView) (g : Given) (r : Result T Down) → next ≡ Complete → BringsTo old after new s (configured s (loads_of g)) Over [] r → GoesTo next old after new s g r
+pub goes_complete : {T : Type 0} (next : Next) (old : DiskState) (after : Store) (new : DiskState) (s : StandingView) (g : Given) (r : Result T Down) → next ≡ Complete → BringsTo old after new s (standing_after s (loads_of g)) Over [] r → GoesTo next old after new s g r
 goes_complete next old after new s g r is brings = rw is (record { adds = brings.adds; ok = on_ok r brings.ok (λ installs. installs.beside) })
 
 pub goes_then : {S T : Type 0} (next : Next) (old : DiskState) (mid : Store) (there : DiskState) (after : Store) (new : DiskState) (s : StandingView) (g : Given) (x : S) (r : Result T Down) → Gives {E = Down} old mid there s g (Ok x)

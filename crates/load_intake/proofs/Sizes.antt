@@ -1,6 +1,6 @@
 -- How many bytes loads need with their manifest, with more of them.
-use Rattle.std.proofs.Common.{◌≡◌, ℕ, ◌+◌, ◌≤◌, List, [], ◌∷◌, ◌++◌, length, map, refl, ap, ◌∙◌, arith, append-nil}
-use Rattle.std.specs.List.{flat_map}
+use Rattle.std.proofs.Common.{◌≡◌, ℕ, ◌+◌, ◌≤◌, List, [], ◌∷◌, ◌++◌, length, map, Some, refl, sym, ap, ◌∙◌, append_assoc, arith, append-nil}
+use Rattle.std.specs.List.{AllByRecursion, flat_map, sum_by}
 use Rattle.std.proofs.lemmas.Grind.{flat_map-append}
 use Rattle.std.proofs.lemmas.List.Concat.{flat_map-cons}
 use Rattle.std.proofs.lemmas.List.Sums.{sum_by-append, sum_by-cons, sum_by_push}
@@ -15,6 +15,7 @@ use Rattle.disk_layout.specs.Manifest.{LoadEntry, file_entry_fields, head_fields
 use Rattle.disk_layout.specs.declared.manifest.Layout.TheVariants as layouts
 use Rattle.disk_layout.specs.Offsets.{layout_mark}
 use Rattle.session_rules.specs.Uploads.{files_of, need_of, planned_load}
+use Rattle.load_intake.specs.Keeping.{file_needed, listed_need, listed_needs}
 use Rattle.load_intake.specs.Kept.{named_file}
 use Rattle.load_intake.specs.Needs.{entries_need, entry_need, load_need}
 
@@ -104,6 +105,29 @@ need_planned loads w h size part =
       files_first first (map named_file (files_of h)),
       entries_needed (files_of h),
     )
+
+-- ---- what is kept
+
+-- a load as a manifest of layout 2 lists it: its part number has 15 bytes, and it has a type id
+pub record IsListed (l : LoadEntry) : Type 0 where
+  pub part : length l.part ≡ 15
+  pub typed : (id : ℕ) × (l.type_id ≡ Some id)
+
+files_listed : (files : List ManifestFile) → entries_length files + spelled_length (files_fields files) ≡ sum_by file_needed files
+files_listed [] = refl
+files_listed (f ∷ fs) = omega (arith, files_listed fs, size_first f fs, files_first f fs, sum_by-cons file_needed f fs)
+
+type_size : (l : LoadEntry) → IsListed l → spelled_length (type_fields layouts.Two l.type_id) ≡ 2
+type_size l is = rw is.typed.1 (size_number 2 is.typed.0)
+
+need_listed : (loads : List LoadEntry) (l : LoadEntry) → IsListed l → need_of (loads ++ l ∷ []) ≡ need_of loads + listed_need l
+unfolding need_of
+need_listed loads l is = omega (arith, is.part, total_more loads l, manifest_more loads l, entry_size l, type_size l is, files_listed l.files)
+
+pub needs_more : (loads kept : List LoadEntry) → AllByRecursion (λ (l : LoadEntry). IsListed l) kept → need_of (loads ++ kept) ≡ need_of loads + listed_needs kept
+needs_more loads [] all = omega (arith, ap need_of (append-nil loads))
+needs_more loads (k ∷ ks) all =
+    omega (arith, ap need_of (sym (append_assoc loads (k ∷ []) ks)), needs_more (loads ++ k ∷ []) ks all.1, need_listed loads k all.0, sum_by-cons listed_need k ks)
 
 pub total_within : (loads : List LoadEntry) → total_length loads ≤ need_of loads
 unfolding need_of

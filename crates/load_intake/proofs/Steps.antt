@@ -1,16 +1,22 @@
 -- What the store has after each of its calls.
-use Rattle.std.proofs.Common.{◌≡◌, ℕ, ◌+◌, ◌<◌, ◌≤◌, Some, List, [], ◌∷◌, ◌++◌, length, refl, sym, ap, subst, ◌∙◌, arith, length-append}
+use Rattle.std.proofs.Common.{◌≡◌, ℕ, ◌+◌, ◌-◌, ◌<◌, ◌≤◌, Some, List, [], ◌∷◌, ◌++◌, length, refl, sym, ap, subst, ◌∙◌, arith, length-append}
 use Rattle.bank_store.specs.declared.fault.StoreFault.{StoreFault}
 use Rattle.bank_store.specs.declared.fault.StoreFault.TheVariants.{BankFull, SequenceSpent, DiskFailed, Memory}
 use Rattle.bank_store.specs.declared.stage.Filling.{Filling}
 use Rattle.bank_store.specs.declared.store.Store.{Store}
 use Rattle.bank_store.specs.DiskWrites.{IsFailure}
-use Rattle.bank_store.specs.Store.{AwaitsEnd, AwaitsFile, AwaitsLoad, IsBetweenLoads, IsFilling, PassesBank, bank_size_of, bytes_appended, file_ended, load_announced, manifest_length, nothing_filled}
+use Rattle.bank_store.specs.Store.{AwaitsEnd, AwaitsFile, AwaitsLoad, IsBetweenLoads, IsFilling, PassesBank, bank_size_of, body_of, bytes_appended, file_ended, load_announced, manifest_length, nothing_filled}
 use Rattle.disk_layout.specs.Manifest.{LoadEntry, total_length}
 use Rattle.load_base.specs.Host.{longest_file}
+use Rattle.load_base.specs.Name.{IsName}
+use Rattle.load_base.specs.PartText.{IsPartText}
+use Rattle.disk_layout.specs.Offsets.{most_files}
+use Rattle.load_intake.proofs.Fits.{fit_with_file, fit_with_load}
+use Rattle.field_grammar.specs.Fields.{number_bytes}
 use Rattle.field_grammar.specs.SectionLaws.{size_number}
 use Rattle.load_protocol_files.specs.declared.lur.Wanted.{Wanted}
 use Rattle.load_intake.specs.Stores.{Has, HasRoomFor, header_alone, with_entry}
+use Rattle.load_intake.proofs.Entries.{entries_with_file, entries_with_load}
 use Rattle.load_intake.proofs.Sizes.{entry_size, files_more, head_size, manifest_more, size_more_files, total_more}
 
 -- ---- refusals
@@ -29,12 +35,23 @@ within store n room need have p =
 
 -- ---- what the store has
 
-pub begun_has : (store : Store) → IsFilling store nothing_filled → manifest_length store ≡ 4 → Has store [] 0 0
-begun_has store filling manifest = record { progress = nothing_filled; filling = filling; loads = refl; missing = refl; start = refl; end = refl; manifest = manifest ∙ sym (head_size 0) }
+pub begun_has : (store : Store) → IsFilling store nothing_filled → body_of store ≡ [] → Has store [] 0 0
+begun_has store filling body = record {
+  progress = nothing_filled;
+  filling = filling;
+  loads = refl;
+  missing = refl;
+  start = refl;
+  end = refl;
+  manifest = omega (arith, ap length body, head_size 0);
+  body = body;
+  fit = tt;
+}
 
-pub load_begun : (old new : Store) (part : List ℕ) (type_id files : ℕ) (loads : List LoadEntry) → ((p : Filling) → IsFilling old p → IsFilling new (load_announced files p)) → manifest_length new ≡ manifest_length old + 19 → length part ≡ 15
-    → Has old loads 0 0 → Has new (loads ++ record { part = part; type_id = Some type_id; files = [] } ∷ []) files 0
-load_begun old new part type_id files loads filling manifest size h =
+pub load_begun : (old new : Store) (part : List ℕ) (type_id files : ℕ) (loads : List LoadEntry) → ((p : Filling) → IsFilling old p → IsFilling new (load_announced files p)) → manifest_length new ≡ manifest_length old + 19
+    → body_of new ≡ ((body_of old ++ part) ++ number_bytes 2 type_id) ++ number_bytes 2 files → IsPartText part → type_id < 65536
+    → (1 ≤ files) × (files ≤ most_files) → Has old loads 0 0 → Has new (loads ++ record { part = part; type_id = Some type_id; files = [] } ∷ []) files 0
+load_begun old new part type_id files loads filling manifest body is small counts h =
     let l : LoadEntry = record { part = part; type_id = Some type_id; files = [] } in
     record {
       progress = load_announced files h.progress;
@@ -43,24 +60,30 @@ load_begun old new part type_id files loads filling manifest size h =
       missing = refl;
       start = omega (arith, h.start, total_more loads l);
       end = h.end;
-      manifest = omega (arith, manifest, h.manifest, size, manifest_more loads l, entry_size l, size_number 2 type_id);
+      manifest = omega (arith, manifest, h.manifest, is.size, manifest_more loads l, entry_size l, size_number 2 type_id);
+      body = entries_with_load (body_of new) (body_of old) part type_id files loads h.body body;
+      fit = fit_with_load part type_id files loads is small counts.0 counts.1 h.fit;
     }
 
-pub appended : (old new : Store) (n : ℕ) (loads : List LoadEntry) (missing taken : ℕ) → ((p : Filling) → IsFilling old p → IsFilling new (bytes_appended n p)) → manifest_length new ≡ manifest_length old
+pub appended : (old new : Store) (n : ℕ) (loads : List LoadEntry) (missing taken : ℕ) → ((p : Filling) → IsFilling old p → IsFilling new (bytes_appended n p)) → body_of new ≡ body_of old
     → Has old loads missing taken → Has new loads missing (taken + n)
-appended old new n loads missing taken filling manifest h = record {
+appended old new n loads missing taken filling body h = record {
   progress = bytes_appended n h.progress;
   filling = filling h.progress h.filling;
   loads = h.loads;
   missing = h.missing;
   start = h.start;
   end = omega (arith, h.end);
-  manifest = manifest ∙ h.manifest;
+  manifest = omega (arith, ap length body, h.manifest);
+  body = body ∙ h.body;
+  fit = h.fit;
 }
 
 pub ended : (old new : Store) (name : List ℕ) (loads : List LoadEntry) (l : LoadEntry) (missing taken : ℕ) → ((p : Filling) → IsFilling old p → IsFilling new (file_ended p)) → manifest_length new ≡ manifest_length old + (5 + length name)
+    → ((p : Filling) → IsFilling old p → body_of new ≡ ((body_of old ++ number_bytes 1 (length name)) ++ name) ++ number_bytes 4 (p.end - p.start))
+    → IsName name → taken ≤ longest_file
     → Has old (loads ++ l ∷ []) (missing + 1) taken → Has new (loads ++ with_entry l name taken ∷ []) missing 0
-ended old new name loads l missing taken filling manifest h =
+ended old new name loads l missing taken filling manifest body is short h =
     let more = with_entry l name taken in
     record {
       progress = file_ended h.progress;
@@ -80,6 +103,11 @@ ended old new name loads l missing taken filling manifest h =
             entry_size more,
             files_more l.files (record { name = name; length = taken }),
           );
+      body =
+          let size : h.progress.end - h.progress.start ≡ taken = omega (arith, h.end) in
+          entries_with_file (body_of new) (body_of old) name missing taken loads l h.body
+          (body h.progress h.filling ∙ ap (λ (n : ℕ). ((body_of old ++ number_bytes 1 (length name)) ++ name) ++ number_bytes 4 n) size);
+      fit = fit_with_file missing taken name loads l is short h.fit;
     }
 
 -- ---- what it awaits
@@ -112,3 +140,11 @@ header_there store loads w part type_id n left files same few h =
     let P : List ℕ → ℕ → ℕ → Type 0 = λ p size left. Has store (loads ++ record { part = p; type_id = Some type_id; files = record { name = w.header; length = size } ∷ [] } ∷ []) left 0 in
     let zero : 0 + n ≡ n = omega arith in
     subst (λ (x : ℕ). P w.part n x) few (subst (λ (x : ℕ). P w.part x left) zero (subst (λ (x : List ℕ). P x (0 + n) left) same h))
+
+-- a file that may end isn't too long
+pub taken_short : (store : Store) (loads : List LoadEntry) (missing taken : ℕ) → AwaitsEnd store → Has store loads missing taken → taken ≤ longest_file
+taken_short store loads missing taken awaits h =
+    let is = h.filling in
+    let filling = awaits.1 in
+    let same : h.progress ≡ awaits.0 = cc in
+    omega (arith, ap (λ (p : Filling). p.end) same, ap (λ (p : Filling). p.start) same, h.end, awaits.3)

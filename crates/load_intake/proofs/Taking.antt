@@ -5,7 +5,7 @@ use Rattle.std.proofs.lemmas.List.Sums.{sum_by_more_le}
 use Rattle.std.proofs.lemmas.Option.{slice_get-get_or}
 use Rattle.disk_model.specs.State.{DiskState}
 use Rattle.bank_store.specs.declared.store.Store.{Store}
-use Rattle.bank_store.specs.Store.{AwaitsFile, bank_size_of}
+use Rattle.bank_store.specs.Store.{AwaitsFile, SameActive}
 use Rattle.load_header.specs.declared.header.FileEntry.{FileEntry}
 use Rattle.load_header.specs.Header.{HeaderView}
 use Rattle.disk_layout.specs.declared.manifest.ManifestFile.{ManifestFile}
@@ -17,6 +17,7 @@ use Rattle.load_intake.specs.declared.down.Down.{Down}
 use Rattle.load_intake.specs.Kept.{IsIntake, IsOfNext, IsOpen, bytes_taken, current_load, files_missing, intake_at, named_file, named_files}
 use Rattle.load_intake.specs.States.{WholeView}
 use Rattle.load_intake.specs.Stores.{StoreGoesOn, Has, HasRoomFor, IsInStep, MayTake, StaysInStep}
+use Rattle.load_intake.proofs.Staying.{knows_back, room_on}
 use Rattle.load_intake.proofs.Sizes.{size_first, total_more, total_within}
 use Rattle.load_intake.proofs.Steps.{awaits_file, room}
 
@@ -91,11 +92,12 @@ may_take w (Some l) (Kept_bytes b) store i step = absurd i.next
 may_take w None (Kept_sums s) store i step = absurd i.next
 may_take w (Some l) (Kept_sums s) store i step = (file_awaited w l s store i.next step, room_for_more w l s store i.next step)
 
-pub step_more : (w : WholeView) (load next : Option OpenLoadView) (arriving more : Arriving) (old new : Store) → next ≡ load → bank_size_of new ≡ bank_size_of old → IsInStep (intake_at w load arriving) old
+pub step_more : (w : WholeView) (load next : Option OpenLoadView) (arriving more : Arriving) (old new : Store) → next ≡ load → SameActive old new → IsInStep (intake_at w load arriving) old
     → Has new (w.loads ++ current_load load) (files_missing load) (bytes_taken more) → IsInStep (intake_at w next more) new
-step_more w load next arriving more old new same size step has = rw same (record { has = has; fits = omega (arith, size, step.fits) })
+step_more w load next arriving more old new same active step has =
+    rw same (record { has = has; fits = omega (arith, active.size, step.fits); keeps = λ loads knows. room_on old new _ _ _ active (step.keeps loads (knows_back old new loads active knows)) })
 
 pub stays_more : (r : Result (Unit {0}) Down) (w : WholeView) (load next : Option OpenLoadView) (arriving more : Arriving) (old new : Store) (d e : DiskState) → next ≡ load → IsInStep (intake_at w load arriving) old
     → OnOk r (Has new (w.loads ++ current_load load) (files_missing load) (bytes_taken more)) → OnOk r (StoreGoesOn old new d e) → OnOk r (StaysInStep (intake_at w next more) old new d e)
-stays_more (Ok x) w load next arriving more old new d e same step has goes = record { in_step = step_more w load next arriving more old new same goes.active.size step has; goes_on = goes }
+stays_more (Ok x) w load next arriving more old new d e same step has goes = record { in_step = step_more w load next arriving more old new same goes.active step has; goes_on = goes }
 stays_more (Err x) w load next arriving more old new d e same step has goes = tt

@@ -7,11 +7,11 @@ use Rattle.disk_model.specs.State.{DiskState}
 use Rattle.disk_layout.specs.Contents.{HeadersAreFirst}
 use Rattle.disk_layout.specs.Holds.{HoldsConfig, StandingView}
 use Rattle.bank_store.specs.Fits.{CanActivate, InstallsBeside}
-use Rattle.bank_store.specs.Given.{Given, GivenLoad, HasGiven, configured, loads_of}
+use Rattle.bank_store.specs.Given.{Given, GivenLoad, HasGiven, loads_of, whole_given}
 use Rattle.bank_store.specs.Keeps.{IsOldOrNew}
 use Rattle.bank_store.specs.declared.store.Store.{Store}
 use Rattle.session_rules.specs.Uploads.{Complete, Next, OpenLoad, Upload, current_view, files_of, next_entry, open_load_view, upload_view}
-use Rattle.session_rules.specs.TargetLog.{standing_in}
+use Rattle.session_rules.specs.TargetLog.{standing_after, standing_in}
 use Rattle.session_rules.specs.TargetRows.{Over, Reads_file, WholeRow, Writes_progress, arriving_load, said_length}
 use Rattle.load_intake.specs.States.{IntakeState}
 
@@ -37,6 +37,10 @@ given_bytes (Some l) arrived = take (said_length (next_entry (open_load_view l))
 -- of an upload, where so much has arrived of its next file
 abbrev pub given_of : Upload → (arrived : List ℕ) → Given
 given_of u arrived = record { loads = map given_load u.loads ++ given_current u.current; bytes = given_bytes u.current arrived }
+
+-- with these loads more, each with all its files
+abbrev pub with_whole_loads : List LoadView → Given → Given
+with_whole_loads loads g = record { loads = g.loads ++ map whole_given loads; bytes = g.bytes }
 
 -- ---- what the disk holds
 
@@ -114,13 +118,13 @@ pub record OpensGate {T E : Type 0} (old : DiskState) (after : Store) (new : Dis
   pub earlier : (t u : ℕ) (image : Image) → u < old.clock → new.between t u image → old.between t u image
   pub ok : OnOk result (InstallsRow after new next Over [])
 
--- what is active once a file was accepted: where it was the last of all, what was given
+-- what is active once a file was accepted: where it was the last of all, what was given, with the loads that are kept
 abbrev pub active_next : Next → StandingView → Given → StandingView
-active_next Complete s g = configured s (loads_of g)
+active_next Complete s g = standing_after s (loads_of g)
 active_next next s g = s
 
 abbrev pub IsGivenNext : Next → Store → DiskState → StandingView → Given → Type 0
-IsGivenNext Complete store disk s g = InstallsBeside store disk (configured s (loads_of g))
+IsGivenNext Complete store disk s g = InstallsBeside store disk (standing_after s (loads_of g))
 IsGivenNext next store disk s g = IsGiven store disk s g
 
 -- What is left where a file was accepted.

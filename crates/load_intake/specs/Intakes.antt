@@ -33,6 +33,11 @@ row_seen (finished.NextLoad intake) = Writes_progress intake.upload
 row_seen (finished.Stopped end) = Writes_stop (end_view end)
 row_seen (finished.Installed end loads) = Writes_completion (end_view end) (map entry_view loads.loads.items)
 
+-- where loads were installed, so many more take no memory in their list
+abbrev pub HasSpareFor : ℕ → Finished → Type 0
+HasSpareFor more (finished.Installed end loads) = more ≤ loads.loads.spare
+HasSpareFor more finished = ⊤
+
 -- nothing has arrived yet of the file that comes next
 abbrev pub IsFresh : IntakeState → Type 0
 IsFresh st = st.arriving ≡ arriving_of (Reads_file st.upload) []

@@ -1,28 +1,43 @@
--- The tests on a header, where it is known how many bytes of a bank the loads need with it (docs/EXCHANGE.md, "Upload").
-use Rattle.std.specs.Prelude.{◌≡◌, ℕ, ◌≤◌, List, length, bytes_eq, nat_le, Option, Some, None, slice_get}
+-- The tests on a header, where it is known which loads are kept after it, and how many loads there are with it and how many bytes
+-- of a bank they need (docs/EXCHANGE.md, "Upload").
+use Rattle.std.specs.Prelude.{◌≡◌, ℕ, ◌+◌, ◌≤◌, List, length, bytes_eq, nat_le, Option, Some, None, slice_get}
 use Rattle.load_header.specs.Header.{HeaderView}
 use Rattle.load_protocol_files.specs.declared.lur.Wanted.{Wanted}
 use Rattle.disk_layout.specs.declared.identity.Identity.{Identity}
 use Rattle.disk_layout.specs.Holds.{Outline}
+use Rattle.disk_layout.specs.Manifest.{LoadEntry}
+use Rattle.accept_rules.specs.declared.kept.KeptLoad.{KeptLoad}
 use Rattle.accept_rules.specs.Permissions.{Accepts}
 use Rattle.session_rules.specs.declared.reason.Reason.{Reason}
 use Rattle.session_rules.specs.declared.reason.Reason.TheVariants as reasons
 use Rattle.session_rules.specs.Buffers.{Buffer}
 use Rattle.session_rules.specs.TargetRows.{Kept_bytes, Over, RowView, WholeRow, row_judged, view_judged}
 use Rattle.session_rules.specs.Uploads.{Upload, UploadView, is_for, judge_spelled_header, next_wanted, or_else, unless, upload_view}
+use Rattle.load_intake.specs.Keeping.{kept_at, listed_needs}
 use Rattle.load_intake.specs.States.{WholeView, upload_of}
 
-abbrev pub refused_for : Accepts → Identity → Wanted → HeaderView → (need : ℕ) → Option Reason
-refused_for accepts id wanted h need =
+abbrev pub refused_for : Accepts → Identity → Wanted → HeaderView → List KeptLoad → (loads need : ℕ) → Option Reason
+refused_for accepts id wanted h kept loads need =
     or_else (unless (bytes_eq h.part wanted.part) reasons.PartDiffers)
     (or_else (unless (is_for id.hw id.pos h) reasons.NotThisHardware)
-    (or_else (unless (accepts h) reasons.RuleRefused)
-    (unless (nat_le need id.bank) (reasons.BankFull need id.bank))))
+    (or_else (unless (accepts h kept) reasons.RuleRefused)
+    (or_else (unless (nat_le loads 32) (reasons.TooManyLoads loads))
+    (unless (nat_le need id.bank) (reasons.BankFull need id.bank)))))
 
--- what of these tests the store goes by: the part number is the one that was asked for, and the bank has room
-pub record Passes (id : Identity) (wanted : Wanted) (h : HeaderView) (need : ℕ) : Type 0 where
+-- what of these tests the store goes by: the part number is the one that was asked for, a manifest can count the loads, and the
+-- bank has room
+pub record Passes (id : Identity) (wanted : Wanted) (h : HeaderView) (loads need : ℕ) : Type 0 where
   pub part : h.part ≡ wanted.part
+  pub few : loads ≤ 32
   pub fits : need ≤ id.bank
+
+-- how many loads are known of at a header: those that were asked for, and at the last one those that are kept
+abbrev pub loads_known : (active : List LoadEntry) → WholeView → HeaderView → ℕ
+loads_known active w h = length w.request + length (kept_at active (upload_of w None) h)
+
+-- and how many bytes of a bank they need, where those that were asked for need so many
+abbrev pub need_known : (active : List LoadEntry) → WholeView → HeaderView → (need : ℕ) → ℕ
+need_known active w h need = need + listed_needs (kept_at active (upload_of w None) h)
 
 -- what is kept of a header that isn't too long
 abbrev pub whole_buffer : List ℕ → Buffer

@@ -6,6 +6,7 @@ pub mod Intakes
 pub mod Judging
 pub mod Kept
 pub mod Needs
+pub mod Keeping
 pub mod Places
 pub mod States
 pub mod Stores

@@ -1,38 +1,44 @@
 //! What a file comes to that arrived whole.
-ghost use Rattle.std.specs.Prelude.{◌≡◌, ◌+◌, ◌<◌, ◌≤◌, [], ℕ, List as Items, None, Some};
-ghost use Rattle.std.specs.Prelude.{IfOk, length};
+ghost use Rattle.std.specs.Prelude.{◌≡◌, ◌+◌, ◌<◌, ◌≤◌, [], ◌∷◌, ◌++◌, ℕ, List as Items, None};
+ghost use Rattle.std.specs.Prelude.{Some};
+ghost use Rattle.std.specs.Prelude.{IfOk, OnErr, length};
 ghost use Rattle.crc_fields.specs.CheckSums.{crc32_of};
 ghost use Rattle.accept_rules.specs.Interlocks.{Follows};
 ghost use Rattle.accept_rules.specs.Permissions.{Accepts};
 ghost use Rattle.bank_store.specs.DiskWrites.{IsRunning};
-ghost use Rattle.bank_store.specs.Given.{Given, configured, loads_of};
+ghost use Rattle.bank_store.specs.Given.{Given, loads_of};
 ghost use Rattle.bank_store.specs.Keeps.{Continues};
-ghost use Rattle.bank_store.specs.Store.{IsIdle, IsPrepared, bank_size_of};
+ghost use Rattle.bank_store.specs.Store.{IsIdle, IsPrepared, bank_size_of, known_of};
 ghost use Rattle.bank_store.specs.declared.store.Store.{Store as StoreState};
 ghost use Rattle.disk_layout.specs.Holds.{Outline, StandingView};
 ghost use Rattle.load_header.specs.Header.{header_view};
 ghost use Rattle.load_header.specs.HeaderFields.{HeaderSpells};
 ghost use Rattle.session_rules.specs.Buffers.{empty_buffer};
+ghost use Rattle.session_rules.specs.KeptLoads.{types_in, types_of};
+ghost use Rattle.session_rules.specs.TargetLog.{standing_after};
 ghost use Rattle.session_rules.specs.TargetRows.{Kept_bytes, Kept_sums, Over, Reads_file};
-ghost use Rattle.session_rules.specs.TargetRows.{done_move, placed_view, row_moved};
+ghost use Rattle.session_rules.specs.TargetRows.{done_move, load_entry_of, placed_view, row_moved};
 ghost use Rattle.session_rules.specs.TargetRows.{stopped_upload, view_moved};
 ghost use Rattle.session_rules.specs.declared.reason.Reason.TheVariants.{HeaderRefused};
 ghost use Rattle.session_rules.specs.Uploads.{Complete, More_files, Next_load, covered_header};
 ghost use Rattle.session_rules.specs.Uploads.{Upload, files_of, next_with, upload_view};
 ghost use Rattle.load_intake.specs.Contents.{BringsRow, BringsTo, GoesTo, InstallsRow};
 ghost use Rattle.load_intake.specs.Contents.{IsGiven, IsOf};
-ghost use Rattle.load_intake.specs.Intakes.{BeginsNext, end_view, row_seen};
+ghost use Rattle.load_intake.specs.Intakes.{BeginsNext, HasSpareFor, end_view, row_seen};
+ghost use Rattle.load_intake.specs.Keeping.{IsActive, entries};
 ghost use Rattle.load_intake.specs.Kept.{IsAccepted, intake_at};
 ghost use Rattle.load_intake.specs.Judging.{header_row, whole_buffer, whole_header_row};
 ghost use Rattle.load_intake.specs.Places.{next_seen};
 ghost use Rattle.load_intake.specs.States.{upload_of};
-ghost use Rattle.load_intake.specs.Stores.{Arrived, Ends, GoesOnInStep, HasAccepted, Writes};
+ghost use Rattle.load_intake.specs.Stores.{Arrived, Ends, GoesOnInStep, HasAccepted};
+ghost use Rattle.bank_store.specs.Known.{KnowsActive};
+ghost use Rattle.load_intake.specs.Stores.{Writes};
 
 use crate::down::Down;
-use crate::ended::UploadEnd;
-use crate::finished::Finished;
+use crate::ended::{NewLoads, UploadEnd};
+use crate::finished::{Finished, installed};
 use crate::intake::Intake;
-use crate::judging::{header_reason, load_reason};
+use crate::judging::load_reason;
 use crate::next::Next;
 use crate::open_load::OpenLoad;
 use crate::place::Place;
@@ -40,7 +46,7 @@ use crate::storing;
 use crate::sums::FileSums;
 use crate::whole::Whole;
 use accept_rules::{Interlock, Rule};
-use bank_store::{Identity, Store};
+use bank_store::{Identity, ManifestLoad, Store};
 use crc_fields::Crc32;
 use disk_model::Disk;
 use load_base::NoMemory;
@@ -54,29 +60,33 @@ pub(crate) fn header_arrived<K: Disk, R: Rule>(
     buffer: FileBuffer,
     interlock: &Interlock<R>,
     identity: &Identity,
+    active: &[ManifestLoad],
     store: &mut Store,
     disk: &mut K,
 ) -> Result<Finished, Down>
     requires arrived { Arrived (intake_at whole None (Kept_bytes buffer)) whole.need store.old
         (K.state disk.old) }
+    requires active { KnowsActive store.old (entries active.now) }
     requires bank { identity.now.bank ≡ bank_size_of store.old }
     ensures row { (accepts : Accepts) → Follows R.may_say interlock.now accepts
-        → (active : Outline) → active.identity ≡ identity.now
+        → (o : Outline) → IsActive o identity.now (entries active.now)
         → IfOk result (λ finished. row_seen finished ≡ view_moved
         (Reads_file (upload_of whole None)) (Kept_bytes buffer)
-        (done_move accepts active (Reads_file (upload_of whole None))
+        (done_move accepts o (Reads_file (upload_of whole None))
         (Kept_bytes buffer))) }
     ensures ends { IfOk result (λ finished. Ends finished store.old store.new
         (K.state disk.old) (K.state disk.new)) }
+    ensures spare { IfOk result (λ finished. HasSpareFor (length active.now) finished) }
     ensures brings { (accepts : Accepts) → Follows R.may_say interlock.now accepts
-        → (active : Outline) → active.identity ≡ identity.now
+        → (o : Outline) → IsActive o identity.now (entries active.now)
         → (s : StandingView) (u : Upload) (arrived : Items ℕ)
         → IsOf (intake_at whole None (Kept_bytes buffer)) u arrived
         → InstallsRow store.old (K.state disk.old) s (Reads_file u) arrived
         → BringsRow (K.state disk.old) store.new (K.state disk.new) s
-        (row_moved (Reads_file u) arrived (done_move accepts active
+        (row_moved (Reads_file u) arrived (done_move accepts o
         (Reads_file (upload_of whole None)) (Kept_bytes buffer))) result }
     ensures size { bank_size_of store.new ≡ bank_size_of store.old }
+    ensures known { OnErr result (known_of store.new ≡ known_of store.old) }
     ensures writes { Writes (K.state disk.old) (K.state disk.new) result }
 {
     header_laws();
@@ -87,7 +97,9 @@ pub(crate) fn header_arrived<K: Disk, R: Rule>(
         return Ok(Finished::Stopped(end));
     }
     match LoadHeader::decode(whole.alloc(), bytes) {
-        Ok(header) => header_read(whole, header, buffer, interlock, identity, store, disk),
+        Ok(header) => header_read(
+            whole, header, buffer, interlock, identity, active, store, disk,
+        ),
         Err(HeaderFault::Memory) => {
             // For the proof: dropped by a call, not by scope.
             drop((whole, buffer));
@@ -118,27 +130,31 @@ fn header_read<K: Disk, R: Rule>(
     buffer: FileBuffer,
     interlock: &Interlock<R>,
     identity: &Identity,
+    active: &[ManifestLoad],
     store: &mut Store,
     disk: &mut K,
 ) -> Result<Finished, Down>
     requires arrived { Arrived (intake_at whole None (Kept_bytes (whole_buffer buffer.prefix)))
         whole.need store.old (K.state disk.old) }
+    requires active { KnowsActive store.old (entries active.now) }
     requires bank { identity.now.bank ≡ bank_size_of store.old }
     requires spelled { HeaderSpells (header_view header) buffer.prefix }
     requires short { (4 ≤ length buffer.prefix) × (length buffer.prefix ≤ 65536) }
     ensures row { (accepts : Accepts) → Follows R.may_say interlock.now accepts
-        → (active : Outline) → active.identity ≡ identity.now
-        → IfOk result (λ finished. row_seen finished ≡ header_row accepts active whole
+        → (o : Outline) → IsActive o identity.now (entries active.now)
+        → IfOk result (λ finished. row_seen finished ≡ header_row accepts o whole
         (header_view header) buffer.prefix) }
     ensures ends { IfOk result (λ finished. Ends finished store.old store.new
         (K.state disk.old) (K.state disk.new)) }
+    ensures spare { IfOk result (λ finished. HasSpareFor (length active.now) finished) }
     ensures brings { (accepts : Accepts) → Follows R.may_say interlock.now accepts
-        → (active : Outline) → active.identity ≡ identity.now
+        → (o : Outline) → IsActive o identity.now (entries active.now)
         → (s : StandingView) (u : Upload) → upload_of whole None ≡ upload_view u
         → InstallsRow store.old (K.state disk.old) s (Reads_file u) buffer.prefix
         → BringsRow (K.state disk.old) store.new (K.state disk.new) s
-        (whole_header_row accepts active u (header_view header) buffer.prefix) result }
+        (whole_header_row accepts o u (header_view header) buffer.prefix) result }
     ensures size { bank_size_of store.new ≡ bank_size_of store.old }
+    ensures known { OnErr result (known_of store.new ≡ known_of store.old) }
     ensures writes { Writes (K.state disk.old) (K.state disk.new) result }
 {
     let wanted = *whole.next_wanted();
@@ -147,7 +163,7 @@ fn header_read<K: Disk, R: Rule>(
     let need = whole.need_with(&wanted, &header, size);
     let next = whole.next_after(&header, 0);
     // For the proof: what is left is dropped by a call, here and below, and not by scope.
-    if let Some(reason) = header_reason(interlock, identity, &wanted, &header, need) {
+    if let Some(reason) = whole.header_reason(interlock, identity, active, &wanted, &header, need) {
         drop((header, buffer));
         return Ok(Finished::Stopped(whole.stop_before(store, next, reason)));
     }
@@ -167,7 +183,7 @@ fn header_read<K: Disk, R: Rule>(
     }
     let whole = whole.with_need(need as u32);
     let load = OpenLoad::new(whole.alloc(), wanted, header, size, crc);
-    go_on(whole, load, sum, buffer, next, store, disk)
+    go_on(whole, load, sum, buffer, next, active, store, disk)
 }
 
 /// The check sum of a load of which this header was taken: all but its last 4 bytes, where the check
@@ -187,24 +203,28 @@ pub(crate) fn file_arrived<K: Disk>(
     load: OpenLoad,
     sums: FileSums,
     buffer: FileBuffer,
+    active: &[ManifestLoad],
     store: &mut Store,
     disk: &mut K,
 ) -> Result<Finished, Down>
     requires arrived { Arrived (intake_at whole (Some load) (Kept_sums sums)) whole.need store.old
         (K.state disk.old) }
-    ensures row { (accepts : Accepts) (active : Outline) → IfOk result (λ finished.
+    requires active { KnowsActive store.old (entries active.now) }
+    ensures row { (accepts : Accepts) (o : Outline) → IfOk result (λ finished.
         row_seen finished ≡ view_moved (Reads_file (upload_of whole (Some load))) (Kept_sums sums)
-        (done_move accepts active (Reads_file (upload_of whole (Some load))) (Kept_sums sums))) }
+        (done_move accepts o (Reads_file (upload_of whole (Some load))) (Kept_sums sums))) }
     ensures ends { IfOk result (λ finished. Ends finished store.old store.new
         (K.state disk.old) (K.state disk.new)) }
-    ensures brings { (accepts : Accepts) (active : Outline) (s : StandingView)
+    ensures spare { IfOk result (λ finished. HasSpareFor (length active.now) finished) }
+    ensures brings { (accepts : Accepts) (o : Outline) (s : StandingView)
         (u : Upload) (arrived : Items ℕ)
         → IsOf (intake_at whole (Some load) (Kept_sums sums)) u arrived
         → InstallsRow store.old (K.state disk.old) s (Reads_file u) arrived
         → BringsRow (K.state disk.old) store.new (K.state disk.new) s
-        (row_moved (Reads_file u) arrived (done_move accepts active
+        (row_moved (Reads_file u) arrived (done_move accepts o
         (Reads_file (upload_of whole (Some load))) (Kept_sums sums))) result }
     ensures size { bank_size_of store.new ≡ bank_size_of store.old }
+    ensures known { OnErr result (known_of store.new ≡ known_of store.old) }
     ensures writes { Writes (K.state disk.old) (K.state disk.new) result }
 {
     let next = load.next_in(&whole);
@@ -216,7 +236,16 @@ pub(crate) fn file_arrived<K: Disk>(
     let file = load.next_file(sums.count());
     storing::end_file(store, file.name);
     let load = load.with_file(file, sums.load_crc())?;
-    go_on(whole, load, sums.into_load_crc(), buffer, next, store, disk)
+    go_on(
+        whole,
+        load,
+        sums.into_load_crc(),
+        buffer,
+        next,
+        active,
+        store,
+        disk,
+    )
 }
 
 /// A file was accepted, and written. The buffer is emptied for the next header.
@@ -226,11 +255,13 @@ fn go_on<K: Disk>(
     sum: Crc32,
     mut buffer: FileBuffer,
     next: Next,
+    active: &[ManifestLoad],
     store: &mut Store,
     disk: &mut K,
 ) -> Result<Finished, Down>
     requires accepted { IsAccepted whole load }
     requires has { HasAccepted whole load store.old }
+    requires active { KnowsActive store.old (entries active.now) }
     requires next { next_seen next ≡ next_with (upload_of whole None) load.header
         (length load.files) }
     requires sum { sum ≡ load.crc }
@@ -239,16 +270,19 @@ fn go_on<K: Disk>(
         ≡ placed_view (upload_of whole None) load (next_seen next)) }
     ensures ends { IfOk result (λ finished. Ends finished store.old store.new
         (K.state disk.old) (K.state disk.new)) }
+    ensures spare { IfOk result (λ finished. HasSpareFor (length active.now) finished) }
     ensures goes_to { (s : StandingView) (g : Given) → IsGiven store.old (K.state disk.old) s g
+        → types_in (loads_of g) ≡ types_of (whole.loads ++ load_entry_of load ∷ [])
         → GoesTo (next_seen next) (K.state disk.old) store.new (K.state disk.new) s g result }
     ensures size { bank_size_of store.new ≡ bank_size_of store.old }
+    ensures known { OnErr result (known_of store.new ≡ known_of store.old) }
     ensures writes { Writes (K.state disk.old) (K.state disk.new) result }
 {
     buffer.clear();
     match next {
         Next::MoreFiles => Ok(more_files(whole, load, sum, buffer)),
         Next::NextLoad => Ok(next_load(whole, load, buffer)?),
-        Next::Complete => complete(whole, load, store, disk),
+        Next::Complete => complete(whole, load, active, store, disk),
     }
 }
 
@@ -286,15 +320,18 @@ fn next_load(whole: Whole, load: OpenLoad, buffer: FileBuffer) -> Result<Finishe
     Ok(Finished::NextLoad(Intake::at(whole, Place::Header(buffer))))
 }
 
-/// All loads are whole, and installed.
+/// All loads are whole, and installed with those that are kept. The memory that the new
+/// configuration takes is reserved first: from the first kept load on none is taken.
 fn complete<K: Disk>(
     whole: Whole,
     load: OpenLoad,
+    active: &[ManifestLoad],
     store: &mut Store,
     disk: &mut K,
 ) -> Result<Finished, Down>
     requires accepted { IsAccepted whole load }
     requires has { HasAccepted whole load store.old }
+    requires active { KnowsActive store.old (entries active.now) }
     requires all { length load.files ≡ length (files_of load.header) }
     requires last { length whole.loads + 1 ≡ length whole.request }
     requires running { IsRunning (K.state disk.old) }
@@ -302,16 +339,20 @@ fn complete<K: Disk>(
         ≡ placed_view (upload_of whole None) load Complete) }
     ensures ends { IfOk result (λ finished. Ends finished store.old store.new
         (K.state disk.old) (K.state disk.new)) }
+    ensures spare { IfOk result (λ finished. HasSpareFor (length active.now) finished) }
     ensures brings { (s : StandingView) (g : Given) → IsGiven store.old (K.state disk.old) s g
+        → types_in (loads_of g) ≡ types_of (whole.loads ++ load_entry_of load ∷ [])
         → BringsTo (K.state disk.old) store.new (K.state disk.new) s
-        (configured s (loads_of g)) Over [] result }
+        (standing_after s (loads_of g)) Over [] result }
     ensures size { bank_size_of store.new ≡ bank_size_of store.old }
+    ensures known { OnErr result (known_of store.new ≡ known_of store.old) }
     ensures writes { Writes (K.state disk.old) (K.state disk.new) result }
 {
     let added = whole.with_load(&load);
     // For the proof: dropped by a call, not by scope.
     drop(load);
-    let whole = added?;
-    storing::install(store, disk)?;
-    Ok(whole.installed())
+    let Whole { request, loads, .. } = added?;
+    let new = NewLoads::with_room(loads, active.len())?;
+    storing::install(store, disk, active, new.loads.as_slice())?;
+    Ok(installed(request, new))
 }

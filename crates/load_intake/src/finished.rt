@@ -1,12 +1,15 @@
 //! What a file that arrived comes to.
-ghost use Rattle.std.specs.Prelude.{◌≡◌, [], Some};
+ghost use Rattle.std.specs.Prelude.{◌≡◌, ◌≤◌, [], ℕ, Some, length};
+ghost use Rattle.session_rules.specs.TargetRows.{Writes_completion, installed_upload};
 ghost use Rattle.session_rules.specs.TargetRows.{stopped_upload};
 ghost use Rattle.session_rules.specs.declared.reason.Reason.TheVariants.{RequestRefused};
-ghost use Rattle.load_intake.specs.Intakes.{end_view};
+ghost use Rattle.load_intake.specs.Intakes.{HasSpareFor, end_view, row_seen};
+ghost use Rattle.load_intake.specs.Keeping.{entries};
 
 use crate::ended::{NewLoads, UploadEnd};
 use crate::intake::Intake;
 use load_base::List;
+use load_protocol_files::Wanted;
 use session_rules::{Reason, RequestFault};
 use std::alloc::Global;
 
@@ -34,6 +37,23 @@ pub enum Finished {
     NextLoad(Intake),
     /// A test failed, and the installation was given up.
     Stopped(UploadEnd),
-    /// It was the last of all: these loads are installed, and active.
+    /// It was the last of all: these loads are installed, and active with those that are kept.
     Installed(UploadEnd, NewLoads),
+}
+
+/// All loads that were asked for are installed.
+pub(crate) fn installed(request: List<Wanted>, new: NewLoads) -> Finished
+    requires all { length request.items ≡ length new.loads.items }
+    ensures row { row_seen result ≡ Writes_completion
+        (installed_upload request.items (length new.loads.items)) (entries new.loads.items) }
+    ensures spare { (more : ℕ) → more ≤ new.loads.spare → HasSpareFor more result }
+{
+    let arrived = new.loads.len() as u16;
+    let end = UploadEnd {
+        request,
+        arrived,
+        reports: arrived + 1,
+        reason: None,
+    };
+    Finished::Installed(end, new)
 }

@@ -1,9 +1,9 @@
 //! An upload at its target.
 ghost use Rattle.std.specs.Prelude.{◌≡◌, ◌+◌, ◌<◌, ◌≤◌, ◌++◌, [], ℕ, List as Items};
-ghost use Rattle.std.specs.Prelude.{length, IfOk, OnOk};
+ghost use Rattle.std.specs.Prelude.{length, IfOk, OnErr, OnOk};
 ghost use Rattle.accept_rules.specs.Permissions.{Accepts};
 ghost use Rattle.bank_store.specs.DiskWrites.{IsRunning};
-ghost use Rattle.bank_store.specs.Store.{IsPrepared, IsSpent, bank_size_of};
+ghost use Rattle.bank_store.specs.Store.{IsPrepared, IsSpent, bank_size_of, known_of};
 ghost use Rattle.accept_rules.specs.Interlocks.{Follows};
 ghost use Rattle.disk_layout.specs.Holds.{Outline, StandingView};
 ghost use Rattle.session_rules.specs.Uploads.{Upload, next_name};
@@ -15,10 +15,12 @@ ghost use Rattle.session_rules.specs.TargetRows.{new_upload, new_upload_view, ro
 ghost use Rattle.session_rules.specs.TargetRows.{view_moved};
 ghost use Rattle.load_intake.specs.Contents.{BringsRow, BringsTo, InstallsRow, IsOf};
 ghost use Rattle.load_intake.specs.Held.{contents_kept};
-ghost use Rattle.load_intake.specs.Intakes.{IsFresh, end_view, row_seen, with_more};
+ghost use Rattle.load_intake.specs.Intakes.{HasSpareFor, IsFresh, end_view, row_seen, with_more};
+ghost use Rattle.load_intake.specs.Keeping.{IsActive, entries};
 ghost use Rattle.load_intake.specs.Kept.{IsIntake, WaitsEmpty, intake_at};
 ghost use Rattle.load_intake.specs.Places.{arriving_at, open_load};
 ghost use Rattle.load_intake.specs.Stores.{Ends, IsInStep, StaysInStep, Writes};
+ghost use Rattle.bank_store.specs.Known.{KnowsActive};
 
 use crate::down::Down;
 use crate::ended::UploadEnd;
@@ -27,7 +29,7 @@ use crate::place::Place;
 use crate::whole::Whole;
 use crate::{arriving, storing};
 use accept_rules::{Interlock, Rule};
-use bank_store::{Identity, Store};
+use bank_store::{Identity, ManifestLoad, Store};
 use disk_model::Disk;
 use load_base::{List, Name};
 use load_protocol_files::Wanted;
@@ -82,6 +84,7 @@ impl Intake {
             (Reads_file (new_upload request.items)) [] result }
         // Whatever it answers.
         ensures size { bank_size_of store.new ≡ bank_size_of store.old }
+        ensures known { OnErr result (known_of store.new ≡ known_of store.old) }
         ensures writes { Writes (K.state disk.old) (K.state disk.new) result }
     {
         storing::begin(store, disk)?;
@@ -156,51 +159,58 @@ impl Intake {
             (arrived ++ bytes.now) result }
         // Whatever it answers.
         ensures size { bank_size_of store.new ≡ bank_size_of store.old }
+        ensures known { OnErr result (known_of store.new ≡ known_of store.old) }
         ensures writes { Writes (K.state disk.old) (K.state disk.new) result }
     {
         self.place.take(store, disk, bytes)
     }
 
-    /// The file is whole: it is tested, and kept if no test fails. Of a header A2, A3, A4, A5 and
-    /// A9 are tested, of another file A6 and A7, and after the last file of a load A8, in this
-    /// order. With the last of all the loads are installed.
+    /// The file is whole: it is tested, and kept if no test fails. Of a header A2, A3, A4, A5, of
+    /// the last header A14, and A9 are tested, of another file A6 and A7, and after the last file of
+    /// a load A8, in this order. With the last of all the loads are installed, and after them those
+    /// of the active configuration, `active`, that have a type id which none of the new ones has.
     pub fn finish<K: Disk, R: Rule>(
         self,
         interlock: &Interlock<R>,
         identity: &Identity,
+        active: &[ManifestLoad],
         store: &mut Store,
         disk: &mut K,
     ) -> Result<Finished, Down>
         requires in_step { IsInStep self store.old }
+        requires active { KnowsActive store.old (entries active.now) }
         requires bank { identity.now.bank ≡ bank_size_of store.old }
         requires running { IsRunning (K.state disk.old) }
         // With Ok.
         ensures row { (accepts : Accepts) → Follows R.may_say interlock.now accepts
-            → (active : Outline) → active.identity ≡ identity.now
+            → (o : Outline) → IsActive o identity.now (entries active.now)
             → IfOk result (λ finished. row_seen finished ≡ view_moved (Reads_file self.upload)
-            self.arriving (done_move accepts active (Reads_file self.upload) self.arriving)) }
+            self.arriving (done_move accepts o (Reads_file self.upload) self.arriving)) }
         ensures ends { IfOk result (λ finished. Ends finished store.old store.new
             (K.state disk.old) (K.state disk.new)) }
+        // The list of what is installed has room for the loads that are kept with it.
+        ensures spare { IfOk result (λ finished. HasSpareFor (length active.now) finished) }
         // Where the disk has what arrived, it has with Ok what comes of it: the files so far, or
         // the new configuration alone. Until then the old one is left, or in the last call either.
         ensures brings { (accepts : Accepts) → Follows R.may_say interlock.now accepts
-            → (active : Outline) → active.identity ≡ identity.now
+            → (o : Outline) → IsActive o identity.now (entries active.now)
             → (s : StandingView) (u : Upload) (arrived : Items ℕ) → IsOf self u arrived
             → InstallsRow store.old (K.state disk.old) s (Reads_file u) arrived
             → BringsRow (K.state disk.old) store.new (K.state disk.new) s
-            (row_moved (Reads_file u) arrived (done_move accepts active
+            (row_moved (Reads_file u) arrived (done_move accepts o
             (Reads_file self.upload) self.arriving)) result }
         // Whatever it answers.
         ensures size { bank_size_of store.new ≡ bank_size_of store.old }
+        ensures known { OnErr result (known_of store.new ≡ known_of store.old) }
         ensures writes { Writes (K.state disk.old) (K.state disk.new) result }
     {
         let Intake { whole, place } = self;
         match place {
             Place::Header(buffer) => arriving::header_arrived(
-                whole, buffer, interlock, identity, store, disk,
+                whole, buffer, interlock, identity, active, store, disk,
             ),
             Place::File(load, sums, buffer) => arriving::file_arrived(
-                whole, load, sums, buffer, store, disk,
+                whole, load, sums, buffer, active, store, disk,
             ),
         }
     }

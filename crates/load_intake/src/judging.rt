@@ -12,27 +12,32 @@ ghost use Rattle.load_intake.specs.Judging.{Passes, refused_for};
 ghost use Rattle.load_intake.specs.Needs.{entries_need as need_of_entries, load_need as need_of_load};
 ghost use Rattle.load_intake.specs.Places.{next_seen};
 
+use crate::keeping::MOST_LOADS;
 use crate::next::Next;
 use crate::sums::FileSums;
-use accept_rules::{Interlock, Rule};
+use accept_rules::{Interlock, KeptLoad, Rule};
 use bank_store::Identity;
 use load_base::{Name, Text};
 use load_header::{FileEntry, HardwareAt, LoadHeader};
 use load_protocol_files::Wanted;
 use session_rules::Reason;
 
-/// Why a header that was read is refused, if it is. `need` is how many bytes of a bank its load
-/// needs with those before it.
+/// Why a header that was read is refused, if it is, beside the loads that are kept after it. `loads`
+/// is how many loads are known of, and `need` how many bytes of a bank they need; the kept ones are
+/// among them at the last header.
 pub(crate) fn header_reason<R: Rule>(
     interlock: &Interlock<R>,
     identity: &Identity,
     wanted: &Wanted,
     header: &LoadHeader,
+    kept: &[KeptLoad],
+    loads: u16,
     need: u64,
 ) -> Option<Reason>
     ensures is { (accepts : Accepts) → Follows R.may_say interlock.now accepts → result
-        ≡ refused_for accepts identity.now wanted.now (header_view header.now) need }
-    ensures passed { result ≡ None → Passes identity.now wanted.now (header_view header.now) need }
+        ≡ refused_for accepts identity.now wanted.now (header_view header.now) kept.now loads need }
+    ensures passed { result ≡ None
+        → Passes identity.now wanted.now (header_view header.now) loads need }
 {
     if header.part.as_slice() != wanted.part.as_slice() {
         return Some(Reason::PartDiffers);
@@ -40,8 +45,11 @@ pub(crate) fn header_reason<R: Rule>(
     if !is_for(identity, header) {
         return Some(Reason::NotThisHardware);
     }
-    if !interlock.admits(header) {
+    if !interlock.admits(header, kept) {
         return Some(Reason::RuleRefused);
+    }
+    if loads > MOST_LOADS as u16 {
+        return Some(Reason::TooManyLoads { loads });
     }
     if need > u64::from(identity.bank) {
         return Some(Reason::BankFull {
@@ -107,7 +115,7 @@ fn entries_need(entries: &[FileEntry]) -> u64
     need
 }
 
-fn file_need(name: &Name, size: u32) -> u64
+pub(crate) fn file_need(name: &Name, size: u32) -> u64
     ensures is { result ≡ size + length name.now + 5 }
     ensures small { result ≤ 2 ^ 33 }
 {

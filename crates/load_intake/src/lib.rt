@@ -8,7 +8,7 @@
 //! // until the upload ends: the file `intake.next_name()` is asked for, and as its bytes come
 //! intake.take(&mut store, &mut disk, bytes)?;
 //! // when it is whole: what it comes to
-//! match intake.finish(interlock, identity, &mut store, &mut disk)? { .. }
+//! match intake.finish(interlock, identity, active, &mut store, &mut disk)? { .. }
 //! ```
 #![tactic(auto)]
 
@@ -18,6 +18,7 @@ mod ended;
 mod finished;
 mod intake;
 mod judging;
+mod keeping;
 mod next;
 mod open_load;
 mod place;

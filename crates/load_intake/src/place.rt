@@ -1,7 +1,8 @@
 //! The file of an upload that comes next.
-ghost use Rattle.std.specs.Prelude.{◌≡◌, ◌+◌, ◌-◌, ◌++◌, ℕ, List as Items, OnOk, length, take};
+ghost use Rattle.std.specs.Prelude.{◌≡◌, ◌+◌, ◌-◌, ◌++◌, ℕ, List as Items, length, take};
+ghost use Rattle.std.specs.Prelude.{OnErr, OnOk};
 ghost use Rattle.disk_layout.specs.Manifest.{LoadEntry};
-ghost use Rattle.bank_store.specs.Store.{bank_size_of};
+ghost use Rattle.bank_store.specs.Store.{bank_size_of, known_of};
 ghost use Rattle.bank_store.specs.DiskWrites.{IsRunning};
 ghost use Rattle.bank_store.specs.Store.{AwaitsFile};
 ghost use Rattle.bank_store.specs.Given.{Given, with_bytes as with_more};
@@ -60,6 +61,7 @@ impl Place {
         ensures goes_on { OnOk result (StoreGoesOn store.old store.new (K.state disk.old)
             (K.state disk.new)) }
         ensures size { bank_size_of store.new ≡ bank_size_of store.old }
+        ensures known { OnErr result (known_of store.new ≡ known_of store.old) }
         ensures writes { Writes (K.state disk.old) (K.state disk.new) result }
     {
         match self {
@@ -93,6 +95,7 @@ fn write<K: Disk>(
     ensures goes_on { OnOk result (StoreGoesOn store.old store.new (K.state disk.old)
         (K.state disk.new)) }
     ensures size { bank_size_of store.new ≡ bank_size_of store.old }
+    ensures known { OnErr result (known_of store.new ≡ known_of store.old) }
     ensures writes { Writes (K.state disk.old) (K.state disk.new) result }
 {
     storing::append(store, disk, sums.kept(bytes))?;

@@ -1,26 +1,36 @@
 //! What an intake has its store do.
-ghost use Rattle.std.specs.Prelude.{◌≡◌, ℕ, ◌+◌, ◌<◌, ◌≤◌, [], ◌∷◌, ◌++◌, length, List, Some, OnOk};
+ghost use Rattle.std.specs.Prelude.{◌≡◌, ℕ, ◌+◌, ◌<◌, ◌≤◌, [], ◌∷◌, ◌++◌, length, List, Some, true};
+ghost use Rattle.std.specs.Prelude.{false, OnErr, OnOk};
 ghost use Rattle.bank_store.specs.DiskWrites.{IsFailure, IsRunning};
 ghost use Rattle.bank_store.specs.Keeps.{Continues};
+ghost use Rattle.bank_store.specs.Known.{KnowsActive};
 ghost use Rattle.bank_store.specs.Store.{AwaitsEnd, AwaitsFile, AwaitsLoad, IsBetweenLoads};
-ghost use Rattle.bank_store.specs.Store.{IsPrepared, IsSealed, IsSpent, bank_size_of};
-ghost use Rattle.bank_store.specs.Store.{manifest_length};
-ghost use Rattle.disk_layout.specs.Manifest.{LoadEntry, total_length};
+ghost use Rattle.bank_store.specs.Store.{IsPrepared, IsSealed, IsSpent, bank_size_of, body_of};
+ghost use Rattle.bank_store.specs.Store.{known_of, manifest_length};
+ghost use Rattle.disk_layout.specs.Manifest.{LoadEntry, entry_view, total_length};
+ghost use Rattle.load_base.specs.Config.{LoadView};
 ghost use Rattle.load_header.specs.Header.{header_view};
 ghost use Rattle.session_rules.specs.Uploads.{files_of};
 ghost use Rattle.disk_layout.specs.Holds.{StandingView};
 ghost use Rattle.disk_model.specs.Image.{Image};
 ghost use Rattle.bank_store.specs.Fits.{InstallsBeside};
-ghost use Rattle.bank_store.specs.Given.{Given, HasGiven, configured, loads_of, nothing_given};
+ghost use Rattle.bank_store.specs.Given.{Given, HasGiven, loads_of, nothing_given};
 ghost use Rattle.bank_store.specs.Given.{with_bytes, with_file, with_load};
+ghost use Rattle.session_rules.specs.KeptLoads.{has_other_type, kept_entries, kept_loads};
+ghost use Rattle.session_rules.specs.KeptLoads.{types_in, types_of};
+ghost use Rattle.session_rules.specs.TargetLog.{standing_after};
 ghost use Rattle.session_rules.specs.TargetRows.{Over};
 ghost use Rattle.load_intake.specs.Contents.{BringsTo, Gives, IsGiven, LeavesSealed};
-ghost use Rattle.load_intake.specs.Stores.{StoreGoesOn, Has, HasRoomFor, Installs, Writes, down_of};
+ghost use Rattle.load_intake.specs.Contents.{with_whole_loads};
+ghost use Rattle.load_intake.specs.Keeping.{entries, kept_beside};
+ghost use Rattle.load_intake.specs.Stores.{CanKeepLoad, Has, HasRoomFor, HasRoomToKeep};
+ghost use Rattle.load_intake.specs.Stores.{InstallsLoads, StoreGoesOn, Writes, down_of};
 ghost use Rattle.load_intake.specs.Stores.{header_alone, with_entry};
 
 use crate::down::Down;
+use crate::keeping::is_kept_beside;
 use crate::whole::Whole;
-use bank_store::{Store, StoreFault};
+use bank_store::{ManifestLoad, Store, StoreFault};
 use disk_model::Disk;
 use load_base::{Name, PartText};
 use load_header::LoadHeader;
@@ -49,6 +59,7 @@ pub(crate) fn begin<K: Disk>(store: &mut Store, disk: &mut K) -> Result<(), Down
     ensures goes_on { OnOk result (StoreGoesOn store.old store.new (K.state disk.old)
         (K.state disk.new)) }
     ensures size { bank_size_of store.new ≡ bank_size_of store.old }
+    ensures known { OnErr result (known_of store.new ≡ known_of store.old) }
     ensures writes { Writes (K.state disk.old) (K.state disk.new) result }
 {
     match store.begin(disk) {
@@ -70,6 +81,7 @@ pub(crate) fn append<K: Disk>(store: &mut Store, disk: &mut K, bytes: &[u8]) -> 
     ensures goes_on { OnOk result (StoreGoesOn store.old store.new (K.state disk.old)
         (K.state disk.new)) }
     ensures size { bank_size_of store.new ≡ bank_size_of store.old }
+    ensures known { OnErr result (known_of store.new ≡ known_of store.old) }
     ensures writes { Writes (K.state disk.old) (K.state disk.new) result }
 {
     match store.append(disk, bytes) {
@@ -139,6 +151,7 @@ pub(crate) fn write_header<K: Disk>(
     ensures goes_on { OnOk result (StoreGoesOn store.old store.new (K.state disk.old)
         (K.state disk.new)) }
     ensures size { bank_size_of store.new ≡ bank_size_of store.old }
+    ensures known { OnErr result (known_of store.new ≡ known_of store.old) }
     ensures writes { Writes (K.state disk.old) (K.state disk.new) result }
 {
     let files = header.data_files.len() + header.support_files.len();
@@ -148,21 +161,100 @@ pub(crate) fn write_header<K: Disk>(
     Ok(())
 }
 
-/// The loads are all there: the manifest is written after them, and the other slot is opened.
-pub(crate) fn install<K: Disk>(store: &mut Store, disk: &mut K) -> Result<(), Down>
-    requires between { IsBetweenLoads store.old }
-    requires room { HasRoomFor (manifest_length store.old) store.old }
+/// The new loads are all there: those of the active configuration that are kept are copied after
+/// them, the manifest is written, and the other slot is opened.
+pub(crate) fn install<K: Disk>(
+    store: &mut Store,
+    disk: &mut K,
+    active: &[ManifestLoad],
+    new: &[ManifestLoad],
+) -> Result<(), Down>
+    requires has { Has store.old (entries new.now) 0 0 }
+    requires active { KnowsActive store.old (entries active.now) }
+    requires room { HasRoomToKeep store.old (length new.now) (entries new.now)
+        (kept_beside (entries active.now) (entries new.now)) }
     requires running { IsRunning (K.state disk.old) }
-    ensures installs { OnOk result (Installs store.old store.new (K.state disk.old)
-        (K.state disk.new)) }
+    ensures installs { OnOk result (InstallsLoads (entries new.now) store.old store.new
+        (K.state disk.old) (K.state disk.new)) }
     ensures brings { (s : StandingView) (g : Given) → IsGiven store.old (K.state disk.old) s g
+        → types_in (loads_of g) ≡ types_of (entries new.now)
         → BringsTo (K.state disk.old) store.new (K.state disk.new) s
-        (configured s (loads_of g)) Over [] result }
+        (standing_after s (loads_of g)) Over [] result }
     ensures size { bank_size_of store.new ≡ bank_size_of store.old }
+    ensures known { OnErr result (known_of store.new ≡ known_of store.old) }
     ensures writes { Writes (K.state disk.old) (K.state disk.new) result }
 {
+    keep_loads(store, disk, active, new)?;
     seal(store, disk)?;
     match store.activate(disk) {
+        Ok(()) => Ok(()),
+        Err(fault) => Err(down(fault)),
+    }
+}
+
+/// Copies each load of the active configuration that is kept beside the new ones, in their order.
+fn keep_loads<K: Disk>(
+    store: &mut Store,
+    disk: &mut K,
+    active: &[ManifestLoad],
+    new: &[ManifestLoad],
+) -> Result<(), Down>
+    requires has { Has store.old (entries new.now) 0 0 }
+    requires active { KnowsActive store.old (entries active.now) }
+    requires room { HasRoomToKeep store.old (length new.now) (entries new.now)
+        (kept_beside (entries active.now) (entries new.now)) }
+    requires running { IsRunning (K.state disk.old) }
+    ensures has { OnOk result (Has store.new
+        (entries new.now ++ kept_beside (entries active.now) (entries new.now)) 0 0) }
+    ensures gives { (s : StandingView) (g : Given) → IsGiven store.old (K.state disk.old) s g
+        → Gives (K.state disk.old) store.new (K.state disk.new) s
+        (with_whole_loads (kept_loads (types_of (entries new.now)) s.loads) g) result }
+    ensures goes_on { OnOk result (StoreGoesOn store.old store.new (K.state disk.old)
+        (K.state disk.new)) }
+    ensures size { bank_size_of store.new ≡ bank_size_of store.old }
+    ensures known { OnErr result (known_of store.new ≡ known_of store.old) }
+    ensures writes { Writes (K.state disk.old) (K.state disk.new) result }
+{
+    let mut number = 0;
+    for load in active {
+        number += 1;
+        keep_load(store, disk, number, load, new)?;
+    }
+    Ok(())
+}
+
+/// Copies this load of the active configuration, which is the one of this number from 1 on, if it is
+/// kept beside the new ones.
+fn keep_load<K: Disk>(
+    store: &mut Store,
+    disk: &mut K,
+    number: u16,
+    load: &ManifestLoad,
+    new: &[ManifestLoad],
+) -> Result<(), Down>
+    requires can { has_other_type (types_of (entries new.now)) load.now.type_id ≡ true
+        → CanKeepLoad store.old number (entry_view load.now) }
+    requires running { IsRunning (K.state disk.old) }
+    ensures has { (given : List LoadEntry) → Has store.old given 0 0 → OnOk result (Has store.new
+        (given ++ kept_entries (types_of (entries new.now)) (entry_view load.now ∷ [])) 0 0) }
+    ensures gives { (s : StandingView) (g : Given) → IsGiven store.old (K.state disk.old) s g
+        → (front back : List LoadView) (one : LoadView) → s.loads ≡ front ++ one ∷ back
+        → length front + 1 ≡ number → one.type_id ≡ load.now.type_id
+        → Gives (K.state disk.old) store.new (K.state disk.new) s
+        (with_whole_loads (kept_loads (types_of (entries new.now)) (one ∷ [])) g) result }
+    ensures none { has_other_type (types_of (entries new.now)) load.now.type_id ≡ false
+        → (s : StandingView) (g : Given) → IsGiven store.old (K.state disk.old) s g
+        → Gives (K.state disk.old) store.new (K.state disk.new) s g result }
+    ensures goes_on { OnOk result (StoreGoesOn store.old store.new (K.state disk.old)
+        (K.state disk.new)) }
+    ensures size { bank_size_of store.new ≡ bank_size_of store.old }
+    ensures known { OnErr result (known_of store.new ≡ known_of store.old) }
+    ensures writes { Writes (K.state disk.old) (K.state disk.new) result }
+{
+    if !is_kept_beside(load, new) {
+        return Ok(());
+    }
+    match store.keep(disk, number) {
         Ok(()) => Ok(()),
         Err(fault) => Err(down(fault)),
     }
@@ -174,11 +266,13 @@ fn seal<K: Disk>(store: &mut Store, disk: &mut K) -> Result<(), Down>
     requires room { HasRoomFor (manifest_length store.old) store.old }
     requires running { IsRunning (K.state disk.old) }
     ensures sealed { OnOk result (IsSealed store.new) }
+    ensures body { OnOk result (body_of store.new ≡ body_of store.old) }
     ensures seals { (s : StandingView) (g : Given) → IsGiven store.old (K.state disk.old) s g
         → LeavesSealed (K.state disk.old) store.new (K.state disk.new) s (loads_of g) result }
     ensures goes_on { OnOk result (StoreGoesOn store.old store.new (K.state disk.old)
         (K.state disk.new)) }
     ensures size { bank_size_of store.new ≡ bank_size_of store.old }
+    ensures known { OnErr result (known_of store.new ≡ known_of store.old) }
     ensures writes { Writes (K.state disk.old) (K.state disk.new) result }
 {
     match store.seal(disk) {

@@ -1,23 +1,31 @@
 //! The loads of an upload that are whole.
-ghost use Rattle.std.specs.Prelude.{◌≡◌, ◌+◌, ◌<◌, ◌≤◌, length, Option, Some, slice_get, IfOk};
+ghost use Rattle.std.specs.Prelude.{◌≡◌, ◌+◌, ◌*◌, ◌^◌, ◌<◌, ◌≤◌, ℕ, List as Items, length};
+ghost use Rattle.std.specs.Prelude.{Option, Some, None, slice_get, IfOk};
+ghost use Rattle.accept_rules.specs.Interlocks.{Follows};
+ghost use Rattle.accept_rules.specs.Permissions.{Accepts};
 ghost use Rattle.bank_store.specs.Keeps.{Continues};
 ghost use Rattle.bank_store.specs.Store.{IsIdle, IsPrepared};
-ghost use Rattle.load_header.specs.Header.{header_view};
+ghost use Rattle.load_header.specs.Header.{HeaderView, header_view};
 ghost use Rattle.load_header.specs.HeaderFields.{IsHeader};
-ghost use Rattle.session_rules.specs.TargetRows.{Writes_completion, installed_upload};
+ghost use Rattle.disk_layout.specs.Manifest.{FitsALayout, LoadEntry};
+ghost use Rattle.session_rules.specs.KeptLoads.{told_loads};
 ghost use Rattle.session_rules.specs.TargetRows.{stopped_upload};
-ghost use Rattle.session_rules.specs.Uploads.{OpenLoadView, files_of, next_with};
-ghost use Rattle.load_intake.specs.Intakes.{end_view, row_seen};
+ghost use Rattle.session_rules.specs.Uploads.{OpenLoadView, files_of, is_last as is_last_of};
+ghost use Rattle.session_rules.specs.Uploads.{next_with};
+ghost use Rattle.load_intake.specs.Intakes.{end_view};
+ghost use Rattle.load_intake.specs.Judging.{Passes, loads_known, need_known, refused_for};
+ghost use Rattle.load_intake.specs.Keeping.{entries, kept_with};
 ghost use Rattle.load_intake.specs.Needs.{load_need as load_need_of};
 ghost use Rattle.load_intake.specs.Places.{arrived_at, next_seen};
 ghost use Rattle.load_intake.specs.States.{needing, upload_of, with_whole};
 
-use crate::ended::{NewLoads, UploadEnd};
-use crate::finished::Finished;
-use crate::judging::load_need;
+use crate::ended::UploadEnd;
+use crate::judging::{header_reason, load_need};
+use crate::keeping::{kept_after, kept_need};
 use crate::next::Next;
 use crate::open_load::OpenLoad;
-use bank_store::{ManifestLoad, Store};
+use accept_rules::{Interlock, Rule};
+use bank_store::{Identity, ManifestLoad, Store};
 use load_base::{List, NoMemory};
 use load_header::LoadHeader;
 use load_protocol_files::Wanted;
@@ -65,10 +73,85 @@ impl Whole {
     /// How many bytes of a bank the loads need with one more, whose header has this many.
     pub(crate) fn need_with(&self, wanted: &Wanted, header: &LoadHeader, size: u32) -> u64
         requires { IsHeader (header_view header.now) }
-        ensures { result
+        ensures is { result
             ≡ self.now.need + load_need_of wanted.now (header_view header.now) size }
+        ensures small { result ≤ 2 ^ 43 }
     {
         u64::from(self.need) + load_need(wanted, header, size)
+    }
+
+    /// Why the header of the load that comes next is refused, if it is, where this is active and the
+    /// loads need so many bytes of a bank with it. At the last header it is known which loads are
+    /// kept, and they count too.
+    pub(crate) fn header_reason<R: Rule>(
+        &self,
+        interlock: &Interlock<R>,
+        identity: &Identity,
+        active: &[ManifestLoad],
+        wanted: &Wanted,
+        header: &LoadHeader,
+        need: u64,
+    ) -> Option<Reason>
+        requires left { length self.now.loads < length self.now.request }
+        requires few { length self.now.request ≤ 32 }
+        requires active { FitsALayout (entries active.now) }
+        requires small { need ≤ 2 ^ 43 }
+        ensures is { (accepts : Accepts) → Follows R.may_say interlock.now accepts → result
+            ≡ refused_for accepts identity.now wanted.now (header_view header.now)
+            (told_loads (kept_with (entries active.now) self.now.loads header.now.type_id))
+            (loads_known (entries active.now) self.now (header_view header.now))
+            (need_known (entries active.now) self.now (header_view header.now) need) }
+        ensures passed { result ≡ None
+            → Passes identity.now wanted.now (header_view header.now)
+            (loads_known (entries active.now) self.now (header_view header.now))
+            (need_known (entries active.now) self.now (header_view header.now) need) }
+    {
+        let kept = kept_after(active, self.loads.as_slice(), header);
+        let told = kept.as_slice();
+        let loads = self.count_with(told.len());
+        let need = need + self.need_of_kept(active, header);
+        header_reason(interlock, identity, wanted, header, told, loads, need)
+    }
+
+    /// How many loads are known of, where so many are kept after the header of the next one: those
+    /// that were asked for, and at the last header the kept ones.
+    fn count_with(&self, kept: usize) -> u16
+        requires left { length self.now.loads < length self.now.request }
+        requires few { (length self.now.request ≤ 32) × (kept ≤ 32) }
+        ensures { (active : Items LoadEntry) (h : HeaderView)
+            → kept ≡ length (kept_with active self.now.loads h.type_id)
+            → result ≡ loads_known active self.now h }
+    {
+        let requested = self.request.len() as u16;
+        if self.is_last() {
+            requested + kept as u16
+        } else {
+            requested
+        }
+    }
+
+    /// How many bytes of a bank the loads need that are kept, at the last header, and 0 before it.
+    fn need_of_kept(&self, active: &[ManifestLoad], header: &LoadHeader) -> u64
+        requires left { length self.now.loads < length self.now.request }
+        requires active { FitsALayout (entries active.now) }
+        ensures is { (need : ℕ) → need + result
+            ≡ need_known (entries active.now) self.now (header_view header.now) need }
+        ensures small { result ≤ 32 * 2 ^ 42 }
+    {
+        if self.is_last() {
+            kept_need(active, self.loads.as_slice(), header.type_id)
+        } else {
+            0
+        }
+    }
+
+    /// Whether the load that comes next is the last that was asked for.
+    fn is_last(&self) -> bool
+        requires { length self.now.loads < length self.now.request }
+        ensures { (current : Option OpenLoadView) → result
+            ≡ is_last_of (upload_of self.now current) }
+    {
+        self.request.len() - self.loads.len() <= 1
     }
 
     /// With this many bytes needed.
@@ -156,21 +239,5 @@ impl Whole {
         let listed = load.listed(self.alloc)?;
         self.loads.push(listed)?;
         Ok(self)
-    }
-
-    /// All loads are installed.
-    pub(crate) fn installed(self) -> Finished
-        requires few { length self.loads ≤ 32 }
-        requires all { length self.request ≡ length self.loads }
-        ensures { row_seen result ≡ Writes_completion
-            (installed_upload self.request (length self.loads)) self.loads }
-    {
-        let end = UploadEnd {
-            arrived: self.arrived(),
-            reports: self.arrived() + 1,
-            request: self.request,
-            reason: None,
-        };
-        Finished::Installed(end, NewLoads { loads: self.loads })
     }
 }

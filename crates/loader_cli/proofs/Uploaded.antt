@@ -1,6 +1,6 @@
 -- How a run ends that uploads the generated set to a target that can take it.
 use Rattle.std.proofs.Common.{◌≡◌, ◌⊎◌, inl, inr, ℕ, Bool, true, false, not, List, [], ◌∷◌, Some, refl, sym, subst, arith}
-use Rattle.std.specs.Prelude.{All, ◌==◌}
+use Rattle.std.specs.Prelude.{All, ◌&&◌, ◌==◌}
 use Rattle.std.specs.List.{AllByRecursion}
 use Rattle.std.proofs.lemmas.Bool.{ne_eqb}
 use Rattle.std.proofs.lemmas.List.Elements.{All-cons, All-nil}
@@ -13,7 +13,8 @@ use Rattle.field_grammar.specs.ExactLaws.{one_value}
 use Rattle.exchange_trace.specs.Happenings.{Delivered, Ended, HappeningView, Ticked, Upload_started}
 use Rattle.exchange_trace.specs.Lines.{Line}
 use Rattle.exchange_trace.specs.Steps.{Step, steps_of}
-use Rattle.accept_rules.specs.Permissions.{Grants, permits}
+use Rattle.accept_rules.specs.declared.kept.KeptLoad.{KeptLoad}
+use Rattle.accept_rules.specs.Permissions.{Grants, keeps_part, permits}
 use Rattle.media_check.specs.Sets.{SetView}
 use Rattle.session_rules.specs.Loader.{EndedSession}
 use Rattle.replay_rules.specs.Due.{LeavesPower}
@@ -55,12 +56,13 @@ all_leave (s ∷ steps) (is, before) = (leaves_power s.given is, all_leave steps
 
 -- ---- the setting of a run
 
-not_false : (b : Bool) → b ≡ false → not b ≡ true
-not_false true e = absurd cc
-not_false false e = refl
+neither : (a b : Bool) → a ≡ false → b ≡ false → (not a && not b) ≡ true
+neither false false e other = refl
+neither false true e other = absurd cc
+neither true b e other = absurd cc
 
-grants_permitted : (h : HeaderView) → Grants h → permits h ≡ true
-grants_permitted h grants = not_false (h.type_id == 0) (ne_eqb h.type_id 0 (λ none. omega (arith, grants.0, none)))
+grants_permitted : (h : HeaderView) (kept : List KeptLoad) → Grants h kept → permits h kept ≡ true
+grants_permitted h kept grants = neither (h.type_id == 0) (keeps_part h.part kept) (ne_eqb h.type_id 0 (λ none. omega (arith, grants.least, none))) grants.part
 
 -- ---- the run comes to its end, completed
 

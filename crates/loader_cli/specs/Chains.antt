@@ -35,8 +35,8 @@ AreInTurn seen disk [] = ⊤
 AreInTurn seen disk (took ∷ later) = (took.call.disk ≡ disk) × IsPromised (seen took.call) took.ended × AreInTurn seen took.call.disk_after later
 
 -- What a call keeps on a disk at rest, which is the premise of all that is said of what a disk holds: so each image that a
--- power loss may leave now, or might have left since its start, holds what was active at its start, or good loads alone,
--- unless it formats.
+-- power loss may leave now, or might have left since its start, holds what was active at its start, or loads of which each
+-- was active then or is checked, and one is checked, unless it formats.
 pub record Keeps (run : Run) : Type 0 where
   pub rests : LosesOnlyWork run.work.disk
   pub leaves : IsNo FormatsDisk run.work.words → (set : SetView) (start : StandingView) (image : Image) → run.work.disk.reads ≡ Some image → HoldsConfig image start

@@ -104,7 +104,7 @@ RunsScript set script old new run =
     × (LosesOnlyWork old → HoldsScriptRun set script start old new run)
 
 -- Such a disk goes on telling its content, and each image that a power loss may leave now, or might have left since, holds what
--- was active at first, or a configuration that has a load, and good loads alone.
+-- was active at first, or a configuration of which each load was active then or is checked, and one is checked.
 abbrev pub LeavesFirstOrGood : (old new : DiskState) → Type 0
 LeavesFirstOrGood old new =
     (set : SetView) (start : StandingView) (image : Image) → old.reads ≡ Some image → HoldsConfig image start → LosesOnlyWork old

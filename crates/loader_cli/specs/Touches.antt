@@ -39,7 +39,7 @@ pub record TouchesHost {H : Type 0} (words : List (List ℕ)) (before after : H)
   pub others : ForSome old (λ told. KeepsAllBut (IsWritten words told) told new)
 
 -- What a power loss leaves: of `format` the old configuration whole, nothing, or the formatted disk; of each other command
--- what was active at first, or good loads alone.
+-- what was active at first, or loads of which each was active then or is checked, and one is checked.
 pub record LeavesDisk (words : List (List ℕ)) (old new : DiskState) : Type 0 where
   pub while_formatting : (id : Identity) → IsCommand words (format id) → LeavesOldOrFormatted id old new
   pub while_running : IsNo FormatsDisk words → LeavesFirstOrGood old new

@@ -106,7 +106,8 @@ pub fn two_calls_put_the_same<H: Host, O: Sink, K: Power>()
 /// long as those before it left it at rest. So it is from a disk at rest on, and after `format` with
 /// status 0 on any disk that tells its content. After a call that didn't leave it so, since the disk
 /// failed, power was lost or memory ran out, a restart of the disk does: it is at rest then, and
-/// what stands on it was active as the call began, or has good loads alone.
+/// what stands on it was active as the call began, or each of its loads was active then or is checked,
+/// and one is checked.
 pub fn commands_follow_one_another<H: Host, O: Sink, K: Power>()
     ensures at_rest { (disk : K) (calls : List (Took H O K)) → LosesOnlyWork (K.state disk)
         → AreInTurn (run_of H.files H.faults O.content O.faults K.state) disk calls

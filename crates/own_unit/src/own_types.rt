@@ -1,13 +1,14 @@
 //! A maker's rule on which loads its unit accepts.
 ghost use Rattle.std.specs.Prelude.{◌≡◌};
 
-use accept_rules::{Interlock, Rule};
+use accept_rules::{Interlock, KeptLoad, Rule, is_kept};
 use load_header::LoadHeader;
 
 /// The least type id that is a maker's own. All makers share those from 1 up to it.
 pub const OWN_TYPES: u16 = 0x8000;
 
-/// Accepts each type that all makers share, and of the maker's own the one of this number.
+/// Accepts each type that all makers share, and of the maker's own the one of this number; but no load
+/// beside a kept one of its part number.
 #[derive(Clone, Copy)]
 pub struct OwnTypes {
     pub own: u16,
@@ -18,13 +19,13 @@ impl Rule for OwnTypes {
     ghost use Rattle.load_header.specs.Header.{header_view};
     ghost use Rattle.own_unit.specs.OwnTypes.{accepts};
 
-    ghost may_ask = { λ _ _. ⊤ };
+    ghost may_ask = { λ _ _ _. ⊤ };
 
-    ghost may_say = { λ rule header answer. answer ≡ accepts rule.own (header_view header) };
+    ghost may_say = { λ rule header kept answer. answer ≡ accepts rule.own (header_view header) kept };
 
-    fn ask(&self, header: &LoadHeader) -> bool {
+    fn ask(&self, header: &LoadHeader, kept: &[KeptLoad]) -> bool {
         let id = header.type_id;
-        id != 0 && (id < OWN_TYPES || id == self.own)
+        id != 0 && (id < OWN_TYPES || id == self.own) && !is_kept(header.part.as_slice(), kept)
     }
 }
 

@@ -2,17 +2,18 @@
 use Rattle.std.proofs.Common.{◌≡◌, ◌≢◌, ℕ, List, Bool, true, false, inl, inr, sym, ap, ◌∙◌, subst, arith}
 use Rattle.disk_model.specs.Image.{Image}
 use Rattle.disk_layout.specs.Slots.{IsSlot, IsSlotAt, slot_offset, bank_number, other_slot, manifest_offset_of, manifest_length_of}
+use Rattle.disk_layout.specs.Entries.{entry_bytes, typed_loads}
 use Rattle.disk_layout.specs.Manifest.{LoadEntry}
 use Rattle.disk_layout.specs.Holds.{Outline, StandingView, HasOutline, HoldsBy, outline_of}
 use Rattle.disk_layout.specs.declared.active.Active.{Active}
 use Rattle.disk_layout.specs.declared.active.ManifestRange.{ManifestRange}
 use Rattle.disk_layout.specs.declared.identity.Identity.{Identity}
 use Rattle.disk_layout.specs.declared.manifest.Manifest.{Manifest}
-use Rattle.bank_store.specs.Store.{active_slot, bank_size_of, active_of, is_other_open}
+use Rattle.bank_store.specs.Store.{active_slot, bank_size_of, active_of, is_other_open, known_of}
 use Rattle.bank_store.specs.Fits.{HoldsFor}
 use Rattle.bank_store.specs.declared.store.Store.{Store}
 use Rattle.recovery.specs.Parts.{TellsOther}
-use Rattle.recovery.specs.Surveys.{FindsActive, FindsOutline, IsSurveyed, outline_of_survey}
+use Rattle.recovery.specs.Surveys.{FindsActive, FindsOutline, IsSurveyed, KnowsManifest, outline_of_survey}
 use Rattle.recovery.specs.declared.slots.ActiveSlot.{ActiveSlot}
 use Rattle.recovery.specs.declared.surveying.Surveyed.{Surveyed}
 
@@ -22,9 +23,9 @@ other_is_slot slot (inl e) = (inr (omega (arith, e)), λ same. omega (arith, e, 
 other_is_slot slot (inr e) = (inl (omega (arith, e)), λ same. omega (arith, e, same))
 
 -- A configuration of the outline that was found is one that the store keeps as active.
-pub store_holds : (image : Image) (s : Surveyed) → IsSurveyed image s → bank_size_of s.store ≡ s.identity.bank
+pub store_holds : (image : Image) (s : Surveyed) → IsSurveyed image s → bank_size_of s.store ≡ s.identity.bank → KnowsManifest (known_of s.store) s.manifest
     → (standing : StandingView) → HoldsBy image (active_slot s.store) standing → outline_of standing ≡ outline_of_survey s → HoldsFor s.store image standing
-store_holds image s found size standing by is =
+store_holds image s found size known standing by is =
     let other = other_is_slot (active_slot s.store) found.outline.has_active.is_active.is_slot in
     let tells = found.other (other_slot (active_slot s.store)) other.0 other.1 in
     record {
@@ -34,6 +35,7 @@ store_holds image s found size standing by is =
       size = ap (λ (o : Outline). o.identity.bank) is ∙ sym size;
       offset = found.offset;
       length = found.length;
+      known = known ∙ ap (λ (o : Outline). entry_bytes (typed_loads o.loads)) (sym is);
       gate = record {
         open_there = tells.0;
         shut_there = λ told is_open. let both : true ≡ false = sym (tells.1 is_open) ∙ told in cc;

@@ -1,14 +1,15 @@
 -- What a survey of a disk finds.
-use Rattle.std.specs.Prelude.{◌≡◌, ◌≤◌, List, Bool}
+use Rattle.std.specs.Prelude.{◌≡◌, ◌≤◌, ℕ, List, Bool}
 use Rattle.disk_model.specs.Image.{Image}
 use Rattle.disk_layout.specs.Offsets.{IsBankSize}
 use Rattle.disk_layout.specs.Slots.{slot_offset, bank_number, manifest_offset_of, manifest_length_of, IsManifestRange}
 use Rattle.disk_layout.specs.Manifest.{FitsALayout, LoadEntry, manifest_view, total_length}
+use Rattle.disk_layout.specs.Entries.{entry_bytes, typed_loads}
 use Rattle.disk_layout.specs.Holds.{Outline, HasOutline}
 use Rattle.disk_layout.specs.declared.active.Active.{Active}
 use Rattle.disk_layout.specs.declared.identity.Identity.{Identity}
 use Rattle.disk_layout.specs.declared.manifest.Manifest.{Manifest}
-use Rattle.bank_store.specs.Store.{bank_size_of, active_of, is_other_open}
+use Rattle.bank_store.specs.Store.{bank_size_of, active_of, is_other_open, known_of}
 use Rattle.recovery.specs.Parts.{TellsOther}
 use Rattle.recovery.specs.declared.surveying.Surveyed.{Surveyed}
 
@@ -43,5 +44,10 @@ outline_of_survey s = outline_by s.identity s.manifest (active_of s.store)
 abbrev pub IsSurveyed : Image → Surveyed → Type 0
 IsSurveyed image s = FindsActive image s.identity s.manifest (active_of s.store) (is_other_open s.store)
 
+-- the bytes say those of the loads that have a type id
+abbrev pub KnowsManifest : List ℕ → Manifest → Type 0
+KnowsManifest bytes m = bytes ≡ entry_bytes (typed_loads (manifest_view m))
+
 abbrev pub IsSurveyInRange : Surveyed → Type 0
-IsSurveyInRange s = IsFoundInRange s.identity s.manifest (active_of s.store) × (bank_size_of s.store ≡ s.identity.bank)
+IsSurveyInRange s =
+    IsFoundInRange s.identity s.manifest (active_of s.store) × (bank_size_of s.store ≡ s.identity.bank) × KnowsManifest (known_of s.store) s.manifest

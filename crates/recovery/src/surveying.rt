@@ -7,12 +7,15 @@ ghost use Rattle.bank_store.specs.Store.{IsIdle};
 ghost use Rattle.bank_store.specs.DiskWrites.{IsRunning};
 ghost use Rattle.bank_store.specs.Fits.{HoldsFor, Fits, LosesOnlyWork, Works};
 ghost use Rattle.recovery.specs.Surveys.{IsSurveyed, IsSurveyInRange, FindsActive, IsFoundInRange};
-ghost use Rattle.recovery.specs.Surveys.{outline_of_survey};
+ghost use Rattle.recovery.specs.Surveys.{KnowsManifest, outline_of_survey};
 
 use crate::manifests::outline_on;
 use bank_store::{Store, a_store_goes_on_fitting, an_idle_store_works};
-use disk_layout::{Active, Identity, Manifest, ManifestFault, RecoverFault, an_outline_is_filled};
+use disk_layout::{
+    Active, Identity, Manifest, ManifestFault, RecoverFault, an_outline_is_filled, typed_entries,
+};
 use disk_model::Disk;
+use load_base::Bytes;
 use std::alloc::Global;
 
 /// What is active on a disk, without the contents of its files, and a store that installs beside
@@ -54,6 +57,7 @@ pub fn survey<K: Disk>(alloc: Global, disk: &mut K) -> Result<Surveyed, RecoverF
         found.identity.bank,
         found.active,
         found.other_is_open,
+        found.known,
     );
     // For the proof: these do nothing.
     an_outline_is_filled();
@@ -73,6 +77,8 @@ pub(crate) struct Found {
     pub(crate) manifest: Manifest,
     pub(crate) active: Active,
     pub(crate) other_is_open: bool,
+    /// What the manifest says of its loads, where it says their type ids.
+    pub(crate) known: Bytes,
 }
 
 /// Finds what is active on a disk.
@@ -85,15 +91,19 @@ pub(crate) fn active_on<K: Disk>(alloc: Global, disk: &mut K) -> Result<Found, R
         (λ image. Refuses image fault)) }
     ensures in_range { IfOk result
         (λ found. IsFoundInRange found.identity found.manifest found.active) }
+    ensures known { IfOk result (λ found. KnowsManifest found.known.items found.manifest) }
     ensures reads_disk { ReadsDisk (K.state disk.old) (K.state disk.new) result }
 {
     let found = outline_on(alloc, disk)?;
+    let mut known = Bytes::new(alloc);
+    known.extend(typed_entries(found.manifest.as_slice()))?;
     match Manifest::decode(alloc, found.manifest.as_slice()) {
         Ok(manifest) => Ok(Found {
             identity: found.identity,
             manifest,
             active: found.active,
             other_is_open: found.other_is_open,
+            known,
         }),
         Err(ManifestFault::Memory) => Err(RecoverFault::Memory),
         Err(ManifestFault::Wrong(_)) => unreachable!(),

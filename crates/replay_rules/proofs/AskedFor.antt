@@ -45,7 +45,9 @@ use Rattle.replay_rules.specs.CameTraceLaws.{target_takes}
 use Rattle.replay_rules.specs.CameTraces.{TargetTakes}
 use Rattle.replay_rules.specs.ChangeLaws.{TargetIsSound, changes_are_new, event_bytes, posted_bytes, target_sound, BringsBytes}
 use Rattle.replay_rules.specs.Changes.{AllCarryBytes, AllStayOrAreNew, TargetStaysOrIsNew}
+use Rattle.replay_rules.specs.CompletedRows.{new_is_made}
 use Rattle.replay_rules.specs.Histories.{active_in, brings}
+use Rattle.replay_rules.specs.Promises.{HasParts}
 use Rattle.replay_rules.specs.OtherEndTraces.{AllArriveAsSent, ArrivesAsSent, former_at, loader_transfers, target_transfers, transfers_of}
 use Rattle.replay_rules.specs.TieLaws.{HasLive, target_is_live}
 use Rattle.replay_rules.proofs.ListedTraces.{false_is_true, only_loader}
@@ -199,7 +201,7 @@ module _ (reads : RequestsAreRead) (set : Setting) (s : Step) (earlier : List St
 
   -- what a good verdict makes was asked for by a start before
   new_is_asked : (r : TargetReading) (e : Event) → target_at set earlier ≡ Is_up r → event_for sides.Target (posted_in earlier) s.given ≡ Some e → (new : IsNewAt set.accepts r (target_extended set.accepts r e)) → RequestArrived (target_extended set.accepts r e).end new.upload.request
-      → IsAskedFor earlier (target_extended set.accepts r e).active
+      → IsAskedFor earlier (Is_up r) (target_extended set.accepts r e).active
   new_is_asked r e up comes new h =
       let started : AreStarted set.media (loader_log (s ∷ earlier)) new.upload.request = request_started new.upload.request (target_extended set.accepts r e).end h (there h.transfer (subst (λ (ts : List Transfer). Among h.transfer ts) (sym h.past) (among_right h.transfer h.since (h.transfer ∷ h.before) (inl refl)))) in
       let (between, start, before, split, starts) = start_step earlier started.hw started.pos started.parts (before_now e started.hw started.pos started.parts comes started.among) in
@@ -213,7 +215,7 @@ module _ (reads : RequestsAreRead) (set : Setting) (s : Step) (earlier : List St
         parts = started.parts;
         split = split;
         starts = starts;
-        asked = ap (λ (x : StandingView). map (λ (load : LoadView). load.part) x.loads) new.next ∙ parts_of new.upload.request new.loads new.new.each ∙ parts;
+        asked = new_is_made set.accepts r (target_extended set.accepts r e) new (HasParts started.parts) (parts_of new.upload.request new.loads new.new.each ∙ parts);
       }
     where
       with_live : (live : Option Transfer) (past : List Transfer) (t : Transfer) → Among t past → Among t (past_with live past)
@@ -273,24 +275,24 @@ module _ (joins : SumsJoin) (spells : HeadersAreSpelled) (payloads : PayloadsAre
 
 -- ---- what is brought
 
-brought_if : (steps : List Step) (b : Bool) (after : StandingView) → (b ≡ false → IsAskedFor steps after) → BroughtIsAsked (cond b None (Some after)) steps
-brought_if steps true after asked = tt
-brought_if steps false after asked = asked refl
+brought_if : (steps : List Step) (b : Bool) (state : TargetState) (after : StandingView) → IsAskedFor steps state after → BroughtIsAsked state (cond b None (Some after)) steps
+brought_if steps true state after asked = tt
+brought_if steps false state after asked = asked
 
-none_brought : (steps : List Step) (before after : StandingView) → after ≡ before → BroughtIsAsked (changed before after) steps
-none_brought steps before after same =
-    subst (λ (b : Bool). BroughtIsAsked (cond b None (Some after)) steps) (sym (eq-eqb before.sequence after.sequence (sym (ap (λ (x : StandingView). x.sequence) same)))) tt
+none_brought : (steps : List Step) (state : TargetState) (before after : StandingView) → after ≡ before → BroughtIsAsked state (changed before after) steps
+none_brought steps state before after same =
+    subst (λ (b : Bool). BroughtIsAsked state (cond b None (Some after)) steps) (sym (eq-eqb before.sequence after.sequence (sym (ap (λ (x : StandingView). x.sequence) same)))) tt
 
 module _ (reads : RequestsAreRead) (set : Setting) (s : Step) (earlier : List Step) (entries : EntriesFit set.media) (sent : ArrivesAsSent set s earlier) where
   step_asked : (state : TargetState) (e : Option Event) → target_at set earlier ≡ state → event_for sides.Target (posted_in earlier) s.given ≡ e → TargetStaysOrIsNew set state (reached set e state) → NewHas set state e
-      → BroughtIsAsked (changed (active_in state) (active_in (reached set e state))) earlier
-  step_asked (Is_up r) None up comes change has = none_brought earlier r.active r.active refl
-  step_asked (Is_up r) (Some e) up comes (inl same) has = none_brought earlier r.active (target_extended set.accepts r e).active same
+      → BroughtIsAsked state (changed (active_in state) (active_in (reached set e state))) earlier
+  step_asked (Is_up r) None up comes change has = none_brought earlier (Is_up r) r.active r.active refl
+  step_asked (Is_up r) (Some e) up comes (inl same) has = none_brought earlier (Is_up r) r.active (target_extended set.accepts r e).active same
   step_asked (Is_up r) (Some e) up comes (inr new) has =
-      brought_if earlier (r.active.sequence == (target_extended set.accepts r e).active.sequence) (target_extended set.accepts r e).active
-      (λ other. new_is_asked reads set s earlier entries sent r e up comes new (has new))
-  step_asked (Is_down active interrupted) None up comes change has = none_brought earlier active active refl
-  step_asked (Is_down active interrupted) (Some e) up comes change has = none_brought earlier active active refl
+      brought_if earlier (r.active.sequence == (target_extended set.accepts r e).active.sequence) (Is_up r) (target_extended set.accepts r e).active
+      (new_is_asked reads set s earlier entries sent r e up comes new (has new))
+  step_asked (Is_down active interrupted) None up comes change has = none_brought earlier (Is_down active interrupted) active active refl
+  step_asked (Is_down active interrupted) (Some e) up comes change has = none_brought earlier (Is_down active interrupted) active active refl
 
 all_asked : SumsJoin → HeadersAreSpelled → PayloadsAreBytes → RequestsAreSpelled → RequestsAreRead → (set : Setting) → AcceptsPermitted set.accepts → EntriesFit set.media → (steps : List Step) → AllCarryBytes steps → AllStayOrAreNew set steps
     → AllArriveAsSent set steps → AllBroughtAreAsked set steps

@@ -56,12 +56,12 @@ use Rattle.replay_rules.specs.ListTraces.{AllCanBeListed, IsWrittenInTime, ListW
 use Rattle.replay_rules.specs.Changes.{AllStayOrAreNew}
 use Rattle.replay_rules.specs.OtherEndTraces.{IsUninjected, WhatArrivesWasSent, former_at, transfers_of}
 use Rattle.replay_rules.proofs.AnsweredLater.{one_before}
-use Rattle.replay_rules.specs.Causes.{EndsAs, HasFewLoads, NoBadFiles}
+use Rattle.replay_rules.specs.Causes.{BeginsSmall, EndsAs, HasFewLoads, NoBadFiles}
 use Rattle.replay_rules.proofs.Arrived.{EndedByTarget, ended_by_target}
 use Rattle.replay_rules.proofs.Replies.{FileLaws}
 use Rattle.replay_rules.proofs.TargetFiles.{BeginsWell, IsGiven}
 use Rattle.replay_rules.proofs.TargetTells.{IsToldCause}
-use Rattle.replay_rules.proofs.SessionRows.{active_is_few}
+use Rattle.replay_rules.proofs.SmallLoads.{active_is_few}
 use Rattle.replay_rules.proofs.EachBefore.{IsOver, over_at}
 use Rattle.replay_rules.proofs.FilesInRows.{RowWrites, row_kind}
 use Rattle.replay_rules.proofs.FilesOver.{FilesOver, IsOfRow, target_files_over}
@@ -283,7 +283,7 @@ in_time set steps (ServesWrite name o) h = tt
 -- ---- no session ends so
 
 module _ (joins : SumsJoin) (moves : MovesStayFair) (spells : HeadersAreSpelled) (payloads : PayloadsAreBytes) (requests : RequestsAreSpelled) (arrives : WhatArrivesWasSent) (laws : FileLaws) (set : Setting) (permits : AcceptsPermitted set.accepts)
-    (hw : BeginsWell set.start.identity.hw) (named : OwnFilesAreNamed set) (bank : IsLittle set.start.identity.bank) (few : HasFewLoads set.start) (lengths : LengthsAreTold set.media) where
+    (hw : BeginsWell set.start.identity.hw) (named : OwnFilesAreNamed set) (begins : BeginsSmall set.start) (lengths : LengthsAreTold set.media) where
   given_bytes : (earlier : List Step) (role : Role) (bytes file : List ℕ) → is_asking role ≡ false → file_sent role ≡ Some file → IsToldCause set earlier role → (TellsLength role → bytes ≡ file) → IsGiven bytes
   given_bytes earlier (ServesRead name o f) bytes file serves sent told whole =
       let same : bytes ≡ f = whole told.small ∙ (let is : file ≡ f = cc in is) in subst IsGiven (sym same) told.given
@@ -291,7 +291,11 @@ module _ (joins : SumsJoin) (moves : MovesStayFair) (spells : HeadersAreSpelled)
   given_bytes earlier (Reads name o) bytes file serves sent told whole = absurd cc
   given_bytes earlier (Writes name o f) bytes file serves sent told whole = absurd cc
 
-  module _ (s : Step) (earlier : List Step) (is : IsUninjected set (s ∷ earlier)) (listable : AllCanBeListed set earlier) (kind : FileKind) (offset : ℕ) (h : EndedByTarget set s earlier (BadFile kind offset)) where
+  stay_before : (since : List Step) (made : Step) (before : List Step) → AllStayOrAreNew set (since ++ made ∷ before) → AllStayOrAreNew set before
+  stay_before [] made before all = all.1
+  stay_before (x ∷ since) made before all = stay_before since made before all.1
+
+  module _ (s : Step) (earlier : List Step) (is : IsUninjected set (s ∷ earlier)) (listable : AllCanBeListed set earlier) (changes : AllStayOrAreNew set earlier) (kind : FileKind) (offset : ℕ) (h : EndedByTarget set s earlier (BadFile kind offset)) where
     abbrev start : Start
     start = h.arrived.ends.session.start
 
@@ -319,7 +323,7 @@ module _ (joins : SumsJoin) (moves : MovesStayFair) (spells : HeadersAreSpelled)
         subst (Is wanted) (sym (h.whole tells)) so
 
     abbrev over : IsOver (FilesOver set earlier) (transfers_of (target_at set earlier) ++ former_at set earlier) h.other
-    over = over_at (FilesOver set earlier) (transfers_of (target_at set earlier) ++ former_at set earlier) h.other (target_files_over joins moves spells payloads requests arrives set permits lengths bank few earlier (one_before set s earlier is)) h.among
+    over = over_at (FilesOver set earlier) (transfers_of (target_at set earlier) ++ former_at set earlier) h.other (target_files_over joins moves spells payloads requests arrives set permits lengths begins earlier (one_before set s earlier is)) h.among
 
     lcs_not : loader_row h.arrived.ends.session ≡ Takes_lcs → TakesFile (file_name start.hw start.pos kinds.Lcs) live.role → ⊥
     lcs_not e takes =
@@ -331,7 +335,7 @@ module _ (joins : SumsJoin) (moves : MovesStayFair) (spells : HeadersAreSpelled)
         let due : ListWasDue set earlier h.bytes = taken kinds.Lcl (λ (k : FileKind) (file : List ℕ). k ≡ kinds.Lcl → ListWasDue set earlier file) takes (in_time set earlier h.other.role (target_writes_in_time joins set earlier h.other h.among)) refl in
         let active : StandingView = active_at set due.before in
         let count : length (entries_of active.loads) ≡ length active.loads = length-map active.loads entry_of in
-        let le : HasFewLoads active = active_is_few joins set few due.before in
+        let le : HasFewLoads active = active_is_few set begins due.before (stay_before due.since due.made due.before (subst (λ (steps : List Step). AllStayOrAreNew set steps) due.split changes)) in
         lcl_read laws kind offset (outline_of active) (omega (arith, count, le)) (can_be_listed set due.since due.made due.before (subst (λ (steps : List Step). AllCanBeListed set steps) due.split listable))
         (subst (λ (x : List ℕ). IsBad Takes_lcl x kind offset) due.lists (subst (λ (r : LoaderRow). IsBad r h.bytes kind offset) e h.comes_to))
 
@@ -359,7 +363,7 @@ module _ (joins : SumsJoin) (moves : MovesStayFair) (spells : HeadersAreSpelled)
         by Serves_files e role = later_not e role
 
   good_now : (s : Step) (earlier : List Step) → IsUninjected set (s ∷ earlier) → AllCanBeListed set earlier → AllStayOrAreNew set earlier → (kind : FileKind) (offset : ℕ) → EndsAs set s earlier (BadFile kind offset) → ⊥
-  good_now s earlier is listable changes kind offset ends = good_file s earlier is listable kind offset (ended_by_target joins payloads arrives set hw s earlier is changes (BadFile kind offset) tt ends)
+  good_now s earlier is listable changes kind offset ends = good_file s earlier is listable changes kind offset (ended_by_target joins payloads arrives set hw s earlier is changes (BadFile kind offset) tt ends)
 
   pub all_good : (steps : List Step) → IsUninjected set steps → AllCanBeListed set steps → AllStayOrAreNew set steps → NoBadFiles set steps
   all_good [] is listable changes = tt

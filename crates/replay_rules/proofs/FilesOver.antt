@@ -22,7 +22,7 @@ use Rattle.session_rules.specs.TargetLog.{TargetReading, target_extended, target
 use Rattle.session_rules.specs.TargetRows.{RowView}
 use Rattle.replay_rules.specs.BothEnds.{Is_up, Setting, TargetState, target_at}
 use Rattle.replay_rules.specs.ChangeLaws.{HasTarget}
-use Rattle.replay_rules.specs.Causes.{HasFewLoads}
+use Rattle.replay_rules.specs.Causes.{BeginsSmall}
 use Rattle.replay_rules.specs.MediaTraces.{LengthsAreTold}
 use Rattle.replay_rules.specs.OtherEndTraces.{IsUninjected, WhatArrivesWasSent, former_at, transfers_of}
 use Rattle.replay_rules.specs.TieLaws.{HasLive, target_is_live}
@@ -32,7 +32,7 @@ use Rattle.replay_rules.proofs.AnsweredLater.{one_before}
 use Rattle.replay_rules.proofs.Reasons.{HasText, UploadSmall}
 use Rattle.replay_rules.proofs.RowsFit.{RowFits}
 use Rattle.replay_rules.proofs.SessionRows.{BringsAt, SessionFits, StateFits, reached_fits, state_fits}
-use Rattle.replay_rules.proofs.ShortTexts.{IsLittle}
+use Rattle.replay_rules.proofs.SmallLoads.{HasSmallLoads, begins_with_small, installs_small}
 use Rattle.replay_rules.proofs.SmallTransfers.{brings_at}
 use Rattle.replay_rules.proofs.StatusFiles.{AllWanted}
 use Rattle.replay_rules.proofs.FilesInRows.{IsAskedSo, RowWrites, moves_asked, row_kind, row_writes}
@@ -57,7 +57,7 @@ still_files set s steps (ServesRead name o file) earlier h = tt
 still_files set s steps (ServesWrite name o) earlier h = tt
 
 module _ (joins : SumsJoin) (moves : MovesStayFair) (spells : HeadersAreSpelled) (payloads : PayloadsAreBytes) (requests : RequestsAreSpelled) (arrives : WhatArrivesWasSent) (set : Setting) (permits : AcceptsPermitted set.accepts) (told : LengthsAreTold set.media)
-    (bank : IsLittle set.start.identity.bank) (few : HasFewLoads set.start) where
+    (begins_small : BeginsSmall set.start) where
   module _ (given : HappeningView) (posts : List DatagramView) (steps : List Step) (r : TargetReading) (e : Event) (up : target_at set steps ≡ Is_up r) (comes : event_for sides.Target (posted_in steps) given ≡ Some e)
       (is : IsUninjected set (record { given = given; posts = posts; notes = [] } ∷ steps)) where
     abbrev quiet_step : Step
@@ -71,12 +71,12 @@ module _ (joins : SumsJoin) (moves : MovesStayFair) (spells : HeadersAreSpelled)
 
     fits_now : SessionFits AllWanted UploadSmall HasText then.live
     fits_now =
-        let brings : BringsAt AllWanted UploadSmall HasText set (Is_up r) (Some e) =
-        subst (λ (state : TargetState). BringsAt AllWanted UploadSmall HasText set state (Some e)) up
-        (subst (λ (x : Option Event). BringsAt AllWanted UploadSmall HasText set (target_at set steps) x) comes (brings_at joins moves spells payloads requests arrives set permits told bank quiet_step steps is)) in
-        (reached_fits AllWanted UploadSmall HasText set tt joins (Some e) (Is_up r) (subst (λ (state : TargetState). HasLive state) up (target_is_live joins set steps)) brings
-        (subst (StateFits AllWanted UploadSmall HasText set) up
-        (state_fits AllWanted UploadSmall HasText set tt joins (IsUninjected set) (one_before set) (brings_at joins moves spells payloads requests arrives set permits told bank) few steps (one_before set quiet_step steps is)))).0
+        let brings : BringsAt AllWanted UploadSmall HasText HasSmallLoads set (Is_up r) (Some e) =
+        subst (λ (state : TargetState). BringsAt AllWanted UploadSmall HasText HasSmallLoads set state (Some e)) up
+        (subst (λ (x : Option Event). BringsAt AllWanted UploadSmall HasText HasSmallLoads set (target_at set steps) x) comes (brings_at joins moves spells payloads requests arrives set permits told begins_small quiet_step steps is)) in
+        (reached_fits AllWanted UploadSmall HasText HasSmallLoads set installs_small tt joins (Some e) (Is_up r) (subst (λ (state : TargetState). HasLive state) up (target_is_live joins set steps)) brings
+        (subst (StateFits AllWanted UploadSmall HasText HasSmallLoads set) up
+        (state_fits AllWanted UploadSmall HasText HasSmallLoads set installs_small tt joins (IsUninjected set) (one_before set) (brings_at joins moves spells payloads requests arrives set permits told begins_small) (begins_with_small set.start begins_small) steps (one_before set quiet_step steps is)))).0
 
     asked_over : (role : Role) → IsAskedSo set.accepts r e role → NewOver (FilesOver set (quiet_step ∷ steps)) (former_at set steps) then.end role
     asked_over (Writes name o file) asked = λ t live. (

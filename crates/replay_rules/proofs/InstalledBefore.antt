@@ -27,9 +27,10 @@ use Rattle.session_rules.specs.Target as target
 use Rattle.session_rules.specs.TargetLog.{TargetReading, target_extended, target_view}
 use Rattle.replay_rules.specs.BothEnds.{Is_up, Setting, TargetState, changed, reached, target_at}
 use Rattle.replay_rules.specs.ChangeLaws.{changes_are_new}
+use Rattle.replay_rules.specs.CompletedRows.{new_is_made}
 use Rattle.replay_rules.specs.Changes.{AllCarryBytes, AllStayOrAreNew, TargetStaysOrIsNew}
 use Rattle.replay_rules.specs.Due.{goes_down}
-use Rattle.replay_rules.specs.Histories.{active_in, brings}
+use Rattle.replay_rules.specs.Histories.{IsMadeOf, active_in, brings}
 use Rattle.replay_rules.specs.OtherEndTraces.{former_at, target_transfers, transfers_of}
 use Rattle.replay_rules.specs.Promises.{HasParts}
 use Rattle.replay_rules.specs.TieLaws.{HasLive, target_is_live}
@@ -50,7 +51,7 @@ pub record IsInstalledBefore (set : Setting) (steps : List Step) (earlier : List
   pub brought : brings set install before ≡ Some new
   pub stays_up : goes_down install.notes ≡ false
   pub request : List Wanted
-  pub parts : HasParts (map (λ (w : Wanted). w.part) request) new.loads
+  pub parts : IsMadeOf (target_at set before) (HasParts (map (λ (w : Wanted). w.part) request)) new
   pub asked : List Transfer
   pub lur : Transfer
   pub older : List Transfer
@@ -135,7 +136,8 @@ module _ (joins : SumsJoin) (spells : HeadersAreSpelled) (payloads : PayloadsAre
               ∙ ap (λ (x : Option Event). changed r.active (active_in (reached set x (Is_up r)))) comes ∙ changes r.active then.active now.loads now.next;
           stays_up = refl;
           request = new.upload.request;
-          parts = ap (λ (x : StandingView). map (λ (load : LoadView). load.part) x.loads) new.next ∙ parts_of new.upload.request new.loads new.new.each;
+          parts = subst (λ (state : TargetState). IsMadeOf state (HasParts (map (λ (w : Wanted). w.part) new.upload.request)) then.active) (sym up)
+              (new_is_made set.accepts r then new (HasParts (map (λ (w : Wanted). w.part) new.upload.request)) (parts_of new.upload.request new.loads new.new.each));
           asked = h.since;
           lur = h.transfer;
           older = h.before ++ former_at set earlier;

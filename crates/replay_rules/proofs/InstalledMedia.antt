@@ -13,6 +13,7 @@ use Rattle.load_header.specs.Header.{HeaderView}
 use Rattle.load_header.specs.HeaderFields.{IsHeaderFile}
 use Rattle.load_protocol_files.specs.declared.lur.Wanted.{Wanted}
 use Rattle.disk_layout.specs.declared.identity.Identity.{Identity}
+use Rattle.disk_layout.specs.Contents.{entries_of}
 use Rattle.disk_layout.specs.Holds.{StandingView}
 use Rattle.tftp_packet.specs.declared.options.Options.{Options}
 use Rattle.tftp_packet.specs.Options.{ended_text}
@@ -30,8 +31,9 @@ use Rattle.transfer_end.specs.SentPacketLaws.{read_is_spelled}
 use Rattle.transfer_end.specs.Transfers.{Reads, Role, ServesRead, ServesWrite, Transfer, Writes, arrived_of, end_in, first_packet, is_reading, is_received, name_of}
 use Rattle.session_rules.specs.BufferLaws.{SumsJoin}
 use Rattle.session_rules.specs.Fairness.{IsLoaderRole}
+use Rattle.session_rules.specs.InstallationLaws.{good_are_checked}
 use Rattle.session_rules.specs.MediaFiles.{Media}
-use Rattle.session_rules.specs.NewConfigs.{AreOfMedia, IsAsSaid, IsGoodLoad, IsWanted, file_read, files_in, reads_in}
+use Rattle.session_rules.specs.NewConfigs.{AreOfMedia, IsAsSaid, IsChecked, IsWanted, file_read, files_in, reads_in}
 use Rattle.session_rules.specs.ReadFileLaws.{RequestsAreSpelled, target_step_reads}
 use Rattle.session_rules.specs.ReadFiles.{AreNamed, InstallsWhatWasRead, SessionReads}
 use Rattle.session_rules.specs.SoundLogLaws.{PayloadsAreBytes}
@@ -44,7 +46,8 @@ use Rattle.replay_rules.specs.CameTraceLaws.{target_takes}
 use Rattle.replay_rules.specs.CameTraces.{TargetTakes}
 use Rattle.replay_rules.specs.ChangeLaws.{TargetIsSound, changes_are_new, step_sound, target_sound}
 use Rattle.replay_rules.specs.Changes.{AllCarryBytes, AllStayOrAreNew, TargetStaysOrIsNew}
-use Rattle.replay_rules.specs.Histories.{active_in}
+use Rattle.replay_rules.specs.CompletedRows.{new_is_made}
+use Rattle.replay_rules.specs.Histories.{IsMadeOf, active_in}
 use Rattle.replay_rules.specs.MediaTraces.{InstallsAreOfMedia, LengthsAreTold}
 use Rattle.replay_rules.specs.OtherEndTraces.{AllArriveAsSent, ArrivesAsSent, former_at, loader_transfers, target_transfers, transfers_of}
 use Rattle.replay_rules.specs.PlacedTraceLaws.{all_append}
@@ -68,18 +71,18 @@ said_named [] (f ∷ files) named said = absurd said
 said_named (entry ∷ entries) [] named said = absurd said
 said_named (entry ∷ entries) (f ∷ files) (one, named) (is, said) = (subst IsName (sym is.name) one, said_named entries files named said)
 
-load_named : (Accepted : HeaderView → Type 0) (id : Identity) (wanted : Wanted) (load : LoadView) → IsName wanted.header → IsWanted wanted load → IsGoodLoad Accepted id load → AllByRecursion HasName load.files
-load_named Accepted id wanted load named is good =
+load_named : (id : Identity) (wanted : Wanted) (load : LoadView) → IsName wanted.header → IsWanted wanted load → IsChecked id load → AllByRecursion HasName load.files
+load_named id wanted load named is good =
     let entries : AllByRecursion (λ (f : FileEntry). IsName f.name) (files_of good.header) =
     all_append (λ (f : FileEntry). IsName f.name) good.header.data_files good.header.support_files (entries_of_all good.header.data_files good.spelled.0.data_files) (entries_of_all good.header.support_files good.spelled.0.support_files) in
     subst (λ (files : List FileView). AllByRecursion HasName files) (sym good.whole) (subst IsName (sym is.header) named, said_named (files_of good.header) good.files entries good.each)
 
-loads_named : (Accepted : HeaderView → Type 0) (id : Identity) (request : List Wanted) (loads : List LoadView) → AreNamed request → AllZip IsWanted request loads → AllByRecursion (IsGoodLoad Accepted id) loads → AllByRecursion HasName (files_in loads)
-loads_named Accepted id [] [] named each good = tt
-loads_named Accepted id [] (load ∷ loads) named each good = absurd each
-loads_named Accepted id (w ∷ request) [] named each good = absurd each
-loads_named Accepted id (w ∷ request) (load ∷ loads) (one, named) (is, each) (first, good) =
-    all_append HasName load.files (files_in loads) (load_named Accepted id w load one is first) (loads_named Accepted id request loads named each good)
+loads_named : (id : Identity) (request : List Wanted) (loads : List LoadView) → AreNamed request → AllZip IsWanted request loads → AllByRecursion (IsChecked id) loads → AllByRecursion HasName (files_in loads)
+loads_named id [] [] named each good = tt
+loads_named id [] (load ∷ loads) named each good = absurd each
+loads_named id (w ∷ request) [] named each good = absurd each
+loads_named id (w ∷ request) (load ∷ loads) (one, named) (is, each) (first, good) =
+    all_append HasName load.files (files_in loads) (load_named id w load one is first) (loads_named id request loads named each good)
 
 -- ---- a file that was read is the media set's
 
@@ -141,7 +144,8 @@ module _ (set : Setting) (s : Step) (earlier : List Step) (told : LengthsAreTold
       → AreOfMedia set.media new.loads
   installed_of_media r e up comes new read =
       let done : List Transfer = new.session.done ++ new.ended ∷ [] in
-      let named : AllByRecursion HasName (files_in new.loads) = loads_named (λ h. set.accepts h ≡ true) r.active.identity new.upload.request new.loads read.named new.new.each new.new.good in
+      let checked : AllByRecursion (IsChecked r.active.identity) new.loads = good_are_checked (λ h kept. set.accepts h kept ≡ true) r.active.identity (entries_of r.active.loads) [] new.loads new.new.good in
+      let named : AllByRecursion HasName (files_in new.loads) = loads_named r.active.identity new.upload.request new.loads read.named new.new.each checked in
       subst (λ (files : List FileView). AllByRecursion (IsOfMedia set.media) files) (sym new.new.files)
       (all_reads set.media done (λ t a reads named_one. read_of_media t (there t (read.past t a)) reads (read.whole t a reads) named_one)
       (subst (λ (files : List FileView). AllByRecursion HasName files) new.new.files named))
@@ -205,24 +209,24 @@ module _ (joins : SumsJoin) (spells : HeadersAreSpelled) (payloads : PayloadsAre
 
 -- ---- what is brought
 
-brought_if : (set : Setting) (steps : List Step) (b : Bool) (after : StandingView) → (b ≡ false → AreOfMedia set.media after.loads) → BroughtIsOfMedia set (cond b None (Some after)) steps
-brought_if set steps true after media = tt
-brought_if set steps false after media = λ nothing. media refl
+brought_if : (set : Setting) (steps : List Step) (b : Bool) (state : TargetState) (after : StandingView) → IsMadeOf state (AreOfMedia set.media) after → BroughtIsOfMedia set state (cond b None (Some after)) steps
+brought_if set steps true state after media = tt
+brought_if set steps false state after media = λ nothing. media
 
-none_brought : (set : Setting) (steps : List Step) (before after : StandingView) → after ≡ before → BroughtIsOfMedia set (changed before after) steps
-none_brought set steps before after same =
-    subst (λ (b : Bool). BroughtIsOfMedia set (cond b None (Some after)) steps) (sym (eq-eqb before.sequence after.sequence (sym (ap (λ (x : StandingView). x.sequence) same)))) tt
+none_brought : (set : Setting) (steps : List Step) (state : TargetState) (before after : StandingView) → after ≡ before → BroughtIsOfMedia set state (changed before after) steps
+none_brought set steps state before after same =
+    subst (λ (b : Bool). BroughtIsOfMedia set state (cond b None (Some after)) steps) (sym (eq-eqb before.sequence after.sequence (sym (ap (λ (x : StandingView). x.sequence) same)))) tt
 
 module _ (set : Setting) (s : Step) (earlier : List Step) (told : LengthsAreTold set.media) (sent : ArrivesAsSent set s earlier) where
   step_brings : (state : TargetState) (e : Option Event) → target_at set earlier ≡ state → event_for sides.Target (posted_in earlier) s.given ≡ e → TargetStaysOrIsNew set state (reached set e state) → NewIsRead set state e
-      → BroughtIsOfMedia set (changed (active_in state) (active_in (reached set e state))) (s ∷ earlier)
-  step_brings (Is_up r) None up comes change read = none_brought set (s ∷ earlier) r.active r.active refl
-  step_brings (Is_up r) (Some e) up comes (inl same) read = none_brought set (s ∷ earlier) r.active (target_extended set.accepts r e).active same
+      → BroughtIsOfMedia set state (changed (active_in state) (active_in (reached set e state))) (s ∷ earlier)
+  step_brings (Is_up r) None up comes change read = none_brought set (s ∷ earlier) (Is_up r) r.active r.active refl
+  step_brings (Is_up r) (Some e) up comes (inl same) read = none_brought set (s ∷ earlier) (Is_up r) r.active (target_extended set.accepts r e).active same
   step_brings (Is_up r) (Some e) up comes (inr new) read =
-      brought_if set (s ∷ earlier) (r.active.sequence == (target_extended set.accepts r e).active.sequence) (target_extended set.accepts r e).active
-      (λ other. subst (λ (x : StandingView). AreOfMedia set.media x.loads) (sym new.next) (installed_of_media set s earlier told sent r e up comes new (read new)))
-  step_brings (Is_down active interrupted) None up comes change read = none_brought set (s ∷ earlier) active active refl
-  step_brings (Is_down active interrupted) (Some e) up comes change read = none_brought set (s ∷ earlier) active active refl
+      brought_if set (s ∷ earlier) (r.active.sequence == (target_extended set.accepts r e).active.sequence) (Is_up r) (target_extended set.accepts r e).active
+      (new_is_made set.accepts r (target_extended set.accepts r e) new (AreOfMedia set.media) (installed_of_media set s earlier told sent r e up comes new (read new)))
+  step_brings (Is_down active interrupted) None up comes change read = none_brought set (s ∷ earlier) (Is_down active interrupted) active active refl
+  step_brings (Is_down active interrupted) (Some e) up comes change read = none_brought set (s ∷ earlier) (Is_down active interrupted) active active refl
 
 all_of_media : SumsJoin → HeadersAreSpelled → PayloadsAreBytes → RequestsAreSpelled → (set : Setting) → AcceptsPermitted set.accepts → LengthsAreTold set.media → (steps : List Step) → AllCarryBytes steps → AllStayOrAreNew set steps
     → AllArriveAsSent set steps → AllOfMedia set steps

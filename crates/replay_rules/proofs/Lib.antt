@@ -1,6 +1,7 @@
 pub mod SentTraces
 pub mod ListedTraces
 pub mod InstalledMedia
+pub mod ActiveStays
 pub mod FirstOrGoodLaws
 pub mod FirstPosting
 pub mod ToldTraces
@@ -42,6 +43,7 @@ pub mod HeaderFaults
 pub mod RequestFaults
 pub mod StatusFiles
 pub mod Reasons
+pub mod SmallLoads
 pub mod SmallTransfers
 pub mod FilesInRows
 pub mod FilesOver

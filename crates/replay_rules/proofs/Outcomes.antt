@@ -118,5 +118,4 @@ stops_are_for_verdicts joins moves payloads arrives laws changes set steps permi
 
 pub files_are_good : SumsJoin → MovesStayFair → HeadersAreSpelled → PayloadsAreBytes → RequestsAreSpelled → WhatArrivesWasSent → FileLaws → ChangesAreNew → FilesAreGood
 files_are_good joins moves spells payloads requests arrives laws changes set steps permits hw named small lengths listable is =
-    let bank = small.bank in
-    all_good joins moves spells payloads requests arrives laws set permits (ident_begins set.start.identity.hw hw) named (omega (arith, bank)) small.few lengths steps is listable (changes set steps permits is.carries)
+    all_good joins moves spells payloads requests arrives laws set permits (ident_begins set.start.identity.hw hw) named small lengths steps is listable (changes set steps permits is.carries)

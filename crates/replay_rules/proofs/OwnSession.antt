@@ -34,7 +34,7 @@ use Rattle.session_rules.specs.LoaderRoleLaws.{longer}
 use Rattle.replay_rules.specs.AskedTraces.{EntriesFit}
 use Rattle.replay_rules.specs.BothEnds.{Is_down, Is_up, Setting, TargetState, changed, loader_at, reached, target_at}
 use Rattle.replay_rules.specs.CompletedTraces.{IsToldInTime}
-use Rattle.replay_rules.specs.Histories.{active_in, brings}
+use Rattle.replay_rules.specs.Histories.{IsMadeOf, active_in, brings}
 use Rattle.replay_rules.specs.OtherEndTraces.{AllArriveAsSent, ArrivesAsSent, IsUninjected, former_at, loader_transfers, target_transfers, transfers_of}
 use Rattle.replay_rules.specs.OwnSessionTraces.{AllInstalledInSession, CompletedInSession, NoneStarts, WasInstalledInSession}
 use Rattle.replay_rules.specs.Promises.{HasCompleted, HasEnded, HasParts}
@@ -274,8 +274,11 @@ module _ (joins : SumsJoin) (moves : MovesStayFair) (spells : HeadersAreSpelled)
         one_request reads installed.request h.ends.session.start.loads (lur_file h.ends.session.start.loads) (subst (λ (bytes : List ℕ). LurSpells (record { loads = installed.request }) bytes) asked.file installed.spells)
         (started_spells set.media upload.parts h.ends.session.start.loads entries upload.few upload.found)
 
-    parts_are : HasParts upload.parts installed.new.loads
-    parts_are = installed.parts ∙ ap (map (λ (x : Wanted). x.part)) request_is ∙ (found_fits set.media.loads upload.parts h.ends.session.start.loads entries upload.found).1
+    parts_are : IsMadeOf (target_at set installed.before) (HasParts upload.parts) installed.new
+    parts_are = record { new = installed.parts.new; wanted = installed.parts.wanted; are_new = parts; is = installed.parts.is }
+      where
+        parts : HasParts upload.parts installed.parts.new
+        parts = installed.parts.are_new ∙ ap (map (λ (x : Wanted). x.part)) request_is ∙ (found_fits set.media.loads upload.parts h.ends.session.start.loads entries upload.found).1
 
     -- ---- the steps
 
@@ -332,7 +335,7 @@ module _ (joins : SumsJoin) (moves : MovesStayFair) (spells : HeadersAreSpelled)
           newest = (n.no_start, subst NoneStarts g start_at.newest);
           one = grows ∙ ap (λ (x : List EndedSession). session ∷ x) (sym n.ended_then);
           brought = subst (λ (x : List Step). brings set installed.install x ≡ Some installed.new) f installed.brought;
-          asked = parts_are;
+          asked = subst (λ (x : List Step). IsMadeOf (target_at set x) (HasParts upload.parts) installed.new) f parts_are;
           stays_up = installed.stays_up;
         }
 

@@ -1,6 +1,6 @@
 -- The reasons that a session of the target tells have texts, since their numbers are those of files.
 use Rattle.std.proofs.Common.{◌≡◌, ℕ, zero, suc, ◌+◌, ◌*◌, ◌<◌, ◌≤◌, Bool, true, false, cond, List, [], ◌∷◌, ◌++◌, length, length-append, map, take, Option, Some, None, Result, Ok, Err, refl, sym, ap, subst, ◌∙◌, arith}
-use Rattle.std.specs.Prelude.{bytes_eq, codes, nat_le, slice_get, ◌==◌}
+use Rattle.std.specs.Prelude.{bytes_eq, codes, nat_le, not, slice_get, ◌==◌, ◌||◌}
 use Rattle.std.specs.List.{AllByRecursion, concat, flat_map, sum_by}
 use Rattle.std.proofs.lemmas.Bool.{eqb-true, ltb-false}
 use Rattle.std.proofs.lemmas.List.{length-map, length-take}
@@ -37,11 +37,12 @@ use Rattle.session_rules.specs.declared.reason.Reason.TheVariants as reasons
 use Rattle.session_rules.specs.declared.reason.RequestFault.{RequestFault}
 use Rattle.session_rules.specs.declared.reason.RequestFault.TheVariants as requests
 use Rattle.session_rules.specs.Buffers.{Sums, buffer_size, buffered, is_too_long, summed}
+use Rattle.session_rules.specs.KeptLoads.{has_other_type, kept_entries, told_loads, types_of}
 use Rattle.session_rules.specs.ReadFileLaws.{RequestsAreSpelled}
 use Rattle.session_rules.specs.Reports.{reason_text, request_fault_text}
 use Rattle.session_rules.specs.SoundnessLaws.{HeadersAreSpelled}
 use Rattle.session_rules.specs.TargetRows.{Arriving, Awaits_lur, Gives_denial, Gives_lci, Gives_lui, Kept_bytes, Kept_sums, Over, Reads_file, RowMove, RowView, Writes_completion, Writes_lcl, Writes_lcs, Writes_progress, Writes_ready, Writes_stop, arriving_load, arriving_of, error_move, file_move, header_move, load_entry_of, read_move, request_move, row_move_by, said_length, with_file_view, with_header_view}
-use Rattle.session_rules.specs.Uploads.{Accepts_file, Accepts_header, Judgement, More_files, Next, OpenLoadView, Stops_for, UploadView, arrived_with, covered_header, entry_name, files_of, header_reason, is_for, is_load_count, judge_file, judge_header, judge_read_header, judge_request, judged, load_reason, need_of, next_entry, next_name, next_name_in, next_number, next_wanted, next_with, or_else, planned_load, request_read, unless}
+use Rattle.session_rules.specs.Uploads.{Accepts_file, Accepts_header, Judgement, More_files, Next, OpenLoadView, Stops_for, UploadView, arrived_with, covered_header, entry_name, files_of, header_reason, is_for, is_last, is_load_count, judge_file, judge_header, judge_read_header, judge_request, judged, kept_after, kept_at_last, load_reason, load_total, loads_at, need_of, next_entry, next_name, next_name_in, next_number, next_wanted, next_with, or_else, planned_load, request_read, unless}
 use Rattle.replay_rules.specs.PlacedTraceLaws.{all_append}
 use Rattle.replay_rules.proofs.HeaderFaults.{header_fault_short}
 use Rattle.replay_rules.proofs.RequestFaults.{request_fault_short}
@@ -99,6 +100,24 @@ member P [] i x all e = absurd cc
 member P (y ∷ xs) zero x (one, all) e = let same : y ≡ x = cc in subst P same one
 member P (y ∷ xs) (suc i) x (one, all) e = member P xs i x all e
 
+-- ---- loads that are kept
+
+one_kept : (P : LoadEntry → Type 0) (stays : Bool) (l : LoadEntry) (ls : List LoadEntry) → P l → AllByRecursion P ls → AllByRecursion P (cond stays (l ∷ ls) ls)
+one_kept P true l ls one all = (one, all)
+one_kept P false l ls one all = all
+
+pub all_kept : (P : LoadEntry → Type 0) (types : List ℕ) (loads : List LoadEntry) → AllByRecursion P loads → AllByRecursion P (kept_entries types loads)
+all_kept P types [] all = tt
+all_kept P types (l ∷ ls) (one, all) = one_kept P (has_other_type types l.type_id) l (kept_entries types ls) one (all_kept P types ls all)
+
+one_longer : (stays : Bool) (l : LoadEntry) (ls : List LoadEntry) (n : ℕ) → length ls ≤ n → length (cond stays (l ∷ ls) ls) ≤ suc n
+one_longer true l ls n le = omega (arith, le)
+one_longer false l ls n le = omega (arith, le)
+
+kept_length : (types : List ℕ) (loads : List LoadEntry) → length (kept_entries types loads) ≤ length loads
+kept_length types [] = omega arith
+kept_length types (l ∷ ls) = one_longer (has_other_type types l.type_id) l (kept_entries types ls) (length ls) (kept_length types ls)
+
 -- ---- how many bytes loads need
 
 files_length : (files : List ManifestFile) → AllByRecursion FileSmall files → sum_by (λ (f : ManifestFile). f.length) files ≤ length files * 4294967295
@@ -126,7 +145,8 @@ load_fields l small =
     by_type None part count each = simp (length-append, length_number_bytes) (omega (arith, part, count, each))
     by_type (Some n) part count each = simp (length-append, length_number_bytes) (omega (arith, part, count, each))
 
-needs_little : (loads : List LoadEntry) → length loads ≤ 33 → AllByRecursion LoadSmall loads → IsLittle (need_of loads)
+-- at most 33 that were asked for, and 32 that are kept
+needs_little : (loads : List LoadEntry) → length loads ≤ 65 → AllByRecursion LoadSmall loads → IsLittle (need_of loads)
 unfolding need_of
 needs_little loads few all =
     let each : length (concat (flat_map (load_entry_fields layouts.Two) loads)) ≤ length loads * 80000
@@ -193,7 +213,8 @@ short_prefix bytes = rw (length-take buffer_size bytes) (min-le_left buffer_size
 
 -- ---- a header that was read
 
-module _ (spells : HeadersAreSpelled) (accepts : Accepts) (active : Outline) (bank : IsLittle active.identity.bank) (u : UploadView) (fits : UploadFits AllWanted UploadSmall u) where
+module _ (spells : HeadersAreSpelled) (accepts : Accepts) (active : Outline) (bank : IsLittle active.identity.bank) (small_loads : AllByRecursion LoadSmall active.loads) (few_loads : length active.loads ≤ 32)
+    (u : UploadView) (fits : UploadFits AllWanted UploadSmall u) where
   module _ (w : Wanted) (found : next_wanted u ≡ Some w) (bytes : List ℕ) (fit : IsBytes bytes) where
     abbrev arriving : Arriving
     arriving = Kept_bytes (buffered bytes)
@@ -204,21 +225,44 @@ module _ (spells : HeadersAreSpelled) (accepts : Accepts) (active : Outline) (ba
     wanted_fits : WantedFits w
     wanted_fits = member (λ (x : Wanted). WantedFits x) u.request (length u.loads) w fits.asked found
 
-    need_told : (h : HeaderView) → HeaderSmall h → length bytes ≤ 65536 → IsLittle (need_of (u.loads ++ planned_load w h (length bytes) ∷ []))
+    kept_few : (h : HeaderView) → length (kept_after active u h) ≤ 32
+    kept_few h = let le = kept_length (types_of u.loads ++ h.type_id ∷ []) active.loads in omega (arith, le, few_loads)
+
+    kept_at_last_is : (h : HeaderView) → (length (kept_at_last active u h) ≤ 32) × AllByRecursion LoadSmall (kept_at_last active u h)
+    kept_at_last_is h = by (is_last u)
+      where
+        by : (last : Bool) → (length (cond last (kept_after active u h) []) ≤ 32) × AllByRecursion LoadSmall (cond last (kept_after active u h) [])
+        by true = (kept_few h, all_kept LoadSmall (types_of u.loads ++ h.type_id ∷ []) active.loads small_loads)
+        by false = (omega arith, tt)
+
+    need_told : (h : HeaderView) → HeaderSmall h → length bytes ≤ 65536 → IsLittle (need_of (loads_at active u w h (length bytes)))
     need_told h small le =
+        let here : List LoadEntry = u.loads ++ planned_load w h (length bytes) ∷ [] in
         let one : length (u.loads ++ planned_load w h (length bytes) ∷ []) ≡ length u.loads + 1 = length-append u.loads (planned_load w h (length bytes) ∷ []) in
+        let all : length (loads_at active u w h (length bytes)) ≡ length (u.loads ++ planned_load w h (length bytes) ∷ []) + length (kept_at_last active u h)
+        = length-append (u.loads ++ planned_load w h (length bytes) ∷ []) (kept_at_last active u h) in
+        let (few_kept, small_kept) = kept_at_last_is h in
         let few = fits.few in
         let more = fits.more in
-        needs_little (u.loads ++ planned_load w h (length bytes) ∷ []) (omega (arith, one, few, more)) (all_more LoadSmall u.loads (planned_load w h (length bytes)) fits.sound.loads (planned_small w h (length bytes) wanted_fits small (omega (arith, le))))
+        needs_little (loads_at active u w h (length bytes)) (omega (arith, one, all, few, more, few_kept))
+        (all_append LoadSmall here (kept_at_last active u h) (all_more LoadSmall u.loads (planned_load w h (length bytes)) fits.sound.loads (planned_small w h (length bytes) wanted_fits small (omega (arith, le)))) small_kept)
+
+    total_told : (h : HeaderView) → HasText (reasons.TooManyLoads (load_total active u h))
+    total_told h =
+        let few = fits.few in
+        short_reason (reasons.TooManyLoads (load_total active u h)) (coded_text 255 (codes "A14") (load_total active u h ∷ []) refl (omega (arith, few, kept_few h), tt) (omega arith))
 
     header_told : (h : HeaderView) → HeaderSmall h → length bytes ≤ 65536 → ToldIf HasText (header_reason accepts active u w h (length bytes))
     header_told h small le =
         or_told (unless (bytes_eq h.part w.part) reasons.PartDiffers) _ (unless_told (bytes_eq h.part w.part) reasons.PartDiffers (short_reason reasons.PartDiffers (plain_text 255 (codes "A3") refl (omega arith))))
         (or_told (unless (is_for active.identity.hw active.identity.pos h) reasons.NotThisHardware) _ (unless_told (is_for active.identity.hw active.identity.pos h) reasons.NotThisHardware (short_reason reasons.NotThisHardware (plain_text 255 (codes "A4") refl (omega arith))))
-        (or_told (unless (accepts h) reasons.RuleRefused) _ (unless_told (accepts h) reasons.RuleRefused (short_reason reasons.RuleRefused (plain_text 255 (codes "A5") refl (omega arith))))
-        (unless_told (nat_le (need_of (u.loads ++ planned_load w h (length bytes) ∷ [])) active.identity.bank) (reasons.BankFull (need_of (u.loads ++ planned_load w h (length bytes) ∷ [])) active.identity.bank)
-        (short_reason (reasons.BankFull (need_of (u.loads ++ planned_load w h (length bytes) ∷ [])) active.identity.bank)
-        (coded_text 255 (codes "A9") (need_of (u.loads ++ planned_load w h (length bytes) ∷ []) ∷ active.identity.bank ∷ []) refl (need_told h small le, (bank, tt)) (omega arith))))))
+        (or_told (unless (accepts h (told_loads (kept_after active u h))) reasons.RuleRefused) _
+        (unless_told (accepts h (told_loads (kept_after active u h))) reasons.RuleRefused (short_reason reasons.RuleRefused (plain_text 255 (codes "A5") refl (omega arith))))
+        (or_told (unless (not (is_last u) || nat_le (load_total active u h) 32) (reasons.TooManyLoads (load_total active u h))) _
+        (unless_told (not (is_last u) || nat_le (load_total active u h) 32) (reasons.TooManyLoads (load_total active u h)) (total_told h))
+        (unless_told (nat_le (need_of (loads_at active u w h (length bytes))) active.identity.bank) (reasons.BankFull (need_of (loads_at active u w h (length bytes))) active.identity.bank)
+        (short_reason (reasons.BankFull (need_of (loads_at active u w h (length bytes))) active.identity.bank)
+        (coded_text 255 (codes "A9") (need_of (loads_at active u w h (length bytes)) ∷ active.identity.bank ∷ []) refl (need_told h small le, (bank, tt)) (omega arith)))))))
 
     accepted_brings : (h : HeaderView) → HeaderSmall h → length bytes ≤ 65536 → SoundPlaced AllWanted UploadSmall HasText u (with_header_view (next_wanted u) h arriving)
     accepted_brings h small le =
@@ -343,18 +387,19 @@ abbrev pub ReadsLittle : List ℕ → RowView → Type 0
 ReadsLittle bytes (Reads_file u) = IsLittle (length bytes)
 ReadsLittle bytes row = Unit {0}
 
-module _ (spells : HeadersAreSpelled) (reads : RequestsAreSpelled) (accepts : Accepts) (active : Outline) (bank : IsLittle active.identity.bank) (bytes : List ℕ) (fit : IsBytes bytes) where
+module _ (spells : HeadersAreSpelled) (reads : RequestsAreSpelled) (accepts : Accepts) (active : Outline) (bank : IsLittle active.identity.bank) (small_loads : AllByRecursion LoadSmall active.loads) (few_loads : length active.loads ≤ 32)
+    (bytes : List ℕ) (fit : IsBytes bytes) where
   abbrev MovesSo : RowView → Option ℕ → Type 0
   MovesSo row error = MoveBrings row (arriving_of row bytes) (row_move_by accepts active row (arriving_of row bytes) error)
 
   header_moves : (u : UploadView) → UploadFits AllWanted UploadSmall u → (wanted : Option Wanted) → next_wanted u ≡ wanted → MoveBrings (Reads_file u) (Kept_bytes (buffered bytes)) (header_move accepts active u wanted (Kept_bytes (buffered bytes)))
   header_moves u fits None found = tt
-  header_moves u fits (Some w) found = header_brings spells accepts active bank u fits w found bytes fit
+  header_moves u fits (Some w) found = header_brings spells accepts active bank small_loads few_loads u fits w found bytes fit
 
   file_moves : (u : UploadView) → UploadFits AllWanted UploadSmall u → IsLittle (length bytes) → (l : OpenLoadView) → u.current ≡ Some l → (entry : Option FileEntry) → next_entry l ≡ entry → (s : Sums) → s.count ≡ length bytes → IsLittle s.crc16 → s.load_crc ≤ 4294967295
       → MoveBrings (Reads_file u) (Kept_sums s) (file_move u l entry (Kept_sums s))
   file_moves u fits little l current None next s count crc16 crc32 = tt
-  file_moves u fits little l current (Some entry) next s count crc16 crc32 = file_brings spells accepts active bank u fits l current entry next s (omega (arith, count, little)) crc16 crc32
+  file_moves u fits little l current (Some entry) next s count crc16 crc32 = file_brings spells accepts active bank small_loads few_loads u fits l current entry next s (omega (arith, count, little)) crc16 crc32
 
   read_moves : (u : UploadView) → UploadFits AllWanted UploadSmall u → IsLittle (length bytes) → (current : Option OpenLoadView) → u.current ≡ current → MoveBrings (Reads_file u) (arriving_load current bytes) (read_move accepts active u current (arriving_load current bytes))
   read_moves u fits little None e = header_moves u fits (next_wanted u) refl

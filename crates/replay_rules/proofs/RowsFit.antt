@@ -45,7 +45,7 @@ module _ (Asked : List Wanted → Type 0) (Sound : UploadView → Type 0) (Told 
   RowFits (Reads_file u) = UploadFits Asked Sound u
   RowFits (Writes_progress u) = UploadFits Asked Sound u
   RowFits (Writes_stop e) = EndFits Asked Told e
-  RowFits (Writes_completion e loads) = EndFits Asked Told e × (e.reason ≡ None) × (length loads ≤ 32)
+  RowFits (Writes_completion e loads) = EndFits Asked Told e × (e.reason ≡ None) × Sound (record { request = e.request; loads = loads; current = None; reports = e.reports })
   RowFits row = Unit {0}
 
   -- a load that is read, and so it is once it is whole
@@ -198,11 +198,10 @@ module _ (Asked : List Wanted → Type 0) (Sound : UploadView → Type 0) (Told 
       let reports = h.reports in
       record { asked = h.asked; sound = sound.1; few = h.few; more = omega (arith, one, more); reports = omega (arith, one, reports) }
   placed_fits u l Complete h more sound =
-      let one : length (u.loads ++ load_entry_of l ∷ []) ≡ length u.loads + 1 = length-append u.loads (load_entry_of l ∷ []) in
       let reports = h.reports in
       let few = h.few in
       let less = h.more in
-      (record { asked = h.asked; few = h.few; arrived = omega arith; reports = omega (arith, reports, few, less); why = tt }, refl, omega (arith, one, few, less))
+      (record { asked = h.asked; few = h.few; arrived = omega arith; reports = omega (arith, reports, few, less); why = tt }, refl, sound.1)
 
   placed_if_fits : (u : UploadView) (l : Option OpenLoadView) (next : Next) → UploadFits Asked Sound u → NextFits u next → SoundPlaced u l → RowFits (placed_view_if u l next)
   placed_if_fits u None next h more sound = tt

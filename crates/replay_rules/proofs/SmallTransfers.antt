@@ -1,8 +1,10 @@
 -- The numbers of a transfer of the target that is over are small, where nothing is injected.
 use Rattle.std.proofs.Common.{◌≡◌, ◌⊎◌, inl, inr, ⊎_elim, ℕ, ◌≤◌, Bool, true, false, cond, ◌&&◌, List, [], ◌∷◌, ◌++◌, length, Option, Some, None, refl, sym, ap, subst, ◌∙◌, arith}
 use Rattle.std.specs.Prelude.{fold, nat_lt, ◌==◌}
+use Rattle.std.proofs.lemmas.List.{length-map}
 use Rattle.field_grammar.specs.Grammar.{IsBytes}
 use Rattle.disk_layout.specs.declared.identity.Identity.{Identity}
+use Rattle.disk_layout.specs.Contents.{entries_of, entry_of}
 use Rattle.disk_layout.specs.Holds.{outline_of}
 use Rattle.tftp_packet.specs.Packets.{Ack, Data, Error, Oack, PacketSpells, PacketView, Rrq, Wrq}
 use Rattle.tftp_link.specs.declared.phase.Phase.{Phase}
@@ -41,7 +43,9 @@ use Rattle.session_rules.specs.Uploads.{next_name}
 use Rattle.replay_rules.specs.BothEnds.{Is_down, Is_up, Setting, TargetState, loader_at, reached, target_at}
 use Rattle.replay_rules.specs.CameTraceLaws.{target_takes}
 use Rattle.replay_rules.specs.CameTraces.{TargetTakes}
-use Rattle.replay_rules.specs.ChangeLaws.{BringsBytes, HasTarget, TargetIsSound, event_bytes, posted_bytes, target_sound}
+use Rattle.replay_rules.specs.Causes.{BeginsSmall, HasFewLoads}
+use Rattle.replay_rules.specs.ChangeLaws.{BringsBytes, HasTarget, TargetIsSound, changes_are_new, event_bytes, posted_bytes, target_sound}
+use Rattle.replay_rules.specs.Histories.{active_in}
 use Rattle.replay_rules.specs.MediaTraces.{LengthsAreTold}
 use Rattle.replay_rules.specs.OtherEndTraces.{IsUninjected, WhatArrivesWasSent, former_at, loader_transfers, target_transfers, transfers_of}
 use Rattle.replay_rules.proofs.AnsweredLater.{after, posted_then}
@@ -50,6 +54,7 @@ use Rattle.replay_rules.proofs.Reasons.{HasText, ReadsLittle, UploadSmall, row_b
 use Rattle.replay_rules.proofs.SentTraces.{TargetIsFair, loader_gives_media}
 use Rattle.replay_rules.proofs.SessionRows.{BringsAt}
 use Rattle.replay_rules.proofs.ShortTexts.{IsLittle}
+use Rattle.replay_rules.proofs.SmallLoads.{HasSmallLoads, active_is_few}
 use Rattle.replay_rules.proofs.StatusFiles.{AllWanted}
 
 -- ---- a transfer fails by an ERROR alone
@@ -202,7 +207,7 @@ of_view row (Some t) role was fits = subst (λ (x : Role). IsOfView row x) was f
 
 -- ---- one step
 
-module _ (joins : SumsJoin) (moves : MovesStayFair) (spells : HeadersAreSpelled) (payloads : PayloadsAreBytes) (requests : RequestsAreSpelled) (arrives : WhatArrivesWasSent) (set : Setting) (permits : AcceptsPermitted set.accepts) (told : LengthsAreTold set.media) (bank : IsLittle set.start.identity.bank) where
+module _ (joins : SumsJoin) (moves : MovesStayFair) (spells : HeadersAreSpelled) (payloads : PayloadsAreBytes) (requests : RequestsAreSpelled) (arrives : WhatArrivesWasSent) (set : Setting) (permits : AcceptsPermitted set.accepts) (told : LengthsAreTold set.media) (begins : BeginsSmall set.start) where
   module _ (s : Step) (earlier : List Step) (is : IsUninjected set (s ∷ earlier)) where
     module _ (r : TargetReading) (e : Event) (up : target_at set earlier ≡ Is_up r) (comes : event_for sides.Target (posted_in earlier) s.given ≡ Some e) (se : TargetSessionLog) (move : RowMove) (more : List ℕ)
         (h : HasTurned set.accepts r.active r.end se (target_decision set.accepts (target_view r) e).moves move more) where
@@ -264,12 +269,17 @@ module _ (joins : SumsJoin) (moves : MovesStayFair) (spells : HeadersAreSpelled)
       row_little (Writes_completion e loads) role none = tt
       row_little Over role none = tt
 
-    brings_now : (life : Life) (state : TargetState) (e : Option Event) → target_at set earlier ≡ state → event_for sides.Target (posted_in earlier) s.given ≡ e → BringsBytes e → TargetTakes life state → TargetIsSound set life state → BringsAt AllWanted UploadSmall HasText set state e
-    brings_now (Up first_port log) (Is_up r) (Some e) up comes now (packets, blocks, last) (fit, sound) = λ se live move more h fits.
+    bank_little : BeginsSmall set.start → IsLittle set.start.identity.bank
+    bank_little small = let bank = small.bank in omega (arith, bank)
+
+    brings_now : (life : Life) (state : TargetState) (e : Option Event) → target_at set earlier ≡ state → event_for sides.Target (posted_in earlier) s.given ≡ e → BringsBytes e → TargetTakes life state → TargetIsSound set life state → BringsAt AllWanted UploadSmall HasText HasSmallLoads set state e
+    brings_now (Up first_port log) (Is_up r) (Some e) up comes now (packets, blocks, last) (fit, sound) = λ se live move more h fits small.
         (let d = target_decision set.accepts (target_view r) e in
-        let bank_now : IsLittle r.active.identity.bank = subst (λ (id : Identity). IsLittle id.bank) (sym (subst (λ (state : TargetState). HasTarget set state) up (same_target set earlier))) bank in
+        let bank_now : IsLittle r.active.identity.bank = subst (λ (id : Identity). IsLittle id.bank) (sym (subst (λ (state : TargetState). HasTarget set state) up (same_target set earlier))) (bank_little begins) in
+        let few : HasFewLoads r.active = subst (λ (state : TargetState). HasFewLoads (active_in state)) up (active_is_few set begins earlier (changes_are_new joins spells payloads set earlier permits is.carries.1)) in
+        let count : length (entries_of r.active.loads) ≡ length r.active.loads = length-map r.active.loads entry_of in
         let bytes : IsBytes (arrived_of h.ended) = newest_bytes payloads (e ∷ log) (after_moves r.end d.moves) h.ended (now, fit) (moves_came sides.Target e log r.end d.moves (target_moves_heard set.accepts (target_view r) e) packets) h.is_newest in
-        row_brings spells requests set.accepts (outline_of r.active) bank_now (arrived_of h.ended) bytes (seen_row se) (error_of h.ended) (code_little r e up comes se move more h)
+        row_brings spells requests set.accepts (outline_of r.active) bank_now small (omega (arith, few, count)) (arrived_of h.ended) bytes (seen_row se) (error_of h.ended) (code_little r e up comes se move more h)
         (row_little r e up comes se move more h (seen_row se) (of_view (seen_row se) r.end.live h.ended.role h.was_live (live_fits se (subst (λ (x : Option TargetSessionLog). SoundIn set.accepts r.active r.end.live x) live sound)))) fits)
       where
         live_fits : (se : TargetSessionLog) → SoundIn set.accepts r.active r.end.live (Some se) → LiveFits (seen_row se) r.end.live
@@ -280,7 +290,7 @@ module _ (joins : SumsJoin) (moves : MovesStayFair) (spells : HeadersAreSpelled)
     brings_now Down (Is_down active interrupted) None up comes now takes sound = tt
     brings_now Down (Is_down active interrupted) (Some e) up comes now takes sound = tt
 
-    pub brings_at : BringsAt AllWanted UploadSmall HasText set (target_at set earlier) (event_for sides.Target (posted_in earlier) s.given)
+    pub brings_at : BringsAt AllWanted UploadSmall HasText HasSmallLoads set (target_at set earlier) (event_for sides.Target (posted_in earlier) s.given)
     brings_at =
         brings_now (target_life earlier) (target_at set earlier) (event_for sides.Target (posted_in earlier) s.given) refl refl (event_bytes (posted_in earlier) s.given (posted_bytes earlier is.carries.1) is.carries.0.1) (target_takes set earlier)
         (target_sound joins spells payloads set permits earlier is.carries.1)

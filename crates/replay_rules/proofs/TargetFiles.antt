@@ -134,6 +134,7 @@ reason_first reasons.SequenceSpent = (_, refl)
 reason_first (reasons.RequestRefused fault) = (_, refl)
 reason_first reasons.GaveUp = (_, refl)
 reason_first reasons.PortsSpent = (_, refl)
+reason_first (reasons.TooManyLoads loads) = (_, refl)
 
 -- a short text after 8 bytes
 second_is : (file : List ℕ) (text rest : List ℕ) (b : ℕ) → drop 8 file ≡ number_bytes 1 (length text) ++ (text ++ rest) → (more : List ℕ) → text ≡ b ∷ more → (first : ℕ) × (lcs_status_in file ≡ first ∷ b ∷ [])

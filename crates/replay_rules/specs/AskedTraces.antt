@@ -8,8 +8,8 @@ use Rattle.exchange_trace.specs.Happenings.{Upload_started}
 use Rattle.exchange_trace.specs.Steps.{Step}
 use Rattle.accept_rules.specs.Permissions.{AcceptsPermitted}
 use Rattle.session_rules.specs.MediaFiles.{Media}
-use Rattle.replay_rules.specs.BothEnds.{Setting}
-use Rattle.replay_rules.specs.Histories.{brings}
+use Rattle.replay_rules.specs.BothEnds.{Setting, TargetState, target_at}
+use Rattle.replay_rules.specs.Histories.{IsMadeOf, brings}
 use Rattle.replay_rules.specs.OtherEndTraces.{IsUninjected}
 use Rattle.replay_rules.specs.Promises.{HasParts}
 
@@ -17,8 +17,9 @@ use Rattle.replay_rules.specs.Promises.{HasParts}
 abbrev pub EntriesFit : Media → Type 0
 EntriesFit media = AllByRecursion (λ (entry : Wanted). WantedFits entry) media.loads
 
--- one of these steps started an upload of the parts that the configuration has, in their order
-pub record IsAskedFor (steps : List Step) (new : StandingView) : Type 0 where
+-- One of these steps started an upload of the parts of the new loads in a configuration, in their order, where the target was in
+-- this state before it.
+pub record IsAskedFor (steps : List Step) (state : TargetState) (brought : StandingView) : Type 0 where
   pub between : List Step
   pub start : Step
   pub before : List Step
@@ -27,18 +28,18 @@ pub record IsAskedFor (steps : List Step) (new : StandingView) : Type 0 where
   pub parts : List (List ℕ)
   pub split : steps ≡ between ++ start ∷ before
   pub starts : start.given ≡ Upload_started hw pos parts
-  pub asked : HasParts parts new.loads
+  pub asked : IsMadeOf state (HasParts parts) brought
 
-abbrev pub BroughtIsAsked : Option StandingView → List Step → Type 0
-BroughtIsAsked None earlier = ⊤
-BroughtIsAsked (Some new) earlier = IsAskedFor earlier new
+abbrev pub BroughtIsAsked : TargetState → Option StandingView → List Step → Type 0
+BroughtIsAsked state None earlier = ⊤
+BroughtIsAsked state (Some brought) earlier = IsAskedFor earlier state brought
 
 -- so it is of what each step brings
 abbrev pub AllBroughtAreAsked : Setting → List Step → Type 0
 AllBroughtAreAsked set [] = ⊤
-AllBroughtAreAsked set (s ∷ earlier) = BroughtIsAsked (brings set s earlier) earlier × AllBroughtAreAsked set earlier
+AllBroughtAreAsked set (s ∷ earlier) = BroughtIsAsked (target_at set earlier) (brings set s earlier) earlier × AllBroughtAreAsked set earlier
 
--- Where nothing is injected, each configuration that an install step brings has the parts of a start of an upload before it,
--- through losses, repeats, other orders, power losses and boots.
+-- Where nothing is injected, each configuration that an install step brings has the parts of a start of an upload before it, and
+-- then what is kept, through losses, repeats, other orders, power losses and boots.
 abbrev pub InstallsAreAsked : Type 0
 InstallsAreAsked = (set : Setting) (steps : List Step) → AcceptsPermitted set.accepts → EntriesFit set.media → IsUninjected set steps → AllBroughtAreAsked set steps

@@ -11,7 +11,7 @@ use Rattle.session_rules.specs.LoaderLog.{LoaderReading, loader_reading}
 use Rattle.session_rules.specs.MediaFiles.{Media}
 use Rattle.session_rules.specs.TargetLog.{TargetReading, new_target_reading, target_extended}
 
--- what a run stands on: the media set, the headers that the interlock accepts, and what is active at the start
+-- what a run stands on: the media set, the loads that the interlock accepts, and what is active at the start
 pub record Setting : Type 0 where
   pub media : Media
   pub accepts : Accepts

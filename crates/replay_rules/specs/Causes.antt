@@ -2,7 +2,9 @@
 use Rattle.std.specs.Prelude.{◌≡◌, ℕ, ◌≤◌, List, [], ◌∷◌, ◌++◌, length, Some, ⊤}
 use Rattle.load_base.specs.Ident.{IsIdent}
 use Rattle.load_base.specs.Text.{IsText}
+use Rattle.disk_layout.specs.Contents.{entries_of}
 use Rattle.disk_layout.specs.Holds.{StandingView}
+use Rattle.disk_layout.specs.Manifest.{FitsALayout}
 use Rattle.exchange_trace.specs.Happenings.{Upload_started}
 use Rattle.exchange_trace.specs.Steps.{Step}
 use Rattle.accept_rules.specs.Permissions.{AcceptsPermitted}
@@ -118,14 +120,14 @@ StopsAreForVerdicts = (set : Setting) (steps : List Step) → AcceptsPermitted s
 
 -- ---- bad files
 
--- at most as many loads as an upload may ask for
+-- at most as many loads as a configuration may have
 abbrev pub HasFewLoads : StandingView → Type 0
 HasFewLoads s = length s.loads ≤ 32
 
--- The run began with what a disk can hold: its bank has a length of four bytes, and few loads are on it.
+-- The run began with what a disk can hold: its bank has a length of four bytes, and its loads can be said by a manifest.
 pub record BeginsSmall (s : StandingView) : Type 0 where
   pub bank : s.identity.bank ≤ 4294967295
-  pub few : HasFewLoads s
+  pub loads : FitsALayout (entries_of s.loads)
 
 abbrev pub NoBadFile : Setting → Step → List Step → Type 0
 NoBadFile set s earlier = (kind : FileKind) (offset : ℕ) → EndsAs set s earlier (BadFile kind offset) → ⊥

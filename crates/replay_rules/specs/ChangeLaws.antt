@@ -4,6 +4,7 @@ use Rattle.std.specs.Prelude.{slice_get, ◌==◌}
 use Rattle.std.specs.List.{AllByRecursion}
 use Rattle.std.proofs.lemmas.Bool.{eq-eqb}
 use Rattle.disk_layout.specs.declared.identity.Identity.{Identity}
+use Rattle.disk_layout.specs.Contents.{entries_of}
 use Rattle.disk_layout.specs.Holds.{StandingView}
 use Rattle.exchange_trace.specs.declared.trace.Side.TheVariants as sides
 use Rattle.exchange_trace.specs.Happenings.{Booted, DatagramView, Delivered, Ended, HappeningView, Info_started, Injected, Lost, Power_cut, Size_told, Ticked, Upload_started, is_same_side}
@@ -12,7 +13,7 @@ use Rattle.exchange_trace.specs.Posts.{numbered, posted_in}
 use Rattle.exchange_trace.specs.Steps.{Boot_refused, Came_up, Note, Step, Went_down}
 use Rattle.accept_rules.specs.Permissions.{AcceptsPermitted}
 use Rattle.session_rules.specs.BufferLaws.{SumsJoin}
-use Rattle.session_rules.specs.NewConfigs.{IsGoodLoad}
+use Rattle.session_rules.specs.NewConfigs.{AreGoodAfter}
 use Rattle.session_rules.specs.SoundLogs.{EventIsBytes, LogIsBytes, SessionIsSound, StaysOrIsNew}
 use Rattle.session_rules.specs.SoundLogLaws.{PayloadsAreBytes, target_step_sound}
 use Rattle.session_rules.specs.SoundnessLaws.{HeadersAreSpelled}
@@ -21,7 +22,8 @@ use Rattle.replay_rules.specs.BothEnds.{Is_down, Is_up, Setting, TargetState, ch
 use Rattle.replay_rules.specs.CameTraceLaws.{target_takes}
 use Rattle.replay_rules.specs.CameTraces.{TargetTakes}
 use Rattle.replay_rules.specs.Changes.{AllBroughtAreGood, AllCarryBytes, AllStayOrAreNew, AreGood, BroughtIsGood, CarriesBytes, ChangesAreNew, InjectsBytes, InstallsAreGood, TargetStaysOrIsNew}
-use Rattle.replay_rules.specs.Histories.{active_in}
+use Rattle.replay_rules.specs.CompletedRows.{new_is_made}
+use Rattle.replay_rules.specs.Histories.{IsMadeOf, active_in}
 use Rattle.replay_rules.specs.PlacedTraceLaws.{all_append}
 use Rattle.replay_rules.specs.TieLaws.{HasLive, target_is_live}
 
@@ -191,27 +193,27 @@ module _ (set : Setting) where
       noted_target s.notes (target_at set earlier) _ is (reached_target (event_for sides.Target (posted_in earlier) s.given) (target_at set earlier) change is)
 
   -- what is brought
-  brought_if : (b : Bool) (after : StandingView) → (b ≡ false → AreGood set after.loads) → BroughtIsGood set (cond b None (Some after))
-  brought_if true after good = tt
-  brought_if false after good = good refl
-
   same_sequence : (before after : StandingView) → after ≡ before → (before.sequence == after.sequence) ≡ true
   same_sequence before after same = eq-eqb before.sequence after.sequence (sym (ap (λ (s : StandingView). s.sequence) same))
 
-  none_brought : (before after : StandingView) → after ≡ before → (before.sequence == after.sequence) ≡ false → AreGood set after.loads
-  none_brought before after same other = absurd (let wrong : true ≡ false = sym (same_sequence before after same) ∙ other in cc)
+  none_brought : (state : TargetState) (before after : StandingView) → after ≡ before → BroughtIsGood set state (changed before after)
+  none_brought state before after same = subst (λ (b : Bool). BroughtIsGood set state (cond b None (Some after))) (sym (same_sequence before after same)) tt
 
-  new_is_good : (before after : TargetReading) → StaysOrIsNew set.accepts before after → IsTarget before.active → BroughtIsGood set (changed before.active after.active)
-  new_is_good before after (inl same) is = brought_if (before.active.sequence == after.active.sequence) after.active (none_brought before.active after.active same)
+  brought_if : (state : TargetState) (b : Bool) (after : StandingView) → IsMadeOf state (AreGood set (active_in state)) after → BroughtIsGood set state (cond b None (Some after))
+  brought_if state true after made = tt
+  brought_if state false after made = made
+
+  new_is_good : (before after : TargetReading) → StaysOrIsNew set.accepts before after → IsTarget before.active → BroughtIsGood set (Is_up before) (changed before.active after.active)
+  new_is_good before after (inl same) is = none_brought (Is_up before) before.active after.active same
   new_is_good before after (inr new) is =
-      let good : AreGood set new.loads = subst (λ (id : Identity). AllByRecursion (IsGoodLoad (λ h. set.accepts h ≡ true) id) new.loads) is new.new.good in
-      brought_if (before.active.sequence == after.active.sequence) after.active (λ other. subst (λ (s : StandingView). AreGood set s.loads) (sym new.next) good)
+      let good : AreGood set before.active new.loads = subst (λ (id : Identity). AreGoodAfter (λ h kept. set.accepts h kept ≡ true) id (entries_of before.active.loads) [] new.loads) is new.new.good in
+      brought_if (Is_up before) (before.active.sequence == after.active.sequence) after.active (new_is_made set.accepts before after new (AreGood set before.active) good)
 
-  brought_is_good : (e : Option Event) (state : TargetState) → TargetStaysOrIsNew set state (reached set e state) → HasTarget state → BroughtIsGood set (changed (active_in state) (active_in (reached set e state)))
-  brought_is_good None (Is_up r) change is = brought_if (r.active.sequence == r.active.sequence) r.active (none_brought r.active r.active refl)
+  brought_is_good : (e : Option Event) (state : TargetState) → TargetStaysOrIsNew set state (reached set e state) → HasTarget state → BroughtIsGood set state (changed (active_in state) (active_in (reached set e state)))
+  brought_is_good None (Is_up r) change is = none_brought (Is_up r) r.active r.active refl
   brought_is_good (Some e) (Is_up r) change is = new_is_good r _ change is
-  brought_is_good None (Is_down active interrupted) change is = brought_if (active.sequence == active.sequence) active (none_brought active active refl)
-  brought_is_good (Some e) (Is_down active interrupted) change is = brought_if (active.sequence == active.sequence) active (none_brought active active refl)
+  brought_is_good None (Is_down active interrupted) change is = none_brought (Is_down active interrupted) active active refl
+  brought_is_good (Some e) (Is_down active interrupted) change is = none_brought (Is_down active interrupted) active active refl
 
   all_brought_are_good : (steps : List Step) → AllStayOrAreNew set steps → AllBroughtAreGood set steps
   all_brought_are_good [] all = tt

@@ -3,6 +3,7 @@ use Rattle.std.specs.Prelude.{◌≡◌, List, [], ◌∷◌, true, Option, Some
 use Rattle.std.specs.List.{AllByRecursion}
 use Rattle.field_grammar.specs.Grammar.{IsBytes}
 use Rattle.load_base.specs.Config.{LoadView}
+use Rattle.disk_layout.specs.Contents.{entries_of}
 use Rattle.disk_layout.specs.Holds.{StandingView}
 use Rattle.exchange_trace.specs.declared.trace.Side.TheVariants as sides
 use Rattle.exchange_trace.specs.Happenings.{DatagramView, HappeningView, Injected}
@@ -10,9 +11,9 @@ use Rattle.exchange_trace.specs.Logs.{event_for}
 use Rattle.exchange_trace.specs.Posts.{posted_in}
 use Rattle.exchange_trace.specs.Steps.{Step}
 use Rattle.accept_rules.specs.Permissions.{AcceptsPermitted}
-use Rattle.session_rules.specs.NewConfigs.{IsGoodLoad}
+use Rattle.session_rules.specs.NewConfigs.{AreGoodAfter}
 use Rattle.session_rules.specs.SoundLogs.{StaysOrIsNew}
-use Rattle.replay_rules.specs.Histories.{brings}
+use Rattle.replay_rules.specs.Histories.{IsMadeOf, active_in, brings}
 use Rattle.replay_rules.specs.BothEnds.{Setting, TargetState, Is_up, reached, target_at}
 
 -- what datagrams carry are bytes
@@ -46,17 +47,18 @@ ChangesAreNew = (set : Setting) (steps : List Step) → AcceptsPermitted set.acc
 
 -- ---- what is installed is good
 
-abbrev pub AreGood : Setting → List LoadView → Type 0
-AreGood set loads = AllByRecursion (IsGoodLoad (λ h. set.accepts h ≡ true) set.start.identity) loads
+-- loads are good for the target of the run, beside what is kept of this configuration after the header of each
+abbrev pub AreGood : Setting → (before : StandingView) → List LoadView → Type 0
+AreGood set before loads = AreGoodAfter (λ h kept. set.accepts h kept ≡ true) set.start.identity (entries_of before.loads) [] loads
 
-abbrev pub BroughtIsGood : Setting → Option StandingView → Type 0
-BroughtIsGood set None = ⊤
-BroughtIsGood set (Some s) = AreGood set s.loads
+abbrev pub BroughtIsGood : Setting → (before : TargetState) → Option StandingView → Type 0
+BroughtIsGood set before None = ⊤
+BroughtIsGood set before (Some s) = IsMadeOf before (AreGood set (active_in before)) s
 
--- the configuration that an install step brings is made of good loads, for the target of the run
+-- the configuration that an install step brings is made of good loads and of those that are kept
 abbrev pub AllBroughtAreGood : Setting → List Step → Type 0
 AllBroughtAreGood set [] = ⊤
-AllBroughtAreGood set (s ∷ earlier) = BroughtIsGood set (brings set s earlier) × AllBroughtAreGood set earlier
+AllBroughtAreGood set (s ∷ earlier) = BroughtIsGood set (target_at set earlier) (brings set s earlier) × AllBroughtAreGood set earlier
 
 -- under the same premises
 abbrev pub InstallsAreGood : Type 0

@@ -1,6 +1,7 @@
 -- Runs of which the last upload may be expected to complete (docs/EXCHANGE.md, "Runs").
 use Rattle.std.specs.Prelude.{◌≡◌, ℕ, ◌+◌, ◌<◌, ◌≤◌, List, [], ◌∷◌, ◌++◌, length, true, Option, Some, None, Ok, ⊤}
 use Rattle.std.specs.List.{AllByRecursion, AllZip, sum_by}
+use Rattle.accept_rules.specs.declared.kept.KeptLoad.{KeptLoad}
 use Rattle.accept_rules.specs.Permissions.{Grants}
 use Rattle.disk_layout.specs.Contents.{entries_of}
 use Rattle.load_base.specs.Config.{LoadView}
@@ -18,12 +19,14 @@ use Rattle.transfer_end.specs.Readings.{Reading, next_port_of}
 use Rattle.transfer_end.specs.Views.{end_view}
 use Rattle.session_rules.specs.declared.outcome.Outcome.TheVariants.{Completed}
 use Rattle.session_rules.specs.Loader.{EndedSession}
+use Rattle.session_rules.specs.KeptLoads.{with_kept}
 use Rattle.session_rules.specs.MediaFiles.{wanted_of}
-use Rattle.session_rules.specs.NewConfigs.{IsGoodLoad, IsWanted, AreOfMedia}
+use Rattle.session_rules.specs.NewConfigs.{AreGoodBeside, AreOfMedia, IsWanted}
 use Rattle.session_rules.specs.Uploads.{need_of}
 use Rattle.session_rules.specs.TargetRows.{Writes_completion, WholeRow}
 use Rattle.session_rules.specs.TargetLog.{TargetReading, TargetSessionLog}
 use Rattle.replay_rules.specs.BothEnds.{Setting, TargetState, Is_up, Is_down, loader_at, target_at}
+use Rattle.replay_rules.specs.Histories.{setting_after}
 use Rattle.replay_rules.specs.Runs.{IsQuiet}
 
 -- ---- what must not happen
@@ -93,16 +96,18 @@ AllEndWell set (s ∷ since) before =
 abbrev pub ports_for : List LoadView → ℕ
 ports_for loads = 3 + sum_by (λ (load : LoadView). length load.files + 1) loads
 
--- every interlock accepts the header, and this one does
-abbrev pub IsGranted : Setting → HeaderView → Type 0
-IsGranted set h = (set.accepts h ≡ true) × Grants h
+-- every interlock accepts the header beside these loads, and this one does
+abbrev pub IsGranted : Setting → HeaderView → List KeptLoad → Type 0
+IsGranted set h kept = (set.accepts h kept ≡ true) × Grants h kept
 
--- the media set has these loads, each of them good for the target, and together they fit its bank
+-- The media set has these loads, each of them good for the target beside what is active at the start. With those that are kept of
+-- it they are 32 at most, and together fit the target's bank.
 pub record AreServed (set : Setting) (wanted : List Wanted) (loads : List LoadView) : Type 0 where
   pub each : AllZip IsWanted wanted loads
-  pub good : AllByRecursion (IsGoodLoad (IsGranted set) set.start.identity) loads
+  pub good : AreGoodBeside (IsGranted set) set.start loads
   pub media : AreOfMedia set.media loads
-  pub fit : need_of (entries_of loads) ≤ set.start.identity.bank
+  pub few : length (with_kept loads set.start.loads) ≤ 32
+  pub fit : need_of (entries_of (with_kept loads set.start.loads)) ≤ set.start.identity.bank
 
 abbrev pub HasPorts : Reading → (ports : ℕ) → Type 0
 HasPorts r ports = next_port_of r + ports ≤ 65536
@@ -113,7 +118,7 @@ IsReadyFor (Is_up r) ports = (r.active.sequence < 4294967295) × HasPorts r.end 
 IsReadyFor (Is_down active interrupted) ports = ⊥
 
 -- The last start is that of an upload to the target, of 1 to 32 parts that the media set has. It began in quiet, and
--- nothing disturbed it since; its loads are good, and enough ports are left.
+-- nothing disturbed it since; its loads are good beside what was active then, and enough ports are left.
 pub record IsFaultFree (set : Setting) (steps : List Step) : Type 0 where
   pub since : List Step
   pub start : Step
@@ -132,6 +137,6 @@ pub record IsFaultFree (set : Setting) (steps : List Step) : Type 0 where
   pub stays_up : start.notes ≡ []
   pub loader_ends : NewAreCompleted (loader_at set (start ∷ before)).ended (loader_at set steps).ended
   pub target_ends : AllEndWell set since (start ∷ before)
-  pub served : AreServed set wanted loads
+  pub served : AreServed (setting_after set before) wanted loads
   pub loader_ports : HasPorts (loader_at set before).end (ports_for loads)
   pub target_ready : IsReadyFor (target_at set before) (ports_for loads)

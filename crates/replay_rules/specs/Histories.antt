@@ -1,10 +1,15 @@
 -- The configurations that were active in turn (docs/EXCHANGE.md, "Runs").
-use Rattle.std.specs.Prelude.{List, [], ◌∷◌, ◌==◌, Option, Some, None, if◌then◌else◌}
+use Rattle.std.specs.Prelude.{◌≡◌, List, [], ◌∷◌, ◌==◌, Option, Some, None, if◌then◌else◌}
+use Rattle.std.specs.List.{AllZip}
+use Rattle.load_base.specs.Config.{LoadView}
+use Rattle.load_protocol_files.specs.declared.lur.Wanted.{Wanted}
 use Rattle.disk_layout.specs.Holds.{StandingView}
 use Rattle.exchange_trace.specs.declared.trace.Side.TheVariants as sides
 use Rattle.exchange_trace.specs.Steps.{Step}
 use Rattle.exchange_trace.specs.Posts.{posted_in}
 use Rattle.exchange_trace.specs.Logs.{event_for}
+use Rattle.session_rules.specs.NewConfigs.{IsWanted, request_in}
+use Rattle.session_rules.specs.TargetLog.{TargetSessionLog, standing_after}
 use Rattle.replay_rules.specs.BothEnds.{Setting, TargetState, Is_up, Is_down, changed, target_at, reached, settled}
 
 -- the last configuration that is known to be active
@@ -14,6 +19,14 @@ active_in (Is_down active interrupted) = active
 
 abbrev pub active_at : Setting → List Step → StandingView
 active_at set steps = active_in (target_at set steps)
+
+-- what a run stands on that begins with this active
+abbrev pub setting_from : Setting → StandingView → Setting
+setting_from set active = record { media = set.media; accepts = set.accepts; start = active }
+
+-- what a run stands on that begins where these steps end
+abbrev pub setting_after : Setting → List Step → Setting
+setting_after set steps = setting_from set (active_at set steps)
 
 -- All that may be active: after an installation that was interrupted, what was active before it or what it brings, until
 -- the target comes up or the run ends.
@@ -43,3 +56,23 @@ history_of set steps standing = with_member (active_at set steps) (active_by (ta
 -- The newest step is an install step that brings this: its datagram makes the verdict good.
 abbrev pub brings : Setting → Step → List Step → Option StandingView
 brings set s earlier = changed (active_at set earlier) (active_in (reached set (event_for sides.Target (posted_in earlier) s.given) (target_at set earlier)))
+
+-- ---- what is new of it
+
+-- what a live session was asked for
+abbrev pub request_of : Option TargetSessionLog → List Wanted
+request_of None = []
+request_of (Some s) = request_in s.row
+
+-- and the target in its live session
+abbrev pub requested_in : TargetState → List Wanted
+requested_in (Is_up r) = request_of r.live
+requested_in (Is_down active interrupted) = []
+
+-- What is brought, where the target was in this state, is made of new loads, and then of those that are kept of what was active: one
+-- new load for each that the session was asked for, in their order, and this holds of them.
+pub record IsMadeOf (before : TargetState) (New : List LoadView → Type 0) (brought : StandingView) : Type 0 where
+  pub new : List LoadView
+  pub wanted : AllZip IsWanted (requested_in before) new
+  pub are_new : New new
+  pub is : brought ≡ standing_after (active_in before) new

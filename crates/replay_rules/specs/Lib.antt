@@ -10,6 +10,7 @@ pub mod PlacedTraces
 pub mod PlacedTraceLaws
 pub mod CameTraces
 pub mod CameTraceLaws
+pub mod CompletedRows
 pub mod Changes
 pub mod ChangeLaws
 pub mod OtherEndTraces

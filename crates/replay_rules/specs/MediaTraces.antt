@@ -11,7 +11,7 @@ use Rattle.replay_rules.specs.Promises.{AllOfMedia}
 abbrev pub LengthsAreTold : Media → Type 0
 LengthsAreTold media = (name bytes : List ℕ) → media.file name ≡ Some bytes → length bytes ≤ 4294967295
 
--- Where nothing is injected, each file of each configuration that an install step brings is the media set's file of its
--- name, through losses, repeats, other orders, power losses and boots.
+-- Where nothing is injected, each file of each load that an install step brings is the media set's file of its name, and what
+-- else is active then was kept, through losses, repeats, other orders, power losses and boots.
 abbrev pub InstallsAreOfMedia : Type 0
 InstallsAreOfMedia = (set : Setting) (steps : List Step) → AcceptsPermitted set.accepts → LengthsAreTold set.media → IsUninjected set steps → AllOfMedia set steps

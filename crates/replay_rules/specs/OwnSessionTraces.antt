@@ -13,7 +13,7 @@ use Rattle.replay_rules.specs.AskedTraces.{EntriesFit}
 use Rattle.replay_rules.specs.BothEnds.{Setting, loader_at, target_at}
 use Rattle.replay_rules.specs.Due.{goes_down}
 use Rattle.replay_rules.specs.FaultFree.{IsNoStart}
-use Rattle.replay_rules.specs.Histories.{active_by, brings, history_of}
+use Rattle.replay_rules.specs.Histories.{IsMadeOf, active_by, brings, history_of}
 use Rattle.replay_rules.specs.OtherEndTraces.{IsUninjected}
 use Rattle.replay_rules.specs.Promises.{HasCompleted, HasEnded, HasParts}
 
@@ -24,8 +24,8 @@ abbrev pub NoneStarts : List Step → Type 0
 NoneStarts steps = AllByRecursion (λ (s : Step). IsNoStart s.given) steps
 
 -- The newest start is that of an upload of these parts, and the session that ended last is the one that ended since: so it is
--- that upload. Between its start and now a step brought a configuration with exactly these parts, in their order, and the
--- target stayed up in it.
+-- that upload. Between its start and now a step brought a configuration with exactly these parts, in their order, and then what
+-- is kept, and the target stayed up in it.
 pub record WasInstalledInSession (set : Setting) (steps : List Step) : Type 0 where
   pub since : List Step
   pub install : Step
@@ -42,7 +42,7 @@ pub record WasInstalledInSession (set : Setting) (steps : List Step) : Type 0 wh
   pub newest : NoneStarts (since ++ install ∷ between)
   pub one : (loader_at set steps).ended ≡ session ∷ (loader_at set (start ∷ before)).ended
   pub brought : brings set install (between ++ start ∷ before) ≡ Some new
-  pub asked : HasParts parts new.loads
+  pub asked : IsMadeOf (target_at set (between ++ start ∷ before)) (HasParts parts) new
   pub stays_up : goes_down install.notes ≡ false
 
 -- a session that ended in the newest step as a completed upload

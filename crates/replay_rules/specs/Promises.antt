@@ -18,7 +18,7 @@ use Rattle.session_rules.specs.TargetLog.{TargetSessionLog}
 use Rattle.replay_rules.specs.BothEnds.{Setting, TargetState, Is_up, Is_down, loader_at, target_at}
 use Rattle.replay_rules.specs.Due.{AllDue, AllNoted}
 use Rattle.replay_rules.specs.FaultFree.{NothingInjected}
-use Rattle.replay_rules.specs.Histories.{may_be_active, brings}
+use Rattle.replay_rules.specs.Histories.{IsMadeOf, brings, may_be_active}
 use Rattle.replay_rules.specs.Runs.{plan_at, scene_at}
 
 -- ---- the trace is what happened, and each end posts exactly what is due
@@ -39,14 +39,14 @@ pub record IsTrace (set : Setting) (steps : List Step) : Type 0 where
 
 -- ---- what is installed are the media set's files
 
-abbrev pub BroughtIsOfMedia : Setting → Option StandingView → List Step → Type 0
-BroughtIsOfMedia set None steps = ⊤
-BroughtIsOfMedia set (Some s) steps = NothingInjected steps → AreOfMedia set.media s.loads
+abbrev pub BroughtIsOfMedia : Setting → (before : TargetState) → Option StandingView → List Step → Type 0
+BroughtIsOfMedia set before None steps = ⊤
+BroughtIsOfMedia set before (Some s) steps = NothingInjected steps → IsMadeOf before (AreOfMedia set.media) s
 
--- what a step brings, where nothing was injected
+-- what a step brings, but for the loads that are kept, where nothing was injected
 abbrev pub AllOfMedia : Setting → List Step → Type 0
 AllOfMedia set [] = ⊤
-AllOfMedia set (s ∷ earlier) = BroughtIsOfMedia set (brings set s earlier) (s ∷ earlier) × AllOfMedia set earlier
+AllOfMedia set (s ∷ earlier) = BroughtIsOfMedia set (target_at set earlier) (brings set s earlier) (s ∷ earlier) × AllOfMedia set earlier
 
 -- ---- a list is due
 

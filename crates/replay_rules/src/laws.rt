@@ -144,8 +144,9 @@ pub fn a_completed_upload_is_installed()
 
 /// Whatever is delivered, lost, repeated, reordered, delayed or injected in a run, and wherever
 /// power fails, the configuration changes by good verdicts alone: each is the new configuration of
-/// what its session asked for and read, made of loads that are good for the target. So whatever may
-/// be active at a moment was active at the start, or has a load and good loads alone.
+/// what its session asked for and read, made of loads that are good for the target, and of those
+/// that are kept. So whatever may be active at a moment was active at the start, or each of its loads
+/// was or is checked, and one at least is checked.
 pub fn the_configuration_changes_by_good_verdicts()
     ensures changes { ChangesAreNew }
     ensures good { InstallsAreGood }

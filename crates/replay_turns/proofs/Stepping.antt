@@ -12,6 +12,7 @@ use Rattle.bank_store.specs.DiskWrites.{TimeGoesOn}
 use Rattle.bank_store.specs.Fits.{Works}
 use Rattle.bank_store.specs.declared.store.Store.{Store}
 use Rattle.load_header.specs.declared.header.LoadHeader.{LoadHeader}
+use Rattle.accept_rules.specs.declared.kept.KeptLoad.{KeptLoad}
 use Rattle.exchange_trace.specs.Logs.{Event, Learns}
 use Rattle.exchange_trace.specs.Happenings.{DatagramView}
 use Rattle.exchange_trace.specs.Steps.{Note, Went_down}
@@ -53,7 +54,7 @@ learns_keeps accepts size target after disk c x same has = rw same (record {
 
 -- ---- a target that is up takes what reaches it
 
-module _ {S R : Type 0} (may_say : R → LoadHeader → Bool → Type 0) (set : Setting) (e : Option Event) (slot : Option (machine.TargetState R)) (t after : machine.TargetState R) (old new : DiskState) (result : Result S Down) (is : slot ≡ Some t)
+module _ {S R : Type 0} (may_say : R → LoadHeader → List KeptLoad → Bool → Type 0) (set : Setting) (e : Option Event) (slot : Option (machine.TargetState R)) (t after : machine.TargetState R) (old new : DiskState) (result : Result S Down) (is : slot ≡ Some t)
     (now : (image : Image) → old.reads ≡ Some image → old.now image) (goes : TimeGoesOn old new)
     (keeps : (c : TargetContents) → HasContents t old c → KeepsDisk old after.store new c (contents_then set.accepts t.view e c) result) where
   begun : (state : TargetState) → BeginsStep may_say set state slot old → BeginsStep may_say set state (Some t) old
@@ -105,7 +106,7 @@ next_of set None before after posts takes = ap (λ t. Some t.view) takes.0
 next_of set (Some e) before after posts takes = ap (λ v. Some v) takes.keeps
 
 -- nothing reaches a target that is down
-pub nothing_steps : {T R : Type 0} (E : Type 0) (may_say : R → LoadHeader → Bool → Type 0) (set : Setting) (e : Option Event) (state : TargetState) (disk : DiskState) (x : T) (notes : T → List Note) → notes x ≡ []
+pub nothing_steps : {T R : Type 0} (E : Type 0) (may_say : R → LoadHeader → List KeptLoad → Bool → Type 0) (set : Setting) (e : Option Event) (state : TargetState) (disk : DiskState) (x : T) (notes : T → List Note) → notes x ≡ []
     → BeginsStep may_say set state None disk → StepsOn {R = R} {E = E} set e state None notes disk disk (Ok x)
 nothing_steps E may_say set e (Is_up r) disk x notes none begins = absurd (let wrong : None ≡ Some (target_view r) = begins.holds.kept in cc)
 nothing_steps {T} {R} E may_say set e (Is_down active interrupted) disk x notes none begins = by e
@@ -154,7 +155,7 @@ armed_works set (Is_up r) (Some t) old new calls pick arms works holds = record 
 }
 armed_works set (Is_down active interrupted) slot old new calls pick arms works holds = tt
 
-pub armed_steps : {R : Type 0} (E : Type 0) (may_say : R → LoadHeader → Bool → Type 0) (set : Setting) (state : TargetState) (slot : Option (machine.TargetState R)) (old new : DiskState) (calls pick : ℕ) → Arms calls pick old new
+pub armed_steps : {R : Type 0} (E : Type 0) (may_say : R → LoadHeader → List KeptLoad → Bool → Type 0) (set : Setting) (state : TargetState) (slot : Option (machine.TargetState R)) (old new : DiskState) (calls pick : ℕ) → Arms calls pick old new
     → ((t : machine.TargetState R) → slot ≡ Some t → (store : Store) → Works store old → Works store new) → BeginsStep may_say set state slot old → StepsOn {E = E} set None state slot notes_of old new (Ok None)
 armed_steps E may_say set state slot old new calls pick arms works begins = record {
   adds = adds_no_image set state slot old new begins.holds (arms_no_more old new calls pick arms);
@@ -163,7 +164,7 @@ armed_steps E may_say set state slot old new calls pick arms works begins = reco
 }
 
 -- power is lost at once
-pub cut_steps : {R : Type 0} (E : Type 0) (may_say : R → LoadHeader → Bool → Type 0) (set : Setting) (state : TargetState) (slot gone : Option (machine.TargetState R)) (old new : DiskState) (calls pick : ℕ) → gone ≡ None → Arms calls pick old new
+pub cut_steps : {R : Type 0} (E : Type 0) (may_say : R → LoadHeader → List KeptLoad → Bool → Type 0) (set : Setting) (state : TargetState) (slot gone : Option (machine.TargetState R)) (old new : DiskState) (calls pick : ℕ) → gone ≡ None → Arms calls pick old new
     → BeginsStep may_say set state slot old → StepsOn {R = R} {E = E} set None state gone notes_of old new (Ok (Some power.Down))
 cut_steps {R} E may_say set state slot gone old new calls pick none arms begins =
     let adds = adds_no_image set state slot old new begins.holds (arms_no_more old new calls pick arms) in
@@ -176,7 +177,7 @@ cut_steps {R} E may_say set state slot gone old new calls pick none arms begins 
 -- ---- a target that is switched off and on
 
 -- the disk failed as it was restarted
-pub unrestarted_steps : {R T : Type 0} (E : Type 0) (may_say : R → LoadHeader → Bool → Type 0) (set : Setting) (state : TargetState) (slot gone : Option (machine.TargetState R)) (old new : DiskState) (result : Result T DiskFault)
+pub unrestarted_steps : {R T : Type 0} (E : Type 0) (may_say : R → LoadHeader → List KeptLoad → Bool → Type 0) (set : Setting) (state : TargetState) (slot gone : Option (machine.TargetState R)) (old new : DiskState) (result : Result T DiskFault)
     → gone ≡ None → Elapses old new old.now result → BeginsStep may_say set state slot old → StepsOn {R = R} {E = E} set None state gone (λ note. notes_of (Some note)) old new (Ok (power.Refused DiskFailed))
 unrestarted_steps {R} E may_say set state slot gone old new result none elapses begins =
     subst (λ (o : Option (machine.TargetState R)). StepsOn {R = R} {E = E} set None state o (λ note. notes_of (Some note)) old new (Ok (power.Refused DiskFailed))) (sym none) (record {
@@ -185,12 +186,12 @@ unrestarted_steps {R} E may_say set state slot gone old new result none elapses 
       boots = refl;
     })
 
-pub failed_steps : {R S E : Type 0} (may_say : R → LoadHeader → Bool → Type 0) (set : Setting) (state : TargetState) (slot after : Option (machine.TargetState R)) (old new : DiskState) (notes : S → List Note) (fault : E) → LeavesNoMore old new
+pub failed_steps : {R S E : Type 0} (may_say : R → LoadHeader → List KeptLoad → Bool → Type 0) (set : Setting) (state : TargetState) (slot after : Option (machine.TargetState R)) (old new : DiskState) (notes : S → List Note) (fault : E) → LeavesNoMore old new
     → BeginsStep may_say set state slot old → StepsOn {T = S} set None state after notes old new (Err fault)
 failed_steps may_say set state slot after old new notes fault no_more begins = record { adds = adds_no_image set state slot old new begins.holds no_more; holds = tt; boots = tt }
 
 -- it was restarted, and the target comes up or stays down
-pub restarted_steps : {R T : Type 0} (E : Type 0) (may_say : R → LoadHeader → Bool → Type 0) (set : Setting) (state : TargetState) (slot after : Option (machine.TargetState R)) (old there new : DiskState) (restarted : Result T DiskFault) (note : PowerNote)
+pub restarted_steps : {R T : Type 0} (E : Type 0) (may_say : R → LoadHeader → List KeptLoad → Bool → Type 0) (set : Setting) (state : TargetState) (slot after : Option (machine.TargetState R)) (old there new : DiskState) (restarted : Result T DiskFault) (note : PowerNote)
     → Elapses old there old.now restarted → OnlyReads there new
     → ((active : StandingView) (interrupted : Option StandingView) → HoldsRun {R = R} set (Is_down active interrupted) None there
     → HasBooted set (noted (notes_of (Some note)) (Is_down active interrupted) (Is_down active interrupted)) (notes_of (Some note)) after new)
@@ -205,7 +206,7 @@ restarted_steps {R} E may_say set state slot after old there new restarted note 
       boots = subst (λ (s : TargetState). BootIsTold s (notes_of (Some note))) (noted_down set state note down) (comes down.active down.interrupted off).boots;
     }
 
-pub boots_steps : {R T E : Type 0} (may_say : R → LoadHeader → Bool → Type 0) (set : Setting) (state : TargetState) (slot after : Option (machine.TargetState R)) (old there new : DiskState) (restarted : Result T DiskFault) (result : Result PowerNote E)
+pub boots_steps : {R T E : Type 0} (may_say : R → LoadHeader → List KeptLoad → Bool → Type 0) (set : Setting) (state : TargetState) (slot after : Option (machine.TargetState R)) (old there new : DiskState) (restarted : Result T DiskFault) (result : Result PowerNote E)
     → Elapses old there old.now restarted → OnlyReads there new
     → ((active : StandingView) (interrupted : Option StandingView) → HoldsRun {R = R} set (Is_down active interrupted) None there
     → IfOk result (λ note. HasBooted set (noted (notes_of (Some note)) (Is_down active interrupted) (Is_down active interrupted)) (notes_of (Some note)) after new))

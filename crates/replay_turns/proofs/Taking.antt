@@ -4,6 +4,7 @@ use Rattle.exchange_trace.specs.Happenings.{DatagramView}
 use Rattle.exchange_trace.specs.Logs.{Event}
 use Rattle.accept_rules.specs.Interlocks.{Follows}
 use Rattle.load_header.specs.declared.header.LoadHeader.{LoadHeader}
+use Rattle.accept_rules.specs.declared.kept.KeptLoad.{KeptLoad}
 use Rattle.accept_rules.specs.Permissions.{Accepts}
 use Rattle.session_rules.specs.Target.{TargetView}
 use Rattle.replay_rules.specs.BothEnds.{Setting, TargetState}
@@ -24,7 +25,7 @@ pub took : {R : Type 0} (set : Setting) (e : Option Event) (state : TargetState)
     → slot ≡ Some before → TargetTakes set.accepts e before after posts → TargetTurns set e state (target_kept slot) (Some after.view) posts []
 took {R} set e state slot before after posts is takes = took_alive set.accepts e slot before after posts is takes
 
-pub took_rule : {R : Type 0} (may_say : R → LoadHeader → Bool → Type 0) (accepts : Accepts) (e : Option Event) (before after : machine.TargetState R) (posts : List DatagramView)
+pub took_rule : {R : Type 0} (may_say : R → LoadHeader → List KeptLoad → Bool → Type 0) (accepts : Accepts) (e : Option Event) (before after : machine.TargetState R) (posts : List DatagramView)
     → TargetTakes accepts e before after posts → Follows may_say before.rule accepts → Follows may_say after.rule accepts
 took_rule {R} may_say accepts None before after posts takes follows = subst (λ (t : machine.TargetState R). Follows may_say t.rule accepts) (sym takes.0) follows
 took_rule {R} may_say accepts (Some e) before after posts takes follows = subst (λ (rule : R). Follows may_say rule accepts) (sym takes.rule) follows

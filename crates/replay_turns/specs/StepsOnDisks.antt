@@ -5,6 +5,7 @@ use Rattle.disk_model.specs.State.{DiskState, IsSettled}
 use Rattle.disk_layout.specs.Holds.{HoldsConfig, StandingView}
 use Rattle.disk_layout.specs.declared.fault.RecoverFault.TheVariants.{DiskFailed}
 use Rattle.load_header.specs.declared.header.LoadHeader.{LoadHeader}
+use Rattle.accept_rules.specs.declared.kept.KeptLoad.{KeptLoad}
 use Rattle.exchange_trace.specs.Logs.{Event}
 use Rattle.exchange_trace.specs.Steps.{Boot_refused, Came_up, Note}
 use Rattle.accept_rules.specs.Permissions.{Accepts}
@@ -85,8 +86,8 @@ pub record AddsInStep (set : Setting) (e : Option Event) (state : TargetState) (
   pub first : AddsAtFirst old new (HoldsAsBefore old)
   pub earlier : (t u : ℕ) (image : Image) → u < old.clock → new.between t u image → old.between t u image
 
--- a step begins, in which the interlock accepts the headers of the setting
-pub record BeginsStep {R : Type 0} (may_say : R → LoadHeader → Bool → Type 0) (set : Setting) (state : TargetState) (target : Option (machine.TargetState R)) (disk : DiskState) : Type 0 where
+-- a step begins, in which the interlock accepts the loads of the setting
+pub record BeginsStep {R : Type 0} (may_say : R → LoadHeader → List KeptLoad → Bool → Type 0) (set : Setting) (state : TargetState) (target : Option (machine.TargetState R)) (disk : DiskState) : Type 0 where
   pub rule : RuleFollows may_say set.accepts target
   pub follow : ContentsFollowAt set state
   pub holds : HoldsRun set state target disk

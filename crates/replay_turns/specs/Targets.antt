@@ -32,7 +32,7 @@ ComesOutOfBoot after (Came_up first_port sequence ∷ []) = IsBorn first_port se
 ComesOutOfBoot after (Boot_refused fault ∷ []) = after ≡ None
 ComesOutOfBoot after notes = ⊥
 
--- What a turn does to a target of whose disk nothing is known, where the interlock accepts these headers and this would reach
+-- What a turn does to a target of whose disk nothing is known, where the interlock accepts these loads and this would reach
 -- it: it takes what reaches it, or goes down, and posts nothing then; or what a boot makes of it.
 abbrev pub TargetLives : (accepts : Accepts) → Option Event → (before after : Option TargetView) → List DatagramView → List Note → Type 0
 TargetLives accepts e before after posts [] = (after ≡ target_next accepts before e) × (posts ≡ target_says accepts before e)

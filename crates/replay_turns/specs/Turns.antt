@@ -10,6 +10,7 @@ use Rattle.exchange_trace.specs.Logs.{Event}
 use Rattle.exchange_trace.specs.Steps.{Note, Boot_refused, Came_up, Went_down, with_note}
 use Rattle.exchange_trace.specs.Steps.{Step}
 use Rattle.load_header.specs.declared.header.LoadHeader.{LoadHeader}
+use Rattle.accept_rules.specs.declared.kept.KeptLoad.{KeptLoad}
 use Rattle.loader_machine.specs.Machine.{LoaderState, Takes}
 use Rattle.session_rules.specs.Target.{TargetView}
 use Rattle.target_machine.specs.Decisions as takes
@@ -28,13 +29,13 @@ LoaderTakes (Some e) before after sent = Takes e before after sent
 abbrev pub target_kept : {R : Type 0} → Option (TargetState R) → Option TargetView
 target_kept target = option_map (λ t. t.view) target
 
--- it takes what reaches it, if anything does, where the interlock accepts these headers
+-- it takes what reaches it, if anything does, where the interlock accepts these loads
 abbrev pub TargetTakes : {R : Type 0} → Accepts → Option Event → (before after : TargetState R) → List DatagramView → Type 0
 TargetTakes accepts None before after sent = (after ≡ before) × (sent ≡ [])
 TargetTakes accepts (Some e) before after sent = takes.Takes accepts e before after sent
 
 -- the rule of a target that is up answers as this function does
-abbrev pub RuleFollows : {R : Type 0} → (may_say : R → LoadHeader → Bool → Type 0) → (accepts : Accepts) → Option (TargetState R) → Type 0
+abbrev pub RuleFollows : {R : Type 0} → (may_say : R → LoadHeader → List KeptLoad → Bool → Type 0) → (accepts : Accepts) → Option (TargetState R) → Type 0
 RuleFollows may_say accepts None = ⊤
 RuleFollows may_say accepts (Some t) = Follows may_say t.rule accepts
 

@@ -1,10 +1,9 @@
 -- Proofs that what is active in a run can be listed at each moment, whatever was injected.
-use Rattle.std.proofs.Common.{◌≡◌, inl, inr, ℕ, Bool, true, false, cond, List, [], ◌∷◌, map, Option, Some, None, sym, ap, subst, ◌∙◌, arith}
+use Rattle.std.proofs.Common.{◌≡◌, inl, inr, ℕ, ◌≤◌, Bool, true, false, cond, List, [], ◌∷◌, length, map, Option, Some, None, sym, ap, subst, ◌∙◌, arith}
 use Rattle.std.specs.Prelude.{◌==◌}
 use Rattle.std.specs.List.{AllByRecursion, AllZip}
 use Rattle.std.proofs.lemmas.List.{length-map}
 use Rattle.std.proofs.lemmas.List.Elements.{All-from_recursion, All-map, recursion_from_All}
-use Rattle.std.proofs.lemmas.Slice.Zip.{AllZip-long}
 use Rattle.load_base.specs.Config.{FileView, LoadView}
 use Rattle.load_base.specs.Text.{IsText}
 use Rattle.load_base.specs.TextLaws.{name_is_text, part_text_is_text}
@@ -23,10 +22,13 @@ use Rattle.exchange_trace.specs.declared.trace.Side.TheVariants as sides
 use Rattle.exchange_trace.specs.Logs.{Down, Event, Life, Up, event_for, target_life}
 use Rattle.exchange_trace.specs.Posts.{posted_in}
 use Rattle.exchange_trace.specs.Steps.{Boot_refused, Came_up, Note, Step, Went_down}
+use Rattle.accept_rules.specs.declared.kept.KeptLoad.{KeptLoad}
 use Rattle.accept_rules.specs.Permissions.{AcceptsPermitted}
 use Rattle.session_rules.specs.ArrivedRequestLaws.{target_step_requests}
 use Rattle.session_rules.specs.BufferLaws.{SumsJoin}
-use Rattle.session_rules.specs.NewConfigs.{IsGoodLoad, IsWanted}
+use Rattle.session_rules.specs.InstallationLaws.{all_then, good_are_checked}
+use Rattle.session_rules.specs.KeptLoads.{with_kept}
+use Rattle.session_rules.specs.NewConfigs.{IsChecked, IsWanted}
 use Rattle.session_rules.specs.ReadFileLaws.{RequestsAreSpelled}
 use Rattle.session_rules.specs.Reports.{first_name, listed_part}
 use Rattle.session_rules.specs.Requests.{InstallsRequest, SessionHasRequest}
@@ -47,15 +49,12 @@ use Rattle.run_promises.proofs.Listed.{listed, lists, no_text, standing_fits}
 
 -- ---- what is installed
 
-abbrev Accepted : Setting → HeaderView → Type 0
-Accepted set h = set.accepts h ≡ true
-
 abbrev EntryFits : LoadView → Type 0
 EntryFits load = InstalledFits (listed_part (entry_of load))
 
-module _ (Accepted : HeaderView → Type 0) (id : Identity) where
-  -- a load that was asked for, and is good
-  wanted_fits : (w : Wanted) (load : LoadView) → WantedFits w → IsWanted w load → IsGoodLoad Accepted id load → EntryFits load
+module _ (id : Identity) where
+  -- a load that was asked for, and is checked
+  wanted_fits : (w : Wanted) (load : LoadView) → WantedFits w → IsWanted w load → IsChecked id load → EntryFits load
   wanted_fits w load fits is good =
       let first : first_name (map file_entry_of load.files) ≡ w.header = ap (λ (files : List FileView). first_name (map file_entry_of files)) good.whole ∙ is.header in
       record {
@@ -64,21 +63,28 @@ module _ (Accepted : HeaderView → Type 0) (id : Identity) where
         designation = subst IsText (sym first) (name_is_text w.header fits.header);
       }
 
-  all_fit : (request : List Wanted) (loads : List LoadView) → AllByRecursion (λ (w : Wanted). WantedFits w) request → AllZip IsWanted request loads → AllByRecursion (IsGoodLoad Accepted id) loads → AllByRecursion EntryFits loads
+  all_fit : (request : List Wanted) (loads : List LoadView) → AllByRecursion (λ (w : Wanted). WantedFits w) request → AllZip IsWanted request loads → AllByRecursion (IsChecked id) loads → AllByRecursion EntryFits loads
   all_fit [] [] fits each good = tt
   all_fit [] (load ∷ loads) fits each good = absurd each
   all_fit (w ∷ request) [] fits each good = absurd each
   all_fit (w ∷ request) (load ∷ loads) (fit, fits) (is, each) (one, good) = (wanted_fits w load fit is one, all_fit request loads fits each good)
 
-  new_fits : (before : StandingView) (request : List Wanted) (loads : List LoadView) → LurFits (record { loads = request }) → AllZip IsWanted request loads → AllByRecursion (IsGoodLoad Accepted id) loads
-      → HardwareFits (listed before) → HardwareFits (listed (standing_after before loads))
-  new_fits before request loads asked each good was = record {
-    name = was.name;
-    serial = was.serial;
-    count = rw (length-map, length-map) (omega (arith, AllZip-long IsWanted request loads each, asked.count));
-    parts = All-map (λ (p : Part). InstalledFits p) listed_part (entries_of loads) (All-map (λ (l : LoadEntry). InstalledFits (listed_part l)) entry_of loads
-        (All-from_recursion EntryFits loads (all_fit request loads (recursion_from_All (λ (w : Wanted). WantedFits w) request asked.loads) each good)));
-  }
+-- what was active could be listed
+entries_fit : (loads : List LoadView) → AllByRecursion (λ (p : Part). InstalledFits p) (map listed_part (entries_of loads)) → AllByRecursion EntryFits loads
+entries_fit [] fits = tt
+entries_fit (load ∷ loads) (one, fits) = (one, entries_fit loads fits)
+
+new_fits : (before : StandingView) (request : List Wanted) (loads : List LoadView) → LurFits (record { loads = request }) → AllZip IsWanted request loads → AllByRecursion (IsChecked before.identity) loads → length (with_kept loads before.loads) ≤ 32
+    → HardwareFits (listed before) → HardwareFits (listed (standing_after before loads))
+new_fits before request loads asked each good few was = record {
+  name = was.name;
+  serial = was.serial;
+  count = rw (length-map, length-map) (omega (arith, few));
+  parts = All-map (λ (p : Part). InstalledFits p) listed_part (entries_of (with_kept loads before.loads)) (All-map (λ (l : LoadEntry). InstalledFits (listed_part l)) entry_of (with_kept loads before.loads)
+      (All-from_recursion EntryFits (with_kept loads before.loads) (all_then EntryFits loads before.loads
+      (all_fit before.identity request loads (recursion_from_All (λ (w : Wanted). WantedFits w) request asked.loads) each good)
+      (entries_fit before.loads (recursion_from_All (λ (p : Part). InstalledFits p) (map listed_part (entries_of before.loads)) was.parts)))));
+}
 
 -- ---- of a state
 
@@ -139,7 +145,8 @@ module _ (joins : SumsJoin) (spells : HeadersAreSpelled) (payloads : PayloadsAre
   changed_active : (before after : TargetReading) → StaysOrIsNew set.accepts before after → InstallsRequest set.accepts before after → Lists before.active → Lists after.active
   changed_active before after (inl same) asked h = subst (λ (s : StandingView). Lists s) (sym same) h
   changed_active before after (inr new) asked h =
-      subst (λ (s : StandingView). Lists s) (sym new.next) (new_fits (Accepted set) before.active.identity before.active new.upload.request new.loads (asked new).spells.0 new.new.each new.new.good h)
+      subst (λ (s : StandingView). Lists s) (sym new.next) (new_fits before.active new.upload.request new.loads (asked new).spells.0 new.new.each
+      (good_are_checked (λ (header : HeaderView) (kept : List KeptLoad). set.accepts header kept ≡ true) before.active.identity (entries_of before.active.loads) [] new.loads new.new.good) new.new.few h)
 
   reached_lists : (life : Life) (state : TargetState) (e : Option Event) → BringsBytes e → TargetTakes life state → HasLive state → TargetIsSound set life state → TargetStaysOrIsNew set state (reached set e state) → StateLists state
       → StateLists (reached set e state)

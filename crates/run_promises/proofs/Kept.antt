@@ -1,11 +1,9 @@
 -- Proofs that a run keeps what is promised of it.
-use Rattle.std.proofs.Common.{◌≡◌, ℕ, ◌≤◌, List, [], ◌∷◌, ◌++◌, length, Option, Some, sym, ap, subst, ◌∙◌, arith}
+use Rattle.std.proofs.Common.{◌≡◌, ℕ, List, [], ◌∷◌, ◌++◌, Option, Some, sym, ap, subst, ◌∙◌, arith}
 use Rattle.std.specs.List.{AllByRecursion}
-use Rattle.std.proofs.lemmas.List.{length-map}
 use Rattle.load_base.specs.Config.{FileView, LoadView}
 use Rattle.load_base.specs.Name.{IsName}
 use Rattle.field_grammar.specs.Grammar.{IsBytes}
-use Rattle.disk_layout.specs.Contents.{entries_of, entry_of}
 use Rattle.disk_layout.specs.Holds.{StandingView}
 use Rattle.exchange_trace.specs.Steps.{Step}
 use Rattle.accept_rules.specs.Permissions.{AcceptsPermitted}
@@ -108,11 +106,7 @@ module _ (ended : EndedLaws) (media : InstallsAreOfMedia) (lists : CompletedList
       }
 
   begins_small : BeginsSmall set.start
-  begins_small =
-      let count : length (entries_of set.start.loads) ≡ length set.start.loads = length-map set.start.loads entry_of in
-      let few = fits.loads.fits.count in
-      let bank = fits.identity.bank in
-      record { bank = omega (arith, bank.1); few = omega (arith, count, few) }
+  begins_small = let bank = fits.identity.bank in record { bank = omega (arith, bank.1); loads = fits.loads }
 
   good_file : (kind : FileKind) (offset : ℕ) → IsToldAs (BadFile kind offset) sessions → ⊥
   good_file kind offset told =

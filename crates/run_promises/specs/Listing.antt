@@ -1,6 +1,6 @@
 -- What a disk holds can be listed, and so can what is active in a run (docs/DISK.md, "The configuration that a disk holds";
 -- docs/EXCHANGE.md, "Operations").
-use Rattle.std.specs.Prelude.{◌≡◌, List, true}
+use Rattle.std.specs.Prelude.{List}
 use Rattle.load_base.specs.Name.{IsName}
 use Rattle.disk_model.specs.Image.{Image}
 use Rattle.disk_layout.specs.Contents.{entries_of}

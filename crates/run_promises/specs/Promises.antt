@@ -53,14 +53,16 @@ pub record IsWholeRun (set : Setting) (steps : List Step) : Type 0 where
 
 -- ---- what may be active
 
--- The configuration changes only to that of a good verdict, made of loads that are good for the target; and what may be
--- active in the end was active at the start, or has a load and good loads alone.
+-- The configuration changes only to that of a good verdict, made of loads that are good for the target and of those that are
+-- kept; and what may be active in the end was active at the start, or each of its loads was active then or is checked, and one
+-- is checked.
 pub record ChangesByGoodLoads (set : Setting) (steps : List Step) : Type 0 where
   pub changes : AllStayOrAreNew set steps
   pub brought : AllBroughtAreGood set steps
   pub active : AllByRecursion (IsFirstOrGood set) (may_be_active (target_at set steps))
 
--- The image holds what was active at the start, or a configuration that has a load and good loads alone.
+-- The image holds what was active at the start, or a configuration of which each load was active then or is checked, and one is
+-- checked.
 pub record HoldsFirstOrGood (set : Setting) (image : Image) : Type 0 where
   pub active : StandingView
   pub holds : HoldsConfig image active
@@ -94,8 +96,8 @@ pub record EndsIn (set : Setting) (steps : List Step) (before : List EndedSessio
   pub others : (loader_at set earlier).ended ≡ reverse before
   pub ends : (loader_at set (step ∷ earlier)).ended ≡ session ∷ reverse before
 
--- An upload had been installed in its own session when it ended: exactly the parts of its start, in their order. What it
--- installed is in the history of the run, and what is active in the end is that or a later member.
+-- An upload had been installed in its own session when it ended: exactly the parts of its start, in their order, and then what
+-- is kept. What it installed is in the history of the run, and what is active in the end is that or a later member.
 pub record UploadIsInstalled (set : Setting) (steps : List Step) (standing : Option StandingView) (before : List EndedSession) (session : EndedSession) : Type 0 where
   pub ended : EndsIn set steps before session
   pub stays : StaysInstalled set ended.since (ended.step ∷ ended.earlier) standing
@@ -115,9 +117,9 @@ pub record StopIsTrue (set : Setting) (steps : List Step) (before : List EndedSe
   pub ended : EndsIn set steps before session
   pub stopped : IsStoppedByVerdict set (ended.step ∷ ended.earlier) text
 
--- What is told of the sessions is true: each file that is installed is the media set's file of its name, a completed upload
--- is installed, a completed information session lists what was active, and one that is denied or stopped is so for the reason
--- of the target that is told. None ended by a bad file.
+-- What is told of the sessions is true: each file of a new load is the media set's file of its name, a completed upload is
+-- installed, a completed information session lists what was active, and one that is denied or stopped is so for the reason of
+-- the target that is told. None ended by a bad file.
 pub record TellsTrue (set : Setting) (steps : List Step) (sessions : List EndedSession) (standing : Option StandingView) : Type 0 where
   pub media : AllOfMedia set steps
   pub uploads : (told : IsTold Upload sessions) → UploadIsInstalled set steps standing told.before told.session

@@ -2,7 +2,6 @@
 use Rattle.std.proofs.Common.{◌≡◌, ℕ, ◌+◌, ◌<◌, ◌≤◌, true, false, List, [], ◌∷◌, ◌++◌, length, Option, Some, None, refl, sym, ap, subst, ◌∙◌, arith, append-nil, ◌⊎◌, inl, inr}
 use Rattle.std.specs.Prelude.{is_some, nat_le, ◌==◌}
 use Rattle.std.proofs.lemmas.Bool.Decides.{nat_tests}
-use Rattle.disk_layout.specs.Holds.{Outline}
 use Rattle.load_base.specs.Config.{LoadView}
 use Rattle.load_protocol_files.specs.declared.lur.Wanted.{Wanted}
 use Rattle.field_grammar.specs.Grammar.{IsBytes}
@@ -120,9 +119,9 @@ other_is : (getter poster : Side) → Opposite getter poster → getter ≡ othe
 other_is getter poster to_loader = refl
 other_is getter poster to_target = refl
 
-row_waits : (set : Setting) (wanted : List Wanted) (o : Outline) (c : World) (side : Side) (row : RowView) (arrived : List ℕ) → InRow set wanted o c side row arrived → waits c side ≡ true
-row_waits set wanted o c sides.Loader row arrived h = ap (λ (l : Option LoaderSession). is_some l) h
-row_waits set wanted o c sides.Target row arrived h = ap (λ (l : Option TargetSession). is_some l) h.0
+row_waits : (set : Setting) (wanted : List Wanted) (c : World) (side : Side) (row : RowView) (arrived : List ℕ) → InRow set wanted c side row arrived → waits c side ≡ true
+row_waits set wanted c sides.Loader row arrived h = ap (λ (l : Option LoaderSession). is_some l) h
+row_waits set wanted c sides.Target row arrived h = ap (λ (l : Option TargetSession). is_some l) h.0
 
 kept_is_mine : (own peer : ℕ) (r : Receiver) (kept : Option TransferView) → kept ≡ Some (record { own = own; peer = Some peer; end = Receives r }) → belongs kept peer own ≡ true
 kept_is_mine own peer r kept e = ap (λ (k : Option TransferView). belongs k peer own) e ∙ rw (eq_true own own refl, eq_true peer peer refl) refl
@@ -155,17 +154,17 @@ acks_again set c getter poster own peer i file s r to_target keeps bytes high mi
 not_59 : (own i : ℕ) → 59 < own → (own + i == 59) ≡ false
 not_59 own i low = eq_false (own + i) 59 (λ e. absurd (omega arith))
 
-module _ (set : Setting) (wanted : List Wanted) (loads : List LoadView) (o : Outline) (joins : SumsJoin) (same_identity : o.identity ≡ set.start.identity) (sequence : o.sequence < 4294967295) where
+module _ (set : Setting) (wanted : List Wanted) (loads : List LoadView) (joins : SumsJoin) (sequence : set.start.sequence < 4294967295) where
   abbrev Again_by : World → DatagramView → Type 0
   Again_by c d = IsRepeated c d ⊎ IsAnswered set c d
 
   -- the end that asked waits
-  asker_waits : (c : World) (getter poster : Side) (row : RowView) → Opposite getter poster → IsInUpload row → asker row ≡ poster → InRow set wanted o c sides.Loader row [] → TargetBefore o c.target row → waits c poster ≡ true
-  asker_waits c getter poster row to_target h turn loader target = row_waits set wanted o c sides.Loader row [] loader
-  asker_waits c getter poster Writes_ready to_loader h turn loader target = row_waits set wanted o c sides.Target Writes_ready [] target
-  asker_waits c getter poster (Reads_file u) to_loader h turn loader target = row_waits set wanted o c sides.Target (Reads_file u) [] target
-  asker_waits c getter poster (Writes_progress u) to_loader h turn loader target = row_waits set wanted o c sides.Target (Writes_progress u) [] target
-  asker_waits c getter poster (Writes_completion e l) to_loader h turn loader target = row_waits set wanted o c sides.Target (Writes_completion e l) [] target
+  asker_waits : (c : World) (getter poster : Side) (row : RowView) → Opposite getter poster → IsInUpload row → asker row ≡ poster → InRow set wanted c sides.Loader row [] → TargetBefore set c.target row → waits c poster ≡ true
+  asker_waits c getter poster row to_target h turn loader target = row_waits set wanted c sides.Loader row [] loader
+  asker_waits c getter poster Writes_ready to_loader h turn loader target = row_waits set wanted c sides.Target Writes_ready [] target
+  asker_waits c getter poster (Reads_file u) to_loader h turn loader target = row_waits set wanted c sides.Target (Reads_file u) [] target
+  asker_waits c getter poster (Writes_progress u) to_loader h turn loader target = row_waits set wanted c sides.Target (Writes_progress u) [] target
+  asker_waits c getter poster (Writes_completion e l) to_loader h turn loader target = row_waits set wanted c sides.Target (Writes_completion e l) [] target
   asker_waits c getter poster Gives_lui to_loader h turn loader target = absurd cc
   asker_waits c getter poster Awaits_lur to_loader h turn loader target = absurd cc
   asker_waits c getter poster Gives_lci to_loader h turn loader target = absurd h
@@ -177,14 +176,14 @@ module _ (set : Setting) (wanted : List Wanted) (loads : List LoadView) (o : Out
 
   -- the sender is ticked, and its last block is acknowledged again
   answered : (n : ℕ) (c : World) (getter poster : Side) (own peer i : ℕ) (yours : Position) (before ahead : List DatagramView) (row : RowView) (file : List ℕ) (s : Sender) (r : Receiver) → Meets set n c getter poster own peer i (i + 1) (IsIn (Sends s)) yours before ahead
-      → (yours ≡ Rests) ⊎ ((role : Rattle.transfer_end.specs.Transfers.Role) × (yours ≡ HasAsked role)) → IsBytes file → KeepsWhole c poster own peer i file s r → InRow set wanted o c getter row []
+      → (yours ≡ Rests) ⊎ ((role : Rattle.transfer_end.specs.Transfers.Role) × (yours ≡ HasAsked role)) → IsBytes file → KeepsWhole c poster own peer i file s r → InRow set wanted c getter row []
       → IsAnswered set c (datagram poster (peer + i) (own + i) (Ack s.sent))
   answered n c getter poster own peer i yours before ahead row file s r m rests bytes keeps session =
       let same = other_is getter poster m.opposite in
       let live = ap (λ (l : Option TransferView). belongs l (own + i) (peer + i)) m.you.live ∙ no_longer peer own i yours rests in
       record {
         asked = datagram getter (own + i) (peer + i) (sender_packet s);
-        waiting = ap (λ (x : Side). waits c x) (sym same) ∙ row_waits set wanted o c getter row [] session;
+        waiting = ap (λ (x : Side). waits c x) (sym same) ∙ row_waits set wanted c getter row [] session;
         last = ap (λ (x : Side). last_of c x) (sym same) ∙ last_is c getter _ m.me.last.0;
         answer = acks_again set c getter poster own peer i file s r m.opposite keeps (subst (λ (f : List ℕ). IsBytes f) (sym keeps.whole.of_file) bytes) (not_59 peer i m.peer_low) live;
       }
@@ -195,16 +194,16 @@ module _ (set : Setting) (wanted : List Wanted) (loads : List LoadView) (o : Out
       let last : IsLast c.posts (last_at poster (IsIn end) (peer + j) (own + j)) (end_at c poster).last = subst (λ (x : Position). IsLast c.posts (last_at poster x (peer + j) (own + j)) (end_at c poster).last) at m.you.last in
       (w, last_is c poster _ (last.0 ∙ ap (λ (q : PacketView). Some (datagram poster (peer + j) (own + j) q)) (sym is) ∙ ap (λ (k : ℕ). Some (datagram poster (peer + k) (own + k) p)) (sym same)))
 
-  comes_again : (n : ℕ) (c : World) (budget : ℕ) (d : DatagramView) → Where set wanted loads o n c budget → IsNext n c d → Again_by c d
+  comes_again : (n : ℕ) (c : World) (budget : ℕ) (d : DatagramView) → Where set wanted loads n c budget → IsNext n c d → Again_by c d
   comes_again n c budget d (asked getter poster own peer i before more row told m room course turn loader target) is =
       subst (λ (x : DatagramView). Again_by c x) (sym (next_is c.posts before [] _ d n m.posts m.count is))
-      (inl (asker_waits c getter poster row m.opposite (next.in_course set wanted loads o joins same_identity sequence more row course) turn loader target, last_is c poster _ m.you.last.0))
+      (inl (asker_waits c getter poster row m.opposite (next.in_course set wanted loads joins sequence more row course) turn loader target, last_is c poster _ m.you.last.0))
   comes_again n c budget d (down getter poster own peer i mine yours before more row s r p m room course sends talk holds held session behind) is =
       subst (λ (x : DatagramView). Again_by c x) (sym (next_is c.posts before [] _ d n m.posts m.count is))
-      (inl (repeated n c getter poster own peer i i mine yours (Sends s) before _ p m refl held.0 held.1 (row_waits set wanted o c poster row [] behind)))
+      (inl (repeated n c getter poster own peer i i mine yours (Sends s) before _ p m refl held.0 held.1 (row_waits set wanted c poster row [] behind)))
   comes_again n c budget d (up getter poster own peer i mine yours before more row s r p m room course sends talk holds held session behind) is =
       subst (λ (x : DatagramView). Again_by c x) (sym (next_is c.posts before [] _ d n m.posts m.count is))
-      (inl (repeated n c getter poster own peer i i mine yours (Receives r) before _ p m refl held.0 held.1 (row_waits set wanted o c poster row _ behind)))
+      (inl (repeated n c getter poster own peer i i mine yours (Receives r) before _ p m refl held.0 held.1 (row_waits set wanted c poster row _ behind)))
   comes_again n c budget d (closing getter poster own peer i before more row s r m room sends step keeps session behind) is =
       subst (λ (x : DatagramView). Again_by c x) (sym (next_is c.posts before [] _ d n m.posts m.count is)) (inr (answered n c getter poster own peer i Rests before _ row (file_in set wanted row) s r m (inl refl) step.0.fine.bytes keeps session))
   comes_again n c budget d (early getter poster own peer i before more row s r told m room sends step keeps session behind) is =
@@ -212,8 +211,8 @@ module _ (set : Setting) (wanted : List Wanted) (loads : List LoadView) (o : Out
       (inr (answered n c getter poster own peer i (HasAsked (role_in set wanted (next_row set wanted row) told)) before _ row (file_in set wanted row) s r m (inr (role_in set wanted (next_row set wanted row) told, refl)) step.0.fine.bytes keeps session))
   comes_again n c budget d (ending own peer i before row s r m room course keeps session finished) is =
       subst (λ (x : DatagramView). Again_by c x) (sym (next_is c.posts before [] _ d n m.posts m.count is))
-      (inr (answered n c sides.Target sides.Loader own peer i Rests before _ row (file_in set wanted row) s r m (inl refl) (next.fine_of set wanted loads o joins same_identity sequence 0 row course).bytes keeps session))
+      (inr (answered n c sides.Target sides.Loader own peer i Rests before _ row (file_in set wanted row) s r m (inl refl) (next.fine_of set wanted loads joins sequence 0 row course).bytes keeps session))
   comes_again n c budget d (over own peer i before m finished none active) is = absurd (none_is c.posts before d n m.posts m.count is)
 
 pub next_comes_again : SumsJoin → NextComesAgain
-next_comes_again joins set loads n c d clean is = let s = all_stand joins set loads n c clean in comes_again set s.wanted loads s.o joins s.same_identity s.sequence n c s.budget d s.stage is
+next_comes_again joins set loads n c d clean is = let s = all_stand joins set loads n c clean in comes_again set s.wanted loads joins s.sequence n c s.budget d s.stage is

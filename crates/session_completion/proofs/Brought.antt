@@ -1,9 +1,12 @@
--- What is active at the end of a completed upload is what a step of its own session brought, or a later one.
+-- What is active at the end of a completed upload, after one installation since its start, is what a step of its own session
+-- brought.
 use Rattle.std.proofs.Common.{◌≡◌, ◌⊎◌, inl, inr, ℕ, ◌+◌, ◌<◌, ◌≤◌, Bool, true, false, cond, List, [], ◌∷◌, ◌++◌, length, Option, Some, None, Ok, refl, sym, ap, subst, ◌∙◌, arith, append_assoc}
 use Rattle.std.specs.Prelude.{is_some, ◌==◌}
-use Rattle.std.proofs.lemmas.Bool.{eqb-true}
+use Rattle.std.specs.List.{AllByRecursion}
+use Rattle.std.proofs.lemmas.Slice.Zip.{AllZip-long}
 use Rattle.load_base.specs.Config.{LoadView}
 use Rattle.load_protocol_files.specs.declared.lur.Wanted.{Wanted}
+use Rattle.disk_layout.specs.Contents.{entries_of}
 use Rattle.disk_layout.specs.Holds.{StandingView}
 use Rattle.exchange_trace.specs.declared.trace.Side.TheVariants as sides
 use Rattle.exchange_trace.specs.Happenings.{Booted, DatagramView, Delivered, Ended, HappeningView, Info_started, Injected, Lost, Power_cut, Size_told, Ticked, Upload_started, is_same_side}
@@ -18,17 +21,20 @@ use Rattle.session_rules.specs.declared.outcome.SessionKind.TheVariants.{Upload}
 use Rattle.session_rules.specs.Loader.{Advances, Begins, Begins_over, Continues, EndedSession, Ends, LoaderChange, ended_by, loader_decision, upload_decision}
 use Rattle.session_rules.specs.LoaderLog.{LoaderReading, SessionLog, loader_extended, loader_reading, loader_reading_changed, loader_view, newest, session_view, with_done}
 use Rattle.session_rules.specs.MediaFiles.{Media, wanted_of}
-use Rattle.session_rules.specs.NewConfigs.{AreOfMedia}
+use Rattle.session_rules.specs.NewConfigs.{AreOfMedia, IsChecked, IsWanted}
+use Rattle.session_rules.specs.InstallationLaws.{good_are_checked}
+use Rattle.session_rules.specs.KeptLoads.{kept_loads, types_in}
+use Rattle.session_rules.specs.TargetLog.{standing_after}
 use Rattle.session_rules.specs.SessionLaws.{begun_by, decision_begins}
 use Rattle.session_rules.specs.Sessions.{started_by}
 use Rattle.transfer_end.specs.Transfers.{Transfer}
 use Rattle.replay_rules.specs.BothEnds.{Is_down, Is_up, Setting, TargetState, changed, loader_at, noted, reached, target_at}
 use Rattle.replay_rules.specs.Changes.{AllBroughtAreGood, AllStayOrAreNew, AreGood, BroughtIsGood, TargetStaysOrIsNew}
 use Rattle.replay_rules.specs.FaultFree.{IsNoStart, NothingInjected}
-use Rattle.replay_rules.specs.Histories.{active_at, active_in, brings}
+use Rattle.replay_rules.specs.Histories.{IsMadeOf, active_at, active_in, brings, requested_in}
 use Rattle.replay_rules.specs.OwnSessionTraces.{AllInstalledInSession, InstalledWhereCompleted, NoneStarts}
 use Rattle.transfer_completion.specs.BlockLaws.{lt_false, lt_true}
-use Rattle.replay_rules.specs.Promises.{AllOfMedia, BroughtIsOfMedia, HasCompleted, HasEnded, NoneGoesDown}
+use Rattle.replay_rules.specs.Promises.{AllOfMedia, BroughtIsOfMedia, HasCompleted, HasEnded, HasParts, NoneGoesDown}
 
 -- ---- the step in which the session ended
 
@@ -153,30 +159,57 @@ active_if before after new e = by (before.sequence == after.sequence) e
     by true f = absurd cc
     by false f = cc
 
--- the same sequence number is that of the same configuration
-stays_if : (set : Setting) (state : TargetState) (e : Option Event) → TargetStaysOrIsNew set state (reached set e state) → ((active_in state).sequence == (active_in (reached set e state)).sequence) ≡ true
-    → active_in (reached set e state) ≡ active_in state
-stays_if set (Is_up r) None change same = refl
-stays_if set (Is_up r) (Some e) (inl is) same = is
-stays_if set (Is_up r) (Some e) (inr new) same =
+-- what is active stays, or has a later sequence number
+abbrev StaysOrRises : (before after : StandingView) → Type 0
+StaysOrRises before after = (after ≡ before) ⊎ (before.sequence < after.sequence)
+
+stays_or_rises : (set : Setting) (state : TargetState) (e : Option Event) → TargetStaysOrIsNew set state (reached set e state) → StaysOrRises (active_in state) (active_in (reached set e state))
+stays_or_rises set (Is_up r) None change = inl refl
+stays_or_rises set (Is_up r) (Some e) (inl is) = inl is
+stays_or_rises set (Is_up r) (Some e) (inr new) =
     let next : (active_in (reached set (Some e) (Is_up r))).sequence ≡ r.active.sequence + 1 = ap (λ (s : StandingView). s.sequence) new.next in
-    let equal : r.active.sequence ≡ (active_in (reached set (Some e) (Is_up r))).sequence = eqb-true r.active.sequence _ same in
-    absurd (omega (arith, next, equal))
-stays_if set (Is_down active interrupted) None change same = refl
-stays_if set (Is_down active interrupted) (Some e) change same = refl
+    inr (omega (arith, next))
+stays_or_rises set (Is_down active interrupted) None change = inl refl
+stays_or_rises set (Is_down active interrupted) (Some e) change = inl refl
 
--- loads that are good for the target, with the media set's files
-pub record AreServedAs (set : Setting) (loads : List LoadView) : Type 0 where
-  pub good : AreGood set loads
-  pub media : AreOfMedia set.media loads
+both_rise : (a b c : StandingView) → StaysOrRises a b → StaysOrRises b c → StaysOrRises a c
+both_rise a b c (inl one) (inl two) = inl (two ∙ one)
+both_rise a b c (inl one) (inr two) = inr (subst (λ (s : StandingView). s.sequence < c.sequence) one two)
+both_rise a b c (inr one) (inl two) = inr (subst (λ (s : StandingView). a.sequence < s.sequence) (sym two) one)
+both_rise a b c (inr one) (inr two) = inr (omega (arith, one, two))
 
-abbrev BroughtIsServed : Setting → Option StandingView → Type 0
-BroughtIsServed set None = Unit {0}
-BroughtIsServed set (Some s) = AreServedAs set s.loads
+-- where one sequence number was added in all, only that installation changed anything
+alone : (first before after last : StandingView) → StaysOrRises first before → after.sequence ≡ before.sequence + 1 → StaysOrRises after last → last.sequence ≡ first.sequence + 1 → (before ≡ first) × (last ≡ after)
+alone first before after last (inl one) more (inl two) sum = (one, two)
+alone first before after last (inl one) more (inr two) sum = let same : before.sequence ≡ first.sequence = ap (λ (s : StandingView). s.sequence) one in absurd (omega (arith, same, more, two, sum))
+alone first before after last (inr one) more (inl two) sum = let same : last.sequence ≡ after.sequence = ap (λ (s : StandingView). s.sequence) two in absurd (omega (arith, one, more, same, sum))
+alone first before after last (inr one) more (inr two) sum = absurd (omega (arith, one, more, two, sum))
 
-brought_served : (set : Setting) (o : Option StandingView) (steps : List Step) → BroughtIsGood set o → BroughtIsOfMedia set o steps → NothingInjected steps → BroughtIsServed set o
-brought_served set None steps good media none = tt
-brought_served set (Some s) steps good media none = record { good = good; media = media none }
+-- Loads of these parts were installed over this configuration: they passed all tests, their files are the media set's, and then
+-- come those that were kept.
+pub record IsInstalledOver (set : Setting) (parts : List (List ℕ)) (before s : StandingView) : Type 0 where
+  pub new : List LoadView
+  pub parts_are : HasParts parts new
+  pub checked : AllByRecursion (IsChecked set.start.identity) new
+  pub media : AreOfMedia set.media new
+  pub is : s ≡ standing_after before new
+
+-- lists of one length, before others
+pub same_first : {A : Type 0} (xs ys us vs : List A) → length xs ≡ length ys → xs ++ us ≡ ys ++ vs → xs ≡ ys
+same_first [] [] us vs size e = refl
+same_first [] (y ∷ ys) us vs size e = absurd cc
+same_first (x ∷ xs) [] us vs size e = absurd cc
+same_first {A} (x ∷ xs) (y ∷ ys) us vs size e =
+    let head : x ≡ y = cc in
+    let tail : xs ++ us ≡ ys ++ vs = cc in
+    let count : length xs ≡ length ys = cc in
+    ap (λ (z : A). z ∷ xs) head ∙ ap (λ (zs : List A). y ∷ zs) (same_first xs ys us vs count tail)
+
+-- what an installation brings is made of the same new loads, whatever is said of them
+same_new : (before : TargetState) (P Q : List LoadView → Type 0) (s : StandingView) (one : IsMadeOf before P s) (two : IsMadeOf before Q s) → one.new ≡ two.new
+same_new before P Q s one two =
+    same_first one.new two.new (kept_loads (types_in one.new) (active_in before).loads) (kept_loads (types_in two.new) (active_in before).loads)
+    (AllZip-long IsWanted (requested_in before) one.new one.wanted ∙ sym (AllZip-long IsWanted (requested_in before) two.new two.wanted)) (ap (λ (x : StandingView). x.loads) (sym one.is ∙ two.is))
 
 -- what is known of all that was brought in a run
 pub record KnowsBrought (set : Setting) (steps : List Step) : Type 0 where
@@ -185,8 +218,9 @@ pub record KnowsBrought (set : Setting) (steps : List Step) : Type 0 where
   pub stays : AllStayOrAreNew set steps
   pub injected : NothingInjected steps
 
-knows_before : (set : Setting) (s : Step) (earlier : List Step) → KnowsBrought set (s ∷ earlier) → KnowsBrought set earlier
-knows_before set s earlier k = record { good = k.good.1; media = k.media.1; stays = k.stays.1; injected = k.injected.1 }
+knows_before : (set : Setting) (since earlier : List Step) → KnowsBrought set (since ++ earlier) → KnowsBrought set earlier
+knows_before set [] earlier k = k
+knows_before set (s ∷ since) earlier k = knows_before set since earlier (record { good = k.good.1; media = k.media.1; stays = k.stays.1; injected = k.injected.1 })
 
 module _ (set : Setting) where
   abbrev then_at : Step → List Step → TargetState
@@ -195,28 +229,29 @@ module _ (set : Setting) where
   active_then : (s : Step) (earlier : List Step) → s.notes ≡ [] → active_at set (s ∷ earlier) ≡ active_in (then_at s earlier)
   active_then s earlier quiet = ap (λ (notes : List Note). active_in (noted notes (target_at set earlier) (then_at s earlier))) quiet
 
-  served_of : (s : Step) (earlier : List Step) → KnowsBrought set (s ∷ earlier) → BroughtIsServed set (brings set s earlier)
-  served_of s earlier k = brought_served set (brings set s earlier) (s ∷ earlier) k.good.0 k.media.0 k.injected
+  -- an install step
+  brought_over : (s : Step) (earlier : List Step) (parts : List (List ℕ)) (new : StandingView) → s.notes ≡ [] → KnowsBrought set (s ∷ earlier) → brings set s earlier ≡ Some new → IsMadeOf (target_at set earlier) (HasParts parts) new
+      → IsInstalledOver set parts (active_at set earlier) (active_at set (s ∷ earlier))
+  brought_over s earlier parts new quiet k brought asked =
+      let good = subst (λ (o : Option StandingView). BroughtIsGood set (target_at set earlier) o) brought k.good.0 in
+      let media = subst (λ (o : Option StandingView). BroughtIsOfMedia set (target_at set earlier) o (s ∷ earlier)) brought k.media.0 k.injected in
+      let one = same_new (target_at set earlier) (AreGood set (active_at set earlier)) (HasParts parts) new good asked in
+      let two = same_new (target_at set earlier) (AreOfMedia set.media) (HasParts parts) new media asked in
+      record {
+        new = asked.new;
+        parts_are = asked.are_new;
+        checked = subst (AllByRecursion (IsChecked set.start.identity)) one (good_are_checked (λ h kept. set.accepts h kept ≡ true) set.start.identity (entries_of (active_at set earlier).loads) [] good.new good.are_new);
+        media = subst (AreOfMedia set.media) two media.are_new;
+        is = active_then s earlier quiet ∙ active_if (active_at set earlier) (active_in (then_at s earlier)) new brought ∙ asked.is;
+      }
 
-  now_served : (s : Step) (earlier : List Step) → s.notes ≡ [] → KnowsBrought set (s ∷ earlier) → (new : StandingView) → brings set s earlier ≡ Some new → AreServedAs set (active_at set (s ∷ earlier)).loads
-  now_served s earlier quiet k new brought =
-      let is : active_at set (s ∷ earlier) ≡ new = active_then s earlier quiet ∙ active_if (active_at set earlier) (active_in (then_at s earlier)) new brought in
-      subst (λ (x : StandingView). AreServedAs set x.loads) (sym is) (subst (λ (o : Option StandingView). BroughtIsServed set o) brought (served_of s earlier k))
-
-  still_served : (s : Step) (earlier : List Step) → s.notes ≡ [] → KnowsBrought set (s ∷ earlier) → AreServedAs set (active_at set earlier).loads → AreServedAs set (active_at set (s ∷ earlier)).loads
-  still_served s earlier quiet k before =
-      subst (λ (x : StandingView). AreServedAs set x.loads) (sym (active_then s earlier quiet)) (by ((active_at set earlier).sequence == (active_in (then_at s earlier)).sequence) refl (served_of s earlier k))
-    where
-      by : (b : Bool) → ((active_at set earlier).sequence == (active_in (then_at s earlier)).sequence) ≡ b → BroughtIsServed set (cond b None (Some (active_in (then_at s earlier)))) → AreServedAs set (active_in (then_at s earlier)).loads
-      by true e brought = subst (λ (x : StandingView). AreServedAs set x.loads) (sym (stays_if set (target_at set earlier) (event_for sides.Target (posted_in earlier) s.given) k.stays.0 e)) before
-      by false e brought = brought
-
-  -- from an install step on
-  since_served : (since : List Step) (install : Step) (base : List Step) (new : StandingView) → NoneGoesDown (since ++ install ∷ []) → KnowsBrought set (since ++ install ∷ base) → brings set install base ≡ Some new
-      → AreServedAs set (active_at set (since ++ install ∷ base)).loads
-  since_served [] install base new quiet k brought = now_served install base quiet.0 k new brought
-  since_served (s ∷ since) install base new quiet k brought =
-      still_served s (since ++ install ∷ base) quiet.0 k (since_served since install base new quiet.1 (knows_before set s (since ++ install ∷ base) k) brought)
+  -- steps in which the target doesn't go down
+  steps_rise : (since earlier : List Step) → NoneGoesDown since → KnowsBrought set (since ++ earlier) → StaysOrRises (active_at set earlier) (active_at set (since ++ earlier))
+  steps_rise [] earlier quiet k = inl refl
+  steps_rise (s ∷ since) earlier quiet k =
+      both_rise (active_at set earlier) (active_at set (since ++ earlier)) (active_at set (s ∷ (since ++ earlier))) (steps_rise since earlier quiet.1 (knows_before set (s ∷ []) (since ++ earlier) k))
+      (subst (λ (x : StandingView). StaysOrRises (active_at set (since ++ earlier)) x) (sym (active_then s (since ++ earlier) quiet.0))
+      (stays_or_rises set (target_at set (since ++ earlier)) (event_for sides.Target (posted_in (since ++ earlier)) s.given) k.stays.0))
 
 -- ---- at the end of an upload that was completed since its start
 
@@ -228,21 +263,75 @@ none_of : (xs ys : List Step) → NoneStarts (xs ++ ys) → NoneStarts ys
 none_of [] ys none = none
 none_of (x ∷ xs) ys none = none_of xs ys none.1
 
-pub active_is_served : (set : Setting) (since : List Step) (start : Step) (before : List Step) (hw pos : List ℕ) (parts : List (List ℕ)) → start.given ≡ Upload_started hw pos parts → NoneStarts since → NoneGoesDown since
-    → is_some (loader_at set (start ∷ before)).live ≡ true → is_some (loader_at set (since ++ start ∷ before)).live ≡ false → HasCompleted Upload (loader_at set (since ++ start ∷ before)).ended
-    → AllInstalledInSession set (since ++ start ∷ before) → KnowsBrought set (since ++ start ∷ before) → AreServedAs set (active_at set (since ++ start ∷ before)).loads
-active_is_served set since start before hw pos parts starts none quiet live over completed all knows =
+same_parts : (hw pos hw' pos' : List ℕ) (parts parts' : List (List ℕ)) → Upload_started hw pos parts ≡ Upload_started hw' pos' parts' → parts ≡ parts'
+same_parts hw pos hw' pos' parts parts' e = cc
+
+-- one of these steps, which follow a start, brought what has these parts besides what is kept
+record InstallIn (set : Setting) (since : List Step) (start : Step) (before : List Step) (parts : List (List ℕ)) : Type 0 where
+  later : List Step
+  install : Step
+  between : List Step
+  new : StandingView
+  split : since ≡ later ++ install ∷ between
+  brought : brings set install (between ++ start ∷ before) ≡ Some new
+  asked : IsMadeOf (target_at set (between ++ start ∷ before)) (HasParts parts) new
+
+install_in : (set : Setting) (since : List Step) (start : Step) (before : List Step) (hw pos : List ℕ) (parts : List (List ℕ)) → start.given ≡ Upload_started hw pos parts → NoneStarts since
+    → EndedIn set since (start ∷ before) → AllInstalledInSession set (since ++ start ∷ before) → InstallIn set since start before parts
+install_in set since start before hw pos parts starts none e all =
     let base = start ∷ before in
-    let e = ended_in set since base none live over completed in
     let whole : since ++ base ≡ e.later ++ e.s ∷ (e.mid ++ base) = ap (λ (xs : List Step). xs ++ base) e.split ∙ append_assoc e.later (e.s ∷ e.mid) base in
     let i = installed_at set e.later e.s (e.mid ++ base) (subst (λ (xs : List Step). AllInstalledInSession set xs) whole all) e.ended e.completed in
     let cut : (e.s ∷ e.mid) ++ start ∷ before ≡ (i.since ++ i.install ∷ i.between) ++ i.start ∷ i.before = i.split ∙ sym (append_assoc i.since (i.install ∷ i.between) (i.start ∷ i.before)) in
     let (own, rest) = same_tail (e.s ∷ e.mid) (i.since ++ i.install ∷ i.between) start i.start before i.before (none_of e.later (e.s ∷ e.mid) (subst (λ (xs : List Step). NoneStarts xs) e.split none)) i.newest
     (upload_starts start.given hw pos parts starts) (upload_starts i.start.given i.hw i.pos i.parts i.starts) cut in
-    let tail = i.between ++ i.start ∷ i.before in
-    let is : since ++ base ≡ (e.later ++ i.since) ++ i.install ∷ tail = whole ∙ ap (λ (xs : List Step). e.later ++ xs) i.split ∙ sym (append_assoc e.later i.since (i.install ∷ tail)) in
-    let steps : since ≡ ((e.later ++ i.since) ++ i.install ∷ []) ++ i.between
-    = e.split ∙ ap (λ (xs : List Step). e.later ++ xs) own ∙ sym (append_assoc e.later i.since (i.install ∷ i.between)) ∙ sym (append_assoc (e.later ++ i.since) (i.install ∷ []) i.between) in
-    let down = none_later ((e.later ++ i.since) ++ i.install ∷ []) i.between (subst (λ (xs : List Step). NoneGoesDown xs) steps quiet) in
-    subst (λ (xs : List Step). AreServedAs set (active_at set xs).loads) (sym is)
-    (since_served set (e.later ++ i.since) i.install tail i.new down.0 (subst (λ (xs : List Step). KnowsBrought set xs) is knows) i.brought)
+    let first : start ≡ i.start = cc in
+    let same : i.parts ≡ parts = same_parts i.hw i.pos hw pos i.parts parts (sym i.starts ∙ (ap (λ (s : Step). s.given) (sym first) ∙ starts)) in
+    record {
+      later = e.later ++ i.since;
+      install = i.install;
+      between = i.between;
+      new = i.new;
+      split = e.split ∙ (ap (λ (xs : List Step). e.later ++ xs) own ∙ sym (append_assoc e.later i.since (i.install ∷ i.between)));
+      brought = ap (λ (xs : List Step). brings set i.install (i.between ++ xs)) rest ∙ i.brought;
+      asked = subst (λ (ps : List (List ℕ)). IsMadeOf (target_at set (i.between ++ start ∷ before)) (HasParts ps) i.new) same
+          (subst (λ (xs : List Step). IsMadeOf (target_at set (i.between ++ xs)) (HasParts i.parts) i.new) (sym rest) i.asked);
+    }
+
+-- where one sequence number was added since the start, what is active was installed over what was active then
+over_start : (set : Setting) (later between before : List Step) (install start : Step) (parts : List (List ℕ)) (new : StandingView) → NoneGoesDown (later ++ install ∷ (between ++ start ∷ []))
+    → KnowsBrought set (later ++ install ∷ ((between ++ start ∷ []) ++ before)) → brings set install ((between ++ start ∷ []) ++ before) ≡ Some new → IsMadeOf (target_at set ((between ++ start ∷ []) ++ before)) (HasParts parts) new
+    → (active_at set (later ++ install ∷ ((between ++ start ∷ []) ++ before))).sequence ≡ (active_at set before).sequence + 1
+    → IsInstalledOver set parts (active_at set before) (active_at set (later ++ install ∷ ((between ++ start ∷ []) ++ before)))
+over_start set later between before install start parts new quiet knows brought asked sum =
+    let tail = (between ++ start ∷ []) ++ before in
+    let down = none_later later (install ∷ (between ++ start ∷ [])) quiet in
+    let knows_install = knows_before set later (install ∷ tail) knows in
+    let installed = brought_over set install tail parts new down.1.0 knows_install brought asked in
+    let (was, stays) = alone (active_at set before) (active_at set tail) (active_at set (install ∷ tail)) (active_at set (later ++ install ∷ tail))
+    (steps_rise set (between ++ start ∷ []) before down.1.1 (knows_before set (install ∷ []) tail knows_install)) (ap (λ (s : StandingView). s.sequence) installed.is) (steps_rise set later (install ∷ tail) down.0 knows) sum in
+    record {
+      new = installed.new;
+      parts_are = installed.parts_are;
+      checked = installed.checked;
+      media = installed.media;
+      is = stays ∙ (installed.is ∙ ap (λ (s : StandingView). standing_after s installed.new) was);
+    }
+
+pub active_is_installed : (set : Setting) (since : List Step) (start : Step) (before : List Step) (hw pos : List ℕ) (parts : List (List ℕ)) → start.given ≡ Upload_started hw pos parts → NoneStarts since → NoneGoesDown (since ++ start ∷ [])
+    → is_some (loader_at set (start ∷ before)).live ≡ true → is_some (loader_at set (since ++ start ∷ before)).live ≡ false → HasCompleted Upload (loader_at set (since ++ start ∷ before)).ended
+    → AllInstalledInSession set (since ++ start ∷ before) → KnowsBrought set (since ++ start ∷ before) → (active_at set (since ++ start ∷ before)).sequence ≡ (active_at set before).sequence + 1
+    → IsInstalledOver set parts (active_at set before) (active_at set (since ++ start ∷ before))
+active_is_installed set since start before hw pos parts starts none quiet live over completed all knows sum =
+    by (install_in set since start before hw pos parts starts none (ended_in set since (start ∷ before) none live over completed) all)
+  where
+    by : InstallIn set since start before parts → IsInstalledOver set parts (active_at set before) (active_at set (since ++ start ∷ before))
+    by i =
+        let behind : i.between ++ start ∷ before ≡ (i.between ++ start ∷ []) ++ before = sym (append_assoc i.between (start ∷ []) before) in
+        let is : since ++ start ∷ before ≡ i.later ++ i.install ∷ ((i.between ++ start ∷ []) ++ before) =
+        ap (λ (xs : List Step). xs ++ start ∷ before) i.split ∙ (append_assoc i.later (i.install ∷ i.between) (start ∷ before) ∙ ap (λ (xs : List Step). i.later ++ i.install ∷ xs) behind) in
+        let steps : since ++ start ∷ [] ≡ i.later ++ i.install ∷ (i.between ++ start ∷ []) = ap (λ (xs : List Step). xs ++ start ∷ []) i.split ∙ append_assoc i.later (i.install ∷ i.between) (start ∷ []) in
+        subst (λ (xs : List Step). IsInstalledOver set parts (active_at set before) (active_at set xs)) (sym is)
+        (over_start set i.later i.between before i.install start parts i.new (subst (λ (xs : List Step). NoneGoesDown xs) steps quiet) (subst (λ (xs : List Step). KnowsBrought set xs) is knows)
+        (ap (λ (xs : List Step). brings set i.install xs) (sym behind) ∙ i.brought) (subst (λ (xs : List Step). IsMadeOf (target_at set xs) (HasParts parts) i.new) behind i.asked)
+        (ap (λ (xs : List Step). (active_at set xs).sequence) (sym is) ∙ sum))

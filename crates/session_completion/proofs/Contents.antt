@@ -2,13 +2,12 @@
 use Rattle.std.proofs.Common.{◌≡◌, ℕ, List, [], ◌∷◌, ◌++◌, map, Option, Some, refl, sym, ap, ◌∙◌}
 use Rattle.std.specs.List.{AllByRecursion}
 use Rattle.load_base.specs.Config.{FileView, LoadView}
-use Rattle.load_header.specs.Header.{HeaderView}
 use Rattle.disk_layout.specs.declared.identity.Identity.{Identity}
 use Rattle.disk_layout.specs.declared.manifest.ManifestFile.{ManifestFile}
 use Rattle.disk_layout.specs.Manifest.{LoadEntry}
 use Rattle.disk_layout.specs.Contents.{entries_of, entry_of, file_entry_of}
 use Rattle.session_rules.specs.MediaFiles.{Media}
-use Rattle.session_rules.specs.NewConfigs.{AreOfMedia, IsGoodLoad, files_in}
+use Rattle.session_rules.specs.NewConfigs.{AreOfMedia, IsChecked, files_in}
 
 -- ---- files
 
@@ -57,8 +56,8 @@ first_names f g fs gs xs ys one two same =
     let first : f ≡ g = cc in
     ap (λ (x : FileView). x.name) first
 
-load_same : (media : Media) (A B : HeaderView → Type 0) (id : Identity) (x y : LoadView) → entry_of x ≡ entry_of y → AllByRecursion (IsOfMedia media) x.files → AllByRecursion (IsOfMedia media) y.files → IsGoodLoad A id x → IsGoodLoad B id y → x ≡ y
-load_same media A B id x y e one two good fine =
+load_same : (media : Media) (id id' : Identity) (x y : LoadView) → entry_of x ≡ entry_of y → AllByRecursion (IsOfMedia media) x.files → AllByRecursion (IsOfMedia media) y.files → IsChecked id x → IsChecked id' y → x ≡ y
+load_same media id id' x y e one two good fine =
     let part : x.part ≡ y.part = ap (λ (entry : LoadEntry). entry.part) e in
     let type_id : x.type_id ≡ y.type_id = ap (λ (entry : LoadEntry). entry.type_id) e in
     let files : x.files ≡ y.files = files_same media x.files y.files (ap (λ (entry : LoadEntry). entry.files) e) one two in
@@ -66,15 +65,15 @@ load_same media A B id x y e one two good fine =
     ap (λ (p : List ℕ). load_with p x.type_id x.header_name x.files) part ∙ ap (λ (t : Option ℕ). load_with y.part t x.header_name x.files) type_id
     ∙ ap (λ (h : List ℕ). load_with y.part y.type_id h x.files) header ∙ ap (λ (fs : List FileView). load_with y.part y.type_id y.header_name fs) files
 
-pub loads_same : (media : Media) (A B : HeaderView → Type 0) (id : Identity) (xs ys : List LoadView) → entries_of xs ≡ entries_of ys → AreOfMedia media xs → AreOfMedia media ys
-    → AllByRecursion (IsGoodLoad A id) xs → AllByRecursion (IsGoodLoad B id) ys → xs ≡ ys
-loads_same media A B id [] [] e one two good fine = refl
-loads_same media A B id [] (y ∷ ys) e one two good fine = absurd cc
-loads_same media A B id (x ∷ xs) [] e one two good fine = absurd cc
-loads_same media A B id (x ∷ xs) (y ∷ ys) e one two good fine =
+pub loads_same : (media : Media) (id id' : Identity) (xs ys : List LoadView) → entries_of xs ≡ entries_of ys → AreOfMedia media xs → AreOfMedia media ys
+    → AllByRecursion (IsChecked id) xs → AllByRecursion (IsChecked id') ys → xs ≡ ys
+loads_same media id id' [] [] e one two good fine = refl
+loads_same media id id' [] (y ∷ ys) e one two good fine = absurd cc
+loads_same media id id' (x ∷ xs) [] e one two good fine = absurd cc
+loads_same media id id' (x ∷ xs) (y ∷ ys) e one two good fine =
     let head : entry_of x ≡ entry_of y = cc in
     let tail : entries_of xs ≡ entries_of ys = cc in
     let first : x ≡ y
-    = load_same media A B id x y head (all_left (IsOfMedia media) x.files (files_in xs) one) (all_left (IsOfMedia media) y.files (files_in ys) two) good.0 fine.0 in
-    let rest : xs ≡ ys = loads_same media A B id xs ys tail (all_right (IsOfMedia media) x.files (files_in xs) one) (all_right (IsOfMedia media) y.files (files_in ys) two) good.1 fine.1 in
+    = load_same media id id' x y head (all_left (IsOfMedia media) x.files (files_in xs) one) (all_left (IsOfMedia media) y.files (files_in ys) two) good.0 fine.0 in
+    let rest : xs ≡ ys = loads_same media id id' xs ys tail (all_right (IsOfMedia media) x.files (files_in xs) one) (all_right (IsOfMedia media) y.files (files_in ys) two) good.1 fine.1 in
     ap (λ (l : LoadView). l ∷ xs) first ∙ ap (λ (ls : List LoadView). y ∷ ls) rest

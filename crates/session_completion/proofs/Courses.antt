@@ -1,13 +1,14 @@
 -- Good loads lead from row to row.
-use Rattle.std.proofs.Common.{◌≡◌, ℕ, suc, ◌+◌, ◌<◌, ◌≤◌, Bool, true, false, cond, List, [], ◌∷◌, ◌++◌, length, map, take, Option, Some, None, Ok, refl, sym, ap, ap₂, subst, ◌∙◌, arith, append-nil, append_assoc, length-append}
-use Rattle.std.specs.Prelude.{slice_get, nat_lt, nat_le, unwrap_or, ◌↔◌}
+use Rattle.std.proofs.Common.{◌≡◌, ℕ, zero, suc, ◌+◌, ◌<◌, ◌≤◌, Bool, true, false, cond, List, [], ◌∷◌, ◌++◌, length, map, take, Option, Some, None, Ok, refl, sym, ap, ap₂, subst, ◌∙◌, arith, append-nil, append_assoc, length-append}
+use Rattle.std.specs.Prelude.{not, ◌||◌, slice_get, nat_lt, nat_le, unwrap_or, ◌↔◌}
 use Rattle.std.specs.List.{AllByRecursion, AllZip, flat_map, concat, sum_by}
-use Rattle.std.proofs.lemmas.List.{take_all}
+use Rattle.std.proofs.lemmas.List.{length-map, take_all}
 use Rattle.std.proofs.lemmas.List.Sums.{sum_by-append}
-use Rattle.std.proofs.lemmas.List.Concat.{flat_map-append}
+use Rattle.std.proofs.lemmas.List.Concat.{flat_map-append, flat_map-cons}
 use Rattle.std.proofs.lemmas.Bool.Decides.{nat_tests}
 use Rattle.crc_fields.specs.CheckSums.{crc16_of, crc32_after, crc32_of}
 use Rattle.disk_layout.specs.Contents.{bytes_of, entries_of, entry_of, file_entry_of}
+use Rattle.disk_layout.specs.declared.identity.Identity.{Identity}
 use Rattle.disk_layout.specs.declared.manifest.ManifestFile.{ManifestFile}
 use Rattle.disk_layout.specs.declared.manifest.Layout.TheVariants as layouts
 use Rattle.disk_layout.specs.Manifest.{LoadEntry, head_fields, load_entry_fields, manifest_fields, total_length}
@@ -23,9 +24,12 @@ use Rattle.load_header.specs.HeaderFields.{HeaderSpells, IsHeaderFile, header_si
 use Rattle.load_protocol_files.specs.declared.lur.Wanted.{Wanted}
 use Rattle.session_rules.specs.Buffers.{Sums, buffer_size, buffered, summed}
 use Rattle.session_rules.specs.BufferLaws.{SumsJoin}
-use Rattle.session_rules.specs.NewConfigs.{IsAsSaid, IsGoodLoad, IsWanted, files_in}
+use Rattle.accept_rules.specs.declared.kept.KeptLoad.{KeptLoad}
+use Rattle.session_rules.specs.KeptLaws.{kept_same, types_same}
+use Rattle.session_rules.specs.KeptLoads.{kept_entries, kept_loads, said_type, told_loads, types_in, types_of, with_kept}
+use Rattle.session_rules.specs.NewConfigs.{AreGoodAfter, IsAsSaid, IsGoodLoad, IsWanted, files_in, kept_beside}
 use Rattle.session_rules.specs.TargetRows.{RowView, Gives_lui, Writes_ready, Awaits_lur, Reads_file, Writes_progress, Kept_bytes, Kept_sums, load_entry_of, file_move, placed_view, said_length, view_judged_in, view_moved, header_move, placed_view_if, with_header_view, new_upload_view, request_move}
-use Rattle.session_rules.specs.Uploads.{OpenLoadView, UploadView, Judgement, Accepts_file, Accepts_header, More_files, Next_load, Complete, Next, covered, covered_header, files_of, judge_file, judge_header, next_entry, next_name, next_with, entry_name, load_reason, next_number, is_for, need_of, next_wanted, planned_load}
+use Rattle.session_rules.specs.Uploads.{OpenLoadView, UploadView, Judgement, Accepts_file, Accepts_header, More_files, Next_load, Complete, Next, covered, covered_header, files_of, judge_file, judge_header, next_entry, next_name, next_with, entry_name, load_reason, next_number, is_for, need_of, next_wanted, planned_load, is_last, kept_after, kept_at_last, load_total, loads_at}
 use Rattle.replay_rules.specs.BothEnds.{Setting}
 use Rattle.transfer_completion.specs.BlockLaws.{eq_true, lt_true, lt_false}
 use Rattle.session_completion.specs.Course.{Course, IsFine, IsStep, next_row, file_in, IsLater, IsAfterRequest}
@@ -34,11 +38,11 @@ use Rattle.transfer_completion.specs.Talks.{FitsBlocks}
 use Rattle.exchange_trace.specs.declared.trace.Side.{Side}
 use Rattle.exchange_trace.specs.declared.trace.Side.TheVariants as sides
 use Rattle.session_rules.specs.declared.outcome.FileKind.TheVariants.{Lui, Lur, Lus}
-use Rattle.session_completion.specs.GoodRequests.{FilesAreRead, GoodLoadsLeadOn}
+use Rattle.session_completion.specs.GoodRequests.{AreFiles, FilesAreRead, GoodLoadsLeadOn}
 use Rattle.replay_rules.specs.ListTraces.{OwnFilesAreNamed}
 use Rattle.session_rules.specs.Reports.{lur_file}
 use Rattle.field_grammar.specs.ExactLaws.{answer-spelled, spelled_at_start}
-use Rattle.replay_rules.specs.FaultFree.{IsGranted}
+use Rattle.replay_rules.specs.FaultFree.{AreServed, IsGranted}
 use Rattle.std.proofs.lemmas.List.Folds.{concat-append}
 use Rattle.field_grammar.specs.Fields.{number_bytes}
 use Rattle.field_grammar.specs.NumberLaws.{length_number_bytes}
@@ -148,11 +152,18 @@ module _ (joins : SumsJoin) (set : Setting) (wanted : List Wanted) where
   abbrev header_row : UploadView → Option Wanted → List ℕ → RowView
   header_row u found file = view_moved (Reads_file u) (Kept_bytes (buffered file)) (header_move set.accepts (outline_of set.start) u found (Kept_bytes (buffered file)))
 
-  accepts_header : (u : UploadView) (w : Wanted) (h : HeaderView) (bytes : List ℕ) → length bytes ≤ 65536 → answer header bytes ≡ Ok h → h.part ≡ w.part → is_for set.start.identity.hw set.start.identity.pos h ≡ true → set.accepts h ≡ true
-      → need_of (u.loads ++ planned_load w h (length bytes) ∷ []) ≤ set.start.identity.bank → LastCrc h (next_with u h 0) (crc32_of (covered_header bytes))
+  -- what the tests ask of a header beside what is kept: the interlock accepts it, where it is the last the loads are few, and
+  -- there is room for them
+  pub record PassesBeside (u : UploadView) (w : Wanted) (h : HeaderView) (size : ℕ) : Type 0 where
+    pub accepted : set.accepts h (told_loads (kept_after (outline_of set.start) u h)) ≡ true
+    pub few : (not (is_last u) || nat_le (load_total (outline_of set.start) u h) 32) ≡ true
+    pub fit : need_of (loads_at (outline_of set.start) u w h size) ≤ set.start.identity.bank
+
+  accepts_header : (u : UploadView) (w : Wanted) (h : HeaderView) (bytes : List ℕ) → length bytes ≤ 65536 → answer header bytes ≡ Ok h → h.part ≡ w.part → is_for set.start.identity.hw set.start.identity.pos h ≡ true
+      → PassesBeside u w h (length bytes) → LastCrc h (next_with u h 0) (crc32_of (covered_header bytes))
       → judge_header set.accepts (outline_of set.start) u w (buffered bytes) ≡ Accepts_header h (next_with u h 0)
   unfolding judge_header
-  accepts_header u w h bytes small read part suits accepted fit last =
+  accepts_header u w h bytes small read part suits passes last =
       let all : take buffer_size bytes ≡ bytes = take_all buffer_size bytes small in
       let found : answer header (take buffer_size bytes) ≡ Ok h = ap (λ (x : List ℕ). answer header x) all ∙ read in
       let sum : LastCrc h (next_with u h 0) (crc32_of (covered_header (take buffer_size bytes))) = subst (λ (x : List ℕ). LastCrc h (next_with u h 0) (crc32_of (covered_header x))) (sym all) last in
@@ -161,16 +172,17 @@ module _ (joins : SumsJoin) (set : Setting) (wanted : List Wanted) where
         found,
         (bytes_eq-Decides h.part w.part).1 part,
         suits,
-        accepted,
-        le_true (need_of (u.loads ++ planned_load w h (length bytes) ∷ [])) set.start.identity.bank fit,
+        passes.accepted,
+        passes.few,
+        le_true (need_of (loads_at (outline_of set.start) u w h (length bytes))) set.start.identity.bank passes.fit,
         no_reason h (next_with u h 0) (crc32_of (covered_header (take buffer_size bytes))) sum,
       ) refl
 
   after_header : (loads : List LoadEntry) (reports : ℕ) (w : Wanted) (h : HeaderView) (bytes : List ℕ) → slice_get wanted (length loads) ≡ Some w → set.media.file w.header ≡ Some bytes
-      → length bytes ≤ 65536 → answer header bytes ≡ Ok h → h.part ≡ w.part → is_for set.start.identity.hw set.start.identity.pos h ≡ true → set.accepts h ≡ true
-      → need_of (loads ++ planned_load w h (length bytes) ∷ []) ≤ set.start.identity.bank → LastCrc h (next_with (upload wanted loads None reports) h 0) (crc32_of (covered_header bytes))
+      → length bytes ≤ 65536 → answer header bytes ≡ Ok h → h.part ≡ w.part → is_for set.start.identity.hw set.start.identity.pos h ≡ true
+      → PassesBeside (upload wanted loads None reports) w h (length bytes) → LastCrc h (next_with (upload wanted loads None reports) h 0) (crc32_of (covered_header bytes))
       → next_row set wanted (Reads_file (upload wanted loads None reports)) ≡ placed_view (upload wanted loads None reports) (open_load w h bytes []) (next_with (upload wanted loads None reports) h 0)
-  after_header loads reports w h bytes at there small read part suits accepted fit last =
+  after_header loads reports w h bytes at there small read part suits passes last =
       let u = upload wanted loads None reports in
       let n = next_with u h 0 in
       let named : next_name u ≡ w.header = ap (λ (o : Option Wanted). Rattle.session_rules.specs.Uploads.header_name o) at in
@@ -179,7 +191,7 @@ module _ (joins : SumsJoin) (set : Setting) (wanted : List Wanted) where
       let crc : crc32_of (covered_header (take buffer_size bytes)) ≡ crc32_of (covered bytes []) = ap (λ (x : List ℕ). crc32_of (covered_header x)) all ∙ ap (λ (x : List ℕ). crc32_of x) (sym (append-nil (covered_header bytes))) in
       ap (λ (b : List ℕ). header_row u (next_wanted u) b) file
       ∙ ap (λ (o : Option Wanted). header_row u o bytes) at
-      ∙ ap (λ (j : Judgement). view_judged_in (Reads_file u) (Kept_bytes (buffered bytes)) j) (accepts_header u w h bytes small read part suits accepted fit last)
+      ∙ ap (λ (j : Judgement). view_judged_in (Reads_file u) (Kept_bytes (buffered bytes)) j) (accepts_header u w h bytes small read part suits passes last)
       ∙ ap (λ (o : Option Wanted). placed_view_if u (with_header_view o h (Kept_bytes (buffered bytes))) n) at
       ∙ ap (λ (x : OpenLoadView). placed_view u x n) (same_load w h (length bytes) [] [] (crc32_of (covered_header (take buffer_size bytes))) (crc32_of (covered bytes [])) refl crc)
 
@@ -289,8 +301,8 @@ module _ (joins : SumsJoin) (set : Setting) (wanted : List Wanted) where
 
     -- ---- the loads
 
-    -- a load that leads on from its header
-    pub record IsReadyLoad (w : Wanted) (load : LoadView) : Type 0 where
+    -- a load that leads on from its header, where these loads are whole before it
+    pub record IsReadyLoad (done : List LoadView) (w : Wanted) (load : LoadView) : Type 0 where
       pub h : HeaderView
       pub bytes : List ℕ
       pub files : List FileView
@@ -298,14 +310,13 @@ module _ (joins : SumsJoin) (set : Setting) (wanted : List Wanted) where
       pub read : answer header bytes ≡ Ok h
       pub part : h.part ≡ w.part
       pub suits : is_for set.start.identity.hw set.start.identity.pos h ≡ true
-      pub accepted : set.accepts h ≡ true
+      pub passes : PassesBeside (upload wanted (entries_of done) None (length done + 1)) w h (length bytes)
       pub named : IsName w.header
       pub there : set.media.file w.header ≡ Some bytes
       pub are_bytes : IsBytes bytes
       pub each : AllZip IsReady (files_of h) files
       pub crc : crc32_of (covered bytes files) ≡ h.load_crc
       pub entry : load_entry_of (open_load w h bytes files) ≡ entry_of load
-      pub planned : planned_load w h (length bytes) ≡ entry_of load
       pub count : length load.files ≡ length files + 1
 
     -- how many transfers the loads from here on take
@@ -323,41 +334,35 @@ module _ (joins : SumsJoin) (set : Setting) (wanted : List Wanted) where
         none : (n : ℕ) → 0 + n ≡ n
         none n = omega arith
 
-    module _ (protocol : FilesAreRead wanted) (own : OwnFilesAreNamed set) (ready : AllZip IsReadyLoad wanted loads) (fit : (done rest : List LoadView) → done ++ rest ≡ loads → need_of (entries_of done) ≤ set.start.identity.bank) where
-      same_count : length wanted ≡ length loads
-      same_count = zip_length IsReadyLoad wanted loads ready
+    -- so each of them is, where it comes
+    abbrev pub AreReadyLoads : Type 0
+    AreReadyLoads = (done : List LoadView) (load : LoadView) (rest : List LoadView) → done ++ load ∷ rest ≡ loads → (w : Wanted) × (slice_get wanted (length done) ≡ Some w) × IsReadyLoad done w load
 
+    module _ (protocol : FilesAreRead wanted) (own : OwnFilesAreNamed set) (ready : AreReadyLoads) (same_count : length wanted ≡ length loads) where
       entries_more : (done : List LoadView) (load : LoadView) → entries_of done ++ entry_of load ∷ [] ≡ entries_of (done ++ load ∷ [])
       entries_more [] load = refl
       entries_more (d ∷ done) load = ap (λ (xs : List LoadEntry). entry_of d ∷ xs) (entries_more done load)
-
-      entries_length : (done : List LoadView) → length (entries_of done) ≡ length done
-      entries_length [] = refl
-      entries_length (d ∷ done) = ap (λ (n : ℕ). suc n) (entries_length done)
 
       -- the row at which the next header is read
       abbrev at_header : List LoadView → RowView
       at_header done = Reads_file (upload wanted (entries_of done) None (length done + 1))
 
       -- from a header, where what comes behind the load leads on
-      header_leads : (load : LoadView) (rest done : List LoadView) (w : Wanted) (r : IsReadyLoad w load) → slice_get wanted (length done) ≡ Some w → done ++ load ∷ rest ≡ loads
+      header_leads : (load : LoadView) (rest done : List LoadView) (w : Wanted) (r : IsReadyLoad done w load) → slice_get wanted (length done) ≡ Some w → done ++ load ∷ rest ≡ loads
           → LeadsTo (transfers_for rest + 1) (placed_view (upload wanted (entries_of done) None (length done + 1)) (open_load w r.h r.bytes r.files) (end_of_load (entries_of done)))
           → LeadsTo (transfers_for (load ∷ rest)) (at_header done)
       header_leads load rest done w r at e ends =
           let entries = entries_of done in
           let reports = length done + 1 in
           let l = open_load w r.h r.bytes [] in
-          let found : slice_get wanted (length entries) ≡ Some w = ap (λ (k : ℕ). slice_get wanted k) (entries_length done) ∙ at in
-          let enough : need_of (entries ++ planned_load w r.h (length r.bytes) ∷ []) ≤ set.start.identity.bank =
-          subst (λ (xs : List LoadEntry). need_of xs ≤ set.start.identity.bank) (sym (ap (λ (x : LoadEntry). entries ++ x ∷ []) r.planned ∙ entries_more done load))
-          (fit (done ++ load ∷ []) rest (append_assoc done (load ∷ []) rest ∙ e)) in
+          let found : slice_get wanted (length entries) ≡ Some w = ap (λ (k : ℕ). slice_get wanted k) (length-map done entry_of) ∙ at in
           let count : length (files_of r.h) ≡ 0 + length r.files = zip_length IsReady (files_of r.h) r.files r.each ∙ nothing_more (length r.files) in
           let kind = kind_is entries None reports r.h 0 r.files count in
           let covers : crc32_of (covered_header r.bytes) ≡ crc32_of (covered r.bytes []) = ap (λ (x : List ℕ). crc32_of x) (sym (append-nil (covered_header r.bytes))) in
           let last : LastCrc r.h (next_with (upload wanted entries None reports) r.h 0) (crc32_of (covered_header r.bytes)) =
           subst (λ (k : Next). LastCrc r.h k (crc32_of (covered_header r.bytes))) (sym kind)
           (subst (λ (x : ℕ). LastCrc r.h (kind_of entries r.files) x) (sym covers) (last_of entries reports w r.h r.bytes r.files r.crc r.each [] r.files refl)) in
-          let after = after_header entries reports w r.h r.bytes found r.there r.small r.read r.part r.suits r.accepted enough last ∙ ap (λ (k : Next). placed_view (upload wanted entries None reports) l k) kind in
+          let after = after_header entries reports w r.h r.bytes found r.there r.small r.read r.part r.suits r.passes last ∙ ap (λ (k : Next). placed_view (upload wanted entries None reports) l k) kind in
           let named : next_name (upload wanted entries None reports) ≡ w.header = ap (λ (o : Option Wanted). Rattle.session_rules.specs.Uploads.header_name o) found in
           let file : file_in set wanted (at_header done) ≡ r.bytes = ap (λ (x : List ℕ). unwrap_or (set.media.file x) []) named ∙ ap (λ (b : Option (List ℕ)). unwrap_or b []) r.there in
           let short = r.small in
@@ -380,14 +385,14 @@ module _ (joins : SumsJoin) (set : Setting) (wanted : List Wanted) where
           counted n files all e = omega (arith, e)
 
       -- the last load: the installation
-      last_ends : (load : LoadView) (done : List LoadView) (w : Wanted) (r : IsReadyLoad w load) → done ++ load ∷ [] ≡ loads
+      last_ends : (load : LoadView) (done : List LoadView) (w : Wanted) (r : IsReadyLoad done w load) → done ++ load ∷ [] ≡ loads
           → LeadsTo 1 (placed_view (upload wanted (entries_of done) None (length done + 1)) (open_load w r.h r.bytes r.files) (end_of_load (entries_of done)))
       last_ends load done w r e =
           let entries = entries_of done in
           let reports = length done + 1 in
           let l = open_load w r.h r.bytes r.files in
           let all : length wanted ≡ length done + 1 = same_count ∙ ap length (sym e) ∙ length-append done (load ∷ []) in
-          let size = entries_length done in
+          let size = length-map done entry_of in
           let read = protocol.completion (reports + 1) (omega arith) in
           rw (lt_false (length entries + 1) (length wanted) (omega arith)) (
             0,
@@ -400,7 +405,7 @@ module _ (joins : SumsJoin) (set : Setting) (wanted : List Wanted) where
           )
 
       -- another load comes: how far the upload has come is told
-      next_leads : (load next : LoadView) (later done : List LoadView) (w : Wanted) (r : IsReadyLoad w load) → done ++ load ∷ next ∷ later ≡ loads → LeadsTo (transfers_for (next ∷ later)) (at_header (done ++ load ∷ []))
+      next_leads : (load next : LoadView) (later done : List LoadView) (w : Wanted) (r : IsReadyLoad done w load) → done ++ load ∷ next ∷ later ≡ loads → LeadsTo (transfers_for (next ∷ later)) (at_header (done ++ load ∷ []))
           → LeadsTo (transfers_for (next ∷ later) + 1) (placed_view (upload wanted (entries_of done) None (length done + 1)) (open_load w r.h r.bytes r.files) (end_of_load (entries_of done)))
       next_leads load next later done w r e leads =
           let entries = entries_of done in
@@ -409,7 +414,7 @@ module _ (joins : SumsJoin) (set : Setting) (wanted : List Wanted) where
           let more = entries ++ load_entry_of l ∷ [] in
           let u = upload wanted more None (reports + 1) in
           let all : length wanted ≡ length done + suc (suc (length later)) = same_count ∙ ap length (sym e) ∙ length-append done (load ∷ next ∷ later) in
-          let size = entries_length done in
+          let size = length-map done entry_of in
           let arrived : length more ≡ length entries + 1 = length-append entries (load_entry_of l ∷ []) in
           let read = protocol.progress (length more) (reports + 1) (omega arith) (omega arith) in
           let step : IsStep set wanted (Writes_progress u) = record {
@@ -428,10 +433,10 @@ module _ (joins : SumsJoin) (set : Setting) (wanted : List Wanted) where
 
       loads_lead : (load : LoadView) (rest done : List LoadView) → done ++ load ∷ rest ≡ loads → LeadsTo (transfers_for (load ∷ rest)) (at_header done)
       loads_lead load [] done e =
-          let (w, at, r) = zip_at IsReadyLoad wanted done load [] (subst (λ (xs : List LoadView). AllZip IsReadyLoad wanted xs) (sym e) ready) in
+          let (w, at, r) = ready done load [] e in
           header_leads load [] done w r at e (last_ends load done w r e)
       loads_lead load (next ∷ later) done e =
-          let (w, at, r) = zip_at IsReadyLoad wanted done load (next ∷ later) (subst (λ (xs : List LoadView). AllZip IsReadyLoad wanted xs) (sym e) ready) in
+          let (w, at, r) = ready done load (next ∷ later) e in
           header_leads load (next ∷ later) done w r at e (next_leads load next later done w r e (loads_lead next later (done ++ load ∷ []) (append_assoc done (load ∷ []) (next ∷ later) ∙ e)))
 
       -- ---- the rows before the loads
@@ -512,9 +517,10 @@ module _ (joins : SumsJoin) (set : Setting) (wanted : List Wanted) (read : Heade
   files_ready (e ∷ entries) [] said fits there bytes = absurd said
   files_ready (e ∷ entries) (f ∷ files) said fits there bytes = (record { said = said.0; entry_fits = fits.0; there = there.0; bytes = bytes.0 }, files_ready entries files said.1 fits.1 there.1 bytes.1)
 
-  load_ready : (loads : List LoadView) (w : Wanted) (load : LoadView) → IsWanted w load → IsName w.header → IsGoodLoad (IsGranted set) set.start.identity load → AllByRecursion (λ (f : FileView). set.media.file f.name ≡ Some f.bytes) load.files
-      → AllByRecursion (λ (f : FileView). IsBytes f.bytes) load.files → IsReadyLoad joins set wanted loads w load
-  load_ready loads w load is named good there bytes =
+  load_ready : (loads done : List LoadView) (w : Wanted) (load : LoadView) (kept : List KeptLoad) → IsWanted w load → IsName w.header → (good : IsGoodLoad (IsGranted set) set.start.identity kept load)
+      → AllByRecursion (λ (f : FileView). set.media.file f.name ≡ Some f.bytes) load.files → AllByRecursion (λ (f : FileView). IsBytes f.bytes) load.files
+      → (planned_load w good.header (length good.bytes) ≡ entry_of load → PassesBeside joins set wanted (upload wanted (entries_of done) None (length done + 1)) w good.header (length good.bytes)) → IsReadyLoad joins set wanted loads done w load
+  load_ready loads done w load kept is named good there bytes passes =
       let all_there = subst (λ (xs : List FileView). AllByRecursion (λ (f : FileView). set.media.file f.name ≡ Some f.bytes) xs) good.whole there in
       let all_bytes = subst (λ (xs : List FileView). AllByRecursion (λ (f : FileView). IsBytes f.bytes) xs) good.whole bytes in
       let fits = all_joined IsHeaderFile good.header.data_files good.header.support_files good.spelled.0.data_files good.spelled.0.support_files in
@@ -523,6 +529,8 @@ module _ (joins : SumsJoin) (set : Setting) (wanted : List Wanted) (read : Heade
       let part : good.header.part ≡ w.part = sym good.part ∙ is.part in
       let files_are : record { name = w.header; length = length good.bytes } ∷ map file_entry_of good.files ≡ map file_entry_of load.files =
       ap (λ (x : List ℕ). let m : ManifestFile = record { name = x; length = length good.bytes } in m ∷ map file_entry_of good.files) (sym is.header) ∙ ap (λ (xs : List FileView). map file_entry_of xs) (sym good.whole) in
+      let planned : planned_load w good.header (length good.bytes) ≡ entry_of load = same_entry good.header.part load.part (Some good.header.type_id) load.type_id _ _ (sym good.part) (sym good.type_id)
+      (ap (λ (xs : List ManifestFile). let m : ManifestFile = record { name = w.header; length = length good.bytes } in m ∷ xs) (entries_are (files_of good.header) good.files good.each) ∙ files_are) in
       record {
         h = good.header;
         bytes = good.bytes;
@@ -531,30 +539,18 @@ module _ (joins : SumsJoin) (set : Setting) (wanted : List Wanted) (read : Heade
         read = read.read good.header good.bytes good.spelled;
         part = part;
         suits = good.suits;
-        accepted = good.accepted.0;
+        passes = passes planned;
         named = named;
         there = ap (λ (x : List ℕ). set.media.file x) (sym is.header) ∙ all_there.0;
         are_bytes = all_bytes.0;
         each = files_ready (files_of good.header) good.files good.each fits all_there.1 all_bytes.1;
         crc = good.crc;
         entry = same_entry w.part load.part (Some good.header.type_id) load.type_id _ _ (sym is.part) (sym good.type_id) files_are;
-        planned = same_entry good.header.part load.part (Some good.header.type_id) load.type_id _ _ (sym good.part) (sym good.type_id)
-            (ap (λ (xs : List ManifestFile). let m : ManifestFile = record { name = w.header; length = length good.bytes } in m ∷ xs) (entries_are (files_of good.header) good.files good.each) ∙ files_are);
         count = ap length good.whole ∙ as_sum (length good.files);
       }
     where
       as_sum : (n : ℕ) → suc n ≡ n + 1
       as_sum n = omega arith
-
-  all_ready : (loads : List LoadView) (ws : List Wanted) (ls : List LoadView) → AllZip IsWanted ws ls → AllByRecursion (λ (w : Wanted). IsName w.header) ws → AllByRecursion (IsGoodLoad (IsGranted set) set.start.identity) ls
-      → AllByRecursion (λ (f : FileView). set.media.file f.name ≡ Some f.bytes) (files_in ls) → AllByRecursion (λ (f : FileView). IsBytes f.bytes) (files_in ls) → AllZip (IsReadyLoad joins set wanted loads) ws ls
-  all_ready loads [] [] each named good there bytes = tt
-  all_ready loads [] (l ∷ ls) each named good there bytes = absurd each
-  all_ready loads (w ∷ ws) [] each named good there bytes = absurd each
-  all_ready loads (w ∷ ws) (l ∷ ls) each named good there bytes =
-      let (a, b) = all_split (λ (f : FileView). set.media.file f.name ≡ Some f.bytes) l.files (files_in ls) there in
-      let (x, y) = all_split (λ (f : FileView). IsBytes f.bytes) l.files (files_in ls) bytes in
-      (load_ready loads w l each.0 named.0 good.0 a x, all_ready loads ws ls each.1 named.1 good.1 b y)
 
 -- ---- they fit the bank one by one
 
@@ -588,18 +584,129 @@ need_more xs ys =
         ap length (concat-append (head_fields layouts.Two (length zs)) (flat_map fields zs)) ∙ length-append (concat (head_fields layouts.Two (length zs))) (concat (flat_map fields zs))
         ∙ ap (λ (k : ℕ). k + length (concat (flat_map fields zs))) (head_size (length zs))
 
+-- ---- and beside what is kept
+
+-- the type ids of the headers so far are those of their loads
+types_with : (done : List LoadView) (load : LoadView) (h : HeaderView) → load.type_id ≡ Some h.type_id → types_of (entries_of done) ++ h.type_id ∷ [] ≡ types_in (done ++ load ∷ [])
+types_with done load h is =
+    ap (λ (types : List ℕ). types ++ said_type (Some h.type_id)) (sym (types_same done))
+    ∙ ap (λ (id : Option ℕ). types_in done ++ said_type id) (sym is)
+    ∙ ap (λ (types : List ℕ). types_in done ++ types) (sym (flat_map-cons (λ (l : LoadView). said_type l.type_id) load [] ∙ append-nil (said_type load.type_id)))
+    ∙ sym (flat_map-append (λ (l : LoadView). said_type l.type_id) done (load ∷ []))
+
+abbrev is_none_left : List LoadView → Bool
+is_none_left [] = true
+is_none_left (l ∷ ls) = false
+
+module _ (joins : SumsJoin) (set : Setting) (wanted : List Wanted) (loads : List LoadView) (count : length wanted ≡ length loads) (few : length (with_kept loads set.start.loads) ≤ 32)
+    (fit : need_of (entries_of (with_kept loads set.start.loads)) ≤ set.start.identity.bank) where
+  abbrev before : List LoadEntry
+  before = entries_of set.start.loads
+
+  abbrev upload_at : List LoadView → UploadView
+  upload_at done = upload wanted (entries_of done) None (length done + 1)
+
+  passes : (done : List LoadView) (load : LoadView) (rest : List LoadView) → done ++ load ∷ rest ≡ loads → (w : Wanted) (h : HeaderView) (size : ℕ) → load.type_id ≡ Some h.type_id → planned_load w h size ≡ entry_of load
+      → set.accepts h (kept_beside before (done ++ load ∷ [])) ≡ true → PassesBeside joins set wanted (upload_at done) w h size
+  passes done load rest e w h size is planned accepted = record {
+    accepted = ap (λ (types : List ℕ). set.accepts h (told_loads (kept_entries types before))) types ∙ accepted;
+    few = few_at rest e;
+    fit = subst (λ (x : LoadEntry). need_of ((entries_of done ++ x ∷ []) ++ kept_at_last (outline_of set.start) (upload_at done) h) ≤ set.start.identity.bank) (sym planned)
+        (subst (λ (xs : List LoadEntry). need_of (xs ++ kept_at_last (outline_of set.start) (upload_at done) h) ≤ set.start.identity.bank) (entries_joined done (load ∷ [])) (fit_at rest e));
+  }
+    where
+      types : types_of (entries_of done) ++ h.type_id ∷ [] ≡ types_in (done ++ load ∷ [])
+      types = types_with done load h is
+
+      kept : kept_after (outline_of set.start) (upload_at done) h ≡ entries_of (kept_loads (types_in (done ++ load ∷ [])) set.start.loads)
+      kept = ap (λ (ids : List ℕ). kept_entries ids before) types ∙ sym (kept_same (types_in (done ++ load ∷ [])) set.start.loads)
+
+      kept_in : done ++ load ∷ [] ≡ loads → kept_after (outline_of set.start) (upload_at done) h ≡ entries_of (kept_loads (types_in loads) set.start.loads)
+      kept_in f = kept ∙ ap (λ (ls : List LoadView). entries_of (kept_loads (types_in ls) set.start.loads)) f
+
+      last : (rest : List LoadView) → done ++ load ∷ rest ≡ loads → is_last (upload_at done) ≡ is_none_left rest
+      last [] f = let size = length-map done entry_of in let all = ap length (sym f) ∙ length-append done (load ∷ []) in rw (lt_false (length (entries_of done) + 1) (length wanted) (omega (arith, size, all, count))) refl
+      last (next ∷ later) f =
+          let size = length-map done entry_of in
+          let all = ap length (sym f) ∙ length-append done (load ∷ next ∷ later) in
+          rw (lt_true (length (entries_of done) + 1) (length wanted) (more (length (entries_of done)) (length done) (length later) (length wanted) size (count ∙ all))) refl
+        where
+          more : (n d l w : ℕ) → n ≡ d → w ≡ d + suc (suc l) → n + 1 < w
+          more n d l w a b = omega (arith, a, b)
+
+      passed : (b x : Bool) → x ≡ true → (b || x) ≡ true
+      passed true x e = refl
+      passed false x e = e
+
+      few_at : (rest : List LoadView) → done ++ load ∷ rest ≡ loads → (not (is_last (upload_at done)) || nat_le (load_total (outline_of set.start) (upload_at done) h) 32) ≡ true
+      few_at (next ∷ later) f = ap (λ (b : Bool). not b || nat_le (load_total (outline_of set.start) (upload_at done) h) 32) (last (next ∷ later) f)
+      few_at [] f =
+          let size : length (kept_after (outline_of set.start) (upload_at done) h) ≡ length (kept_loads (types_in loads) set.start.loads) = ap length (kept_in f) ∙ length-map (kept_loads (types_in loads) set.start.loads) entry_of in
+          passed (not (is_last (upload_at done))) (nat_le (load_total (outline_of set.start) (upload_at done) h) 32)
+          (le_true (load_total (outline_of set.start) (upload_at done) h) 32 (omega (arith, size, count, few, length-append loads (kept_loads (types_in loads) set.start.loads))))
+
+      at_most : (xs ys : List LoadEntry) (bank : ℕ) → need_of (xs ++ ys) ≤ bank → need_of xs ≤ bank
+      at_most xs ys bank le = let h = need_more xs ys in omega arith
+
+      fit_at : (rest : List LoadView) → done ++ load ∷ rest ≡ loads → need_of (entries_of (done ++ load ∷ []) ++ kept_at_last (outline_of set.start) (upload_at done) h) ≤ set.start.identity.bank
+      fit_at [] f =
+          let with : entries_of (done ++ load ∷ []) ++ kept_at_last (outline_of set.start) (upload_at done) h ≡ entries_of (with_kept loads set.start.loads) =
+          ap (λ (b : Bool). entries_of (done ++ load ∷ []) ++ cond b (kept_after (outline_of set.start) (upload_at done) h) []) (last [] f)
+          ∙ ap (λ (xs : List LoadEntry). entries_of (done ++ load ∷ []) ++ xs) (kept_in f)
+          ∙ ap (λ (ls : List LoadView). entries_of ls ++ entries_of (kept_loads (types_in loads) set.start.loads)) f
+          ∙ sym (entries_joined loads (kept_loads (types_in loads) set.start.loads)) in
+          subst (λ (xs : List LoadEntry). need_of xs ≤ set.start.identity.bank) (sym with) fit
+      fit_at (next ∷ later) f =
+          let none : entries_of (done ++ load ∷ []) ++ kept_at_last (outline_of set.start) (upload_at done) h ≡ entries_of (done ++ load ∷ []) =
+          ap (λ (b : Bool). entries_of (done ++ load ∷ []) ++ cond b (kept_after (outline_of set.start) (upload_at done) h) []) (last (next ∷ later) f)
+          ∙ append-nil (entries_of (done ++ load ∷ [])) in
+          let others = (next ∷ later) ++ kept_loads (types_in loads) set.start.loads in
+          let whole : with_kept loads set.start.loads ≡ (done ++ load ∷ []) ++ others =
+          ap (λ (ls : List LoadView). ls ++ kept_loads (types_in loads) set.start.loads) (sym f ∙ sym (append_assoc done (load ∷ []) (next ∷ later)))
+          ∙ append_assoc (done ++ load ∷ []) (next ∷ later) (kept_loads (types_in loads) set.start.loads) in
+          subst (λ (xs : List LoadEntry). need_of xs ≤ set.start.identity.bank) (sym none)
+          (at_most (entries_of (done ++ load ∷ [])) (entries_of others) set.start.identity.bank
+          (subst (λ (xs : List LoadEntry). need_of xs ≤ set.start.identity.bank) (ap (λ (ls : List LoadView). entries_of ls) whole ∙ entries_joined (done ++ load ∷ []) others) fit))
+
+-- ---- the whole
+
+all_at : {A : Type 0} (P : A → Type 0) (xs : List A) (n : ℕ) (x : A) → AllByRecursion P xs → slice_get xs n ≡ Some x → P x
+all_at P [] n x all e = absurd cc
+all_at P (y ∷ ys) zero x all e = let same : y ≡ x = cc in subst P same all.0
+all_at P (y ∷ ys) (suc n) x all e = all_at P ys n x all.1 e
+
+-- a load that comes after these is good beside what is kept after its header
+good_at : (Accepted : HeaderView → List KeptLoad → Type 0) (id : Identity) (active : List LoadEntry) (before done : List LoadView) (load : LoadView) (rest : List LoadView) → AreGoodAfter Accepted id active before (done ++ load ∷ rest)
+    → IsGoodLoad Accepted id (kept_beside active ((before ++ done) ++ load ∷ [])) load
+good_at Accepted id active before [] load rest good = subst (λ (ls : List LoadView). IsGoodLoad Accepted id (kept_beside active (ls ++ load ∷ [])) load) (sym (append-nil before)) good.0
+good_at Accepted id active before (d ∷ done) load rest good =
+    subst (λ (ls : List LoadView). IsGoodLoad Accepted id (kept_beside active (ls ++ load ∷ [])) load) (append_assoc before (d ∷ []) done) (good_at Accepted id active (before ++ d ∷ []) done load rest good.1)
+
+files_at : (P : FileView → Type 0) (done : List LoadView) (load : LoadView) (rest : List LoadView) → AllByRecursion P (files_in (done ++ load ∷ rest)) → AllByRecursion P load.files
+files_at P [] load rest all = (all_split P load.files (files_in rest) all).0
+files_at P (d ∷ done) load rest all = files_at P done load rest (all_split P d.files (files_in (done ++ load ∷ rest)) all).1
+
+all_ready : (joins : SumsJoin) → HeadersAreRead → (set : Setting) (wanted : List Wanted) (loads : List LoadView) → AreServed set wanted loads → AreFiles wanted loads → AreReadyLoads joins set wanted loads
+all_ready joins read set wanted loads served files done load rest e =
+    let (w, at, is) = zip_at IsWanted wanted done load rest (subst (λ (xs : List LoadView). AllZip IsWanted wanted xs) (sym e) served.each) in
+    let kept = kept_beside (entries_of set.start.loads) (done ++ load ∷ []) in
+    let good : IsGoodLoad (IsGranted set) set.start.identity kept load = good_at (IsGranted set) set.start.identity (entries_of set.start.loads) [] done load rest
+    (subst (λ (xs : List LoadView). AreGoodAfter (IsGranted set) set.start.identity (entries_of set.start.loads) [] xs) (sym e) served.good) in
+    let there = files_at (λ (f : FileView). set.media.file f.name ≡ Some f.bytes) done load rest (subst (λ (xs : List LoadView). AllByRecursion (λ (f : FileView). set.media.file f.name ≡ Some f.bytes) (files_in xs)) (sym e) served.media) in
+    let bytes = files_at (λ (f : FileView). IsBytes f.bytes) done load rest (subst (λ (xs : List LoadView). AllByRecursion (λ (f : FileView). IsBytes f.bytes) (files_in xs)) (sym e) files.bytes) in
+    let named = all_at (λ (x : Wanted). IsName x.header) wanted (length done) w files.named at in (
+      w,
+      at,
+      load_ready joins set wanted read loads done w load kept is named good there bytes
+          (λ planned. passes joins set wanted loads (zip_length IsWanted wanted loads served.each) served.few served.fit done load rest e w good.header (length good.bytes) good.type_id planned good.accepted.0),
+    )
+
 pub good_loads_lead_on : SumsJoin → HeadersAreRead → GoodLoadsLeadOn
 good_loads_lead_on joins read set wanted [] served some own protocol files = absurd (omega arith)
-good_loads_lead_on joins read set wanted (load ∷ rest) served some own protocol files =
-    let loads = load ∷ rest in
-    let ready = all_ready joins set wanted read loads wanted loads served.each files.named served.good served.media files.bytes in
-    let whole = served.fit in
-    let fit : (done later : List LoadView) → done ++ later ≡ loads → need_of (entries_of done) ≤ set.start.identity.bank = λ done later e. at_most (entries_of done) (entries_of later) set.start.identity.bank (subst (λ (xs : List LoadEntry). need_of xs ≤ set.start.identity.bank) (ap (λ (xs : List LoadView). entries_of xs) (sym e) ∙ entries_joined done later) whole) in
-    let (more, e, course) = all_lead joins set wanted loads protocol own ready fit load rest refl in
+good_loads_lead_on joins read set wanted (first ∷ others) served some own protocol files =
+    let loads = first ∷ others in
+    let (more, e, course) = all_lead joins set wanted loads protocol own (all_ready joins read set wanted loads served files) (zip_length IsWanted wanted loads served.each) first others refl in
     (more, e ∙ three (transfers_for joins set wanted loads loads) ∙ ap (λ (n : ℕ). 3 + n) (sym (transfers_are joins set wanted loads loads)), course)
   where
     three : (n : ℕ) → n + 1 + 1 + 1 ≡ 3 + n
     three n = omega arith
-
-    at_most : (xs ys : List LoadEntry) (bank : ℕ) → need_of (xs ++ ys) ≤ bank → need_of xs ≤ bank
-    at_most xs ys bank le = let h = need_more xs ys in omega arith

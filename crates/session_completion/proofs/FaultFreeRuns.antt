@@ -2,17 +2,25 @@
 use Rattle.std.proofs.Common.{◌≡◌, ℕ, zero, suc, ◌+◌, ◌-◌, ◌<◌, ◌≤◌, Bool, true, false, cond, List, [], ◌∷◌, ◌++◌, length, Option, Some, None, refl, sym, ap, subst, ◌∙◌, arith, append-nil, append_assoc}
 use Rattle.std.specs.Prelude.{Contains, is_some, slice_get}
 use Rattle.std.specs.List.{AllByRecursion}
+use Rattle.load_base.specs.Name.{IsName}
+use Rattle.disk_layout.specs.declared.identity.Identity.{Identity}
+use Rattle.disk_layout.specs.Holds.{StandingView}
 use Rattle.exchange_trace.specs.declared.trace.Side.{Side}
 use Rattle.exchange_trace.specs.declared.trace.Side.TheVariants as sides
 use Rattle.exchange_trace.specs.Happenings.{Booted, DatagramView, Delivered, Ended, HappeningView, Info_started, Injected, Lost, Power_cut, Size_told, Ticked, Upload_started, other}
 use Rattle.exchange_trace.specs.Logs.{Event, Gets, Learns, Starts_upload, Ticks, event_for, gets}
 use Rattle.exchange_trace.specs.Posts.{AllHonest, IsHonest, numbered, posted_in}
 use Rattle.exchange_trace.specs.Steps.{Step}
+use Rattle.session_rules.specs.declared.outcome.FileKind.{FileKind}
+use Rattle.session_rules.specs.FileNames.{file_name}
 use Rattle.session_rules.specs.Loader.{LoaderSession, LoaderView, loader_posts}
 use Rattle.session_rules.specs.LoaderLog.{loader_view, SessionLog, session_view}
 use Rattle.session_rules.specs.Target.{TargetSession, TargetView, target_after, target_posts}
 use Rattle.session_rules.specs.TargetLog.{TargetReading, target_view, TargetSessionLog, session_view as target_session_view}
 use Rattle.replay_rules.specs.BothEnds.{Is_down, Is_up, Setting, TargetState, loader_at, target_at, waiting, waits_in}
+use Rattle.replay_rules.specs.ChangeLaws.{HasTarget, has_target}
+use Rattle.replay_rules.specs.Changes.{ChangesAreNew}
+use Rattle.replay_rules.specs.Histories.{active_at, active_in, setting_after, setting_from}
 use Rattle.replay_rules.specs.Due.{AllDue, due_of_loader, due_of_target}
 use Rattle.replay_rules.specs.FaultFree.{IsNoInjection, IsReadyFor, IsSmooth, NothingInjected, IsNoStart, IsUndisturbed, ports_for}
 use Rattle.replay_rules.specs.Ties.{IsTied, StepKeepsTie, kept_by, loader_next, loader_says, target_next, target_says}
@@ -164,41 +172,41 @@ posted_by_loader : (s : Side) → sides.Target ≡ other s → s ≡ sides.Loade
 posted_by_loader sides.Loader e = refl
 posted_by_loader sides.Target e = absurd cc
 
-module _ (set : Setting) (steps : List Step) (before : List DatagramView) (from w : World) (tied : IsWorldOf set steps before w) (leads : Leads set from w) where
+module _ (set : Setting) (first : StandingView) (steps : List Step) (before : List DatagramView) (from w : World) (tied : IsWorldOf set steps before w) (leads : Leads (setting_from set first) from w) where
   since_is : (n : ℕ) (d : DatagramView) → length before < n → numbered (posted_in steps) n ≡ Some d → Contains w.posts d
   since_is n d above found = posted_since before w.posts n d above (ap (λ (ds : List DatagramView). numbered ds n) tied.posted_is ∙ found)
 
-  tick_loader : (b : Bool) → waits w sides.Loader ≡ b → (waiting set sides.Loader steps ≡ true → retries_after set steps sides.Loader < 5) → Leads set from (at_loader set w Ticks)
+  tick_loader : (b : Bool) → waits w sides.Loader ≡ b → (waiting set sides.Loader steps ≡ true → retries_after set steps sides.Loader < 5) → Leads (setting_from set first) from (at_loader set w Ticks)
   tick_loader true is up =
       let live : waiting set sides.Loader steps ≡ true = sym (live_so (loader_at set steps).end (loader_at set steps).live) ∙ sym (ap (λ (v : LoaderView). is_some v.live) tied.loader_is) ∙ is in
       let retries : w.loader.end.retries ≡ retries_after set steps sides.Loader = ap (λ (v : LoaderView). v.end.retries) tied.loader_is in
       ticks w sides.Loader leads is (subst (λ (n : ℕ). n < 5) (sym retries) (up live))
-  tick_loader false is up = subst (λ (x : World). Leads set from x) (sym (idle_loader set w (none_is w.loader.live is))) leads
+  tick_loader false is up = subst (λ (x : World). Leads (setting_from set first) from x) (sym (idle_loader set w (none_is w.loader.live is))) leads
 
-  tick_target : (b : Bool) → waits w sides.Target ≡ b → (waiting set sides.Target steps ≡ true → retries_after set steps sides.Target < 5) → Leads set from (at_target set w Ticks)
+  tick_target : (b : Bool) → waits w sides.Target ≡ b → (waiting set sides.Target steps ≡ true → retries_after set steps sides.Target < 5) → Leads (setting_from set first) from (at_target set w Ticks)
   tick_target true is up =
       let (live, retries) = target_so set (target_at set steps) w.target tied.target_is in
       ticks w sides.Target leads is (subst (λ (n : ℕ). n < 5) (sym retries) (up (sym live ∙ is)))
-  tick_target false is up = subst (λ (x : World). Leads set from x) (sym (idle_target set w (none_is w.target.live is))) leads
+  tick_target false is up = subst (λ (x : World). Leads (setting_from set first) from x) (sym (idle_target set w (none_is w.target.live is))) leads
 
-  no_event : Leads set from (stepped set w None None)
-  no_event = subst (λ (x : World). Leads set from x) (sym (nothing_comes set w)) leads
+  no_event : Leads (setting_from set first) from (stepped set w None None)
+  no_event = subst (λ (x : World). Leads (setting_from set first) from x) (sym (nothing_comes set w)) leads
 
   step_leads : (given : HappeningView) → IsNoInjection given → IsNoStart given → IsUndisturbed (length before) given → IsHonest (posted_in steps) given → GivesNoneUp set given steps
-      → Leads set from (stepped set w (event_for sides.Loader (posted_in steps) given) (event_for sides.Target (posted_in steps) given))
+      → Leads (setting_from set first) from (stepped set w (event_for sides.Loader (posted_in steps) given) (event_for sides.Target (posted_in steps) given))
   step_leads (Delivered sides.Loader n) a b above (d, found, to) up =
       let e : stepped set w (gets (numbered (posted_in steps) n)) None ≡ delivered set w d
       = ap (λ (m : Option DatagramView). stepped set w (gets m) None) found ∙ loader_alone set w (Gets d.from d.to d.bytes) ∙ ap (λ (s : Side). delivered_to set w s (Gets d.from d.to d.bytes)) (sym (posted_by_target d.side to)) in
-      subst (λ (x : World). Leads set from x) (sym e) (delivers w d leads (since_is n d above found))
+      subst (λ (x : World). Leads (setting_from set first) from x) (sym e) (delivers w d leads (since_is n d above found))
   step_leads (Delivered sides.Target n) a b above (d, found, to) up =
       let e : stepped set w None (gets (numbered (posted_in steps) n)) ≡ delivered set w d
       = ap (λ (m : Option DatagramView). stepped set w None (gets m)) found ∙ ap (λ (s : Side). delivered_to set w s (Gets d.from d.to d.bytes)) (sym (posted_by_loader d.side to)) in
-      subst (λ (x : World). Leads set from x) (sym e) (delivers w d leads (since_is n d above found))
+      subst (λ (x : World). Leads (setting_from set first) from x) (sym e) (delivers w d leads (since_is n d above found))
   step_leads (Lost n) a b c honest up = no_event
   step_leads (Injected d) a b c honest up = absurd a
-  step_leads (Ticked sides.Loader) a b c honest up = subst (λ (x : World). Leads set from x) (sym (loader_alone set w Ticks)) (tick_loader (waits w sides.Loader) refl up)
+  step_leads (Ticked sides.Loader) a b c honest up = subst (λ (x : World). Leads (setting_from set first) from x) (sym (loader_alone set w Ticks)) (tick_loader (waits w sides.Loader) refl up)
   step_leads (Ticked sides.Target) a b c honest up = tick_target (waits w sides.Target) refl up
-  step_leads (Size_told size) a b c honest up = subst (λ (x : World). Leads set from x) (sym (both_told set w size)) (tells w size leads)
+  step_leads (Size_told size) a b c honest up = subst (λ (x : World). Leads (setting_from set first) from x) (sym (both_told set w size)) (tells w size leads)
   step_leads (Power_cut calls pick) a b c honest up = absurd c
   step_leads Booted a b c honest up = absurd c
   step_leads (Info_started hw pos) a b c honest up = absurd b
@@ -207,20 +215,20 @@ module _ (set : Setting) (steps : List Step) (before : List DatagramView) (from 
 
 -- ---- the steps since the start
 
-pub record LedTo (set : Setting) (steps : List Step) (before : List DatagramView) (from : World) : Type 0 where
+pub record LedTo (set : Setting) (first : StandingView) (steps : List Step) (before : List DatagramView) (from : World) : Type 0 where
   w : World
   is : IsWorldOf set steps before w
-  leads : Leads set from w
+  leads : Leads (setting_from set first) from w
 
-since_leads : StepKeepsTie → (set : Setting) (since base : List Step) (before : List DatagramView) (from : World) → LedTo set base before from → AllDue set (since ++ base) → AllHonest (since ++ base) → NothingInjected (since ++ base)
-    → AllByRecursion (IsSmooth (length before)) since → NoneGivesUp set since base → LedTo set (since ++ base) before from
-since_leads keeps set [] base before from led due honest injected smooth up = led
-since_leads keeps set (s ∷ since) base before from led due honest injected smooth up =
-    let led_so = since_leads keeps set since base before from led due.1 honest.1 injected.1 smooth.1 up.1 in
+since_leads : StepKeepsTie → (set : Setting) (first : StandingView) (since base : List Step) (before : List DatagramView) (from : World) → LedTo set first base before from → AllDue set (since ++ base) → AllHonest (since ++ base) → NothingInjected (since ++ base)
+    → AllByRecursion (IsSmooth (length before)) since → NoneGivesUp set since base → LedTo set first (since ++ base) before from
+since_leads keeps set first [] base before from led due honest injected smooth up = led
+since_leads keeps set first (s ∷ since) base before from led due honest injected smooth up =
+    let led_so = since_leads keeps set first since base before from led due.1 honest.1 injected.1 smooth.1 up.1 in
     record {
       w = stepped set led_so.w (event_for sides.Loader (posted_in (since ++ base)) s.given) (event_for sides.Target (posted_in (since ++ base)) s.given);
       is = step_tied keeps set (since ++ base) before led_so.w s led_so.is smooth.0.stays_up due;
-      leads = step_leads set (since ++ base) before from led_so.w led_so.is led_so.leads s.given injected.0 smooth.0.no_start smooth.0.undisturbed honest.0 up.0;
+      leads = step_leads set first (since ++ base) before from led_so.w led_so.is led_so.leads s.given injected.0 smooth.0.no_start smooth.0.undisturbed honest.0 up.0;
     }
 
 -- ---- the start
@@ -244,7 +252,7 @@ fault_free_runs_lead keeps set steps free due honest =
     = ap (λ (h : HappeningView). stepped set found (event_for sides.Loader (posted_in free.before) h) (event_for sides.Target (posted_in free.before) h)) free.starts
     ∙ loader_alone set found (Starts_upload set.start.identity.hw set.start.identity.pos free.parts) in
     let first = step_tied keeps set free.before (posted_in free.before) found free.start was free.stays_up from_start in
-    let led = since_leads keeps set free.since (free.start ∷ free.before) (posted_in free.before) (started set free.parts found)
+    let led = since_leads keeps set (active_at set free.before) free.since (free.start ∷ free.before) (posted_in free.before) (started set free.parts found)
     (record { w = started set free.parts found; is = subst (λ (x : World). IsWorldOf set (free.start ∷ free.before) (posted_in free.before) x) is_start first; leads = begins }) due_so
     (subst (λ (ss : List Step). AllHonest ss) free.split honest) (subst (λ (ss : List Step). NothingInjected ss) free.split free.injected) free.smooth (fault_free_gives_none_up set steps free) in
     record {
@@ -256,16 +264,24 @@ fault_free_runs_lead keeps set steps free due honest =
       leads = led.leads;
     }
 
-pub fault_free_runs_complete : StepKeepsTie → QuietIsIdle → GoodUploadsComplete → FaultFreeRunsComplete
-fault_free_runs_complete keeps quiet complete set steps free is permits named margin =
+active_is_target : (set : Setting) (state : TargetState) → HasTarget set state → (active_in state).identity ≡ set.start.identity
+active_is_target set (Is_up r) has = has
+active_is_target set (Is_down active interrupted) has = has.0
+
+pub fault_free_runs_complete : StepKeepsTie → ChangesAreNew → QuietIsIdle → GoodUploadsComplete → FaultFreeRunsComplete
+fault_free_runs_complete keeps changes quiet complete set steps free is permits named margin =
     let run = fault_free_runs_lead keeps set steps free is.due is.honest in
     let loader : retries_at run.now sides.Loader ≤ 2 = subst (λ (n : ℕ). n ≤ 2) (sym (ap (λ (v : LoaderView). v.end.retries) run.is.loader_is)) margin.loader in
     let target : retries_at run.now sides.Target ≤ 2 = subst (λ (n : ℕ). n ≤ 2) (sym (target_so set (target_at set steps) run.now.target run.is.target_is).1) margin.target in
-    let idle = quiet set free.before (ports_for free.loads) run.found (uninjected_before set (free.since ++ free.start ∷ []) free.before (subst (λ (ss : List Step). IsUninjected set ss) (free.split ∙ sym (append_assoc free.since (free.start ∷ []) free.before)) is)) permits free.quiet free.loader_ports free.target_ready run.none_posted run.was in (
+    let were = uninjected_before set (free.since ++ free.start ∷ []) free.before (subst (λ (ss : List Step). IsUninjected set ss) (free.split ∙ sym (append_assoc free.since (free.start ∷ []) free.before)) is) in
+    let idle = quiet set free.before (ports_for free.loads) run.found were free.quiet free.loader_ports free.target_ready run.none_posted run.was in
+    let same : (active_at set free.before).identity ≡ set.start.identity = active_is_target set (target_at set free.before) (has_target set free.before (changes set free.before permits were.carries)) in
+    let leads = subst (λ (id : Identity). Leads (setting_after set free.before) (at_loader set run.found (Starts_upload id.hw id.pos free.parts)) run.now) (sym same) run.leads in
+    let own_files = subst (λ (id : Identity). (kind : FileKind) → IsName (file_name id.hw id.pos kind)) (sym same) named.own_files in (
       run.now,
       run.is,
-      λ queue first among. complete set free.parts free.wanted free.loads run.found run.now queue first
-          (record { idle = idle; some = free.some; few = free.few; on_media = free.on_media; served = free.served; entries = named.entries; own_files = named.own_files; bytes = named.bytes }) run.leads loader target among,
+      λ queue first among. complete (setting_after set free.before) free.parts free.wanted free.loads run.found run.now queue first
+          (record { idle = idle; some = free.some; few = free.few; on_media = free.on_media; served = free.served; entries = named.entries; own_files = own_files; bytes = named.bytes }) leads loader target among,
     )
   where
     uninjected_before : (set : Setting) (since base : List Step) → IsUninjected set (since ++ base) → IsUninjected set base

@@ -2,6 +2,8 @@
 use Rattle.std.proofs.Common.{◌≡◌, ℕ, zero, suc, ◌+◌, ◌<◌, ◌≤◌, Bool, true, false, not, cond, ◌&&◌, List, [], ◌∷◌, ◌++◌, length, Option, Some, None, refl, sym, ap, subst, ◌∙◌, arith, append_assoc, length-append, inl, inr, ◌⊎◌, ⊎_elim}
 use Rattle.std.specs.Prelude.{is_some, slice_get, filter, option_map, if◌then◌else◌, ◌||◌}
 use Rattle.std.specs.List.{AllByRecursion, AllZip, range_with_len}
+use Rattle.std.proofs.lemmas.List.{length-map}
+use Rattle.std.proofs.lemmas.Slice.Zip.{AllZip-long}
 use Rattle.exchange_trace.specs.declared.trace.Side.{Side}
 use Rattle.exchange_trace.specs.declared.trace.Side.TheVariants as sides
 use Rattle.exchange_trace.specs.Following.{Deliveries, Finishing, Nothing_left, Plan, Rest, Scene, Turn, begins, delivered_next, delivery, delivery_of_first, finishing, finishing_tick, from_lines, goes_on, least_delivery, loss, next_turn, once, or_else, ticked_side}
@@ -25,20 +27,28 @@ use Rattle.replay_rules.specs.Runs.{Follows, IsQuiet, IsWithinMargin, plan_at, s
 use Rattle.transfer_completion.specs.BlockLaws.{eq_false}
 use Rattle.session_completion.proofs.Followed.{Names, named_at, named_within, At, LeftAt, NoEnds, due_of_before, finish_is, follows_before}
 use Rattle.accept_rules.specs.Permissions.{AcceptsPermitted}
-use Rattle.disk_layout.specs.Contents.{entries_of}
-use Rattle.disk_layout.specs.Holds.{StandingView}
-use Rattle.load_header.specs.Header.{HeaderView}
+use Rattle.disk_layout.specs.Contents.{entries_of, entry_of}
+use Rattle.disk_layout.specs.Holds.{Outline, StandingView, outline_of}
+use Rattle.load_base.specs.Config.{LoadView}
+use Rattle.load_protocol_files.specs.declared.lur.Wanted.{Wanted}
+use Rattle.load_protocol_files.specs.Lur.{WantedFits}
 use Rattle.transfer_end.specs.Readings.{next_port_of}
-use Rattle.session_rules.specs.Target.{TargetView}
-use Rattle.session_rules.specs.TargetLog.{TargetReading, target_view}
+use Rattle.session_rules.specs.InstallationLaws.{good_are_checked}
+use Rattle.session_rules.specs.KeptLaws.{installed_same}
+use Rattle.session_rules.specs.KeptLoads.{kept_entries, types_of, with_kept}
+use Rattle.session_rules.specs.NewConfigs.{IsWanted}
+use Rattle.session_rules.specs.Target.{TargetView, outline_after}
+use Rattle.session_rules.specs.TargetLog.{TargetReading, standing_after, target_view}
 use Rattle.replay_rules.specs.Ties.{StepKeepsTie, kept_by}
 use Rattle.session_completion.specs.Clean.{AreAmong}
 use Rattle.session_completion.specs.FaultFreeRuns.{FaultFreeRunsComplete, IsNamed}
 use Rattle.session_completion.specs.FinishedRuns.{FinishCompletes, IsLeftToFinish}
 use Rattle.session_completion.specs.Worlds.{World, waits}
-use Rattle.session_completion.proofs.Brought.{AreServedAs, KnowsBrought, active_is_served, begun_at}
+use Rattle.replay_rules.specs.AskedTraces.{EntriesFit}
+use Rattle.session_completion.proofs.Brought.{IsInstalledOver, KnowsBrought, active_is_installed, begun_at, same_first}
 use Rattle.session_completion.proofs.Contents.{loads_same}
 use Rattle.session_completion.proofs.FaultFreeRuns.{live_so, posted_since, target_so}
+use Rattle.session_completion.proofs.GoodUploads.{wanted_are}
 use Rattle.session_completion.proofs.Finishing.{IsQuietly, all_quietly, begins_finish}
 use Rattle.session_completion.proofs.LastFinish.{some_left}
 
@@ -248,16 +258,17 @@ no_end set script idle [] (s ∷ earlier) ends follows left =
     absurd (some_left idle (sym (ap (λ (p : Plan). p.lines) (end_is_last (scene_at set earlier) (plan_at set script earlier) (sym follows.0 ∙ ends.0))) ∙ left))
 no_end set script idle (s ∷ more) steps ends follows left = ends_before more steps ends.1
 
--- the upload is completed, all is quiet, and the target is up with the entries of the loads that were asked for
+-- the upload is completed, all is quiet, and the target is up with the entries of the loads that were asked for, and of those that
+-- are kept
 record HasEntries (set : Setting) (steps : List Step) (free : IsFaultFree set steps) (last : List Step) : Type 0 where
   outcome : HasCompleted Upload (loader_at set last).ended
   quiet : IsQuiet set last
   target : TargetReading
   up : target_at set last ≡ Is_up target
-  active : entries_of target.active.loads ≡ entries_of free.loads
+  active : outline_of target.active ≡ outline_of (standing_after (active_at set free.before) free.loads)
 
 comes_to : (set : Setting) (steps last : List Step) (free : IsFaultFree set steps) (before : List DatagramView) (w : World) → LeftAt set before last w → waits w sides.Loader ≡ false → waits w sides.Target ≡ false
-    → HasCompleted Upload w.loader.ended → w.target.active.loads ≡ entries_of free.loads → HasEntries set steps free last
+    → HasCompleted Upload w.loader.ended → w.target.active ≡ outline_of (standing_after (active_at set free.before) free.loads) → HasEntries set steps free last
 comes_to set steps last free before w left loader target completed active = by (target_at set last) refl
   where
     by : (state : TargetState) → target_at set last ≡ state → HasEntries set steps free last
@@ -274,7 +285,7 @@ comes_to set steps last free before w left loader target completed active = by (
           };
           target = r;
           up = e;
-          active = sym (ap (λ (v : TargetView). v.active.loads) view) ∙ active;
+          active = sym (ap (λ (v : TargetView). v.active) view) ∙ active;
         }
 
 -- ---- the whole run
@@ -325,7 +336,7 @@ module _ (set : Setting) (script : List Line) (steps more : List Step) (free : I
         named = names_only set script steps follows;
         zips = subst (λ (ds : List DatagramView). AllZip (Names ds) (undelivered_after steps) q.queue) (sym posted) q.zips;
       } in
-      let end = finish_is keeps set script (posted_in free.before) now it.last q.queue sides.Loader it.finishes more steps at (no_end set script left.left.idle more steps left.trace.ends left.follows left.left.lines)
+      let end = finish_is keeps set (active_at set free.before) script (posted_in free.before) now it.last q.queue sides.Loader it.finishes more steps at (no_end set script left.left.idle more steps left.trace.ends left.follows left.left.lines)
       (record { ends = left.trace.ends; due = left.trace.due; follows = left.follows; up = left.stays_up }) in
       comes_to set steps (more ++ steps) free (posted_in free.before) it.last end it.loader it.target it.completed it.active
 
@@ -336,25 +347,52 @@ module _ (set : Setting) (script : List Line) (steps more : List Step) (free : I
       enough : (ports : ℕ) → 3 ≤ ports → HasPorts (loader_at set free.before).end ports → next_port_of (loader_at set free.before).end < 65536
       enough ports some has = omega (arith, some, has)
 
-  active_served : HasEntries set steps free (more ++ steps) → AllInstalledInSession set (more ++ steps) → AllBroughtAreGood set (more ++ steps) → AllOfMedia set (more ++ steps) → AllStayOrAreNew set (more ++ steps)
-      → AreServedAs set (active_at set (more ++ steps)).loads
-  active_served h installed good media stays =
+  -- what is active in the end was installed over what was active at the start
+  active_installed : HasEntries set steps free (more ++ steps) → AllInstalledInSession set (more ++ steps) → AllBroughtAreGood set (more ++ steps) → AllOfMedia set (more ++ steps) → AllStayOrAreNew set (more ++ steps)
+      → IsInstalledOver set free.parts (active_at set free.before) (active_at set (more ++ steps))
+  active_installed h installed good media stays =
       let base = free.start ∷ free.before in
       let is : more ++ steps ≡ (more ++ free.since) ++ base = ap (λ (xs : List Step). more ++ xs) free.split ∙ sym (append_assoc more free.since base) in
       let knows : KnowsBrought set (more ++ steps) = record { good = good; media = media; stays = stays; injected = whole_is_uninjected.injected } in
-      subst (λ (xs : List Step). AreServedAs set (active_at set xs).loads) (sym is)
-      (active_is_served set (more ++ free.since) free.start free.before set.start.identity.hw set.start.identity.pos free.parts free.starts (none_start more free.since (length (posted_in free.before)) quietly free.smooth)
-      (none_down more free.since (length (posted_in free.before)) left.stays_up free.smooth) live_so_far (subst (λ (xs : List Step). is_some (loader_at set xs).live ≡ false) is h.quiet.loader)
-      (subst (λ (xs : List Step). HasCompleted Upload (loader_at set xs).ended) is h.outcome) (subst (λ (xs : List Step). AllInstalledInSession set xs) is installed) (subst (λ (xs : List Step). KnowsBrought set xs) is knows))
+      let sum : (active_at set (more ++ steps)).sequence ≡ (active_at set free.before).sequence + 1 = ap (λ (x : TargetState). (active_in x).sequence) h.up ∙ ap (λ (o : Outline). o.sequence) h.active in
+      subst (λ (xs : List Step). IsInstalledOver set free.parts (active_at set free.before) (active_at set xs)) (sym is)
+      (active_is_installed set (more ++ free.since) free.start free.before set.start.identity.hw set.start.identity.pos free.parts free.starts (none_start more free.since (length (posted_in free.before)) quietly free.smooth)
+      (none_down_from (more ++ free.since) free.start (none_down more free.since (length (posted_in free.before)) left.stays_up free.smooth) free.stays_up) live_so_far
+      (subst (λ (xs : List Step). is_some (loader_at set xs).live ≡ false) is h.quiet.loader)
+      (subst (λ (xs : List Step). HasCompleted Upload (loader_at set xs).ended) is h.outcome) (subst (λ (xs : List Step). AllInstalledInSession set xs) is installed) (subst (λ (xs : List Step). KnowsBrought set xs) is knows)
+      (ap (λ (xs : List Step). (active_at set xs).sequence) (sym is) ∙ sum))
+    where
+      none_down_from : (steps : List Step) (start : Step) → NoneGoesDown steps → start.notes ≡ [] → NoneGoesDown (steps ++ start ∷ [])
+      none_down_from [] start down now = (now, tt)
+      none_down_from (s ∷ steps) start down now = (down.0, none_down_from steps start down.1 now)
+
+-- loads of these parts, which were installed over what was active, are those that were asked for
+new_are_these : (set : Setting) (steps : List Step) (free : IsFaultFree set steps) (s : StandingView) → EntriesFit set.media → outline_of s ≡ outline_of (standing_after (active_at set free.before) free.loads)
+    → (is : IsInstalledOver set free.parts (active_at set free.before) s) → is.new ≡ free.loads
+new_are_these set steps free s entries active is =
+    let before = active_at set free.before in
+    let both : outline_after (outline_of before) (entries_of is.new) ≡ outline_after (outline_of before) (entries_of free.loads) =
+    sym (installed_same before is.new) ∙ (ap outline_of (sym is.is) ∙ (active ∙ installed_same before free.loads)) in
+    let parts : length is.new ≡ length free.parts = sym (length-map is.new (λ (load : LoadView). load.part)) ∙ ap length is.parts_are in
+    let wanted : length free.wanted ≡ length free.parts = (wanted_are (λ (w : Wanted). WantedFits w) set.media.loads free.parts free.wanted entries free.on_media).1 in
+    let count : length is.new ≡ length free.loads = parts ∙ (sym wanted ∙ sym (AllZip-long IsWanted free.wanted free.loads free.served.each)) in
+    let same : entries_of is.new ≡ entries_of free.loads = same_first (entries_of is.new) (entries_of free.loads) (kept_entries (types_of (entries_of is.new)) (entries_of before.loads)) (kept_entries (types_of (entries_of free.loads)) (entries_of before.loads))
+    (length-map is.new entry_of ∙ (count ∙ sym (length-map free.loads entry_of))) (ap (λ (o : Outline). o.loads) both) in
+    loads_same set.media set.start.identity before.identity is.new free.loads same is.media free.served.media is.checked
+    (good_are_checked (IsGranted set) before.identity (entries_of before.loads) [] free.loads free.served.good)
 
 pub finish_completes : StepKeepsTie → InstallsAreOfMedia → CompletedInSession → ChangesAreNew → InstallsAreGood → FaultFreeRunsComplete → FinishCompletes
 finish_completes keeps media sessions changes goods complete set script steps more free standing permits lengths named margin left recovered =
     let is = whole_is_uninjected set script steps more free left in
     let h = has_entries set script steps more free left keeps complete permits named margin in
-    let served = active_served set script steps more free left h (sessions set (more ++ steps) permits named.entries is) (goods set (more ++ steps) permits left.carries) (media set (more ++ steps) permits lengths is) (changes set (more ++ steps) permits left.carries) in
     let active : active_at set (more ++ steps) ≡ h.target.active = ap (λ (x : TargetState). active_in x) h.up in
     let found : standing ≡ h.target.active = recovered ∙ ap (λ (x : TargetState). active_by x (Some standing)) h.up in
-    let now : AreServedAs set h.target.active.loads = subst (λ (x : StandingView). AreServedAs set x.loads) active served in
-    let loads : h.target.active.loads ≡ free.loads
-    = loads_same set.media (λ (x : HeaderView). set.accepts x ≡ true) (IsGranted set) set.start.identity h.target.active.loads free.loads h.active now.media free.served.media now.good free.served.good in
-    record { outcome = h.outcome; quiet = h.quiet; up = ap (λ (x : TargetState). is_up x) h.up; loads = ap (λ (x : StandingView). x.loads) found ∙ loads }
+    let installed : IsInstalledOver set free.parts (active_at set free.before) h.target.active = subst (λ (x : StandingView). IsInstalledOver set free.parts (active_at set free.before) x) active
+    (active_installed set script steps more free left h (sessions set (more ++ steps) permits named.entries is) (goods set (more ++ steps) permits left.carries) (media set (more ++ steps) permits lengths is) (changes set (more ++ steps) permits left.carries)) in
+    let new = new_are_these set steps free h.target.active named.entries h.active installed in
+    record {
+      outcome = h.outcome;
+      quiet = h.quiet;
+      up = ap (λ (x : TargetState). is_up x) h.up;
+      loads = ap (λ (x : StandingView). x.loads) (found ∙ installed.is) ∙ ap (λ (ls : List LoadView). with_kept ls (active_at set free.before).loads) new;
+    }

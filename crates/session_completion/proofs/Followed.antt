@@ -3,6 +3,7 @@ use Rattle.std.proofs.Common.{◌≡◌, ℕ, zero, suc, ◌+◌, ◌<◌, ◌�
 use Rattle.std.specs.Prelude.{is_some, slice_get, ◌==◌, filter, option_map}
 use Rattle.std.specs.List.{AllByRecursion, AllZip, range_with_len}
 use Rattle.std.proofs.lemmas.Bool.Decides.{nat_tests}
+use Rattle.disk_layout.specs.Holds.{StandingView}
 use Rattle.exchange_trace.specs.declared.trace.Side.{Side}
 use Rattle.exchange_trace.specs.declared.trace.Side.TheVariants as sides
 use Rattle.exchange_trace.specs.Happenings.{DatagramView, Delivered, Ended, HappeningView, Ticked, other}
@@ -15,6 +16,7 @@ use Rattle.exchange_trace.specs.Following.{Finishing, Nothing_left, Turn, delive
 use Rattle.exchange_trace.specs.Lines.{Line}
 use Rattle.exchange_trace.specs.Logs.{Gets, Ticks, event_for, gets}
 use Rattle.replay_rules.specs.BothEnds.{Setting, loader_at, loader_waits, target_at, target_waits}
+use Rattle.replay_rules.specs.Histories.{setting_from}
 use Rattle.replay_rules.specs.Due.{AllDue}
 use Rattle.replay_rules.specs.Promises.{IsNoEnd, EndsOnce, NoneGoesDown}
 use Rattle.replay_rules.specs.Runs.{plan_at, scene_at, Follows}
@@ -373,21 +375,21 @@ peeled set script more base f none =
       notes = up.1;
     }
 
-pub finish_is : StepKeepsTie → (set : Setting) (script : List Line) (before : List DatagramView) (w last : World) (queue : List DatagramView) (first : Side) → Finishes set w queue first last → (more base : List Step)
+pub finish_is : StepKeepsTie → (set : Setting) (active : StandingView) (script : List Line) (before : List DatagramView) (w last : World) (queue : List DatagramView) (first : Side) → Finishes (setting_from set active) w queue first last → (more base : List Step)
     → At set script before base w queue first → NoEnds base → Following set script more base → LeftAt set before (more ++ base) last
-finish_is keeps set script before w last queue first (done v f whose) more base at none following =
+finish_is keeps set active script before w last queue first (done v f whose) more base at none following =
     let p = peeled set script more base following none in
     let follows = follows_before set script p.rest (p.s ∷ base) p.later.follows in
     let (left, is_end) = ends_so keeps set script before base w first p.s at whose follows.0 (due_of_before set p.rest (p.s ∷ base) p.later.due) p.notes in
     let e = last_one p.rest p.s base p.later.ends is_end in
     subst (λ (xs : List Step). LeftAt set before xs w) (sym (p.whole ∙ ap (λ (xs : List Step). xs ++ p.s ∷ base) e)) left
-finish_is keeps set script before w last queue first (delivers v l d others new f posts goes) more base at none following =
+finish_is keeps set active script before w last queue first (delivers v l d others new f posts goes) more base at none following =
     let p = peeled set script more base following none in
     let follows = follows_before set script p.rest (p.s ∷ base) p.later.follows in
     let (next, no_end) = delivers_so keeps set script before base w d others new first p.s at follows.0 (due_of_before set p.rest (p.s ∷ base) p.later.due) p.notes posts in
-    subst (λ (xs : List Step). LeftAt set before xs last) (sym p.whole) (finish_is keeps set script before (delivered set w d) last (others ++ new) first goes p.rest (p.s ∷ base) next (no_end, none) p.later)
-finish_is keeps set script before w last queue first (ticks v l side new f whose posts goes) more base at none following =
+    subst (λ (xs : List Step). LeftAt set before xs last) (sym p.whole) (finish_is keeps set active script before (delivered set w d) last (others ++ new) first goes p.rest (p.s ∷ base) next (no_end, none) p.later)
+finish_is keeps set active script before w last queue first (ticks v l side new f whose posts goes) more base at none following =
     let p = peeled set script more base following none in
     let follows = follows_before set script p.rest (p.s ∷ base) p.later.follows in
     let (next, no_end) = ticks_so keeps set script before base w new first side p.s at whose follows.0 (due_of_before set p.rest (p.s ∷ base) p.later.due) p.notes posts in
-    subst (λ (xs : List Step). LeftAt set before xs last) (sym p.whole) (finish_is keeps set script before (ticked set w side) last new (other side) goes p.rest (p.s ∷ base) next (no_end, none) p.later)
+    subst (λ (xs : List Step). LeftAt set before xs last) (sym p.whole) (finish_is keeps set active script before (ticked set w side) last new (other side) goes p.rest (p.s ∷ base) next (no_end, none) p.later)

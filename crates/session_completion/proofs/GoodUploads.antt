@@ -37,7 +37,7 @@ module _ (P : Wanted → Type 0) where
       by_test true is others = subst P (some_same (sym (rw is refl) ∙ e)) all.0
       by_test false is others = others (sym (rw is refl) ∙ e)
 
-  wanted_are : (entries : List Wanted) (parts : List (List ℕ)) (wanted : List Wanted) → AllByRecursion P entries → wanted_of entries parts ≡ Ok wanted → AllByRecursion P wanted × (length wanted ≡ length parts)
+  pub wanted_are : (entries : List Wanted) (parts : List (List ℕ)) (wanted : List Wanted) → AllByRecursion P entries → wanted_of entries parts ≡ Ok wanted → AllByRecursion P wanted × (length wanted ≡ length parts)
   wanted_are entries [] wanted all e = subst (λ (ws : List Wanted). AllByRecursion P ws × (length ws ≡ 0)) none_asked (tt, refl)
     where
       none_asked : [] ≡ wanted
@@ -118,7 +118,7 @@ finished_at set loads w queue first it = record {
   loader = waits_same set loads it.n it.c it.last sides.Loader it.loader it.target it.stands ∙ it.is_done.loader;
   target = waits_same set loads it.n it.c it.last sides.Target it.loader it.target it.stands ∙ it.is_done.target;
   completed = subst (λ (x : World). HasCompleted Upload x.loader.ended) (sym it.stands.same) it.is_done.completed;
-  active = ap (λ (x : World). x.target.active.loads) it.stands.same ∙ it.is_done.active;
+  active = ap (λ (x : World). x.target.active) it.stands.same ∙ it.is_done.active;
 }
 
 pub good_uploads_complete : GoodLoadsLeadOn → RequestsAreRead → DeliveringIsSafe → TickingIsSafe → TellingIsSafe → FinishEnds → GoodUploadsComplete

@@ -18,9 +18,8 @@ use Rattle.session_rules.specs.TargetLaws.{target_follows}
 use Rattle.session_rules.specs.TargetLog.{TargetReading, TargetSessionLog, session_view as target_session_view, target_view}
 use Rattle.session_rules.specs.ViewLaws.{loaders_follow}
 use Rattle.replay_rules.specs.BothEnds.{Is_down, Is_up, Setting, TargetState, come_up, gone_down, loader_at, noted, reached, target_at, waits_in}
-use Rattle.replay_rules.specs.ChangeLaws.{HasTarget, has_target}
-use Rattle.replay_rules.specs.Changes.{ChangesAreNew}
 use Rattle.replay_rules.specs.FaultFree.{HasPorts, IsReadyFor}
+use Rattle.replay_rules.specs.Histories.{active_in, setting_after, setting_from}
 use Rattle.replay_rules.specs.PortTraces.{IsDrawnBefore, PortsStayApart, TargetIsApart}
 use Rattle.replay_rules.specs.TieLaws.{HasLive, target_is_live}
 use Rattle.replay_rules.specs.Ties.{kept_by}
@@ -87,11 +86,11 @@ kept_below port (Some t) h = h
 abbrev world : LoaderView → TargetView → List DatagramView → World
 world loader target posts = record { loader = loader; target = target; posts = posts }
 
-idle_world : (set : Setting) (loader : LoaderReading) (state : TargetState) (ports : ℕ) (target : TargetView) → LoaderIsFree (loader_view loader) → StateIsFree state → TargetIsApart loader.end state → HasTarget set state
-    → is_some loader.live ≡ false → waits_in state ≡ false → HasPorts loader.end ports → IsReadyFor state ports → Some target ≡ kept_by state → IsIdle set ports (world (loader_view loader) target [])
-idle_world set loader (Is_down active interrupted) ports target free state_free apart same quiet target_quiet has ready is = absurd ready
-idle_world set loader (Is_up r) ports target free state_free apart same quiet target_quiet has ready is =
-    subst (λ (v : TargetView). IsIdle set ports (world (loader_view loader) v [])) (sym view) (record {
+idle_world : (set : Setting) (loader : LoaderReading) (state : TargetState) (ports : ℕ) (target : TargetView) → LoaderIsFree (loader_view loader) → StateIsFree state → TargetIsApart loader.end state
+    → is_some loader.live ≡ false → waits_in state ≡ false → HasPorts loader.end ports → IsReadyFor state ports → Some target ≡ kept_by state → IsIdle (setting_from set (active_in state)) ports (world (loader_view loader) target [])
+idle_world set loader (Is_down active interrupted) ports target free state_free apart quiet target_quiet has ready is = absurd ready
+idle_world set loader (Is_up r) ports target free state_free apart quiet target_quiet has ready is =
+    subst (λ (v : TargetView). IsIdle (setting_from set r.active) ports (world (loader_view loader) v [])) (sym view) (record {
       loader = no_session loader.end loader.live quiet;
       loader_free = free (no_session loader.end loader.live quiet);
       target = no_target_session r r.live target_quiet;
@@ -106,14 +105,14 @@ idle_world set loader (Is_up r) ports target free state_free apart same quiet ta
       target_low = apart.target_low;
       loader_kept = kept_below _ (kept_in loader.end.past) apart.loader_kept;
       target_kept = kept_below _ (kept_in r.end.past) apart.target_kept;
-      identity = same;
+      active = refl;
     })
   where
     view : target ≡ target_view r
     view = cc
 
-pub quiet_is_idle : SumsJoin → PortsStayApart → ChangesAreNew → QuietIsIdle
-quiet_is_idle joins apart changes set steps ports w is permits quiet has ready none tied =
-    let idle = idle_world set (loader_at set steps) (target_at set steps) ports w.target (log_is_free set.media (loader_log steps)) (trace_is_free joins set steps) (apart set steps is)
-    (has_target set steps (changes set steps permits is.carries)) quiet.loader quiet.target has ready tied.target_is in
-    subst (λ (v : LoaderView). IsIdle set ports (world v w.target w.posts)) (sym tied.loader_is) (subst (λ (ds : List DatagramView). IsIdle set ports (world (loader_view (loader_at set steps)) w.target ds)) (sym none) idle)
+pub quiet_is_idle : SumsJoin → PortsStayApart → QuietIsIdle
+quiet_is_idle joins apart set steps ports w is quiet has ready none tied =
+    let idle = idle_world set (loader_at set steps) (target_at set steps) ports w.target (log_is_free set.media (loader_log steps)) (trace_is_free joins set steps) (apart set steps is) quiet.loader quiet.target has ready tied.target_is in
+    subst (λ (v : LoaderView). IsIdle (setting_after set steps) ports (world v w.target w.posts)) (sym tied.loader_is)
+    (subst (λ (ds : List DatagramView). IsIdle (setting_after set steps) ports (world (loader_view (loader_at set steps)) w.target ds)) (sym none) idle)

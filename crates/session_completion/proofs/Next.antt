@@ -1,7 +1,7 @@
 -- Each delivery brings a clean upload to its next stage.
 use Rattle.std.proofs.Common.{◌≡◌, ℕ, zero, suc, ◌+◌, ◌*◌, ◌<◌, ◌≤◌, true, false, List, [], ◌∷◌, ◌++◌, length, Option, Some, None, refl, sym, ap, subst, ◌∙◌, arith, append-nil, inl, inr}
 use Rattle.std.specs.Prelude.{◌==◌}
-use Rattle.disk_layout.specs.Holds.{Outline}
+use Rattle.disk_layout.specs.Holds.{Outline, outline_of}
 use Rattle.load_base.specs.Config.{LoadView}
 use Rattle.load_base.specs.Name.{IsName}
 use Rattle.load_protocol_files.specs.declared.lur.Wanted.{Wanted}
@@ -25,8 +25,9 @@ use Rattle.session_rules.specs.FileNames.{file_name}
 use Rattle.session_rules.specs.Loader as loader
 use Rattle.session_rules.specs.Loader.{LoaderSession, LoaderView, loader_after}
 use Rattle.session_rules.specs.LoaderRows.{kind_taken, serves_files, Goes_on, file_turn, row_after}
+use Rattle.session_rules.specs.KeptLaws.{installed_same}
 use Rattle.session_rules.specs.Target as target
-use Rattle.session_rules.specs.Target.{TargetSession, TargetView, active_in, own_name, target_after}
+use Rattle.session_rules.specs.Target.{TargetSession, TargetView, active_in, outline_after, own_name, target_after}
 use Rattle.session_rules.specs.TargetRows.{RowView, Gives_lci, Writes_lcs, Writes_lcl, Gives_lui, Gives_denial, Writes_ready, Awaits_lur, Reads_file, Writes_progress, Writes_stop, Writes_completion, Over}
 use Rattle.replay_rules.specs.BothEnds.{Setting}
 use Rattle.transfer_completion.specs.BlockLaws.{eq_false, lt_true, take_none, eq_true}
@@ -63,20 +64,20 @@ room_for side posts own peer i more v stands room = let e = stands.port in lt_tr
 not_59 : (own i : ℕ) → 59 < own → (own + i == 59) ≡ false
 not_59 own i low = eq_false (own + i) 59 (λ e. absurd (omega arith))
 
-module _ (set : Setting) (wanted : List Wanted) (loads : List LoadView) (o : Outline) (joins : SumsJoin) (same_identity : o.identity ≡ set.start.identity) (sequence : o.sequence < 4294967295) where
+module _ (set : Setting) (wanted : List Wanted) (loads : List LoadView) (joins : SumsJoin) (sequence : set.start.sequence < 4294967295) where
   -- what a delivery leads to: the next stage, with a smaller budget; and that the datagram was awaited
   pub record Leads (n : ℕ) (c : World) (budget : ℕ) (poster : Side) (e : Event) : Type 0 where
     pub left : ℕ
     pub fewer : left < budget
-    pub stage : Where set wanted loads o (n + 1) (delivered_to set c poster e) left
+    pub stage : Where set wanted loads (n + 1) (delivered_to set c poster e) left
     pub resets : Resets set c poster e
 
   -- ---- sessions
 
-  row_identity : (v : TargetView) (row : RowView) → v.active ≡ active_in o row → v.active.identity ≡ set.start.identity
-  row_identity v row e = ap (λ (x : Outline). x.identity) e ∙ active_identity o row ∙ same_identity
+  row_identity : (v : TargetView) (row : RowView) → v.active ≡ active_in (outline_of set.start) row → v.active.identity ≡ set.start.identity
+  row_identity v row e = ap (λ (x : Outline). x.identity) e ∙ active_identity (outline_of set.start) row
 
-  before_row : (c : World) (row : RowView) → IsLater row → TargetBefore o c.target row → InRow set wanted o c sides.Target row []
+  before_row : (c : World) (row : RowView) → IsLater row → TargetBefore set c.target row → InRow set wanted c sides.Target row []
   before_row c Writes_ready later h = h
   before_row c Awaits_lur later h = h
   before_row c (Reads_file u) later h = h
@@ -90,7 +91,7 @@ module _ (set : Setting) (wanted : List Wanted) (loads : List LoadView) (o : Out
   before_row c (Writes_stop e) later h = absurd later
   before_row c Over later h = absurd later
 
-  pub row_before : (c : World) (row : RowView) → IsLater row → InRow set wanted o c sides.Target row [] → TargetBefore o c.target row
+  pub row_before : (c : World) (row : RowView) → IsLater row → InRow set wanted c sides.Target row [] → TargetBefore set c.target row
   row_before c Writes_ready later h = h
   row_before c Awaits_lur later h = h
   row_before c (Reads_file u) later h = h
@@ -165,8 +166,8 @@ module _ (set : Setting) (wanted : List Wanted) (loads : List LoadView) (o : Out
       → Reacts set c getter poster (Gets (peer + i) 59 (packet_bytes (Rrq name (wanted_options told 0)))) own peer i (IsIn (Sends (sender_serving (file_in set wanted row) (wanted_options told 0))))
       (datagram getter (own + i) (peer + i) (sender_packet (sender_serving (file_in set wanted row) (wanted_options told 0))) ∷ [])
       → (delivered_to set c poster (Gets (peer + i) 59 (packet_bytes (Rrq name (wanted_options told 0))))).target.active.identity ≡ set.start.identity
-      → InRow set wanted o (delivered_to set c poster (Gets (peer + i) 59 (packet_bytes (Rrq name (wanted_options told 0))))) getter row []
-      → InRow set wanted o (delivered_to set c poster (Gets (peer + i) 59 (packet_bytes (Rrq name (wanted_options told 0))))) poster row []
+      → InRow set wanted (delivered_to set c poster (Gets (peer + i) 59 (packet_bytes (Rrq name (wanted_options told 0))))) getter row []
+      → InRow set wanted (delivered_to set c poster (Gets (peer + i) 59 (packet_bytes (Rrq name (wanted_options told 0))))) poster row []
       → Leads n c (cost set wanted more row) poster (Gets (peer + i) 59 (packet_bytes (Rrq name (wanted_options told 0))))
   begins_reading n c getter poster own peer i before more row told name m room course sends named may r id mine yours =
       let file = file_in set wanted row in
@@ -186,7 +187,7 @@ module _ (set : Setting) (wanted : List Wanted) (loads : List LoadView) (o : Out
         stage = down poster getter peer own i (HasAsked (Reads name options)) (IsIn (Sends (sender_serving file options))) (before ++ d ∷ []) more row (sender_serving file options) (receiver_asking name options) (sender_packet (sender_serving file options))
             (meets_flipped set (n + 1) (delivered_to set c poster e) getter poster own peer i i (IsIn (Sends (sender_serving file options))) (HasAsked (Reads name options)) (before ++ d ∷ []) (datagram getter (own + i) (peer + i) (sender_packet (sender_serving file options)) ∷ []) next)
             (room_flipped own peer i (more + 1) room) course sends talk.0 (inr (name, options, refl, refl)) (refl, refl)
-            (subst (λ (bytes : List ℕ). InRow set wanted o (delivered_to set c poster e) poster row bytes) (sym (take_none file 512)) yours) mine;
+            (subst (λ (bytes : List ℕ). InRow set wanted (delivered_to set c poster e) poster row bytes) (sym (take_none file 512)) yours) mine;
         resets = r.resets;
       }
 
@@ -198,8 +199,8 @@ module _ (set : Setting) (wanted : List Wanted) (loads : List LoadView) (o : Out
       → Reacts set c getter poster (Gets (peer + i) 59 (packet_bytes (Wrq name (sender_asking name (file_in set wanted row) (wanted_options told (length (file_in set wanted row)))).options))) own peer i (IsIn (Receives (receiver_serving options)))
       (datagram getter (own + i) (peer + i) (receiver_packet (receiver_serving options)) ∷ [])
       → (delivered_to set c poster (Gets (peer + i) 59 (packet_bytes (Wrq name (sender_asking name (file_in set wanted row) (wanted_options told (length (file_in set wanted row)))).options)))).target.active.identity ≡ set.start.identity
-      → InRow set wanted o (delivered_to set c poster (Gets (peer + i) 59 (packet_bytes (Wrq name (sender_asking name (file_in set wanted row) (wanted_options told (length (file_in set wanted row)))).options)))) getter row []
-      → InRow set wanted o (delivered_to set c poster (Gets (peer + i) 59 (packet_bytes (Wrq name (sender_asking name (file_in set wanted row) (wanted_options told (length (file_in set wanted row)))).options)))) poster row []
+      → InRow set wanted (delivered_to set c poster (Gets (peer + i) 59 (packet_bytes (Wrq name (sender_asking name (file_in set wanted row) (wanted_options told (length (file_in set wanted row)))).options)))) getter row []
+      → InRow set wanted (delivered_to set c poster (Gets (peer + i) 59 (packet_bytes (Wrq name (sender_asking name (file_in set wanted row) (wanted_options told (length (file_in set wanted row)))).options)))) poster row []
       → Leads n c (cost set wanted more row) poster (Gets (peer + i) 59 (packet_bytes (Wrq name (sender_asking name (file_in set wanted row) (wanted_options told (length (file_in set wanted row)))).options)))
   begins_writing n c getter poster own peer i before more row told name options is_options m room course sends named may r id mine yours =
       let file = file_in set wanted row in
@@ -222,7 +223,7 @@ module _ (set : Setting) (wanted : List Wanted) (loads : List LoadView) (o : Out
         stage = up poster getter peer own i (HasAsked (Writes name wanted_so file)) (IsIn (Receives (receiver_serving options))) (before ++ d ∷ []) more row s (receiver_serving options) (receiver_packet (receiver_serving options))
             (meets_flipped set (n + 1) (delivered_to set c poster e) getter poster own peer i i (IsIn (Receives (receiver_serving options))) (HasAsked (Writes name wanted_so file)) (before ++ d ∷ []) (datagram getter (own + i) (peer + i) (receiver_packet (receiver_serving options)) ∷ []) next)
             (room_flipped own peer i (more + 1) room) course sends talk.0 (inr (name, wanted_so, file, refl, refl)) (refl, refl) yours
-            (subst (λ (bytes : List ℕ). InRow set wanted o (delivered_to set c poster e) getter row bytes) (sym (take_none file (receiver_serving options).size)) mine);
+            (subst (λ (bytes : List ℕ). InRow set wanted (delivered_to set c poster e) getter row bytes) (sym (take_none file (receiver_serving options).size)) mine);
         resets = r.resets;
       }
 
@@ -237,8 +238,8 @@ module _ (set : Setting) (wanted : List Wanted) (loads : List LoadView) (o : Out
   -- and the target with its
   target_row_then : (c : World) (e : Event) (moves : List Rattle.transfer_end.specs.Moves.Move) (first more : List ℕ) (row : RowView) → Rattle.session_completion.specs.Course.IsSummed row
       → target.target_decision set.accepts c.target e ≡ record { moves = moves; change = target.Continues more }
-      → InRow set wanted o c sides.Target row first
-      → ((target_after set.accepts c.target e).live ≡ Some (target_session row (first ++ more))) × ((target_after set.accepts c.target e).active ≡ active_in o row)
+      → InRow set wanted c sides.Target row first
+      → ((target_after set.accepts c.target e).live ≡ Some (target_session row (first ++ more))) × ((target_after set.accepts c.target e).active ≡ active_in (outline_of set.start) row)
   target_row_then c e moves first more row summed is h =
       let after = target_is set.accepts c.target e moves (target.Continues more) is in (
         ap (λ (v : TargetView). v.live) after ∙ target_goes_on joins row first more c.target.live summed h.0,
@@ -249,7 +250,7 @@ module _ (set : Setting) (wanted : List Wanted) (loads : List LoadView) (o : Out
       → Meets set n c sides.Loader sides.Target own peer i i Rests (HasAsked (Writes (own_file_name set Lus) (wanted_options told (length (file_in set wanted row))) (file_in set wanted row))) before
       (request sides.Target (peer + i) (Writes (own_file_name set Lus) (wanted_options told (length (file_in set wanted row))) (file_in set wanted row)) ∷ [])
       → HasRoom own peer i (more + 1) → Course set wanted loads more row → sender_in row ≡ sides.Target → IsName (own_file_name set Lus) → kind_taken (loader_row row) ≡ Some Lus
-      → InRow set wanted o c sides.Loader row [] → InRow set wanted o c sides.Target row []
+      → InRow set wanted c sides.Loader row [] → InRow set wanted c sides.Target row []
       → Leads n c (cost set wanted more row) sides.Target (Gets (peer + i) 59 (packet_bytes (Wrq (own_file_name set Lus) (sender_asking (own_file_name set Lus) (file_in set wanted row) (wanted_options told (length (file_in set wanted row)))).options)))
   loader_takes_write n c own peer i before more row told m room course sends named kinds mine yours =
       let file = file_in set wanted row in
@@ -268,7 +269,7 @@ module _ (set : Setting) (wanted : List Wanted) (loads : List LoadView) (o : Out
   loader_takes_read : (n : ℕ) (c : World) (own peer i : ℕ) (before : List DatagramView) (more : ℕ) (row : RowView) (told : Option ℕ) (name : List ℕ)
       → Meets set n c sides.Loader sides.Target own peer i i Rests (HasAsked (Reads name (wanted_options told 0))) before (request sides.Target (peer + i) (Reads name (wanted_options told 0)) ∷ [])
       → HasRoom own peer i (more + 1) → Course set wanted loads more row → sender_in row ≡ sides.Loader → IsName name → set.media.file name ≡ Some (file_in set wanted row) → serves_files (loader_row row) ≡ true
-      → InRow set wanted o c sides.Loader row [] → InRow set wanted o c sides.Target row []
+      → InRow set wanted c sides.Loader row [] → InRow set wanted c sides.Target row []
       → Leads n c (cost set wanted more row) sides.Target (Gets (peer + i) 59 (packet_bytes (Rrq name (wanted_options told 0))))
   loader_takes_read n c own peer i before more row told name m room course sends named has serving mine yours =
       let file = file_in set wanted row in
@@ -288,7 +289,7 @@ module _ (set : Setting) (wanted : List Wanted) (loads : List LoadView) (o : Out
 
   target_takes_lur : (n : ℕ) (c : World) (own peer i : ℕ) (before : List DatagramView) (more : ℕ) (told : Option ℕ)
       → Meets set n c sides.Target sides.Loader own peer i i Rests (HasAsked (role_in set wanted Awaits_lur told)) before (request sides.Loader (peer + i) (role_in set wanted Awaits_lur told) ∷ [])
-      → HasRoom own peer i (more + 1) → Course set wanted loads more Awaits_lur → InRow set wanted o c sides.Loader Awaits_lur [] → InRow set wanted o c sides.Target Awaits_lur []
+      → HasRoom own peer i (more + 1) → Course set wanted loads more Awaits_lur → InRow set wanted c sides.Loader Awaits_lur [] → InRow set wanted c sides.Target Awaits_lur []
       → Leads n c (cost set wanted more Awaits_lur) sides.Loader (Gets (peer + i) 59 (packet_bytes (first_packet (role_in set wanted Awaits_lur told))))
   target_takes_lur n c own peer i before more told m room course yours mine =
       let file = file_in set wanted Awaits_lur in
@@ -314,7 +315,7 @@ module _ (set : Setting) (wanted : List Wanted) (loads : List LoadView) (o : Out
 
   target_takes_lui : (n : ℕ) (c : World) (own peer i : ℕ) (before : List DatagramView) (more : ℕ) (told : Option ℕ)
       → Meets set n c sides.Target sides.Loader own peer i i Rests (HasAsked (role_in set wanted Gives_lui told)) before (request sides.Loader (peer + i) (role_in set wanted Gives_lui told) ∷ [])
-      → HasRoom own peer i (more + 1) → Course set wanted loads more Gives_lui → InRow set wanted o c sides.Loader Gives_lui [] → TargetBefore o c.target Gives_lui
+      → HasRoom own peer i (more + 1) → Course set wanted loads more Gives_lui → InRow set wanted c sides.Loader Gives_lui [] → TargetBefore set c.target Gives_lui
       → Leads n c (cost set wanted more Gives_lui) sides.Loader (Gets (peer + i) 59 (packet_bytes (first_packet (role_in set wanted Gives_lui told))))
   target_takes_lui n c own peer i before more told m room course yours h =
       let file = file_in set wanted Gives_lui in
@@ -334,7 +335,7 @@ module _ (set : Setting) (wanted : List Wanted) (loads : List LoadView) (o : Out
       let moves = Stops ∷ Serves (peer + i) role ∷ [] in
       let after = target_is set.accepts c.target e moves (target.Begins Lui) is in
       let end = views_after sides.Target c.target.end moves in
-      let then : ((target_after set.accepts c.target e).live ≡ Some (target_session Gives_lui [])) × ((target_after set.accepts c.target e).active ≡ active_in o Gives_lui) = (
+      let then : ((target_after set.accepts c.target e).live ≡ Some (target_session Gives_lui [])) × ((target_after set.accepts c.target e).active ≡ active_in (outline_of set.start) Gives_lui) = (
         ap (λ (v : TargetView). v.live) after ∙ ap (λ (row : RowView). (target.view_turned end c.target row).live) (first_is c.target.active.sequence small),
         ap (λ (v : TargetView). v.active) after ∙ ap (λ (row : RowView). (target.view_turned end c.target row).active) (first_is c.target.active.sequence small) ∙ h.1,
       ) in
@@ -348,7 +349,7 @@ module _ (set : Setting) (wanted : List Wanted) (loads : List LoadView) (o : Out
   -- a request is next
   pub step_asked : (n : ℕ) (c : World) (getter poster : Side) (own peer i : ℕ) (before : List DatagramView) (more : ℕ) (row : RowView) (told : Option ℕ) → Opposite getter poster
       → Meets set n c getter poster own peer i i Rests (HasAsked (role_in set wanted row told)) before (request poster (peer + i) (role_in set wanted row told) ∷ []) → HasRoom own peer i (more + 1)
-      → Course set wanted loads more row → asker row ≡ poster → InRow set wanted o c sides.Loader row [] → TargetBefore o c.target row
+      → Course set wanted loads more row → asker row ≡ poster → InRow set wanted c sides.Loader row [] → TargetBefore set c.target row
       → Leads n c (cost set wanted more row) poster (Gets (peer + i) 59 (packet_bytes (first_packet (role_in set wanted row told))))
   step_asked n c getter poster own peer i before more Gives_lui told to_target m room course turn loader target = target_takes_lui n c own peer i before more told m room course loader target
   step_asked n c getter poster own peer i before more Awaits_lur told to_target m room course turn loader target = target_takes_lur n c own peer i before more told m room course loader target
@@ -378,9 +379,9 @@ module _ (set : Setting) (wanted : List Wanted) (loads : List LoadView) (o : Out
   -- the end goes on
   hears_going : (c : World) (getter poster : Side) (own peer i : ℕ) (mine : Position) (row : RowView) (end : LinkEnd) (p : PacketView) (a : Answer) (arrived : List ℕ) → Opposite getter poster
       → c.target.active.identity ≡ set.start.identity → 59 < own → StandsIn getter c.posts own peer i mine (end_at c getter) → Holds mine end → packet_in (packet_bytes p) ≡ Some p → end_answer end p ≡ a → IsGoing a → IsRunning (end_moved end a)
-      → Rattle.session_completion.specs.Course.IsSummed row → InRow set wanted o c getter row arrived
+      → Rattle.session_completion.specs.Course.IsSummed row → InRow set wanted c getter row arrived
       → Reacts set c getter poster (Gets (peer + i) (own + i) (packet_bytes p)) own peer i (IsIn (end_moved end a)) (datagram getter (own + i) (peer + i) (end_packet (end_moved end a)) ∷ [])
-      × InRow set wanted o (delivered_to set c poster (Gets (peer + i) (own + i) (packet_bytes p))) getter row (arrived ++ payload_of a)
+      × InRow set wanted (delivered_to set c poster (Gets (peer + i) (own + i) (packet_bytes p))) getter row (arrived ++ payload_of a)
       × ((delivered_to set c poster (Gets (peer + i) (own + i) (packet_bytes p))).target.active.identity ≡ set.start.identity)
   hears_going c getter poster own peer i mine row end p a arrived to_loader id low stands holds is answers going runs summed session =
       let e = Gets (peer + i) (own + i) (packet_bytes p) in
@@ -441,8 +442,8 @@ module _ (set : Setting) (wanted : List Wanted) (loads : List LoadView) (o : Out
       → Meets set n c getter poster own peer i i mine yours before (datagram poster (peer + i) (own + i) p ∷ []) → HasRoom own peer i (more + 1)
       → Course set wanted loads more row → sender_in row ≡ poster → packet_in (packet_bytes p) ≡ Some p → MovesReceiver (file_in set wanted row) s r next p payload → HoldsReceiver mine r → HoldsSender yours s
       → Reacts set c getter poster (Gets (peer + i) (own + i) (packet_bytes p)) own peer i (IsIn (Receives next)) (datagram getter (own + i) (peer + i) (receiver_packet next) ∷ [])
-      → InRow set wanted o (delivered_to set c poster (Gets (peer + i) (own + i) (packet_bytes p))) getter row (taken_of (file_in set wanted row) r ++ payload)
-      → (delivered_to set c poster (Gets (peer + i) (own + i) (packet_bytes p))).target.active.identity ≡ set.start.identity → InRow set wanted o c poster row []
+      → InRow set wanted (delivered_to set c poster (Gets (peer + i) (own + i) (packet_bytes p))) getter row (taken_of (file_in set wanted row) r ++ payload)
+      → (delivered_to set c poster (Gets (peer + i) (own + i) (packet_bytes p))).target.active.identity ≡ set.start.identity → InRow set wanted c poster row []
       → DownLeads n c poster own peer i more row r p
   receiver_went_on n c getter poster own peer i mine yours before more row s r next p payload m room course sends is goes holds held reacts session id other =
       let file = file_in set wanted row in
@@ -458,8 +459,8 @@ module _ (set : Setting) (wanted : List Wanted) (loads : List LoadView) (o : Out
         stage = up poster getter peer own i yours (IsIn (Receives next)) (before ++ d ∷ []) more row s next (receiver_packet next)
             (meets_flipped set (n + 1) (delivered_to set c poster e) getter poster own peer i i (IsIn (Receives next)) yours (before ++ d ∷ []) new then)
             (room_flipped own peer i (more + 1) room) course sends goes.talk held (refl, refl)
-            (other_row set wanted o c getter poster e row [] m.opposite other)
-            (subst (λ (bytes : List ℕ). InRow set wanted o (delivered_to set c poster e) getter row bytes) (sym goes.taken) session);
+            (other_row set wanted c getter poster e row [] m.opposite other)
+            (subst (λ (bytes : List ℕ). InRow set wanted (delivered_to set c poster e) getter row bytes) (sym goes.taken) session);
         resets = reacts.resets;
       }
 
@@ -472,8 +473,8 @@ module _ (set : Setting) (wanted : List Wanted) (loads : List LoadView) (o : Out
       → Meets set n c getter poster own peer i i mine yours before (datagram poster (peer + i) (own + i) p ∷ []) → HasRoom own peer i (more + 1)
       → Course set wanted loads more row → sender_in row ≡ getter → packet_in (packet_bytes p) ≡ Some p → MovesSender (file_in set wanted row) s next r p → HoldsSender mine s → HoldsReceiver yours r
       → Reacts set c getter poster (Gets (peer + i) (own + i) (packet_bytes p)) own peer i (IsIn (Sends next)) (datagram getter (own + i) (peer + i) (sender_packet next) ∷ [])
-      → InRow set wanted o (delivered_to set c poster (Gets (peer + i) (own + i) (packet_bytes p))) getter row []
-      → (delivered_to set c poster (Gets (peer + i) (own + i) (packet_bytes p))).target.active.identity ≡ set.start.identity → InRow set wanted o c poster row (taken_of (file_in set wanted row) r)
+      → InRow set wanted (delivered_to set c poster (Gets (peer + i) (own + i) (packet_bytes p))) getter row []
+      → (delivered_to set c poster (Gets (peer + i) (own + i) (packet_bytes p))).target.active.identity ≡ set.start.identity → InRow set wanted c poster row (taken_of (file_in set wanted row) r)
       → UpLeads n c poster own peer i more row r p
   sender_went_on n c getter poster own peer i mine yours before more row s next r p m room course sends is goes holds held reacts session id other =
       let file = file_in set wanted row in
@@ -489,7 +490,7 @@ module _ (set : Setting) (wanted : List Wanted) (loads : List LoadView) (o : Out
         stage = down poster getter peer own i yours (IsIn (Sends next)) (before ++ d ∷ []) more row next r (sender_packet next)
             (meets_flipped set (n + 1) (delivered_to set c poster e) getter poster own peer i i (IsIn (Sends next)) yours (before ++ d ∷ []) new then)
             (room_flipped own peer i (more + 1) room) course sends goes.talk held (refl, refl)
-            (other_row set wanted o c getter poster e row (taken_of file r) m.opposite other) session;
+            (other_row set wanted c getter poster e row (taken_of file r) m.opposite other) session;
         resets = reacts.resets;
       }
 
@@ -508,7 +509,7 @@ module _ (set : Setting) (wanted : List Wanted) (loads : List LoadView) (o : Out
   pub step_up : (n : ℕ) (c : World) (getter poster : Side) (own peer i : ℕ) (mine yours : Position) (before : List DatagramView) (more : ℕ) (row : RowView) (s : Sender) (r : Receiver) (p : PacketView) (a : Answer)
       → Meets set n c getter poster own peer i i mine yours before (datagram poster (peer + i) (own + i) p ∷ []) → HasRoom own peer i (more + 1)
       → Course set wanted loads more row → sender_in row ≡ getter → packet_in (packet_bytes p) ≡ Some p → sender_answer s p ≡ a → GoesOnAtSender (file_in set wanted row) s r p a → HoldsSender mine s → HoldsReceiver yours r
-      → InRow set wanted o c getter row [] → InRow set wanted o c poster row (taken_of (file_in set wanted row) r)
+      → InRow set wanted c getter row [] → InRow set wanted c poster row (taken_of (file_in set wanted row) r)
       → UpLeads n c poster own peer i more row r p
   step_up n c getter poster own peer i mine yours before more row s r p (Grants x) m room course sends is answers goes holds held session other =
       let (reacts, then, id) = hears_going c getter poster own peer i mine row (Sends s) p (Grants x) [] m.opposite m.identity m.own_low m.me (holds_sender mine s holds) is answers tt refl (fine_of more row course).summed session in
@@ -578,8 +579,8 @@ module _ (set : Setting) (wanted : List Wanted) (loads : List LoadView) (o : Out
       → Course set wanted loads (suc more) row → asker (next_row set wanted row) ≡ poster → sender_in row ≡ poster → packet_in (packet_bytes p) ≡ Some p → HoldsSender yours s → TakesLastBlock c getter poster own peer i mine row s r p payload
       → Reacts set c getter poster (Gets (peer + i) (own + i) (packet_bytes p)) own peer (i + 1) Rests (datagram getter (own + i) (peer + i) (receiver_packet (receiver_moved r (TakesLast payload))) ∷ [])
       → (end_at (delivered_to set c poster (Gets (peer + i) (own + i) (packet_bytes p))) getter).kept ≡ Some (record { own = own + i; peer = Some (peer + i); end = Receives (receiver_moved r (TakesLast payload)) })
-      → InRow set wanted o (delivered_to set c poster (Gets (peer + i) (own + i) (packet_bytes p))) getter (next_row set wanted row) []
-      → (delivered_to set c poster (Gets (peer + i) (own + i) (packet_bytes p))).target.active.identity ≡ set.start.identity → InRow set wanted o c poster row []
+      → InRow set wanted (delivered_to set c poster (Gets (peer + i) (own + i) (packet_bytes p))) getter (next_row set wanted row) []
+      → (delivered_to set c poster (Gets (peer + i) (own + i) (packet_bytes p))).target.active.identity ≡ set.start.identity → InRow set wanted c poster row []
       → DownLeads n c poster own peer i (suc more) row r p
   closes n c getter poster own peer i mine yours before more row s r p payload m room course turn sends is held t reacts kept session id other =
       let file = file_in set wanted row in
@@ -600,7 +601,7 @@ module _ (set : Setting) (wanted : List Wanted) (loads : List LoadView) (o : Out
         fewer = omega arith;
         stage = closing poster getter peer own i (before ++ d ∷ []) more row s next acked (room_behind own peer i more room) sends (course.0, course.1, turn)
             (record { kept = kept; phase = refl; whole = subst (λ (q : PacketView). IsWhole file s next q) t.acks whole })
-            (other_row set wanted o c getter poster e row [] m.opposite other) session;
+            (other_row set wanted c getter poster e row [] m.opposite other) session;
         resets = reacts.resets;
       }
 
@@ -611,8 +612,8 @@ module _ (set : Setting) (wanted : List Wanted) (loads : List LoadView) (o : Out
       → Reacts set c getter poster (Gets (peer + i) (own + i) (packet_bytes p)) own peer (i + 1) (HasAsked (role_in set wanted (next_row set wanted row) told))
       (datagram getter (own + i) (peer + i) (receiver_packet (receiver_moved r (TakesLast payload))) ∷ request getter (own + (i + 1)) (role_in set wanted (next_row set wanted row) told) ∷ [])
       → (end_at (delivered_to set c poster (Gets (peer + i) (own + i) (packet_bytes p))) getter).kept ≡ Some (record { own = own + i; peer = Some (peer + i); end = Receives (receiver_moved r (TakesLast payload)) })
-      → InRow set wanted o (delivered_to set c poster (Gets (peer + i) (own + i) (packet_bytes p))) getter (next_row set wanted row) []
-      → (delivered_to set c poster (Gets (peer + i) (own + i) (packet_bytes p))).target.active.identity ≡ set.start.identity → InRow set wanted o c poster row []
+      → InRow set wanted (delivered_to set c poster (Gets (peer + i) (own + i) (packet_bytes p))) getter (next_row set wanted row) []
+      → (delivered_to set c poster (Gets (peer + i) (own + i) (packet_bytes p))).target.active.identity ≡ set.start.identity → InRow set wanted c poster row []
       → DownLeads n c poster own peer i (suc more) row r p
   asks_early n c getter poster own peer i mine yours before more row s r p payload told m room course turn sends is held t reacts kept session id other =
       let file = file_in set wanted row in
@@ -634,7 +635,7 @@ module _ (set : Setting) (wanted : List Wanted) (loads : List LoadView) (o : Out
         fewer = omega arith;
         stage = early poster getter peer own i (before ++ d ∷ []) more row s next told acked (room_behind own peer i more room) sends (course.0, course.1, turn)
             (record { kept = kept; phase = refl; whole = subst (λ (q : PacketView). IsWhole file s next q) t.acks whole })
-            (other_row set wanted o c getter poster e row [] m.opposite other) session;
+            (other_row set wanted c getter poster e row [] m.opposite other) session;
         resets = reacts.resets;
       }
 
@@ -665,7 +666,7 @@ module _ (set : Setting) (wanted : List Wanted) (loads : List LoadView) (o : Out
       → TakesLastBlock c sides.Loader sides.Target own peer i mine row s r p payload
       → file_turn (loader_row row) (buffered (file_in set wanted row)) ≡ Goes_on → ◌≡◌ {A = Option Role} (loader.row_request c.loader.end.asks_size (Rattle.session_completion.specs.Stages.starting set wanted) (row_after (loader_row row))) None
       → row_after (loader_row row) ≡ loader_row (next_row set wanted row)
-      → InRow set wanted o c sides.Loader row (taken_of (file_in set wanted row) r) → InRow set wanted o c sides.Target row []
+      → InRow set wanted c sides.Loader row (taken_of (file_in set wanted row) r) → InRow set wanted c sides.Target row []
       → DownLeads n c sides.Target own peer i (suc more) row r p
   loader_waits n c own peer i mine yours before more row s r p payload m room course turn sends is held t goes none next session other =
       let file = file_in set wanted row in
@@ -682,7 +683,7 @@ module _ (set : Setting) (wanted : List Wanted) (loads : List LoadView) (o : Out
       → Meets set n c sides.Loader sides.Target own peer i i mine yours before (datagram sides.Target (peer + i) (own + i) p ∷ []) → HasRoom own peer i (suc more + 1)
       → Course set wanted loads (suc more) Writes_ready → packet_in (packet_bytes p) ≡ Some p → HoldsSender yours s
       → TakesLastBlock c sides.Loader sides.Target own peer i mine Writes_ready s r p payload
-      → InRow set wanted o c sides.Loader Writes_ready (taken_of (file_in set wanted Writes_ready) r) → InRow set wanted o c sides.Target Writes_ready []
+      → InRow set wanted c sides.Loader Writes_ready (taken_of (file_in set wanted Writes_ready) r) → InRow set wanted c sides.Target Writes_ready []
       → DownLeads n c sides.Target own peer i (suc more) Writes_ready r p
   loader_asks n c own peer i mine yours before more s r p payload m room course is held t session other =
       let file = file_in set wanted Writes_ready in
@@ -705,22 +706,23 @@ module _ (set : Setting) (wanted : List Wanted) (loads : List LoadView) (o : Out
       → target.session_turned target.view_turned end v live (move_for set.accepts v s more) more ≡ target.view_turned end v (row_for set.accepts v s more)
   turned_row end v s live more e = ap (λ (l : Option TargetSession). target.session_turned target.view_turned end v l (move_for set.accepts v s more) more) e
 
-  row_for_is : (v : TargetView) (first more : List ℕ) (row : RowView) → IsStep set wanted row → v.active.identity ≡ set.start.identity → first ++ more ≡ arrives_in row (file_in set wanted row)
+  row_for_is : (v : TargetView) (first more : List ℕ) (row : RowView) → IsStep set wanted row → v.active ≡ active_in (outline_of set.start) row → first ++ more ≡ arrives_in row (file_in set wanted row)
       → row_for set.accepts v (target_session row first) more ≡ next_row set wanted row
-  row_for_is v first more row step id whole = turns_to joins set wanted row first more v.active step.fine.summed id whole
+  row_for_is v first more row step active whole =
+      turns_to joins set wanted row first more v.active step.fine.summed (active ∙ active_stays (outline_of set.start) row (file_in set wanted row) step.goes_on) whole
 
   target_row_over : (v : TargetView) (e : Event) (moves : List Rattle.transfer_end.specs.Moves.Move) (first more : List ℕ) (row : RowView) → IsStep set wanted row
       → target.target_decision set.accepts v e ≡ record { moves = moves; change = target.Turns (move_for set.accepts v (target_session row first) more) more }
-      → v.live ≡ Some (target_session row first) → v.active ≡ active_in o row → first ++ more ≡ arrives_in row (file_in set wanted row)
-      → ((target_after set.accepts v e).live ≡ Some (target_session (next_row set wanted row) [])) × ((target_after set.accepts v e).active ≡ active_in o (next_row set wanted row))
+      → v.live ≡ Some (target_session row first) → v.active ≡ active_in (outline_of set.start) row → first ++ more ≡ arrives_in row (file_in set wanted row)
+      → ((target_after set.accepts v e).live ≡ Some (target_session (next_row set wanted row) [])) × ((target_after set.accepts v e).active ≡ active_in (outline_of set.start) (next_row set wanted row))
   target_row_over v e moves first more row step is live active whole =
       let end = views_after sides.Target v.end moves in
       let s = target_session row first in
       let after = target_is set.accepts v e moves (target.Turns (move_for set.accepts v s more) more) is ∙ turned_row end v s v.live more live in
-      let next = row_for_is v first more row step (row_identity v row active) whole in (
+      let next = row_for_is v first more row step active whole in (
         ap (λ (x : TargetView). x.live) after ∙ ap (λ (x : RowView). (target.view_turned end v x).live) next,
         ap (λ (x : TargetView). x.active) after ∙ ap (λ (x : RowView). active_in v.active x) next
-            ∙ ap (λ (x : Outline). active_in x (next_row set wanted row)) (active ∙ active_stays o row (file_in set wanted row) step.goes_on),
+            ∙ ap (λ (x : Outline). active_in x (next_row set wanted row)) (active ∙ active_stays (outline_of set.start) row (file_in set wanted row) step.goes_on),
       )
 
   after_request : (row : RowView) → IsAfterRequest row → (asker row ≡ sides.Target) × (loader_row row ≡ Rattle.session_rules.specs.LoaderRows.Serves_files)
@@ -741,7 +743,7 @@ module _ (set : Setting) (wanted : List Wanted) (loads : List LoadView) (o : Out
       → Meets set n c sides.Target sides.Loader own peer i i mine yours before (datagram sides.Loader (peer + i) (own + i) p ∷ []) → HasRoom own peer i (suc more + 1)
       → Course set wanted loads (suc more) row → sender_in row ≡ sides.Loader → arrives_in row (file_in set wanted row) ≡ file_in set wanted row → packet_in (packet_bytes p) ≡ Some p → HoldsSender yours s
       → TakesLastBlock c sides.Target sides.Loader own peer i mine row s r p payload
-      → InRow set wanted o c sides.Target row (taken_of (file_in set wanted row) r) → InRow set wanted o c sides.Loader row []
+      → InRow set wanted c sides.Target row (taken_of (file_in set wanted row) r) → InRow set wanted c sides.Loader row []
       → DownLeads n c sides.Loader own peer i (suc more) row r p
   target_asks_on n c own peer i mine yours before more row s r p payload m room course sends whole is held t session other =
       let file = file_in set wanted row in
@@ -753,7 +755,7 @@ module _ (set : Setting) (wanted : List Wanted) (loads : List LoadView) (o : Out
       let told = c.target.end.asks_size in
       let role = role_in set wanted next told in
       let all = t.arrived ∙ sym whole in
-      let row_is = row_for_is c.target first payload row step m.identity all in
+      let row_is = row_for_is c.target first payload row step session.1 all in
       let has_room = room.own_ports in
       let asks = ap (λ (x : RowView). target.row_request c.target x) row_is ∙ target_asks set wanted c.target next m.identity step.later turn in
       let decided = at_target.over_and_asks set.accepts c.target (peer + i) (own + i) (packet_bytes p) p is (target_session row first) session.0 (TakesLast payload) payload role refl asks (t.port (omega arith)) (not_59 own i m.own_low) t.mine_is t.answers in
@@ -777,7 +779,7 @@ module _ (set : Setting) (wanted : List Wanted) (loads : List LoadView) (o : Out
       → Meets set n c sides.Loader sides.Target own peer i i mine yours before (datagram sides.Target (peer + i) (own + i) p ∷ []) → HasRoom own peer i 1
       → Course set wanted loads 0 (Writes_completion e entries) → packet_in (packet_bytes p) ≡ Some p → HoldsSender yours s
       → TakesLastBlock c sides.Loader sides.Target own peer i mine (Writes_completion e entries) s r p payload
-      → InRow set wanted o c sides.Loader (Writes_completion e entries) (taken_of (file_in set wanted (Writes_completion e entries)) r) → InRow set wanted o c sides.Target (Writes_completion e entries) []
+      → InRow set wanted c sides.Loader (Writes_completion e entries) (taken_of (file_in set wanted (Writes_completion e entries)) r) → InRow set wanted c sides.Target (Writes_completion e entries) []
       → DownLeads n c sides.Target own peer i 0 (Writes_completion e entries) r p
   loader_ends n c own peer i mine yours before e entries s r p payload m room course is held t session other =
       let row = Writes_completion e entries in
@@ -819,7 +821,7 @@ module _ (set : Setting) (wanted : List Wanted) (loads : List LoadView) (o : Out
   took_last : (n : ℕ) (c : World) (getter poster : Side) (own peer i : ℕ) (mine yours : Position) (before : List DatagramView) (more : ℕ) (row : RowView) (s : Sender) (r : Receiver) (p : PacketView) (payload : List ℕ) → Opposite getter poster
       → Meets set n c getter poster own peer i i mine yours before (datagram poster (peer + i) (own + i) p ∷ []) → HasRoom own peer i (more + 1)
       → Course set wanted loads more row → sender_in row ≡ poster → packet_in (packet_bytes p) ≡ Some p → HoldsSender yours s → TakesLastBlock c getter poster own peer i mine row s r p payload
-      → InRow set wanted o c getter row (taken_of (file_in set wanted row) r) → InRow set wanted o c poster row []
+      → InRow set wanted c getter row (taken_of (file_in set wanted row) r) → InRow set wanted c poster row []
       → DownLeads n c poster own peer i more row r p
   took_last n c getter poster own peer i mine yours before (suc more) Gives_lui s r p payload to_loader m room course sends is held t session other =
       loader_waits n c own peer i mine yours before more Gives_lui s r p payload m room course refl refl is held t course.0.goes_on refl refl session other
@@ -855,7 +857,7 @@ module _ (set : Setting) (wanted : List Wanted) (loads : List LoadView) (o : Out
   pub step_down : (n : ℕ) (c : World) (getter poster : Side) (own peer i : ℕ) (mine yours : Position) (before : List DatagramView) (more : ℕ) (row : RowView) (s : Sender) (r : Receiver) (p : PacketView) (a : Answer)
       → Meets set n c getter poster own peer i i mine yours before (datagram poster (peer + i) (own + i) p ∷ []) → HasRoom own peer i (more + 1)
       → Course set wanted loads more row → sender_in row ≡ poster → packet_in (packet_bytes p) ≡ Some p → receiver_answer r p ≡ a → GoesOnAtReceiver (file_in set wanted row) s r p a → HoldsReceiver mine r → HoldsSender yours s
-      → InRow set wanted o c getter row (taken_of (file_in set wanted row) r) → InRow set wanted o c poster row []
+      → InRow set wanted c getter row (taken_of (file_in set wanted row) r) → InRow set wanted c poster row []
       → DownLeads n c poster own peer i more row r p
   step_down n c getter poster own peer i mine yours before more row s r p (Grants x) m room course sends is answers goes holds held session other =
       let small = taken_is_small (file_in set wanted row) s (receiver_moved r (Grants x)) false (receiver_packet (receiver_moved r (Grants x))) goes.talk in
@@ -912,7 +914,7 @@ module _ (set : Setting) (wanted : List Wanted) (loads : List LoadView) (o : Out
   pub step_closing : (n : ℕ) (c : World) (getter poster : Side) (own peer i : ℕ) (before : List DatagramView) (more : ℕ) (row : RowView) (s : Sender) (r : Receiver) → Opposite getter poster
       → Meets set n c getter poster own peer i (i + 1) (IsIn (Sends s)) Rests before (datagram poster (peer + i) (own + i) (Ack s.sent) ∷ []) → HasRoom own peer i (more + 2)
       → sender_in row ≡ getter → IsStep set wanted row → Course set wanted loads more (next_row set wanted row) → asker (next_row set wanted row) ≡ getter → KeepsWhole c poster own peer i (file_in set wanted row) s r
-      → InRow set wanted o c getter row [] → InRow set wanted o c poster (next_row set wanted row) []
+      → InRow set wanted c getter row [] → InRow set wanted c poster (next_row set wanted row) []
       → AckLeads n c poster own peer i (cost set wanted more (next_row set wanted row) + 1) s
   step_closing n c getter poster own peer i before more row s r to_loader m room sends step course turn keeps session other = absurd (apart (sym turn ∙ (after_request (next_row set wanted row) (step.asks sends)).0))
     where
@@ -930,7 +932,7 @@ module _ (set : Setting) (wanted : List Wanted) (loads : List LoadView) (o : Out
       let told = c.target.end.asks_size in
       let role = role_in set wanted next told in
       let none = nothing_arrives row file sends in
-      let row_is = row_for_is c.target [] [] row step m.identity none in
+      let row_is = row_for_is c.target [] [] row step session.1 none in
       let holds = holds_sender (IsIn (Sends s)) s (inl refl) in
       let has_room = room.own_ports in
       let asks = ap (λ (x : RowView). target.row_request c.target x) row_is ∙ target_asks set wanted c.target next m.identity step.later turn in
@@ -961,7 +963,7 @@ module _ (set : Setting) (wanted : List Wanted) (loads : List LoadView) (o : Out
       (datagram sides.Loader (peer + i) (own + i) (Ack s.sent) ∷ request sides.Loader (peer + (i + 1)) (role_in set wanted (next_row set wanted row) told) ∷ []) → HasRoom own peer i (more + 2)
       → sender_in row ≡ sides.Target → IsStep set wanted row → Course set wanted loads more (next_row set wanted row) → asker (next_row set wanted row) ≡ sides.Loader
       → ((v : TargetView) → ◌≡◌ {A = Option Role} (target.row_request v (next_row set wanted row)) None) → target.is_over (next_row set wanted row) ≡ false → KeepsWhole c sides.Loader own peer i (file_in set wanted row) s r
-      → InRow set wanted o c sides.Target row [] → InRow set wanted o c sides.Loader (next_row set wanted row) []
+      → InRow set wanted c sides.Target row [] → InRow set wanted c sides.Loader (next_row set wanted row) []
       → EarlyLeads n c sides.Loader own peer i (cost set wanted more (next_row set wanted row) + 1) s
   early_target n c own peer i before more row s r told m room sends step course turn waits goes keeps session other =
       let p = Ack s.sent in
@@ -974,7 +976,7 @@ module _ (set : Setting) (wanted : List Wanted) (loads : List LoadView) (o : Out
       let next = next_row set wanted row in
       let role = role_in set wanted next told in
       let none = nothing_arrives row file sends in
-      let row_is = row_for_is c.target [] [] row step m.identity none in
+      let row_is = row_for_is c.target [] [] row step session.1 none in
       let holds = holds_sender (IsIn (Sends s)) s (inl refl) in
       let says = answers_so sides.Target c.posts own peer i (IsIn (Sends s)) (Sends s) c.target.end p holds m.me ∙ answers in
       let decided = at_target.over_and_waits set.accepts c.target (peer + i) (own + i) (packet_bytes p) p is (target_session row []) session.0 Completes [] refl (ap (λ (x : RowView). target.row_request c.target x) row_is ∙ waits c.target)
@@ -1001,7 +1003,7 @@ module _ (set : Setting) (wanted : List Wanted) (loads : List LoadView) (o : Out
       → IsStep set wanted row → Course set wanted loads more (next_row set wanted row) → asker (next_row set wanted row) ≡ sides.Target
       → ◌≡◌ {A = Option Role} (loader.row_request c.loader.end.asks_size (Rattle.session_completion.specs.Stages.starting set wanted) (row_after (loader_row row))) None
       → row_after (loader_row row) ≡ loader_row (next_row set wanted row) → KeepsWhole c sides.Target own peer i (file_in set wanted row) s r
-      → InRow set wanted o c sides.Loader row [] → InRow set wanted o c sides.Target (next_row set wanted row) []
+      → InRow set wanted c sides.Loader row [] → InRow set wanted c sides.Target (next_row set wanted row) []
       → EarlyLeads n c sides.Target own peer i (cost set wanted more (next_row set wanted row) + 1) s
   early_loader n c own peer i before more row s r told m room step course turn waits loaders keeps session other =
       let p = Ack s.sent in
@@ -1033,7 +1035,7 @@ module _ (set : Setting) (wanted : List Wanted) (loads : List LoadView) (o : Out
       → Meets set n c getter poster own peer i (i + 1) (IsIn (Sends s)) (HasAsked (role_in set wanted (next_row set wanted row) told)) before
       (datagram poster (peer + i) (own + i) (Ack s.sent) ∷ request poster (peer + (i + 1)) (role_in set wanted (next_row set wanted row) told) ∷ []) → HasRoom own peer i (more + 2)
       → sender_in row ≡ getter → IsStep set wanted row → Course set wanted loads more (next_row set wanted row) → asker (next_row set wanted row) ≡ poster → KeepsWhole c poster own peer i (file_in set wanted row) s r
-      → InRow set wanted o c getter row [] → InRow set wanted o c poster (next_row set wanted row) []
+      → InRow set wanted c getter row [] → InRow set wanted c poster (next_row set wanted row) []
       → EarlyLeads n c poster own peer i (cost set wanted more (next_row set wanted row) + 1) s
   step_early n c getter poster own peer i before more Writes_ready s r told to_target m room sends step course turn keeps session other =
       early_target n c own peer i before more Writes_ready s r told m room refl step course refl (λ v. refl) refl keeps session other
@@ -1060,7 +1062,7 @@ module _ (set : Setting) (wanted : List Wanted) (loads : List LoadView) (o : Out
   ended : (n : ℕ) (c : World) (own peer i : ℕ) (before : List DatagramView) (x : Rattle.session_rules.specs.TargetRows.UploadEnd) (entries : List Rattle.disk_layout.specs.Manifest.LoadEntry) (s : Sender) (r : Receiver)
       → Meets set n c sides.Target sides.Loader own peer i (i + 1) (IsIn (Sends s)) Rests before (datagram sides.Loader (peer + i) (own + i) (Ack s.sent) ∷ [])
       → Course set wanted loads 0 (Writes_completion x entries) → KeepsWhole c sides.Loader own peer i (file_in set wanted (Writes_completion x entries)) s r
-      → InRow set wanted o c sides.Target (Writes_completion x entries) [] → LoaderIsDone c.loader
+      → InRow set wanted c sides.Target (Writes_completion x entries) [] → LoaderIsDone c.loader
       → AckLeads n c sides.Loader own peer i 1 s
   ended n c own peer i before x entries s r m course keeps session other =
       let p = Ack s.sent in
@@ -1085,13 +1087,13 @@ module _ (set : Setting) (wanted : List Wanted) (loads : List LoadView) (o : Out
       record {
         left = 0;
         fewer = omega arith;
-        stage = over own peer i (before ++ d ∷ []) met other (ap (λ (v : TargetView). v.live) after) (ap (λ (y : Outline). y.loads) active ∙ course.2);
+        stage = over own peer i (before ++ d ∷ []) met other (ap (λ (v : TargetView). v.live) after) (active ∙ ap (λ (entries : List Rattle.disk_layout.specs.Manifest.LoadEntry). outline_after (outline_of set.start) entries) course.2 ∙ sym (installed_same set.start loads));
         resets = reacts.resets;
       }
 
   pub step_ending : (n : ℕ) (c : World) (own peer i : ℕ) (before : List DatagramView) (row : RowView) (s : Sender) (r : Receiver)
       → Meets set n c sides.Target sides.Loader own peer i (i + 1) (IsIn (Sends s)) Rests before (datagram sides.Loader (peer + i) (own + i) (Ack s.sent) ∷ [])
-      → Course set wanted loads 0 row → KeepsWhole c sides.Loader own peer i (file_in set wanted row) s r → InRow set wanted o c sides.Target row [] → LoaderIsDone c.loader
+      → Course set wanted loads 0 row → KeepsWhole c sides.Loader own peer i (file_in set wanted row) s r → InRow set wanted c sides.Target row [] → LoaderIsDone c.loader
       → AckLeads n c sides.Loader own peer i 1 s
   step_ending n c own peer i before (Writes_completion x entries) s r m course keeps session other = ended n c own peer i before x entries s r m course keeps session other
   step_ending n c own peer i before Gives_lui s r m course keeps session other = absurd course

@@ -2,7 +2,6 @@
 use Rattle.std.proofs.Common.{◌≡◌, ℕ, ◌+◌, ◌<◌, ◌≤◌, Bool, List, [], ◌∷◌, ◌++◌, refl, sym, ap, subst, ◌∙◌, arith, append_assoc, length-append, ◌⊎◌, inl, inr}
 use Rattle.std.specs.Prelude.{Contains}
 use Rattle.std.proofs.lemmas.List.Elements.{Contains-append_left, Contains-push_cases}
-use Rattle.disk_layout.specs.Holds.{Outline}
 use Rattle.exchange_trace.specs.declared.trace.Side.{Side}
 use Rattle.exchange_trace.specs.declared.trace.Side.TheVariants as sides
 use Rattle.exchange_trace.specs.Happenings.{DatagramView}
@@ -59,10 +58,10 @@ pub other_last : (set : Setting) (c : World) (getter poster : Side) (e : Event) 
 other_last set c getter poster e to_loader = refl
 other_last set c getter poster e to_target = refl
 
-pub other_row : (set : Setting) (wanted : List Wanted) (o : Outline) (c : World) (getter poster : Side) (e : Event) (row : RowView) (arrived : List ℕ) → Opposite getter poster → InRow set wanted o c poster row arrived
-    → InRow set wanted o (delivered_to set c poster e) poster row arrived
-other_row set wanted o c getter poster e row arrived to_loader h = h
-other_row set wanted o c getter poster e row arrived to_target h = h
+pub other_row : (set : Setting) (wanted : List Wanted) (c : World) (getter poster : Side) (e : Event) (row : RowView) (arrived : List ℕ) → Opposite getter poster → InRow set wanted c poster row arrived
+    → InRow set wanted (delivered_to set c poster e) poster row arrived
+other_row set wanted c getter poster e row arrived to_loader h = h
+other_row set wanted c getter poster e row arrived to_target h = h
 
 -- ---- what came before is behind an end that went on
 

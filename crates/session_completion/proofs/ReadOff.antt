@@ -2,7 +2,6 @@
 use Rattle.std.proofs.Common.{◌≡◌, ℕ, zero, suc, ◌+◌, ◌<◌, ◌≤◌, Bool, true, List, [], ◌∷◌, ◌++◌, length, drop, Option, Some, None, refl, sym, ap, subst, ◌∙◌, arith, length-append, ◌⊎◌, inl, inr}
 use Rattle.std.specs.Prelude.{Contains, is_some}
 use Rattle.std.proofs.lemmas.List.Elements.{Contains-append_cases}
-use Rattle.disk_layout.specs.Holds.{Outline}
 use Rattle.load_base.specs.Config.{LoadView}
 use Rattle.load_protocol_files.specs.declared.lur.Wanted.{Wanted}
 use Rattle.exchange_trace.specs.declared.trace.Side.{Side}
@@ -162,7 +161,7 @@ shape_two set n c getter poster own peer i j mine yours before x y m side past =
 
 -- ---- requests that are ahead
 
-module _ (set : Setting) (wanted : List Wanted) (loads : List LoadView) (o : Outline) (joins : SumsJoin) (same_identity : o.identity ≡ set.start.identity) (sequence : o.sequence < 4294967295) where
+module _ (set : Setting) (wanted : List Wanted) (loads : List LoadView) (joins : SumsJoin) (sequence : set.start.sequence < 4294967295) where
   role_is_read : (row : RowView) (told : Option ℕ) → IsFine set wanted row → IsInUpload row → packet_in (packet_bytes (first_packet (role_in set wanted row told))) ≡ Some (first_packet (role_in set wanted row told))
   role_is_read Gives_lui told fine h = (requests_are_read (own_file_name set Lui) (file_in set wanted Gives_lui) told fine.named fine.fits).0
   role_is_read (Reads_file u) told fine h = (requests_are_read (next_name u) (file_in set wanted (Reads_file u)) told fine.named fine.fits).0
@@ -194,14 +193,14 @@ module _ (set : Setting) (wanted : List Wanted) (loads : List LoadView) (o : Out
   hurries getter poster Over told to_target later turn = absurd later
 
   fine_row : (more : ℕ) (row : RowView) → Course set wanted loads more row → IsFine set wanted row
-  fine_row more row course = next.fine_of set wanted loads o joins same_identity sequence more row course
+  fine_row more row course = next.fine_of set wanted loads joins sequence more row course
 
   in_upload : (more : ℕ) (row : RowView) → Course set wanted loads more row → IsInUpload row
-  in_upload more row course = next.in_course set wanted loads o joins same_identity sequence more row course
+  in_upload more row course = next.in_course set wanted loads joins sequence more row course
 
   -- ---- how the ends stand
 
-  where_shape : (n : ℕ) (c : World) (budget : ℕ) → Where set wanted loads o n c budget → HasShape set n c
+  where_shape : (n : ℕ) (c : World) (budget : ℕ) → Where set wanted loads n c budget → HasShape set n c
   where_shape n c budget (asked getter poster own peer i before more row told m room course turn loader target) = shape_one set n c getter poster own peer i i Rests _ before _ m
   where_shape n c budget (down getter poster own peer i mine yours before more row s r p m room course sends talk holds held session other) = shape_one set n c getter poster own peer i i mine yours before _ m
   where_shape n c budget (up getter poster own peer i mine yours before more row s r p m room course sends talk holds held session other) = shape_one set n c getter poster own peer i i mine yours before _ m
@@ -215,7 +214,7 @@ module _ (set : Setting) (wanted : List Wanted) (loads : List LoadView) (o : Out
   where_shape n c budget (over own peer i before m finished none active) =
       shape_of set n c sides.Target sides.Loader own peer (i + 1) (i + 1) Rests Rests before [] to_target m (λ d has. absurd (contains_none d has))
 
-  where_meets : (n : ℕ) (c : World) (budget : ℕ) → Where set wanted loads o n c budget → MeetsSomehow set n c
+  where_meets : (n : ℕ) (c : World) (budget : ℕ) → Where set wanted loads n c budget → MeetsSomehow set n c
   where_meets n c budget (asked getter poster own peer i before more row told m room course turn loader target) = some_meets set n c getter poster own peer i i Rests _ before _ m (omega arith)
   where_meets n c budget (down getter poster own peer i mine yours before more row s r p m room course sends talk holds held session other) = some_meets set n c getter poster own peer i i mine yours before _ m (omega arith)
   where_meets n c budget (up getter poster own peer i mine yours before more row s r p m room course sends talk holds held session other) = some_meets set n c getter poster own peer i i mine yours before _ m (omega arith)
@@ -237,7 +236,7 @@ module _ (set : Setting) (wanted : List Wanted) (loads : List LoadView) (o : Out
   some_next : (n : ℕ) (c : World) (getter poster : Side) (own peer i j : ℕ) (mine yours : Position) (before rest : List DatagramView) (x : DatagramView) → Meets set n c getter poster own peer i j mine yours before (x ∷ rest) → numbered c.posts (n + 1) ≡ None → ⊥
   some_next n c getter poster own peer i j mine yours before rest x m none = let f = head_is_next c.posts before rest x n m.posts m.count in absurd cc
 
-  where_done : (n : ℕ) (c : World) (budget : ℕ) → Where set wanted loads o n c budget → numbered c.posts (n + 1) ≡ None → IsDone loads c
+  where_done : (n : ℕ) (c : World) (budget : ℕ) → Where set wanted loads n c budget → numbered c.posts (n + 1) ≡ None → IsDone set loads c
   where_done n c budget (over own peer i before m finished none active) e = record {
     loader = ap (λ (l : Option Rattle.session_rules.specs.Loader.LoaderSession). is_some l) finished.0;
     target = ap (λ (l : Option Rattle.session_rules.specs.Target.TargetSession). is_some l) none;
@@ -262,10 +261,10 @@ module _ (set : Setting) (wanted : List Wanted) (loads : List LoadView) (o : Out
       one_more : (n : ℕ) → n + 2 ≡ n + 1 + 1
       one_more n = omega arith
 
-  where_two : (n : ℕ) (c : World) (budget : ℕ) (d e : DatagramView) → Where set wanted loads o n c budget → IsNext n c d → numbered c.posts (n + 2) ≡ Some e → (delivered set c d).posts ≡ c.posts
+  where_two : (n : ℕ) (c : World) (budget : ℕ) (d e : DatagramView) → Where set wanted loads n c budget → IsNext n c d → numbered c.posts (n + 2) ≡ Some e → (delivered set c d).posts ≡ c.posts
   where_two n c budget d e (early getter poster own peer i before more row s r told m room sends step keeps session other) is second =
       subst (λ (x : DatagramView). (delivered set c x).posts ≡ c.posts) (sym (next_is c.posts before _ _ d n m.posts m.count is))
-      (next.step_early set wanted loads o joins same_identity sequence n c getter poster own peer i before more row s r told m.opposite m room sends step.0 step.1 step.2 keeps session other).1
+      (next.step_early set wanted loads joins sequence n c getter poster own peer i before more row s r told m.opposite m room sends step.0 step.1 step.2 keeps session other).1
   where_two n c budget d e (asked getter poster own peer i before more row told m room course turn loader target) is second = absurd (only_one_ahead n c getter poster own peer i i Rests _ before _ e m second)
   where_two n c budget d e (down getter poster own peer i mine yours before more row s r p m room course sends talk holds held session other) is second = absurd (only_one_ahead n c getter poster own peer i i mine yours before _ e m second)
   where_two n c budget d e (up getter poster own peer i mine yours before more row s r p m room course sends talk holds held session other) is second = absurd (only_one_ahead n c getter poster own peer i i mine yours before _ e m second)
@@ -275,16 +274,16 @@ module _ (set : Setting) (wanted : List Wanted) (loads : List LoadView) (o : Out
 
   -- ---- uploads end
 
-  comes_out : (k n : ℕ) (c : World) (budget : ℕ) → budget ≤ k → Where set wanted loads o n c budget → ComesOut set k n c
+  comes_out : (k n : ℕ) (c : World) (budget : ℕ) → budget ≤ k → Where set wanted loads n c budget → ComesOut set k n c
   comes_out zero n c budget le stage = elim (first_or_none c.posts n) [
-    | inl (d, is) ↦ (let led = leads_on set wanted loads o joins same_identity sequence n c budget d stage is in absurd (fewer_than_none led.left budget led.fewer le))
+    | inl (d, is) ↦ (let led = leads_on set wanted loads joins sequence n c budget d stage is in absurd (fewer_than_none led.left budget led.fewer le))
     | inr none ↦ none
   ]
     where
       fewer_than_none : (a b : ℕ) → a < b → b ≤ 0 → ⊥
       fewer_than_none a b lt le = absurd (omega arith)
   comes_out (suc k) n c budget le stage = λ d is.
-      let led = leads_on set wanted loads o joins same_identity sequence n c budget d stage is in
+      let led = leads_on set wanted loads joins sequence n c budget d stage is in
       let few = led.fewer in comes_out k (n + 1) (delivered set c d) led.left (omega arith) led.stage
 
 resets_same : (set : Setting) (c : World) (d : DatagramView) (side : Side) → Resets set c side (Gets d.from d.to d.bytes) → ResetsAt set c d side
@@ -293,26 +292,26 @@ resets_same set c d sides.Target h = h
 
 module _ (joins : SumsJoin) where
   pub all_have_shape : Rattle.session_completion.specs.Shapes.AllHaveShape
-  all_have_shape set loads n c clean = let s = all_stand joins set loads n c clean in where_shape set s.wanted loads s.o joins s.same_identity s.sequence n c s.budget s.stage
+  all_have_shape set loads n c clean = let s = all_stand joins set loads n c clean in where_shape set s.wanted loads joins s.sequence n c s.budget s.stage
 
   pub next_resets : NextResets
   next_resets set loads n c d clean is =
       let s = all_stand joins set loads n c clean in
-      resets_same set c d d.side (leads_on set s.wanted loads s.o joins s.same_identity s.sequence n c s.budget d s.stage is).resets
+      resets_same set c d d.side (leads_on set s.wanted loads joins s.sequence n c s.budget d s.stage is).resets
 
   pub last_was_posted : LastWasPosted
   last_was_posted set loads n c side clean waiting =
       let s = all_stand joins set loads n c clean in
-      let m = where_meets set s.wanted loads s.o joins s.same_identity s.sequence n c s.budget s.stage in
-      last_by set s.wanted loads s.o joins s.same_identity s.sequence n c m m.getter m.poster side refl refl m.meets.opposite waiting
+      let m = where_meets set s.wanted loads joins s.sequence n c s.budget s.stage in
+      last_by set s.wanted loads joins s.sequence n c m m.getter m.poster side refl refl m.meets.opposite waiting
 
   pub last_is_done : LastIsDone
-  last_is_done set loads n c clean none = let s = all_stand joins set loads n c clean in where_done set s.wanted loads s.o joins s.same_identity s.sequence n c s.budget s.stage none
+  last_is_done set loads n c clean none = let s = all_stand joins set loads n c clean in where_done set s.wanted loads joins s.sequence n c s.budget s.stage none
 
   pub few_are_ahead : FewAreAhead
   few_are_ahead set loads n c clean =
       let s = all_stand joins set loads n c clean in
-      let m = where_meets set s.wanted loads s.o joins s.same_identity s.sequence n c s.budget s.stage in
+      let m = where_meets set s.wanted loads joins s.sequence n c s.budget s.stage in
       let few : length c.posts ≡ length m.before + length m.ahead = ap length m.meets.posts ∙ length-append m.before m.ahead in
       let count = m.meets.count in
       let at_most = m.few in
@@ -322,7 +321,7 @@ module _ (joins : SumsJoin) where
       three n = omega arith
 
   pub two_are_quiet : TwoAreQuiet
-  two_are_quiet set loads n c d e clean is second = let s = all_stand joins set loads n c clean in where_two set s.wanted loads s.o joins s.same_identity s.sequence n c s.budget d e s.stage is second
+  two_are_quiet set loads n c d e clean is second = let s = all_stand joins set loads n c clean in where_two set s.wanted loads joins s.sequence n c s.budget d e s.stage is second
 
   pub all_come_out : AllComeOut
-  all_come_out set loads n c clean = let s = all_stand joins set loads n c clean in (s.budget, comes_out set s.wanted loads s.o joins s.same_identity s.sequence s.budget n c s.budget (omega arith) s.stage)
+  all_come_out set loads n c clean = let s = all_stand joins set loads n c clean in (s.budget, comes_out set s.wanted loads joins s.sequence s.budget n c s.budget (omega arith) s.stage)

@@ -1,28 +1,21 @@
 -- What both ends keep of a row, and what they ask for in it.
-use Rattle.std.proofs.Common.{◌≡◌, ℕ, Bool, true, false, cond, List, [], ◌∷◌, ◌++◌, length, Option, Some, None, Result, Ok, Err, refl, sym, ap, ◌∙◌}
+use Rattle.std.proofs.Common.{◌≡◌, ℕ, Bool, true, false, List, [], ◌∷◌, ◌++◌, Option, Some, None, refl, sym, ap, ◌∙◌}
 use Rattle.std.specs.Prelude.{bytes_eq}
 use Rattle.std.proofs.lemmas.Slice.Eq.{bytes_eq-Decides}
-use Rattle.disk_layout.specs.declared.identity.Identity.{Identity}
 use Rattle.disk_layout.specs.Holds.{Outline, outline_of}
-use Rattle.field_grammar.specs.Answers.{answer}
-use Rattle.load_header.specs.declared.fault.HeaderFault.{HeaderFault}
-use Rattle.load_header.specs.declared.fault.HeaderFault.TheVariants as headers
-use Rattle.load_header.specs.Header.{HeaderView, header}
 use Rattle.load_protocol_files.specs.declared.lur.Wanted.{Wanted}
 use Rattle.exchange_trace.specs.declared.trace.Side.TheVariants as sides
-use Rattle.accept_rules.specs.Permissions.{Accepts}
 use Rattle.session_rules.specs.declared.outcome.FileKind.{FileKind}
 use Rattle.session_rules.specs.declared.outcome.FileKind.TheVariants.{Lci, Lui}
-use Rattle.session_rules.specs.declared.reason.Reason.TheVariants as reasons
-use Rattle.session_rules.specs.Buffers.{Buffer, Sums, is_too_long}
+use Rattle.session_rules.specs.Buffers.{Buffer, Sums}
 use Rattle.session_rules.specs.BufferLaws.{SumsJoin, buffered_on, summed_on}
 use Rattle.session_rules.specs.FileNames.{extension, file_name}
 use Rattle.session_rules.specs.Loader.{LoaderSession}
 use Rattle.session_rules.specs.Loader as loader
 use Rattle.session_rules.specs.Target as target
 use Rattle.session_rules.specs.Target.{TargetSession, TargetView, active_in}
-use Rattle.session_rules.specs.TargetRows.{Arriving, Judges, Kept_bytes, Kept_sums, RowMove, RowView, Gives_lci, Writes_lcs, Writes_lcl, Gives_lui, Gives_denial, Writes_ready, Awaits_lur, Reads_file, Writes_progress, Writes_stop, Writes_completion, Over, arriving_load, arriving_of, done_move, header_move, read_move, row_move, said_length, view_moved, with_bytes}
-use Rattle.session_rules.specs.Uploads.{Judgement, OpenLoadView, Stops_for, UploadView, judge_header, judge_read_header, next_entry, next_wanted}
+use Rattle.session_rules.specs.TargetRows.{Arriving, Kept_bytes, Kept_sums, RowView, Gives_lci, Writes_lcs, Writes_lcl, Gives_lui, Gives_denial, Writes_ready, Awaits_lur, Reads_file, Writes_progress, Writes_stop, Writes_completion, Over, arriving_load, arriving_of, row_move, said_length, view_moved, with_bytes}
+use Rattle.session_rules.specs.Uploads.{OpenLoadView, next_entry}
 use Rattle.replay_rules.specs.BothEnds.{Setting}
 use Rattle.session_completion.specs.Course.{IsLater, IsSum, IsSummed, LoaderGoesOn, arrives_in, asker, file_in, next_row, role_in}
 use Rattle.session_completion.specs.Stages.{loader_session, target_session}
@@ -117,54 +110,13 @@ target_goes_on joins row first rest live summed e =
 
 -- ---- the row that the target turns to
 
--- of what is active the tests on a file read the identity alone
-abbrev known_by : Identity → Outline
-known_by id = record { identity = id; bank = 0; sequence = 0; loads = [] }
-
-module _ (accepts : Accepts) (active : Outline) where
-  read_same : (u : UploadView) (w : Wanted) (b : Buffer) (found : Result HeaderView HeaderFault) → judge_read_header accepts active u w b found ≡ judge_read_header accepts (known_by active.identity) u w b found
-  read_same u w b (Ok h) = refl
-  read_same u w b (Err fault) = refl
-
-  judged_same : (u : UploadView) (w : Wanted) (b : Buffer) → judge_header accepts active u w b ≡ judge_header accepts (known_by active.identity) u w b
-  unfolding judge_header
-  judged_same u w b = ap (λ (j : Judgement). cond (is_too_long b) (Stops_for (reasons.HeaderRefused headers.TooLong) (length u.loads)) j) (read_same u w b (answer header b.prefix))
-
-  header_same : (u : UploadView) (wanted : Option Wanted) (arriving : Arriving) → header_move accepts active u wanted arriving ≡ header_move accepts (known_by active.identity) u wanted arriving
-  header_same u None arriving = refl
-  header_same u (Some w) (Kept_bytes b) = ap Judges (judged_same u w b)
-  header_same u (Some w) (Kept_sums s) = refl
-
-  file_same : (u : UploadView) (current : Option OpenLoadView) (arriving : Arriving) → read_move accepts active u current arriving ≡ read_move accepts (known_by active.identity) u current arriving
-  file_same u None arriving = header_same u (next_wanted u) arriving
-  file_same u (Some l) arriving = refl
-
-  done_same : (row : RowView) (arriving : Arriving) → done_move accepts active row arriving ≡ done_move accepts (known_by active.identity) row arriving
-  done_same (Reads_file u) arriving = file_same u u.current arriving
-  done_same Awaits_lur arriving = refl
-  done_same Gives_lci arriving = refl
-  done_same Writes_lcs arriving = refl
-  done_same Writes_lcl arriving = refl
-  done_same Gives_lui arriving = refl
-  done_same Gives_denial arriving = refl
-  done_same Writes_ready arriving = refl
-  done_same (Writes_progress u) arriving = refl
-  done_same (Writes_stop e) arriving = refl
-  done_same (Writes_completion e loads) arriving = refl
-  done_same Over arriving = refl
-
--- so what a file comes to in a row is the same beside each configuration of one target
-move_same : (accepts : Accepts) (active other : Outline) (row : RowView) (arriving : Arriving) → active.identity ≡ other.identity → done_move accepts active row arriving ≡ done_move accepts other row arriving
-move_same accepts active other row arriving same =
-    done_same accepts active row arriving ∙ (ap (λ (id : Identity). done_move accepts (known_by id) row arriving) same ∙ sym (done_same accepts other row arriving))
-
 -- where this arrived of the file, and this is the last of it
-pub turns_to : SumsJoin → (set : Setting) (wanted : List Wanted) (row : RowView) (first more : List ℕ) (active : Outline) → IsSummed row → active.identity ≡ set.start.identity → first ++ more ≡ arrives_in row (file_in set wanted row)
+pub turns_to : SumsJoin → (set : Setting) (wanted : List Wanted) (row : RowView) (first more : List ℕ) (active : Outline) → IsSummed row → active ≡ outline_of set.start → first ++ more ≡ arrives_in row (file_in set wanted row)
     → view_moved row (with_bytes (arriving_of row first) more) (row_move set.accepts active row (record { error = None; arriving = with_bytes (arriving_of row first) more })) ≡ next_row set wanted row
 turns_to joins set wanted row first more active summed same whole =
     let e : with_bytes (arriving_of row first) more ≡ arriving_of row (arrives_in row (file_in set wanted row)) = arriving_more joins row first more summed ∙ ap (λ (x : List ℕ). arriving_of row x) whole in
     ap (λ (a : Arriving). view_moved row a (row_move set.accepts active row (record { error = None; arriving = a }))) e
-    ∙ ap (λ (m : RowMove). view_moved row (arriving_of row (arrives_in row (file_in set wanted row))) m) (move_same set.accepts active (outline_of set.start) row (arriving_of row (arrives_in row (file_in set wanted row))) same)
+    ∙ ap (λ (o : Outline). view_moved row (arriving_of row (arrives_in row (file_in set wanted row))) (row_move set.accepts o row (record { error = None; arriving = arriving_of row (arrives_in row (file_in set wanted row)) }))) same
 
 -- ---- what the target asks for
 

@@ -57,32 +57,32 @@ next_is posts before rest x d n e count is = let f = (next_drop posts n d is).0 
 pub none_is : (posts before : List DatagramView) (d : DatagramView) (n : ℕ) → posts ≡ before ++ [] → length before ≡ n → Rattle.exchange_trace.specs.Posts.numbered posts (n + 1) ≡ Some d → ⊥
 none_is posts before d n e count is = let f = (next_drop posts n d is).0 in let g = drop_before posts before [] n e count in absurd cc
 
-module _ (set : Setting) (wanted : List Wanted) (loads : List LoadView) (o : Outline) (joins : SumsJoin) (same_identity : o.identity ≡ set.start.identity) (sequence : o.sequence < 4294967295) where
+module _ (set : Setting) (wanted : List Wanted) (loads : List LoadView) (joins : SumsJoin) (sequence : set.start.sequence < 4294967295) where
   abbrev LeadsOn : ℕ → World → ℕ → DatagramView → Type 0
-  LeadsOn n c budget d = Leads set wanted loads o joins same_identity sequence n c budget d.side (Gets d.from d.to d.bytes)
+  LeadsOn n c budget d = Leads set wanted loads joins sequence n c budget d.side (Gets d.from d.to d.bytes)
 
   -- each delivery leads to the next stage
-  pub leads_on : (n : ℕ) (c : World) (budget : ℕ) (d : DatagramView) → Where set wanted loads o n c budget → IsNext n c d → LeadsOn n c budget d
+  pub leads_on : (n : ℕ) (c : World) (budget : ℕ) (d : DatagramView) → Where set wanted loads n c budget → IsNext n c d → LeadsOn n c budget d
   leads_on n c budget d (asked getter poster own peer i before more row told m room course turn loads' target) is =
       subst (λ (x : DatagramView). LeadsOn n c (cost set wanted more row) x) (sym (next_is c.posts before [] (request poster (peer + i) (role_in set wanted row told)) d n m.posts m.count is))
-      (next.step_asked set wanted loads o joins same_identity sequence n c getter poster own peer i before more row told m.opposite m room course turn loads' target)
+      (next.step_asked set wanted loads joins sequence n c getter poster own peer i before more row told m.opposite m room course turn loads' target)
   leads_on n c budget d (down getter poster own peer i mine yours before more row s r p m room course sends talk holds held session other) is =
       subst (λ (x : DatagramView). LeadsOn n c budget x) (sym (next_is c.posts before [] (datagram poster (peer + i) (own + i) p) d n m.posts m.count is))
-      (next.step_down set wanted loads o joins same_identity sequence n c getter poster own peer i mine yours before more row s r p (receiver_answer r p) m room course sends
-      (talk_is_read (file_in set wanted row) s r true p talk (next.fine_of set wanted loads o joins same_identity sequence more row course).bytes) refl (receiver_goes_on (file_in set wanted row) s r p talk) holds (inl held.0) session other)
+      (next.step_down set wanted loads joins sequence n c getter poster own peer i mine yours before more row s r p (receiver_answer r p) m room course sends
+      (talk_is_read (file_in set wanted row) s r true p talk (next.fine_of set wanted loads joins sequence more row course).bytes) refl (receiver_goes_on (file_in set wanted row) s r p talk) holds (inl held.0) session other)
   leads_on n c budget d (up getter poster own peer i mine yours before more row s r p m room course sends talk holds held session other) is =
       subst (λ (x : DatagramView). LeadsOn n c budget x) (sym (next_is c.posts before [] (datagram poster (peer + i) (own + i) p) d n m.posts m.count is))
-      (next.step_up set wanted loads o joins same_identity sequence n c getter poster own peer i mine yours before more row s r p (sender_answer s p) m room course sends
-      (talk_is_read (file_in set wanted row) s r false p talk (next.fine_of set wanted loads o joins same_identity sequence more row course).bytes) refl (sender_goes_on (file_in set wanted row) s r p talk) holds (inl held.0) session other)
+      (next.step_up set wanted loads joins sequence n c getter poster own peer i mine yours before more row s r p (sender_answer s p) m room course sends
+      (talk_is_read (file_in set wanted row) s r false p talk (next.fine_of set wanted loads joins sequence more row course).bytes) refl (sender_goes_on (file_in set wanted row) s r p talk) holds (inl held.0) session other)
   leads_on n c budget d (closing getter poster own peer i before more row s r m room sends step keeps session other) is =
       subst (λ (x : DatagramView). LeadsOn n c budget x) (sym (next_is c.posts before [] _ d n m.posts m.count is))
-      (next.step_closing set wanted loads o joins same_identity sequence n c getter poster own peer i before more row s r m.opposite m room sends step.0 step.1 step.2 keeps session other)
+      (next.step_closing set wanted loads joins sequence n c getter poster own peer i before more row s r m.opposite m room sends step.0 step.1 step.2 keeps session other)
   leads_on n c budget d (early getter poster own peer i before more row s r told m room sends step keeps session other) is =
       subst (λ (x : DatagramView). LeadsOn n c budget x) (sym (next_is c.posts before _ _ d n m.posts m.count is))
-      (next.step_early set wanted loads o joins same_identity sequence n c getter poster own peer i before more row s r told m.opposite m room sends step.0 step.1 step.2 keeps session other).0
+      (next.step_early set wanted loads joins sequence n c getter poster own peer i before more row s r told m.opposite m room sends step.0 step.1 step.2 keeps session other).0
   leads_on n c budget d (ending own peer i before row s r m room course keeps session finished) is =
       subst (λ (x : DatagramView). LeadsOn n c budget x) (sym (next_is c.posts before [] _ d n m.posts m.count is))
-      (next.step_ending set wanted loads o joins same_identity sequence n c own peer i before row s r m course keeps session finished)
+      (next.step_ending set wanted loads joins sequence n c own peer i before row s r m course keeps session finished)
   leads_on n c budget d (over own peer i before m finished none active) is = absurd (none_is c.posts before d n m.posts m.count is)
 
   -- ---- a block size is told
@@ -120,7 +120,7 @@ module _ (set : Setting) (wanted : List Wanted) (loads : List LoadView) (o : Out
   kept_so sides.Loader c size = refl
   kept_so sides.Target c size = refl
 
-  row_so : (x : Side) (c : World) (size : Option ℕ) (row : RowView) (arrived : List ℕ) → InRow set wanted o c x row arrived → InRow set wanted o (learning c size) x row arrived
+  row_so : (x : Side) (c : World) (size : Option ℕ) (row : RowView) (arrived : List ℕ) → InRow set wanted c x row arrived → InRow set wanted (learning c size) x row arrived
   row_so sides.Loader c size row arrived h = h
   row_so sides.Target c size row arrived h = h
 
@@ -147,10 +147,10 @@ module _ (set : Setting) (wanted : List Wanted) (loads : List LoadView) (o : Out
   keeps_so : (c : World) (size : Option ℕ) (poster : Side) (own peer i : ℕ) (file : List ℕ) (s : Sender) (r : Receiver) → KeepsWhole c poster own peer i file s r → KeepsWhole (learning c size) poster own peer i file s r
   keeps_so c size poster own peer i file s r k = record { kept = kept_so poster c size ∙ k.kept; phase = k.phase; whole = k.whole }
 
-  before_so : (c : World) (size : Option ℕ) (row : RowView) → TargetBefore o c.target row → TargetBefore o (learning c size).target row
+  before_so : (c : World) (size : Option ℕ) (row : RowView) → TargetBefore set c.target row → TargetBefore set (learning c size).target row
   before_so c size row h = h
 
-  where_so : (n : ℕ) (c : World) (size : Option ℕ) (budget : ℕ) → Where set wanted loads o n c budget → Where set wanted loads o n (learning c size) budget
+  where_so : (n : ℕ) (c : World) (size : Option ℕ) (budget : ℕ) → Where set wanted loads n c budget → Where set wanted loads n (learning c size) budget
   where_so n c size budget (asked getter poster own peer i before more row told m room course turn loader target) =
       asked getter poster own peer i before more row told (meets_so n c size getter poster own peer i i Rests _ before _ m) room course turn loader (before_so c size row target)
   where_so n c size budget (down getter poster own peer i mine yours before more row s r p m room course sends talk holds held session other) =
@@ -165,8 +165,8 @@ module _ (set : Setting) (wanted : List Wanted) (loads : List LoadView) (o : Out
       ending own peer i before row s r (meets_so n c size sides.Target sides.Loader own peer i (i + 1) _ Rests before _ m) room course (keeps_so c size sides.Loader own peer i _ s r keeps) session finished
   where_so n c size budget (over own peer i before m finished none active) = over own peer i before (meets_so n c size sides.Target sides.Loader own peer (i + 1) (i + 1) Rests Rests before [] m) finished none active
 
-  pub told_where : (n : ℕ) (c : World) (size : Option ℕ) (budget : ℕ) → SessionFits c.target.live → Where set wanted loads o n c budget → Where set wanted loads o n (told set c size) budget
-  told_where n c size budget fits h = subst (λ (x : World). Where set wanted loads o n x budget) (sym (learns_so c size fits)) (where_so n c size budget h)
+  pub told_where : (n : ℕ) (c : World) (size : Option ℕ) (budget : ℕ) → SessionFits c.target.live → Where set wanted loads n c budget → Where set wanted loads n (told set c size) budget
+  told_where n c size budget fits h = subst (λ (x : World). Where set wanted loads n x budget) (sym (learns_so c size fits)) (where_so n c size budget h)
 
 -- ---- the start
 
@@ -203,7 +203,7 @@ same_start live s row = rw (take-nil buffer_size) refl
 
 -- at the start the loader has asked for the first file
 pub starts_where : (set : Setting) (loads : List LoadView) (w : World) (parts : List (List ℕ)) (wanted : List Wanted) (more : ℕ) → IsIdle set (more + 1) w → Course set wanted loads more Gives_lui → length parts ≤ 32 → wanted_of set.media.loads parts ≡ Ok wanted
-    → Where set wanted loads w.target.active 0 (at_loader set w (Starts_upload set.start.identity.hw set.start.identity.pos parts)) (cost set wanted more Gives_lui)
+    → Where set wanted loads 0 (at_loader set w (Starts_upload set.start.identity.hw set.start.identity.pos parts)) (cost set wanted more Gives_lui)
 starts_where set loads w parts wanted more idle course few on_media =
     let e = Starts_upload set.start.identity.hw set.start.identity.pos parts in
     let v = w.loader.end in
@@ -236,11 +236,11 @@ starts_where set loads w parts wanted more idle course few on_media =
       to_you = λ d has side. absurd (only_one [] d has);
       i_posted = λ waiting. absurd (not_waiting w.target.live idle.target waiting);
       you_posted = λ waiting. (request sides.Loader (peer + 0) role, asking.last.0, asking.last.1);
-      identity = idle.identity;
+      identity = ap (λ (o : Outline). o.identity) idle.active;
     })
     (record { own_ports = omega arith; peer_ports = omega arith }) course refl
     (ap (λ (x : LoaderView). x.live) after ∙ ap (λ (b : Buffer). let s : LoaderSession = record { start = starting set wanted; row = Reads_lui; arriving = b } in Some s) (rw (take-nil buffer_size) refl))
-    (idle.target, refl)
+    (idle.target, idle.active)
   where
     not_waiting : (live : Option TargetSession) → live ≡ None → Rattle.std.specs.Prelude.is_some live ≡ true → ⊥
     not_waiting live e f = absurd cc
@@ -250,18 +250,14 @@ starts_where set loads w parts wanted more idle course few on_media =
 -- a clean upload stands in one of its stages
 pub record StandsSomewhere (set : Setting) (loads : List LoadView) (n : ℕ) (c : World) : Type 0 where
   pub wanted : List Wanted
-  pub o : Outline
-  pub same_identity : o.identity ≡ set.start.identity
-  pub sequence : o.sequence < 4294967295
+  pub sequence : set.start.sequence < 4294967295
   pub budget : ℕ
-  pub stage : Where set wanted loads o n c budget
+  pub stage : Where set wanted loads n c budget
 
 pub all_stand : SumsJoin → (set : Setting) (loads : List LoadView) (n : ℕ) (c : World) → Clean set loads n c → StandsSomewhere set loads n c
 all_stand joins set loads n c (starts w parts wanted more idle course few on_media) = record {
   wanted = wanted;
-  o = w.target.active;
-  same_identity = idle.identity;
-  sequence = idle.sequence;
+  sequence = subst (λ (o : Outline). o.sequence < 4294967295) idle.active idle.sequence;
   budget = cost set wanted more Gives_lui;
   stage = starts_where set loads w parts wanted more idle course few on_media;
 }
@@ -269,19 +265,15 @@ all_stand joins set loads n c (learns m w size before) =
     let s = all_stand joins set loads m w before in
     record {
       wanted = s.wanted;
-      o = s.o;
-      same_identity = s.same_identity;
       sequence = s.sequence;
       budget = s.budget;
-      stage = told_where set s.wanted loads s.o joins s.same_identity s.sequence m w size s.budget (clean_fits set loads m w before) s.stage;
+      stage = told_where set s.wanted loads joins s.sequence m w size s.budget (clean_fits set loads m w before) s.stage;
     }
 all_stand joins set loads n c (goes m w d before is) =
     let s = all_stand joins set loads m w before in
-    let led = leads_on set s.wanted loads s.o joins s.same_identity s.sequence m w s.budget d s.stage is in
+    let led = leads_on set s.wanted loads joins s.sequence m w s.budget d s.stage is in
     record {
       wanted = s.wanted;
-      o = s.o;
-      same_identity = s.same_identity;
       sequence = s.sequence;
       budget = led.left;
       stage = led.stage;

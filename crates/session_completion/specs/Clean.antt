@@ -5,7 +5,7 @@ use Rattle.std.specs.Prelude.{◌≡◌, ℕ, ◌+◌, ◌<◌, ◌≤◌, List,
 use Rattle.std.specs.List.{AllByRecursion}
 use Rattle.load_base.specs.Config.{LoadView}
 use Rattle.load_protocol_files.specs.declared.lur.Wanted.{Wanted}
-use Rattle.disk_layout.specs.Contents.{entries_of}
+use Rattle.disk_layout.specs.Holds.{outline_of}
 use Rattle.exchange_trace.specs.declared.trace.Side.TheVariants as sides
 use Rattle.exchange_trace.specs.Happenings.{DatagramView, other}
 use Rattle.exchange_trace.specs.Logs.{Starts_upload}
@@ -13,6 +13,7 @@ use Rattle.exchange_trace.specs.Posts.{numbered}
 use Rattle.transfer_end.specs.Views.{TransferView}
 use Rattle.session_rules.specs.declared.outcome.SessionKind.TheVariants.{Upload}
 use Rattle.session_rules.specs.MediaFiles.{wanted_of}
+use Rattle.session_rules.specs.TargetLog.{standing_after}
 use Rattle.replay_rules.specs.BothEnds.{Setting}
 use Rattle.replay_rules.specs.Promises.{HasCompleted}
 use Rattle.session_rules.specs.TargetRows.{Gives_lui}
@@ -25,7 +26,7 @@ IsBelow port None = Unit {0}
 IsBelow port (Some t) = t.own < port
 
 -- Both ends before the start: neither waits, this many ports are left, and the ports that each draws from now on are above
--- the other's mark.
+-- the other's mark. What is active at the target is what the setting begins with.
 pub record IsIdle (set : Setting) (ports : ℕ) (w : World) : Type 0 where
   pub loader : w.loader.live ≡ None
   pub loader_free : w.loader.end.live ≡ None
@@ -41,7 +42,7 @@ pub record IsIdle (set : Setting) (ports : ℕ) (w : World) : Type 0 where
   pub target_low : 59 < w.target.end.next_port
   pub loader_kept : IsBelow w.loader.end.next_port w.loader.end.kept
   pub target_kept : IsBelow w.target.end.next_port w.target.end.kept
-  pub identity : w.target.active.identity ≡ set.start.identity
+  pub active : w.target.active ≡ outline_of set.start
 
 -- This many datagrams were delivered, in the order of their posts. The upload's rows go well, and there are ports for them.
 pub data Clean (set : Setting) (loads : List LoadView) : ℕ → World → Type 0 where
@@ -79,9 +80,10 @@ pub record IsAnswered (set : Setting) (c : World) (d : DatagramView) : Type 0 wh
   pub last : last_of c (other d.side) ≡ Some asked
   pub answer : (loader target : ℕ) (posts : List DatagramView) → (delivered set (retried c loader target posts) asked).posts ≡ posts ++ d ∷ []
 
--- Nothing is next: neither end waits, the loader's upload is completed, and what is active at the target are these loads.
-pub record IsDone (loads : List LoadView) (c : World) : Type 0 where
+-- Nothing is next: neither end waits, the loader's upload is completed, and what is active at the target are these loads, and
+-- then those that are kept of what was active before.
+pub record IsDone (set : Setting) (loads : List LoadView) (c : World) : Type 0 where
   pub loader : waits c sides.Loader ≡ false
   pub target : waits c sides.Target ≡ false
   pub completed : HasCompleted Upload c.loader.ended
-  pub active : c.target.active.loads ≡ entries_of loads
+  pub active : c.target.active ≡ outline_of (standing_after set.start loads)

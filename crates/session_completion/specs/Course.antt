@@ -80,7 +80,7 @@ arrives_in Awaits_lur file = file
 arrives_in (Reads_file u) file = file
 arrives_in row file = []
 
--- by the target's own rules, which go by what is active; of that the tests read the identity alone, which is that of the start
+-- by the target's own rules, which go by what is active at the start
 abbrev pub next_row : Setting → List Wanted → RowView → RowView
 next_row set wanted row =
     view_moved row (arriving_of row (arrives_in row (file_in set wanted row)))

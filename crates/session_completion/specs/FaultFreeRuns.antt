@@ -14,6 +14,7 @@ use Rattle.replay_rules.specs.AskedTraces.{EntriesFit}
 use Rattle.replay_rules.specs.BothEnds.{Setting, loader_at, target_at, waiting}
 use Rattle.replay_rules.specs.Due.{AllDue}
 use Rattle.replay_rules.specs.FaultFree.{HasPorts, IsFaultFree, IsReadyFor}
+use Rattle.replay_rules.specs.Histories.{setting_after}
 use Rattle.replay_rules.specs.ListTraces.{OwnFilesAreNamed}
 use Rattle.replay_rules.specs.OtherEndTraces.{IsUninjected}
 use Rattle.replay_rules.specs.Runs.{IsQuiet, IsWithinMargin, loader_retries, target_retries}
@@ -40,14 +41,14 @@ NoneGivesUp set (s ∷ since) before = GivesNoneUp set s.given (since ++ before)
 abbrev pub IsWorldOf : Setting → List Step → List DatagramView → World → Type 0
 IsWorldOf set steps before w = IsTied set steps w.loader (Some w.target) (before ++ w.posts)
 
--- The world that a run's last start found, and the one it leads to.
+-- The world that a run's last start found, and the one it leads to, as one does that begins with what was active then.
 pub record RunLeads (set : Setting) (steps : List Step) (free : IsFaultFree set steps) : Type 0 where
   pub found : World
   pub none_posted : found.posts ≡ []
   pub was : IsWorldOf set free.before (posted_in free.before) found
   pub now : World
   pub is : IsWorldOf set steps (posted_in free.before) now
-  pub leads : Leads set (started set free.parts found) now
+  pub leads : Leads (setting_after set free.before) (started set free.parts found) now
 
 -- In a fault-free run neither end gives up.
 abbrev pub FaultFreeGivesNoneUp : Type 0
@@ -63,13 +64,14 @@ pub record IsNamed (set : Setting) (steps : List Step) (free : IsFaultFree set s
   pub own_files : OwnFilesAreNamed set
   pub bytes : AllByRecursion (λ (f : FileView). IsBytes f.bytes) (files_in free.loads)
 
--- A quiet run leaves both ends idle, with as many ports as are left.
+-- A quiet run leaves both ends idle, with as many ports as are left, and with what is active then.
 abbrev pub QuietIsIdle : Type 0
-QuietIsIdle = (set : Setting) (steps : List Step) (ports : ℕ) (w : World) → IsUninjected set steps → AcceptsPermitted set.accepts → IsQuiet set steps → HasPorts (loader_at set steps).end ports
-    → IsReadyFor (target_at set steps) ports → w.posts ≡ [] → IsWorldOf set steps (posted_in steps) w → IsIdle set ports w
+QuietIsIdle = (set : Setting) (steps : List Step) (ports : ℕ) (w : World) → IsUninjected set steps → IsQuiet set steps → HasPorts (loader_at set steps).end ports
+    → IsReadyFor (target_at set steps) ports → w.posts ≡ [] → IsWorldOf set steps (posted_in steps) w → IsIdle (setting_after set steps) ports w
 
--- A fault-free run within the margin is completed by a `finish` of its world.
+-- A fault-free run within the margin is completed by a `finish` of its world: its loads are active then, beside what is kept of
+-- what was active at its start.
 abbrev pub FaultFreeRunsComplete : Type 0
 FaultFreeRunsComplete = (set : Setting) (steps : List Step) (free : IsFaultFree set steps) → IsUninjected set steps → AcceptsPermitted set.accepts
     → IsNamed set steps free → IsWithinMargin set steps → (now : World) × IsWorldOf set steps (posted_in free.before) now
-    × ((queue : List DatagramView) (first : Side) → AreAmong now.posts queue → IsFinished set free.loads now queue first)
+    × ((queue : List DatagramView) (first : Side) → AreAmong now.posts queue → IsFinished (setting_after set free.before) free.loads now queue first)

@@ -34,7 +34,7 @@ pub record ComesToEnd (set : Setting) (loads : List LoadView) (w : World) (queue
   pub target : ℕ
   pub stands : StandsAt set loads n c last loader target
   pub none : numbered c.posts (n + 1) ≡ None
-  pub is_done : IsDone loads c
+  pub is_done : IsDone set loads c
 
 -- Within the margin every world that stands where a clean one stands comes to an end, done, whatever is undelivered of what
 -- was posted in it.

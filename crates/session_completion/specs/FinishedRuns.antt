@@ -7,11 +7,12 @@ use Rattle.exchange_trace.specs.Following.{Scene, Turn, begins, goes_on}
 use Rattle.exchange_trace.specs.Lines.{Finish, Line}
 use Rattle.exchange_trace.specs.Steps.{Step}
 use Rattle.session_rules.specs.declared.outcome.SessionKind.TheVariants.{Upload}
+use Rattle.session_rules.specs.KeptLoads.{with_kept}
 use Rattle.replay_rules.specs.BothEnds.{Setting, loader_at, target_at}
 use Rattle.replay_rules.specs.Changes.{AllCarryBytes}
 use Rattle.replay_rules.specs.Due.{LeavesPower, is_up}
 use Rattle.replay_rules.specs.FaultFree.{IsFaultFree}
-use Rattle.replay_rules.specs.Histories.{active_by}
+use Rattle.replay_rules.specs.Histories.{active_at, active_by}
 use Rattle.replay_rules.specs.MediaTraces.{LengthsAreTold}
 use Rattle.replay_rules.specs.Promises.{EndsOnce, HasCompleted, IsTrace, NoneGoesDown, OnlyFinishIsLeft}
 use Rattle.replay_rules.specs.Runs.{Follows, IsQuiet, IsWithinMargin, plan_at, scene_at}
@@ -64,12 +65,12 @@ pub record IsLeftToFinish (set : Setting) (script : List Line) (steps more : Lis
   pub stays_up : NoneGoesDown more
 
 -- the upload is completed, all is quiet, the target is up, and the standing has the loads that were asked for, with the media
--- set's files
+-- set's files, and then those that are kept of what was active at the start of the upload
 pub record IsComplete (set : Setting) (steps : List Step) (free : IsFaultFree set steps) (last : List Step) (standing : StandingView) : Type 0 where
   pub outcome : HasCompleted Upload (loader_at set last).ended
   pub quiet : IsQuiet set last
   pub up : is_up (target_at set last) ≡ true
-  pub loads : standing.loads ≡ free.loads
+  pub loads : standing.loads ≡ with_kept free.loads (active_at set free.before).loads
 
 -- A fault-free run within the margin that is left to `finish` completes.
 abbrev pub FinishCompletes : Type 0

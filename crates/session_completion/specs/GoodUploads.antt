@@ -4,7 +4,7 @@ use Rattle.std.specs.List.{AllByRecursion}
 use Rattle.field_grammar.specs.Grammar.{IsBytes}
 use Rattle.load_base.specs.Config.{FileView, LoadView}
 use Rattle.load_protocol_files.specs.declared.lur.Wanted.{Wanted}
-use Rattle.disk_layout.specs.Contents.{entries_of}
+use Rattle.disk_layout.specs.Holds.{outline_of}
 use Rattle.exchange_trace.specs.declared.trace.Side.{Side}
 use Rattle.exchange_trace.specs.declared.trace.Side.TheVariants as sides
 use Rattle.exchange_trace.specs.Happenings.{DatagramView}
@@ -12,6 +12,7 @@ use Rattle.exchange_trace.specs.Logs.{Starts_upload}
 use Rattle.session_rules.specs.declared.outcome.SessionKind.TheVariants.{Upload}
 use Rattle.session_rules.specs.MediaFiles.{wanted_of}
 use Rattle.session_rules.specs.NewConfigs.{files_in}
+use Rattle.session_rules.specs.TargetLog.{standing_after}
 use Rattle.replay_rules.specs.AskedTraces.{EntriesFit}
 use Rattle.replay_rules.specs.BothEnds.{Setting}
 use Rattle.replay_rules.specs.FaultFree.{AreServed, ports_for}
@@ -22,7 +23,7 @@ use Rattle.session_completion.specs.Finish.{Finishes}
 use Rattle.session_completion.specs.Worlds.{World, at_loader, delivered, told, ticked, waits}
 
 -- Both ends are idle, with ports for these loads; of 1 to 32 parts, the media set has these loads, which are good for the
--- target. What is named has names, and files are bytes.
+-- target beside what is active there. What is named has names, and files are bytes.
 pub record IsGoodStart (set : Setting) (parts : List (List ℕ)) (wanted : List Wanted) (loads : List LoadView) (w : World) : Type 0 where
   pub idle : IsIdle set (ports_for loads) w
   pub some : 1 ≤ length parts
@@ -48,15 +49,15 @@ pub data Leads (set : Setting) (from : World) : World → Type 0 where
   delivers : (w : World) (d : DatagramView) → Leads set from w → Contains w.posts d → Leads set from (delivered set w d)
   ticks : (w : World) (side : Side) → Leads set from w → waits w side ≡ true → retries_at w side < 5 → Leads set from (ticked set w side)
 
--- It is finished, whatever is undelivered: neither end waits any more, the upload is completed, and its loads are what is
--- active at the target.
+-- It is finished, whatever is undelivered: neither end waits any more, the upload is completed, and what is active at the
+-- target are its loads, and then those that are kept of what was active before.
 pub record IsFinished (set : Setting) (loads : List LoadView) (w : World) (queue : List DatagramView) (first : Side) : Type 0 where
   pub last : World
   pub finishes : Finishes set w queue first last
   pub loader : waits last sides.Loader ≡ false
   pub target : waits last sides.Target ≡ false
   pub completed : HasCompleted Upload last.loader.ended
-  pub active : last.target.active.loads ≡ entries_of loads
+  pub active : last.target.active ≡ outline_of (standing_after set.start loads)
 
 -- Whatever happened since a good start, if both ends are within the margin, a `finish` completes the upload.
 abbrev pub GoodUploadsComplete : Type 0

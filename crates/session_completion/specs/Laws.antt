@@ -39,7 +39,7 @@ NextComesAgain = (set : Setting) (loads : List LoadView) (n : ℕ) (c : World) (
 
 -- Where none is next, the upload is over at both ends.
 abbrev pub LastIsDone : Type 0
-LastIsDone = (set : Setting) (loads : List LoadView) (n : ℕ) (c : World) → Clean set loads n c → numbered c.posts (n + 1) ≡ None → IsDone loads c
+LastIsDone = (set : Setting) (loads : List LoadView) (n : ℕ) (c : World) → Clean set loads n c → numbered c.posts (n + 1) ≡ None → IsDone set loads c
 
 -- At most two datagrams were posted and not delivered.
 abbrev pub FewAreAhead : Type 0

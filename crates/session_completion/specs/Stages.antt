@@ -1,8 +1,7 @@
 -- Where a clean upload stands, transfer by transfer: its two ends, what was posted, and the datagrams that are next
 -- (docs/EXCHANGE.md, "A fault-free run completes").
 use Rattle.std.specs.Prelude.{◌≡◌, ◌⊎◌, ℕ, ◌+◌, ◌<◌, ◌≤◌, List, [], ◌∷◌, ◌++◌, length, Bool, true, Option, Some, None, Contains, false}
-use Rattle.disk_layout.specs.Contents.{entries_of}
-use Rattle.disk_layout.specs.Holds.{Outline}
+use Rattle.disk_layout.specs.Holds.{outline_of}
 use Rattle.load_base.specs.Config.{LoadView}
 use Rattle.load_protocol_files.specs.declared.lur.Wanted.{Wanted}
 use Rattle.exchange_trace.specs.declared.trace.Side.{Side}
@@ -21,6 +20,7 @@ use Rattle.session_rules.specs.declared.outcome.SessionKind.TheVariants.{Upload}
 use Rattle.session_rules.specs.Buffers.{buffered}
 use Rattle.session_rules.specs.Loader.{LoaderSession, LoaderView, Start}
 use Rattle.session_rules.specs.Target.{TargetSession, TargetView, active_in}
+use Rattle.session_rules.specs.TargetLog.{standing_after}
 use Rattle.session_rules.specs.TargetRows.{RowView, Gives_lui, arriving_of}
 use Rattle.replay_rules.specs.BothEnds.{Setting}
 use Rattle.replay_rules.specs.Promises.{HasCompleted}
@@ -89,15 +89,15 @@ loader_session set wanted row arrived = record { start = starting set wanted; ro
 abbrev pub target_session : RowView → (arrived : List ℕ) → TargetSession
 target_session row arrived = record { row = row; arriving = arriving_of row arrived }
 
--- an end's session is in a row of which so much of a file has arrived there; o was active before
-abbrev pub InRow : Setting → List Wanted → (o : Outline) → World → Side → RowView → (arrived : List ℕ) → Type 0
-InRow set wanted o c sides.Loader row arrived = c.loader.live ≡ Some (loader_session set wanted row arrived)
-InRow set wanted o c sides.Target row arrived = (c.target.live ≡ Some (target_session row arrived)) × (c.target.active ≡ active_in o row)
+-- an end's session is in a row of which so much of a file has arrived there
+abbrev pub InRow : Setting → List Wanted → World → Side → RowView → (arrived : List ℕ) → Type 0
+InRow set wanted c sides.Loader row arrived = c.loader.live ≡ Some (loader_session set wanted row arrived)
+InRow set wanted c sides.Target row arrived = (c.target.live ≡ Some (target_session row arrived)) × (c.target.active ≡ active_in (outline_of set.start) row)
 
 -- the target's session before a row: with the first one it begins
-abbrev pub TargetBefore : (o : Outline) → TargetView → RowView → Type 0
-TargetBefore o v Gives_lui = (v.live ≡ None) × (v.active ≡ o)
-TargetBefore o v row = (v.live ≡ Some (target_session row [])) × (v.active ≡ active_in o row)
+abbrev pub TargetBefore : Setting → TargetView → RowView → Type 0
+TargetBefore set v Gives_lui = (v.live ≡ None) × (v.active ≡ outline_of set.start)
+TargetBefore set v row = (v.live ≡ Some (target_session row [])) × (v.active ≡ active_in (outline_of set.start) row)
 
 abbrev pub LoaderIsDone : LoaderView → Type 0
 LoaderIsDone v = (v.live ≡ None) × HasCompleted Upload v.ended
@@ -124,44 +124,44 @@ IsStepTo set wanted loads more row side = IsStep set wanted row × Course set wa
 -- ---- all stages
 
 -- Where a clean upload stands after n deliveries. This many datagrams more are delivered at most.
-pub data Where (set : Setting) (wanted : List Wanted) (loads : List LoadView) (o : Outline) (n : ℕ) (c : World) : (budget : ℕ) → Type 0 where
+pub data Where (set : Setting) (wanted : List Wanted) (loads : List LoadView) (n : ℕ) (c : World) : (budget : ℕ) → Type 0 where
   -- a request is next
   asked : (getter poster : Side) (own peer i : ℕ) (before : List DatagramView) (more : ℕ) (row : RowView) (told : Option ℕ)
       → Meets set n c getter poster own peer i i Rests (HasAsked (role_in set wanted row told)) before (request poster (peer + i) (role_in set wanted row told) ∷ []) → HasRoom own peer i (more + 1)
-      → Course set wanted loads more row → asker row ≡ poster → InRow set wanted o c sides.Loader row [] → TargetBefore o c.target row
-      → Where set wanted loads o n c (cost set wanted more row)
+      → Course set wanted loads more row → asker row ≡ poster → InRow set wanted c sides.Loader row [] → TargetBefore set c.target row
+      → Where set wanted loads n c (cost set wanted more row)
   -- a packet to the receiving end is next
   down : (getter poster : Side) (own peer i : ℕ) (mine yours : Position) (before : List DatagramView) (more : ℕ) (row : RowView) (s : Sender) (r : Receiver) (p : PacketView)
       → Meets set n c getter poster own peer i i mine yours before (datagram poster (peer + i) (own + i) p ∷ []) → HasRoom own peer i (more + 1)
       → Course set wanted loads more row → sender_in row ≡ poster → Talk (file_in set wanted row) s r true p → HoldsReceiver mine r → (yours ≡ IsIn (Sends s)) × (p ≡ sender_packet s)
-      → InRow set wanted o c getter row (taken_of (file_in set wanted row) r) → InRow set wanted o c poster row []
-      → Where set wanted loads o n c (cost_behind set wanted more row + left_down (file_in set wanted row) r p + 1)
+      → InRow set wanted c getter row (taken_of (file_in set wanted row) r) → InRow set wanted c poster row []
+      → Where set wanted loads n c (cost_behind set wanted more row + left_down (file_in set wanted row) r p + 1)
   -- a packet to the sending end is next
   up : (getter poster : Side) (own peer i : ℕ) (mine yours : Position) (before : List DatagramView) (more : ℕ) (row : RowView) (s : Sender) (r : Receiver) (p : PacketView)
       → Meets set n c getter poster own peer i i mine yours before (datagram poster (peer + i) (own + i) p ∷ []) → HasRoom own peer i (more + 1)
       → Course set wanted loads more row → sender_in row ≡ getter → Talk (file_in set wanted row) s r false p → HoldsSender mine s → (yours ≡ IsIn (Receives r)) × (p ≡ receiver_packet r)
-      → InRow set wanted o c getter row [] → InRow set wanted o c poster row (taken_of (file_in set wanted row) r)
-      → Where set wanted loads o n c (cost_behind set wanted more row + left_up (file_in set wanted row) r + 1)
+      → InRow set wanted c getter row [] → InRow set wanted c poster row (taken_of (file_in set wanted row) r)
+      → Where set wanted loads n c (cost_behind set wanted more row + left_up (file_in set wanted row) r + 1)
   -- the acknowledgement of the last block is next, and then the sending end asks
   closing : (getter poster : Side) (own peer i : ℕ) (before : List DatagramView) (more : ℕ) (row : RowView) (s : Sender) (r : Receiver)
       → Meets set n c getter poster own peer i (i + 1) (IsIn (Sends s)) Rests before (datagram poster (peer + i) (own + i) (Ack s.sent) ∷ []) → HasRoom own peer i (more + 2)
       → sender_in row ≡ getter → IsStepTo set wanted loads more row getter → KeepsWhole c poster own peer i (file_in set wanted row) s r
-      → InRow set wanted o c getter row [] → InRow set wanted o c poster (next_row set wanted row) []
-      → Where set wanted loads o n c (cost set wanted more (next_row set wanted row) + 1)
+      → InRow set wanted c getter row [] → InRow set wanted c poster (next_row set wanted row) []
+      → Where set wanted loads n c (cost set wanted more (next_row set wanted row) + 1)
   -- the same, where the receiving end has asked already
   early : (getter poster : Side) (own peer i : ℕ) (before : List DatagramView) (more : ℕ) (row : RowView) (s : Sender) (r : Receiver) (told : Option ℕ)
       → Meets set n c getter poster own peer i (i + 1) (IsIn (Sends s)) (HasAsked (role_in set wanted (next_row set wanted row) told)) before
       (datagram poster (peer + i) (own + i) (Ack s.sent) ∷ request poster (peer + (i + 1)) (role_in set wanted (next_row set wanted row) told) ∷ []) → HasRoom own peer i (more + 2)
       → sender_in row ≡ getter → IsStepTo set wanted loads more row poster → KeepsWhole c poster own peer i (file_in set wanted row) s r
-      → InRow set wanted o c getter row [] → InRow set wanted o c poster (next_row set wanted row) []
-      → Where set wanted loads o n c (cost set wanted more (next_row set wanted row) + 1)
+      → InRow set wanted c getter row [] → InRow set wanted c poster (next_row set wanted row) []
+      → Where set wanted loads n c (cost set wanted more (next_row set wanted row) + 1)
   -- the last acknowledgement of all is next
   ending : (own peer i : ℕ) (before : List DatagramView) (row : RowView) (s : Sender) (r : Receiver)
       → Meets set n c sides.Target sides.Loader own peer i (i + 1) (IsIn (Sends s)) Rests before (datagram sides.Loader (peer + i) (own + i) (Ack s.sent) ∷ []) → HasRoom own peer i 1
-      → Course set wanted loads 0 row → KeepsWhole c sides.Loader own peer i (file_in set wanted row) s r → InRow set wanted o c sides.Target row [] → LoaderIsDone c.loader
-      → Where set wanted loads o n c 1
+      → Course set wanted loads 0 row → KeepsWhole c sides.Loader own peer i (file_in set wanted row) s r → InRow set wanted c sides.Target row [] → LoaderIsDone c.loader
+      → Where set wanted loads n c 1
   -- nothing is next
   over : (own peer i : ℕ) (before : List DatagramView)
       → Meets set n c sides.Target sides.Loader own peer (i + 1) (i + 1) Rests Rests before []
-      → LoaderIsDone c.loader → c.target.live ≡ None → c.target.active.loads ≡ entries_of loads
-      → Where set wanted loads o n c 0
+      → LoaderIsDone c.loader → c.target.live ≡ None → c.target.active ≡ outline_of (standing_after set.start loads)
+      → Where set wanted loads n c 0

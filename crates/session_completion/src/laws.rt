@@ -118,7 +118,8 @@ pub fn a_last_finish_is_left()
 
 /// So a fault-free run completes that is left to a script's last `finish`: what a `finish` gives is
 /// that of both ends and of what was posted. The upload is completed, the run is quiet, and on the
-/// target are the loads that were asked for, with the bytes of the media set's files.
+/// target are the loads that were asked for, with the bytes of the media set's files, and then those
+/// that are kept of what was active before.
 pub fn a_run_left_to_finish_completes()
     ensures { FinishCompletes }
 {

@@ -29,7 +29,7 @@ impl Printed for Refused {
     }
 }
 
-/// A1 to A13 and the fields of the reason, and a fault within it in its place, as in `A11 U1 5`
+/// A1 to A14 and the fields of the reason, and a fault within it in its place, as in `A11 U1 5`
 /// (docs/FORMATS.md, "Printed text").
 #[tactic(auto, unfolding(printed_text::specs::FaultTexts::coded))]
 pub fn reason_text(alloc: Global, reason: &Reason) -> Result<Text, NoMemory>
@@ -61,5 +61,6 @@ pub fn reason_text(alloc: Global, reason: &Reason) -> Result<Text, NoMemory>
         Reason::RequestRefused { fault } => nested(alloc, b"A11", &[], &Refused { fault }),
         Reason::GaveUp => coded(alloc, b"A12", &[]),
         Reason::PortsSpent => coded(alloc, b"A13", &[]),
+        Reason::TooManyLoads { loads } => coded(alloc, b"A14", &[u64::from(loads)]),
     }
 }

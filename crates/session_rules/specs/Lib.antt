@@ -5,12 +5,14 @@ pub mod Reports
 pub mod LoaderRows
 pub mod Loader
 pub mod LoaderLog
+pub mod KeptLoads
 pub mod Uploads
 pub mod TargetRows
 pub mod Target
 pub mod TargetLog
 pub mod Contents
 pub mod ContentLaws
+pub mod KeptLaws
 pub mod NewConfigs
 pub mod BufferLaws
 pub mod LoaderLaws
@@ -47,3 +49,6 @@ pub mod ArrivedRequestLaws
 pub mod OwnSessionLaws
 pub mod SessionRows
 pub mod SessionRowLaws
+pub mod Installations
+pub mod InstallationLaws
+pub mod KeptExamples

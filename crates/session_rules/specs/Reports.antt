@@ -46,7 +46,7 @@ request_fault_text (requests.Spelling fault) = file_fault_text fault
 request_fault_text (requests.Loads count) = coded (codes "L") (count ∷ [])
 request_fault_text requests.TooLong = codes "T"
 
--- how a reason is printed: its code, A1 to A13, and its fields
+-- how a reason is printed: its code, A1 to A14, and its fields
 abbrev pub reason_text : Reason → List ℕ
 reason_text (reasons.FileNotServed code) = coded (codes "A1") (code ∷ [])
 reason_text (reasons.HeaderRefused fault) = nested (codes "A2") (header_fault_text fault)
@@ -61,6 +61,7 @@ reason_text reasons.SequenceSpent = codes "A10"
 reason_text (reasons.RequestRefused fault) = nested (codes "A11") (request_fault_text fault)
 reason_text reasons.GaveUp = codes "A12"
 reason_text reasons.PortsSpent = codes "A13"
+reason_text (reasons.TooManyLoads loads) = coded (codes "A14") (loads ∷ [])
 
 -- ---- whole files
 

@@ -42,8 +42,8 @@ SoundIn accepts active live (Some s) = IsSoundSession accepts active live s
 abbrev pub SessionIsSound : Accepts → TargetReading → Type 0
 SessionIsSound accepts r = SoundIn accepts r.active r.end.live r.live
 
--- The transfer that ended now makes the verdict good, and what is active then is the new configuration of what the session
--- asked for and read.
+-- The transfer that ended now makes the verdict good, and what is active then is what follows from what the session asked for and
+-- read: the loads of these, and then those that are kept.
 pub record IsNewAt (accepts : Accepts) (before after : TargetReading) : Type 0 where
   pub session : TargetSessionLog
   pub live : before.live ≡ Some session
@@ -52,7 +52,7 @@ pub record IsNewAt (accepts : Accepts) (before after : TargetReading) : Type 0 w
   pub upload : UploadEnd
   pub loads : List LoadView
   pub good : (with_done accepts before.active session (ended ∷ [])).row ≡ Writes_completion upload loads
-  pub new : IsNewConfig (λ h. accepts h ≡ true) before.active upload.request (reads_in (session.done ++ ended ∷ [])) loads
+  pub new : IsNewConfig (λ h kept. accepts h kept ≡ true) before.active upload.request (reads_in (session.done ++ ended ∷ [])) loads
   pub next : after.active ≡ standing_after before.active loads
 
 abbrev pub StaysOrIsNew : Accepts → (before after : TargetReading) → Type 0

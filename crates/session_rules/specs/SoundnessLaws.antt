@@ -1,8 +1,9 @@
 -- Proofs that what is installed is new: made of what was asked for and read, and good.
-use Rattle.std.proofs.Common.{◌≡◌, ℕ, suc, ◌+◌, ◌≤◌, Bool, true, false, cond, ltb, List, [], ◌∷◌, ◌++◌, length, take, map, Option, Some, None, Result, Ok, Err, refl, sym, ap, subst, ◌∙◌, append-nil, append_assoc, length-append, arith, inl, inr, ◌⊎◌, ◌↔◌}
-use Rattle.std.specs.Prelude.{slice_get, filter}
+use Rattle.std.proofs.Common.{◌≡◌, ℕ, suc, ◌+◌, ◌≤◌, nat_lt, nat_le, bytes_eq, Bool, true, false, cond, ltb, List, [], ◌∷◌, ◌++◌, length, take, map, Option, Some, None, Result, Ok, Err, refl, sym, ap, subst, ◌∙◌, append-nil, append_assoc, length-append, arith, inl, inr, ◌⊎◌, ◌↔◌}
+use Rattle.std.specs.Prelude.{slice_get, filter, not, ◌||◌}
 use Rattle.std.specs.List.{AllByRecursion, AllZip}
 use Rattle.std.proofs.lemmas.Bool.{eqb-true, ltb-false}
+use Rattle.std.proofs.lemmas.Bool.Decides.{nat_tests}
 use Rattle.std.proofs.lemmas.List.{take_all, map-append, length-map}
 use Rattle.std.proofs.lemmas.List.Elements.{filter-append}
 use Rattle.std.proofs.lemmas.Grind.{flat_map-append}
@@ -19,19 +20,24 @@ use Rattle.load_header.specs.HeaderFields.{HeaderSpells}
 use Rattle.load_protocol_files.specs.declared.lur.Wanted.{Wanted}
 use Rattle.disk_layout.specs.Contents.{entry_of, entries_of, bytes_of, file_entry_of}
 use Rattle.disk_layout.specs.Holds.{Outline, StandingView, outline_of}
+use Rattle.disk_layout.specs.Manifest.{LoadEntry}
 use Rattle.tftp_packet.specs.Packets.{PacketView}
 use Rattle.transfer_end.specs.Transfers.{Reads, Role, ServesRead, ServesWrite, Transfer, Writes, arrived_of, is_reading}
+use Rattle.accept_rules.specs.declared.kept.KeptLoad.{KeptLoad}
 use Rattle.accept_rules.specs.Permissions.{Accepts, AcceptsPermitted}
 use Rattle.session_rules.specs.declared.reason.Reason.{Reason}
+use Rattle.session_rules.specs.declared.reason.Reason.TheVariants as reasons
 use Rattle.session_rules.specs.declared.reason.RequestFault.{RequestFault}
 use Rattle.session_rules.specs.Buffers.{Buffer, Sums, buffered, buffer_size, is_too_long, summed}
 use Rattle.session_rules.specs.BufferLaws.{SumsJoin}
-use Rattle.session_rules.specs.NewConfigs.{IsAsSaid, IsGoodLoad, IsWanted, file_read, files_in, reads_in}
+use Rattle.session_rules.specs.KeptLaws.{kept_same, types_same}
+use Rattle.session_rules.specs.KeptLoads.{kept_entries, kept_loads, said_type, told_loads, types_in, types_of, with_kept}
+use Rattle.session_rules.specs.NewConfigs.{AreGoodAfter, IsAsSaid, IsGoodLoad, IsWanted, file_read, files_in, kept_beside, reads_in}
 use Rattle.session_rules.specs.RowLaws.{bytes_more, file_no_header, header_no_file}
 use Rattle.session_rules.specs.Roles.{IsOfRow, ReadsFile, ReadsNothing, WritesFile}
-use Rattle.session_rules.specs.Soundness.{AreGoodLoads, IsGoodSoFar, IsNextWanted, IsSoundRow, IsSoundUpload, VerdictIsSound, files_of_open}
+use Rattle.session_rules.specs.Soundness.{AreFew, AreGoodLoads, IsGoodSoFar, IsNextWanted, IsSoundRow, IsSoundUpload, VerdictIsSound, files_of_open, told_at}
 use Rattle.session_rules.specs.TargetRows.{Awaits_lur, Gives_denial, Gives_lci, Gives_lui, Kept_bytes, Kept_sums, Over, Reads_file, WholeRow, Writes_completion, Writes_lcl, Writes_lcs, Writes_progress, Writes_ready, Writes_stop, arriving_of, file_move, header_move, load_of, placed, placed_if, request_move, row_judged, row_move, row_moved, row_view, said_length, with_header}
-use Rattle.session_rules.specs.Uploads.{Accepts_file, Accepts_header, Complete, Judgement, More_files, Next, Next_load, OpenLoad, OpenLoadView, Stops_for, Upload, UploadView, covered, covered_header, entry_name, files_of, header_name, header_reason, judge_file, judge_header, judge_read_header, judged, load_reason, next_entry, next_name, next_number, next_wanted, next_with, open_load_view, or_else, unless, upload_view}
+use Rattle.session_rules.specs.Uploads.{Accepts_file, Accepts_header, Complete, Judgement, More_files, Next, Next_load, OpenLoad, OpenLoadView, Stops_for, Upload, UploadView, covered, covered_header, entry_name, files_of, header_name, header_reason, is_for, is_last, judge_file, judge_header, judge_read_header, judged, kept_after, load_reason, load_total, loads_at, need_of, next_entry, next_name, next_number, next_wanted, next_with, open_load_view, or_else, unless, upload_view}
 
 -- Bytes that are read as a header spell it, which load_header promises of its format (`header_laws`).
 abbrev pub HeadersAreSpelled : Type 0
@@ -50,10 +56,6 @@ zip_length R [] [] all = refl
 zip_length R [] (b ∷ ys) all = absurd all
 zip_length R (a ∷ xs) [] all = absurd all
 zip_length R (a ∷ xs) (b ∷ ys) (first, rest) = ap suc (zip_length R xs ys rest)
-
-all_more : {A : Type 0} (P : A → Type 0) (xs : List A) (x : A) → AllByRecursion P xs → P x → AllByRecursion P (xs ++ x ∷ [])
-all_more P [] x all one = (one, tt)
-all_more P (a ∷ xs) x (first, rest) one = (first, all_more P xs x rest one)
 
 empty_if : {A : Type 0} (xs : List A) → length xs ≤ 0 → xs ≡ []
 empty_if [] le = refl
@@ -132,15 +134,32 @@ open_load wanted h bytes files = record { wanted = wanted; header = h; bytes = b
 abbrev file : (name bytes : List ℕ) → FileView
 file name bytes = record { name = name; bytes = bytes }
 
--- a load that is whole is good
-whole_is_good : (accepts : Accepts) (active : StandingView) (l : OpenLoad) → AcceptsPermitted accepts → IsGoodSoFar accepts active l
+-- the type ids with one load more
+types_more : (loads : List LoadView) (l : OpenLoad) → types_in (loads ++ load_of l ∷ []) ≡ types_in loads ++ l.header.type_id ∷ []
+types_more loads l = flat_map-append (λ (x : LoadView). said_type x.type_id) loads (load_of l ∷ [])
+
+good_more : (A : HeaderView → List KeptLoad → Type 0) (active : StandingView) (before loads : List LoadView) (x : LoadView) → AreGoodAfter A active.identity (entries_of active.loads) before loads
+    → IsGoodLoad A active.identity (kept_beside (entries_of active.loads) ((before ++ loads) ++ x ∷ [])) x → AreGoodAfter A active.identity (entries_of active.loads) before (loads ++ x ∷ [])
+good_more A active before [] x all one =
+    (subst (λ (ls : List LoadView). IsGoodLoad A active.identity (kept_beside (entries_of active.loads) (ls ++ x ∷ [])) x) (append-nil before) one, tt)
+good_more A active before (l ∷ ls) x (first, rest) one = (
+  first,
+  good_more A active (before ++ l ∷ []) ls x rest
+      (subst (λ (all : List LoadView). IsGoodLoad A active.identity (kept_beside (entries_of active.loads) (all ++ x ∷ [])) x) (sym (append_assoc before (l ∷ []) ls)) one),
+)
+
+-- a load that is whole is good beside what is kept after its header
+whole_is_good : (accepts : Accepts) (active : StandingView) (loads : List LoadView) (l : OpenLoad) → AcceptsPermitted accepts → IsGoodSoFar accepts active loads l
     → length (files_of l.header) ≤ length l.files → l.header.load_crc ≡ crc32_of (covered l.bytes l.files)
-    → IsGoodLoad (λ h. accepts h ≡ true) active.identity (load_of l)
-whole_is_good accepts active l permits g few crc =
+    → IsGoodLoad (λ h kept. accepts h kept ≡ true) active.identity (kept_beside (entries_of active.loads) (loads ++ load_of l ∷ [])) (load_of l)
+whole_is_good accepts active loads l permits g few crc =
     let sizes : length g.came ≡ length l.files = zip_length IsAsSaid g.came l.files g.each in
     let both : length (files_of l.header) ≡ length g.came + length g.left = ap length g.entries ∙ length-append g.came g.left in
     let none : g.left ≡ [] = empty_if g.left (omega arith) in
     let all : files_of l.header ≡ g.came = g.entries ∙ (ap (λ (x : List FileEntry). g.came ++ x) none ∙ append-nil g.came) in
+    let told : told_at active loads l.header ≡ kept_beside (entries_of active.loads) (loads ++ load_of l ∷ []) =
+    ap (λ (types : List ℕ). told_loads (kept_entries types (entries_of active.loads))) (sym (types_more loads l)) in
+    let accepted : accepts l.header (kept_beside (entries_of active.loads) (loads ++ load_of l ∷ [])) ≡ true = subst (λ (kept : List KeptLoad). accepts l.header kept ≡ true) told g.accepted in
     record {
       header = l.header;
       bytes = l.bytes;
@@ -149,8 +168,8 @@ whole_is_good accepts active l permits g few crc =
       part = sym g.part;
       type_id = refl;
       suits = g.suits;
-      accepted = g.accepted;
-      permitted = permits l.header g.accepted;
+      accepted = accepted;
+      permitted = permits l.header (kept_beside (entries_of active.loads) (loads ++ load_of l ∷ [])) accepted;
       whole = refl;
       each = subst (λ (x : List FileEntry). AllZip IsAsSaid x l.files) (sym all) g.each;
       crc = sym crc;
@@ -162,23 +181,33 @@ is_wanted l wanted e = record { part = ap (λ (x : Wanted). x.part) e; header = 
 files_more : (loads : List LoadView) (l : OpenLoad) → files_in (loads ++ load_of l ∷ []) ≡ files_in loads ++ files_of_open (Some l)
 files_more loads l = flat_map-append (λ (x : LoadView). x.files) loads (load_of l ∷ []) ∙ ap (λ (x : List FileView). files_in loads ++ x) (append-nil (load_of l).files)
 
+-- what is active then has 32 loads at most
+few_then : (active : StandingView) (loads : List LoadView) (l : OpenLoad) (n : ℕ) → length loads + 1 ≤ n → n + length (kept_loads (types_in loads ++ l.header.type_id ∷ []) active.loads) ≤ 32
+    → length (with_kept (loads ++ load_of l ∷ []) active.loads) ≤ 32
+few_then active loads l n more total =
+    let kept : kept_loads (types_in (loads ++ load_of l ∷ [])) active.loads ≡ kept_loads (types_in loads ++ l.header.type_id ∷ []) active.loads =
+    ap (λ (types : List ℕ). kept_loads types active.loads) (types_more loads l) in
+    omega (arith, more, total, ap length kept, length-append (loads ++ load_of l ∷ []) (kept_loads (types_in (loads ++ load_of l ∷ [])) active.loads), length-append loads (load_of l ∷ []))
+
 placed_sound : (accepts : Accepts) (active : StandingView) (reads : List FileView) (u : Upload) (l : OpenLoad) (had left : List Wanted) (wanted : Wanted) → AcceptsPermitted accepts
-    → u.request ≡ had ++ wanted ∷ left → AllZip IsWanted had u.loads → AreGoodLoads accepts active u.loads → l.wanted ≡ wanted → IsGoodSoFar accepts active l → files_in u.loads ++ files_of_open (Some l) ≡ reads
+    → u.request ≡ had ++ wanted ∷ left → AllZip IsWanted had u.loads → AreGoodLoads accepts active u.loads → l.wanted ≡ wanted → IsGoodSoFar accepts active u.loads l → AreFew active u.request u.loads (Some l)
+    → files_in u.loads ++ files_of_open (Some l) ≡ reads
     → (next : Next) → HasLoadCrc l.header (crc32_of (covered l.bytes l.files)) next → NextMeans (length l.files) (length (files_of l.header)) (length u.loads) (length u.request) next
     → IsSoundRow accepts active reads (placed u l next)
-placed_sound accepts active reads u l had left wanted permits request each good is so_far files More_files crc means =
-    record { had = had; left = wanted ∷ left; request = request; each = each; good = good; next = (is, so_far); files = files }
-placed_sound accepts active reads u l had left wanted permits request each good is so_far files Next_load crc few =
+placed_sound accepts active reads u l had left wanted permits request each good is so_far few files More_files crc means =
+    record { had = had; left = wanted ∷ left; request = request; each = each; good = good; next = (is, so_far); few = few; files = files }
+placed_sound accepts active reads u l had left wanted permits request each good is so_far few files Next_load crc came =
     record {
       had = had ++ wanted ∷ [];
       left = left;
       request = request ∙ sym (append_assoc had (wanted ∷ []) left);
       each = zip_more IsWanted had u.loads wanted (load_of l) each (is_wanted l wanted is);
-      good = all_more (IsGoodLoad (λ h. accepts h ≡ true) active.identity) u.loads (load_of l) good (whole_is_good accepts active l permits so_far few crc);
+      good = good_more (λ h kept. accepts h kept ≡ true) active [] u.loads (load_of l) good (whole_is_good accepts active u.loads l permits so_far came crc);
       next = tt;
+      few = tt;
       files = append-nil _ ∙ (files_more u.loads l ∙ files);
     }
-placed_sound accepts active reads u l had left wanted permits request each good is so_far files Complete crc (few, last) =
+placed_sound accepts active reads u l had left wanted permits request each good is so_far few files Complete crc (came, last) =
     let sizes : length had ≡ length u.loads = zip_length IsWanted had u.loads each in
     let both : length u.request ≡ length had + suc (length left) = ap length request ∙ length-append had (wanted ∷ left) in
     let none : left ≡ [] = empty_if left (omega arith) in
@@ -186,7 +215,8 @@ placed_sound accepts active reads u l had left wanted permits request each good 
     record {
       each = subst (λ (x : List Wanted). AllZip IsWanted x (u.loads ++ load_of l ∷ [])) (sym asked) (zip_more IsWanted had u.loads wanted (load_of l) each (is_wanted l wanted is));
       files = files_more u.loads l ∙ files;
-      good = all_more (IsGoodLoad (λ h. accepts h ≡ true) active.identity) u.loads (load_of l) good (whole_is_good accepts active l permits so_far few crc);
+      good = good_more (λ h kept. accepts h kept ≡ true) active [] u.loads (load_of l) good (whole_is_good accepts active u.loads l permits so_far came crc);
+      few = few_then active u.loads l (length u.request) (omega (arith, sizes, both)) (few last);
     }
 
 -- ---- a header that was accepted
@@ -221,22 +251,55 @@ header_tested accepts active u wanted b h next e =
     let (spelled, tests) = read_tested accepts active u wanted b (answer header b.prefix) h next read in
     (short, spelled, tests)
 
-header_is_good : (accepts : Accepts) (active : StandingView) (u : UploadView) (wanted : Wanted) (h : HeaderView) (bytes : List ℕ) (size : ℕ) → HeaderSpells h bytes → header_reason accepts (outline_of active) u wanted h size ≡ None
-    → IsGoodSoFar accepts active (open_load wanted h bytes [])
-header_is_good accepts active u wanted h bytes size spelled e =
+-- what is kept after a header, with and without contents
+kept_is : (active : StandingView) (loads : List LoadView) (h : HeaderView)
+    → kept_entries (types_of (entries_of loads) ++ h.type_id ∷ []) (entries_of active.loads) ≡ entries_of (kept_loads (types_in loads ++ h.type_id ∷ []) active.loads)
+kept_is active loads h =
+    ap (λ (types : List ℕ). kept_entries (types ++ h.type_id ∷ []) (entries_of active.loads)) (sym (types_same loads)) ∙ sym (kept_same (types_in loads ++ h.type_id ∷ []) active.loads)
+
+header_is_good : (accepts : Accepts) (active : StandingView) (request : List Wanted) (loads : List LoadView) (reports : ℕ) (wanted : Wanted) (h : HeaderView) (bytes : List ℕ) (size : ℕ) → HeaderSpells h bytes
+    → header_reason accepts (outline_of active) (upload_view (upload request loads None reports)) wanted h size ≡ None → IsGoodSoFar accepts active loads (open_load wanted h bytes [])
+header_is_good accepts active request loads reports wanted h bytes size spelled e =
     let (part, rest) = both_none _ _ e in
     let (suits, later) = both_none _ _ rest in
-    let (accepted, room) = both_none _ _ later in
+    let (accepted, others) = both_none _ _ later in
     record {
       spelled = spelled;
       part = (bytes_eq-Decides h.part wanted.part).0 (passes _ _ part);
       suits = passes _ _ suits;
-      accepted = passes _ _ accepted;
+      accepted = subst (λ (types : List ℕ). accepts h (told_loads (kept_entries (types ++ h.type_id ∷ []) (entries_of active.loads))) ≡ true) (sym (types_same loads)) (passes _ _ accepted);
       came = [];
       left = files_of h;
       entries = refl;
       each = tt;
     }
+
+few_by : (n m total : ℕ) → (not (not (nat_lt (n + 1) m)) || nat_le total 32) ≡ true → m ≤ n + 1 → total ≤ 32
+few_by n m total tested last = grind (arith, nat_tests)
+
+-- the test on the number of loads is the fourth of five
+count_passed : (a b c d e : Option Reason) → or_else a (or_else b (or_else c (or_else d e))) ≡ None → d ≡ None
+count_passed None None None None e passed = refl
+count_passed None None None (Some r) e passed = absurd cc
+count_passed None None (Some r) d e passed = absurd cc
+count_passed None (Some r) c d e passed = absurd cc
+count_passed (Some r) b c d e passed = absurd cc
+
+header_is_few : (accepts : Accepts) (active : StandingView) (request : List Wanted) (loads : List LoadView) (reports : ℕ) (wanted : Wanted) (h : HeaderView) (bytes : List ℕ) (size : ℕ)
+    → header_reason accepts (outline_of active) (upload_view (upload request loads None reports)) wanted h size ≡ None → AreFew active request loads (Some (open_load wanted h bytes []))
+header_is_few accepts active request loads reports wanted h bytes size e last =
+    let u = upload_view (upload request loads None reports) in
+    let o = outline_of active in
+    let kept = kept_entries (types_of (entries_of loads) ++ h.type_id ∷ []) (entries_of active.loads) in
+    let count : unless (not (is_last u) || nat_le (load_total o u h) 32) (reasons.TooManyLoads (load_total o u h)) ≡ None = count_passed
+    (unless (bytes_eq h.part wanted.part) reasons.PartDiffers)
+    (unless (is_for active.identity.hw active.identity.pos h) reasons.NotThisHardware)
+    (unless (accepts h (told_loads (kept_after o u h))) reasons.RuleRefused)
+    (unless (not (is_last u) || nat_le (load_total o u h) 32) (reasons.TooManyLoads (load_total o u h)))
+    (unless (nat_le (need_of (loads_at o u wanted h size)) active.identity.bank) (reasons.BankFull (need_of (loads_at o u wanted h size)) active.identity.bank)) e in
+    let few : length request + length kept ≤ 32 = few_by (length (entries_of loads)) (length request) (length request + length kept)
+    (passes (not (is_last u) || nat_le (load_total o u h) 32) (reasons.TooManyLoads (load_total o u h)) count) (omega (arith, last, length-map loads entry_of)) in
+    omega (arith, few, ap length (kept_is active loads h), length-map (kept_loads (types_in loads ++ h.type_id ∷ []) active.loads) entry_of)
 
 header_sound : HeadersAreSpelled → (accepts : Accepts) (active : StandingView) (reads : List FileView) (request : List Wanted) (loads : List LoadView) (reports : ℕ) (wanted : Wanted) (h : HeaderView) (name bytes : List ℕ) (next : Next)
     → AcceptsPermitted accepts → IsBytes bytes → name ≡ wanted.header → next_wanted (upload_view (upload request loads None reports)) ≡ Some wanted
@@ -254,7 +317,7 @@ header_sound spells accepts active reads request loads reports wanted h name byt
     let files : files_in loads ++ file wanted.header bytes ∷ [] ≡ reads ++ file name bytes ∷ [] =
     ap (λ (x : List FileView). x ++ file wanted.header bytes ∷ []) (sym (append-nil (files_in loads)) ∙ s.files) ∙ ap (λ (x : List ℕ). reads ++ file x bytes ∷ []) (sym named) in
     placed_sound accepts active (reads ++ file name bytes ∷ []) (upload request loads None reports) (open_load wanted h bytes []) s.had left wanted permits (s.request ∙ ap (λ (x : List Wanted). s.had ++ x) is) s.each s.good refl
-    (header_is_good accepts active u wanted h bytes (length bytes) spelling tests.tests) files next
+    (header_is_good accepts active request loads reports wanted h bytes (length bytes) spelling tests.tests) (header_is_few accepts active request loads reports wanted h bytes (length bytes) tests.tests) files next
     (subst (λ (x : Next). HasLoadCrc h (crc32_of (covered bytes [])) x) tests.next_is (subst (λ (x : ℕ). HasLoadCrc h x (next_with u h 0)) crc (has_load_crc h (next_with u h 0) _ tests.load)))
     (subst (λ (x : ℕ). NextMeans 0 (length (files_of h)) x (length request) next) (length-map loads entry_of) means)
 
@@ -283,9 +346,9 @@ covered_more : SumsJoin → (head : List ℕ) (files : List FileView) (name byte
 covered_more joins head files name bytes =
     joins.crc32 (covered head files) bytes ∙ ap crc32_of (append_assoc (covered_header head) (bytes_of files) bytes ∙ ap (λ (x : List ℕ). covered_header head ++ x) (sym (bytes_more files name bytes)))
 
-file_is_good : (accepts : Accepts) (active : StandingView) (wanted : Wanted) (h : HeaderView) (head : List ℕ) (files : List FileView) (entry : FileEntry) (left : List FileEntry) (name bytes : List ℕ) (g : IsGoodSoFar accepts active (open_load wanted h head files))
-    → g.left ≡ entry ∷ left → name ≡ entry.name → length bytes ≡ entry.length → crc16_of bytes ≡ entry.crc16 → IsGoodSoFar accepts active (open_load wanted h head (files ++ file name bytes ∷ []))
-file_is_good accepts active wanted h head files entry left name bytes g is named size crc = record {
+file_is_good : (accepts : Accepts) (active : StandingView) (loads : List LoadView) (wanted : Wanted) (h : HeaderView) (head : List ℕ) (files : List FileView) (entry : FileEntry) (left : List FileEntry) (name bytes : List ℕ) (g : IsGoodSoFar accepts active loads (open_load wanted h head files))
+    → g.left ≡ entry ∷ left → name ≡ entry.name → length bytes ≡ entry.length → crc16_of bytes ≡ entry.crc16 → IsGoodSoFar accepts active loads (open_load wanted h head (files ++ file name bytes ∷ []))
+file_is_good accepts active loads wanted h head files entry left name bytes g is named size crc = record {
   spelled = g.spelled;
   part = g.part;
   suits = g.suits;
@@ -299,15 +362,16 @@ file_is_good accepts active wanted h head files entry left name bytes g is named
 file_sound : SumsJoin → (accepts : Accepts) (active : StandingView) (reads : List FileView) (request : List Wanted) (loads : List LoadView) (reports : ℕ) (wanted : Wanted) (h : HeaderView) (head : List ℕ) (files : List FileView) (entry : FileEntry) (read name bytes : List ℕ) (next : Next) (had left : List Wanted)
     → AcceptsPermitted accepts → read ≡ name → name ≡ entry.name → next_entry (open_load_view (open_load wanted h head files)) ≡ Some entry
     → judge_file (upload_view (upload request loads (Some (open_load wanted h head files)) reports)) (open_load_view (open_load wanted h head files)) entry (summed entry.length (crc32_of (covered head files)) bytes) ≡ Accepts_file next
-    → request ≡ had ++ wanted ∷ left → AllZip IsWanted had loads → AreGoodLoads accepts active loads → IsGoodSoFar accepts active (open_load wanted h head files) → files_in loads ++ files_of_open (Some (open_load wanted h head files)) ≡ reads
+    → request ≡ had ++ wanted ∷ left → AllZip IsWanted had loads → AreGoodLoads accepts active loads → IsGoodSoFar accepts active loads (open_load wanted h head files)
+    → AreFew active request loads (Some (open_load wanted h head files)) → files_in loads ++ files_of_open (Some (open_load wanted h head files)) ≡ reads
     → IsSoundRow accepts active (reads ++ file read bytes ∷ []) (placed (upload request loads (Some (open_load wanted h head files)) reports) (open_load wanted h head (files ++ file name bytes ∷ [])) next)
-file_sound joins accepts active reads request loads reports wanted h head files entry read name bytes next had left permits same named found judgement asked each good g all =
+file_sound joins accepts active reads request loads reports wanted h head files entry read name bytes next had left permits same named found judgement asked each good g few all =
     let u = upload_view (upload request loads (Some (open_load wanted h head files)) reports) in
     let tests = file_tested u (open_load_view (open_load wanted h head files)) entry (summed entry.length (crc32_of (covered head files)) bytes) next judgement in
     let whole : take entry.length bytes ≡ bytes = take_all entry.length bytes (let size : length bytes ≡ entry.length = tests.size in omega arith) in
     let sizes : length g.came ≡ length (map file_entry_of files) = zip_length IsAsSaid g.came files g.each ∙ sym (length-map files file_entry_of) in
     let (rest, is) = first_left g.came g.left (length (map file_entry_of files)) entry sizes (subst (λ (x : List FileEntry). slice_get x (length (map file_entry_of files)) ≡ Some entry) g.entries found) in
-    let now = file_is_good accepts active wanted h head files entry rest name bytes g is named tests.size (ap crc16_of (sym whole) ∙ tests.crc) in
+    let now = file_is_good accepts active loads wanted h head files entry rest name bytes g is named tests.size (ap crc16_of (sym whole) ∙ tests.crc) in
     let crc : crc32_after (crc32_of (covered head files)) (take entry.length bytes) ≡ crc32_of (covered head (files ++ file name bytes ∷ [])) =
     ap (λ (x : List ℕ). crc32_after (crc32_of (covered head files)) x) whole ∙ covered_more joins head files name bytes in
     let count : length (map file_entry_of files) + 1 ≡ length (files ++ file name bytes ∷ []) = ap (λ (n : ℕ). n + 1) (length-map files file_entry_of) ∙ sym (length-append files (file name bytes ∷ [])) in
@@ -315,7 +379,7 @@ file_sound joins accepts active reads request loads reports wanted h head files 
     next_means (length (map file_entry_of files) + 1) (length (files_of h)) (length (entries_of loads)) (length request) _ _ next refl refl tests.next_is in
     let read_all : files_in loads ++ files_of_open (Some (open_load wanted h head (files ++ file name bytes ∷ []))) ≡ reads ++ file read bytes ∷ [] =
     sym (append_assoc (files_in loads) (files_of_open (Some (open_load wanted h head files))) (file name bytes ∷ [])) ∙ (ap (λ (x : List FileView). x ++ file name bytes ∷ []) all ∙ ap (λ (x : List ℕ). reads ++ file x bytes ∷ []) (sym same)) in
-    placed_sound accepts active (reads ++ file read bytes ∷ []) (upload request loads (Some (open_load wanted h head files)) reports) (open_load wanted h head (files ++ file name bytes ∷ [])) had left wanted permits asked each good refl now read_all next
+    placed_sound accepts active (reads ++ file read bytes ∷ []) (upload request loads (Some (open_load wanted h head files)) reports) (open_load wanted h head (files ++ file name bytes ∷ [])) had left wanted permits asked each good refl now few read_all next
     (subst (λ (x : Next). HasLoadCrc h (crc32_of (covered head (files ++ file name bytes ∷ []))) x) tests.next_is
     (subst (λ (x : ℕ). HasLoadCrc h x (next_with u h (length (map file_entry_of files) + 1))) crc (has_load_crc h (next_with u h (length (map file_entry_of files) + 1)) _ tests.load)))
     (subst (λ (x : ℕ). NextMeans (length (files ++ file name bytes ∷ [])) (length (files_of h)) x (length request) next) (length-map loads entry_of)
@@ -347,7 +411,7 @@ written_no_read (ServesWrite name o) h = absurd h
 -- ---- row by row
 
 asked_sound : (accepts : Accepts) (active : StandingView) (reads : List FileView) (bytes : List ℕ) (found : Result (List Wanted) RequestFault) → reads ≡ [] → IsSoundRow accepts active reads (row_moved Awaits_lur bytes (request_move found))
-asked_sound accepts active reads bytes (Ok loads) none = record { had = []; left = loads; request = refl; each = tt; good = tt; next = tt; files = sym none }
+asked_sound accepts active reads bytes (Ok loads) none = record { had = []; left = loads; request = refl; each = tt; good = tt; next = tt; few = tt; files = sym none }
 asked_sound accepts active reads bytes (Err fault) none = tt
 
 header_by : HeadersAreSpelled → (accepts : Accepts) (active : StandingView) (reads : List FileView) (request : List Wanted) (loads : List LoadView) (reports : ℕ) (wanted : Wanted) (name bytes : List ℕ) (judgement : Judgement)
@@ -371,14 +435,14 @@ header_row spells accepts active reads request loads reports name bytes (Some wa
 file_by : SumsJoin → (accepts : Accepts) (active : StandingView) (reads : List FileView) (request : List Wanted) (loads : List LoadView) (l : OpenLoad) (reports : ℕ) (entry : FileEntry) (name bytes : List ℕ) (judgement : Judgement) (had left : List Wanted)
     → AcceptsPermitted accepts → name ≡ next_name (upload_view (upload request loads (Some l) reports)) → next_entry (open_load_view l) ≡ Some entry
     → judge_file (upload_view (upload request loads (Some l) reports)) (open_load_view l) entry (summed entry.length (open_load_view l).crc bytes) ≡ judgement
-    → request ≡ had ++ left → AllZip IsWanted had loads → AreGoodLoads accepts active loads → IsNextWanted accepts active left (Some l) → files_in loads ++ files_of_open (Some l) ≡ reads
+    → request ≡ had ++ left → AllZip IsWanted had loads → AreGoodLoads accepts active loads → IsNextWanted accepts active loads left (Some l) → AreFew active request loads (Some l) → files_in loads ++ files_of_open (Some l) ≡ reads
     → IsSoundRow accepts active (reads ++ file name bytes ∷ []) (row_judged (upload request loads (Some l) reports) bytes judgement)
-file_by joins accepts active reads request loads l reports entry name bytes (Stops_for r n) had left permits named found e asked each good next all = tt
-file_by joins accepts active reads request loads l reports entry name bytes (Accepts_header h m) had left permits named found e asked each good next all = absurd (file_no_header _ _ entry _ h m e)
-file_by joins accepts active reads request loads l reports entry name bytes (Accepts_file m) had [] permits named found e asked each good next all = absurd next
-file_by joins accepts active reads request loads l reports entry name bytes (Accepts_file m) had (wanted ∷ left) permits named found e asked each good (is, so_far) all =
+file_by joins accepts active reads request loads l reports entry name bytes (Stops_for r n) had left permits named found e asked each good next few all = tt
+file_by joins accepts active reads request loads l reports entry name bytes (Accepts_header h m) had left permits named found e asked each good next few all = absurd (file_no_header _ _ entry _ h m e)
+file_by joins accepts active reads request loads l reports entry name bytes (Accepts_file m) had [] permits named found e asked each good next few all = absurd next
+file_by joins accepts active reads request loads l reports entry name bytes (Accepts_file m) had (wanted ∷ left) permits named found e asked each good (is, so_far) few all =
     file_sound joins accepts active reads request loads reports l.wanted l.header l.bytes l.files entry name (next_name (upload_view (upload request loads (Some l) reports))) bytes m had left permits named (ap entry_name found) found e
-    (asked ∙ ap (λ (x : Wanted). had ++ x ∷ left) (sym is)) each good so_far all
+    (asked ∙ ap (λ (x : Wanted). had ++ x ∷ left) (sym is)) each good so_far few all
 
 file_row : SumsJoin → (accepts : Accepts) (active : StandingView) (reads : List FileView) (request : List Wanted) (loads : List LoadView) (l : OpenLoad) (reports : ℕ) (name bytes : List ℕ) (found : Option FileEntry)
     → AcceptsPermitted accepts → name ≡ next_name (upload_view (upload request loads (Some l) reports)) → next_entry (open_load_view l) ≡ found → IsSoundUpload accepts active reads (upload request loads (Some l) reports)
@@ -386,7 +450,7 @@ file_row : SumsJoin → (accepts : Accepts) (active : StandingView) (reads : Lis
     (row_moved (Reads_file (upload request loads (Some l) reports)) bytes (file_move (upload_view (upload request loads (Some l) reports)) (open_load_view l) found (Kept_sums (summed (said_length found) (open_load_view l).crc bytes))))
 file_row joins accepts active reads request loads l reports name bytes None permits named e s = tt
 file_row joins accepts active reads request loads l reports name bytes (Some f) permits named e s =
-    file_by joins accepts active reads request loads l reports f name bytes _ s.had s.left permits named e refl s.request s.each s.good s.next s.files
+    file_by joins accepts active reads request loads l reports f name bytes _ s.had s.left permits named e refl s.request s.each s.good s.next s.few s.files
 
 abbrev Moved : Accepts → (active : StandingView) → WholeRow → List FileView → List ℕ → Option ℕ → Type 0
 Moved accepts active row reads bytes error = IsSoundRow accepts active reads (row_moved row bytes (row_move accepts (outline_of active) (row_view row) (record { error = error; arriving = arriving_of (row_view row) bytes })))

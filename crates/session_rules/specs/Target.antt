@@ -18,6 +18,7 @@ use Rattle.session_rules.specs.declared.outcome.FileKind.TheVariants.{Lci, Lcl, 
 use Rattle.session_rules.specs.declared.reason.Reason.{Reason}
 use Rattle.session_rules.specs.declared.reason.Reason.TheVariants as reasons
 use Rattle.session_rules.specs.FileNames.{file_name}
+use Rattle.session_rules.specs.KeptLoads.{with_kept_entries}
 use Rattle.session_rules.specs.Reports.{lci_file, accepting_lui, denying_lui, lcs_file, lcl_file, ready_lus, progress_lus, completed_lus, stopped_lus}
 use Rattle.session_rules.specs.Uploads.{next_name}
 use Rattle.session_rules.specs.TargetRows.{TargetRow, Writes_lcs, Writes_lcl, Gives_denial, Writes_ready, Awaits_lur, Reads_file, Writes_progress, Writes_stop, Writes_completion, Over, UploadEnd, RowView, Arriving, arriving_of, with_bytes, RowMove, row_move, view_moved, first_row}
@@ -176,7 +177,7 @@ abbrev pub tick_decision : EndView → Option TargetSession → TargetDecision
 tick_decision v None = nothing
 tick_decision v (Some s) = if may_repeat v then doing (Repeats ∷ []) else ending (Some reasons.GaveUp)
 
--- what the target does at an event, where the interlock accepts these headers
+-- what the target does at an event, where the interlock accepts these loads
 abbrev pub target_decision : Accepts → TargetView → Event → TargetDecision
 target_decision accepts v (Gets from to bytes) = got_decision accepts v from to (packet_in bytes)
 target_decision accepts v Ticks = tick_decision v.end v.live
@@ -207,9 +208,9 @@ reason_in Gives_denial = Some reasons.SequenceSpent
 reason_in (Writes_stop e) = e.reason
 reason_in row = None
 
--- the configuration after the active one, in the other bank
+-- the configuration after the active one, in the other bank: these loads, and then those that are kept
 abbrev pub outline_after : Outline → List LoadEntry → Outline
-outline_after o loads = record { identity = o.identity; bank = 1 - o.bank; sequence = o.sequence + 1; loads = loads }
+outline_after o loads = record { identity = o.identity; bank = 1 - o.bank; sequence = o.sequence + 1; loads = with_kept_entries loads o.loads }
 
 -- the active configuration once a row is reached
 abbrev pub active_in : Outline → RowView → Outline

@@ -27,6 +27,7 @@ use Rattle.session_rules.specs.declared.outcome.FileKind.{FileKind}
 use Rattle.session_rules.specs.declared.outcome.FileKind.TheVariants.{Lci, Lui, Lur}
 use Rattle.session_rules.specs.declared.reason.Reason.{Reason}
 use Rattle.session_rules.specs.BufferLaws.{SumsJoin}
+use Rattle.session_rules.specs.KeptLaws.{installed_same}
 use Rattle.session_rules.specs.LoaderLog.{newest}
 use Rattle.session_rules.specs.Roles.{HasRole, IsOfView, LiveFits, LiveReadsNothing}
 use Rattle.session_rules.specs.RowLaws.{arriving_on, row_follows}
@@ -95,7 +96,7 @@ active_same s (Reads_file u) = refl
 active_same s (Writes_progress u) = refl
 active_same s (Writes_stop e) = refl
 active_same s Over = refl
-active_same s (Writes_completion e loads) = refl
+active_same s (Writes_completion e loads) = installed_same s loads
 
 reason_same : (row : WholeRow) → reason_in row ≡ reason_in (row_view row)
 reason_same Gives_lci = refl

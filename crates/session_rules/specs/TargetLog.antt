@@ -13,6 +13,7 @@ use Rattle.accept_rules.specs.Permissions.{Accepts}
 use Rattle.session_rules.specs.declared.outcome.FileKind.{FileKind}
 use Rattle.session_rules.specs.declared.reason.Reason.{Reason}
 use Rattle.session_rules.specs.declared.reason.Reason.TheVariants as reasons
+use Rattle.session_rules.specs.KeptLoads.{with_kept}
 use Rattle.session_rules.specs.LoaderLog.{newest}
 use Rattle.session_rules.specs.Target.{Begins, Continues, Ends, TargetChange, TargetSession, TargetView, Turns, Turns_without_port, later_reason, reason_in, target_decision, target_posts}
 use Rattle.session_rules.specs.TargetRows.{WholeRow, Writes_completion, arriving_of, first_row, row_of, row_view}
@@ -53,9 +54,9 @@ target_due accepts r e = target_posts accepts (target_view r) e
 
 -- ---- the log with one event more
 
--- the configuration after the active one, with all contents
+-- the configuration after the active one, with all contents: these loads, and then those that are kept
 abbrev pub standing_after : StandingView → List LoadView → StandingView
-standing_after s loads = record { identity = s.identity; bank = 1 - s.bank; sequence = s.sequence + 1; loads = loads }
+standing_after s loads = record { identity = s.identity; bank = 1 - s.bank; sequence = s.sequence + 1; loads = with_kept loads s.loads }
 
 abbrev pub standing_in : StandingView → WholeRow → StandingView
 standing_in s (Writes_completion e loads) = standing_after s loads

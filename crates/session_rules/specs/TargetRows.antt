@@ -26,8 +26,7 @@ pub record UploadEnd : Type 0 where
   pub reports : ℕ
   pub reason : Option Reason
 
--- The next row: the first of its operation that isn't finished. U is how far an upload has come, and C the configuration
--- that it makes.
+-- The next row: the first of its operation that isn't finished. U is how far an upload has come, and C the loads that it brings.
 pub data TargetRow (U C : Type 0) : Type 0 where
   Gives_lci : TargetRow U C
   Writes_lcs : TargetRow U C
@@ -39,7 +38,7 @@ pub data TargetRow (U C : Type 0) : Type 0 where
   Reads_file : U → TargetRow U C
   Writes_progress : U → TargetRow U C
   Writes_stop : UploadEnd → TargetRow U C
-  Writes_completion : UploadEnd → C → TargetRow U C  -- the configuration is installed
+  Writes_completion : UploadEnd → C → TargetRow U C  -- these loads are installed, with those that are kept
   Over : TargetRow U C
 
 -- with all contents

@@ -1,5 +1,5 @@
 -- How far an upload has come at the target, and what the tests say of a file that arrived (docs/EXCHANGE.md, "Upload").
-use Rattle.std.specs.Prelude.{ℕ, ◌+◌, ◌-◌, List, [], ◌∷◌, ◌++◌, length, map, take, Bool, true, false, nat_le, nat_lt, ◌==◌, bytes_eq, ◌&&◌, ◌||◌, Option, Some, None, slice_get, Result, Ok, Err, if◌then◌else◌}
+use Rattle.std.specs.Prelude.{ℕ, ◌+◌, ◌-◌, List, [], ◌∷◌, ◌++◌, length, map, take, Bool, true, false, not, nat_le, nat_lt, ◌==◌, bytes_eq, ◌&&◌, ◌||◌, Option, Some, None, slice_get, Result, Ok, Err, if◌then◌else◌}
 use Rattle.std.specs.List.{concat, list_any}
 use Rattle.crc_fields.specs.CheckSums.{crc32_of}
 use Rattle.field_grammar.specs.Answers.{answer}
@@ -22,6 +22,7 @@ use Rattle.session_rules.specs.declared.reason.Reason.TheVariants as reasons
 use Rattle.session_rules.specs.declared.reason.RequestFault.{RequestFault}
 use Rattle.session_rules.specs.declared.reason.RequestFault.TheVariants as requests
 use Rattle.session_rules.specs.Buffers.{Buffer, Sums, is_too_long}
+use Rattle.session_rules.specs.KeptLoads.{kept_entries, told_loads, types_of}
 
 -- ---- headers
 
@@ -168,14 +169,36 @@ planned_load wanted h size =
 unfoldable pub need_of : List LoadEntry → ℕ
 need_of loads = total_length loads + length (concat (manifest_fields layouts.Two loads))
 
+-- the next header is that of the last load that was asked for
+abbrev pub is_last : UploadView → Bool
+is_last u = not (nat_lt (length u.loads + 1) (length u.request))
+
+-- the active loads that are kept after this header: those that have a type id which no header so far has
+abbrev pub kept_after : (active : Outline) → UploadView → HeaderView → List LoadEntry
+kept_after active u h = kept_entries (types_of u.loads ++ h.type_id ∷ []) active.loads
+
+-- only at the last header it is known which loads stay
+abbrev pub kept_at_last : (active : Outline) → UploadView → HeaderView → List LoadEntry
+kept_at_last active u h = if is_last u then kept_after active u h else []
+
+-- the loads that need room, as far as they are known at a header: those that are whole, its own, and at the last header those that
+-- are kept
+abbrev pub loads_at : (active : Outline) → UploadView → Wanted → HeaderView → (size : ℕ) → List LoadEntry
+loads_at active u wanted h size = (u.loads ++ planned_load wanted h size ∷ []) ++ kept_at_last active u h
+
+-- how many loads are requested and kept
+abbrev pub load_total : (active : Outline) → UploadView → HeaderView → ℕ
+load_total active u h = length u.request + length (kept_after active u h)
+
 -- the tests on a header beside what is active, in their order
 abbrev pub header_reason : Accepts → (active : Outline) → UploadView → Wanted → HeaderView → (size : ℕ) → Option Reason
 header_reason accepts active u wanted h size =
     or_else (unless (bytes_eq h.part wanted.part) reasons.PartDiffers)
     (or_else (unless (is_for active.identity.hw active.identity.pos h) reasons.NotThisHardware)
-    (or_else (unless (accepts h) reasons.RuleRefused)
-    (unless (nat_le (need_of (u.loads ++ planned_load wanted h size ∷ [])) active.identity.bank)
-    (reasons.BankFull (need_of (u.loads ++ planned_load wanted h size ∷ [])) active.identity.bank))))
+    (or_else (unless (accepts h (told_loads (kept_after active u h))) reasons.RuleRefused)
+    (or_else (unless (not (is_last u) || nat_le (load_total active u h) 32) (reasons.TooManyLoads (load_total active u h)))
+    (unless (nat_le (need_of (loads_at active u wanted h size)) active.identity.bank)
+    (reasons.BankFull (need_of (loads_at active u wanted h size)) active.identity.bank)))))
 
 -- a load without data and support files is whole with its header
 abbrev pub judge_spelled_header : Accepts → (active : Outline) → UploadView → Wanted → Buffer → HeaderView → Judgement

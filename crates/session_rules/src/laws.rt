@@ -5,6 +5,8 @@ ghost use Rattle.session_rules.specs.Fairness.{LoaderGivesMediaFiles, LoaderMove
 ghost use Rattle.session_rules.specs.Fairness.{LoaderStaysFair, TargetMovesFit, TargetStaysFair};
 ghost use Rattle.session_rules.specs.FirstPosts.{LoaderBlocksInOrder, TargetBlocksInOrder};
 ghost use Rattle.session_rules.specs.FirstPosts.{TicksRepeat};
+ghost use Rattle.session_rules.specs.Installations.{InstalledAreChecked, InstalledHaveTypes};
+ghost use Rattle.session_rules.specs.KeptExamples.{KeptAre, NeedsAre, RefusedAre};
 ghost use Rattle.session_rules.specs.Laws.{AllArePlaced, LoaderAcksWhatCame, LoaderFollows};
 ghost use Rattle.session_rules.specs.Laws.{LoaderTakesWhatCame, LogsCountUp, TargetAcksWhatCame};
 ghost use Rattle.session_rules.specs.Laws.{TargetFollows, TargetTakesWhatCame, TwoAtMost};
@@ -157,4 +159,18 @@ pub fn a_session_is_of_the_newest_start()
 /// other, beside what was active as it began.
 pub fn a_row_is_that_of_all_transfers()
     ensures { RowsAreOfAllTransfers }
+{}
+
+/// Loads that an upload keeps were good once, beside what was kept then. What stays of that is that
+/// each is checked, and has a type id, so that a manifest that is written has one of each.
+pub fn an_installation_keeps_loads_checked()
+    ensures checked { InstalledAreChecked }
+    ensures types { InstalledHaveTypes }
+{}
+
+/// What is kept, and what it changes at the tests on a header, in worked uploads.
+pub fn what_is_kept_is_worked_out()
+    ensures needs { NeedsAre }
+    ensures kept { KeptAre }
+    ensures refused { RefusedAre }
 {}

@@ -1,5 +1,6 @@
 -- What the end of a transfer comes to, of what is installed.
-use Rattle.std.proofs.Common.{◌≡◌, List, Option, Some, Result, Ok, Err, IfOk, OnOk, refl, sym, ap, subst, ◌∙◌}
+use Rattle.std.proofs.Common.{◌≡◌, ◌≤◌, List, length, take, Option, Some, Result, Ok, Err, IfOk, OnOk, refl, sym, ap, subst, ◌∙◌, arith}
+use Rattle.std.proofs.lemmas.List.{take_at}
 use Rattle.disk_model.specs.State.{DiskState}
 use Rattle.disk_layout.specs.Holds.{Outline}
 use Rattle.disk_layout.specs.Manifest.{LoadEntry, manifest_view}
@@ -9,7 +10,9 @@ use Rattle.disk_layout.specs.declared.identity.Identity.{Identity}
 use Rattle.disk_layout.specs.declared.manifest.Manifest.{Manifest}
 use Rattle.accept_rules.specs.Permissions.{Accepts}
 use Rattle.bank_store.specs.Fits.{Fits, Works}
-use Rattle.bank_store.specs.Store.{SameActive, bank_size_of}
+use Rattle.bank_store.specs.Known.{KnowsActive}
+use Rattle.bank_store.specs.Store.{SameActive, active_bank, active_sequence, bank_size_of, known_of}
+use Rattle.session_rules.specs.KeptLoads.{kept_entries, types_of, with_kept_entries}
 use Rattle.bank_store.specs.declared.store.Store.{Store}
 use Rattle.session_rules.specs.Target.{active_in, outline_after}
 use Rattle.session_rules.specs.TargetRows.{RowView, Writes_completion, done_move, row_after, view_moved}
@@ -18,11 +21,14 @@ use Rattle.load_intake.specs.declared.down.Down.{Down}
 use Rattle.load_intake.specs.declared.ended.UploadEnd.{UploadEnd}
 use Rattle.load_intake.specs.Intakes.{end_view}
 use Rattle.load_intake.specs.States.{IntakeState}
-use Rattle.load_intake.specs.Stores.{Installs}
+use Rattle.load_intake.specs.Stores.{InstallsAll}
 use Rattle.target_machine.specs.Machine.{arriving_in, next_seen, row_seen}
 use Rattle.target_machine.specs.Stages.{InstalledState, IsInstalled, StartsFresh, StaysOn, TurnsTo, outline_kept}
 use Rattle.target_machine.specs.declared.row.Row.{Row}
 use Rattle.target_machine.specs.declared.row.Row.TheVariants as rows
+
+abbrev outline_with : Identity → Store → List LoadEntry → Outline
+outline_with id store loads = record { identity = id; bank = active_bank store; sequence = active_sequence store; loads = loads }
 
 abbrev pub state : Identity → Manifest → Store → InstalledState
 state id m store = record { active = outline_kept id m store; store = store }
@@ -34,8 +40,19 @@ pub still_active : (now : InstalledState) (id : Identity) (m : Manifest) (before
 still_active now id m before after e same = same_outline id m before after same ∙ ap (λ (x : InstalledState). x.active) e
 
 -- the store is still that of the target
-pub still_installed : (id : Identity) (m : Manifest) (before after : Store) → bank_size_of after ≡ bank_size_of before → IsInstalled id m before → IsInstalled id m after
-still_installed id m before after size is = record { size = size ∙ is.size; few = is.few }
+pub still_installed : (id : Identity) (m : Manifest) (before after : Store) → bank_size_of after ≡ bank_size_of before → known_of after ≡ known_of before → IsInstalled id m before → IsInstalled id m after
+still_installed id m before after size known is = record {
+  size = size ∙ is.size;
+  few = is.few;
+  knows = record { fits = is.knows.fits; known = known ∙ is.knows.known; within = omega (arith, size, is.knows.within) };
+}
+
+-- or knows the loads that are installed
+pub newly_installed : (id : Identity) (m : Manifest) (before after : Store) (loads : List LoadEntry) → bank_size_of after ≡ bank_size_of before → bank_size_of before ≡ id.bank → manifest_view m ≡ loads → KnowsActive after loads
+    → IsInstalled id m after
+newly_installed id m before after loads size bank is knows =
+    let here : KnowsActive after (manifest_view m) = subst (λ (l : List LoadEntry). KnowsActive after l) (sym is) knows in
+    record { size = size ∙ bank; few = here.fits.fits.count; knows = here }
 
 -- a row in which what is active stays
 pub turns_same : (now : InstalledState) (id : Identity) (m : Manifest) (before after : Store) (next : Row) (row : Outline → RowView) (kept : RowView) → state id m before ≡ now → SameActive before after
@@ -49,19 +66,25 @@ turns_same now id m before after next row kept e same seen stays fresh is =
     })
 
 -- the row in which a new configuration is installed
-pub turns_new : (now : InstalledState) (id : Identity) (m loads : Manifest) (before after : Store) (old new : DiskState) (end : UploadEnd) (row : Outline → RowView) → state id m before ≡ now
-    → Installs before after old new → Writes_completion (end_view end) (manifest_view loads) ≡ row (outline_kept id m before)
-    → TurnsTo (Some (rows.WritesCompletion end)) (row now.active) now (state id loads after)
-turns_new now id m loads before after old new end row e installs is =
-    subst (λ (x : InstalledState). TurnsTo (Some (rows.WritesCompletion end)) (row x.active) x (state id loads after)) e
+pub turns_new : (now : InstalledState) (id : Identity) (m all : Manifest) (loads : List LoadEntry) (before after : Store) (old new : DiskState) (end : UploadEnd) (row : Outline → RowView) → state id m before ≡ now
+    → InstallsAll end loads before after old new → manifest_view all ≡ with_kept_entries loads (manifest_view m) → Writes_completion (end_view end) loads ≡ row (outline_kept id m before)
+    → TurnsTo (Some (rows.WritesCompletion end)) (row now.active) now (state id all after)
+turns_new now id m all loads before after old new end row e installs made is =
+    subst (λ (x : InstalledState). TurnsTo (Some (rows.WritesCompletion end)) (row x.active) x (state id all after)) e
     (record {
       active = new_outline ∙ ap (active_in (outline_kept id m before)) is;
-      is = is;
+      is = ap (λ (l : List LoadEntry). Writes_completion (end_view end) l) asked ∙ is;
       fresh = tt;
     })
   where
-    new_outline : outline_kept id loads after ≡ outline_after (outline_kept id m before) (manifest_view loads)
-    new_outline = rw (installs.bank, installs.sequence) refl
+    new_outline : outline_kept id all after ≡ outline_after (outline_kept id m before) loads
+    new_outline =
+        ap (λ (l : List LoadEntry). outline_with id after l) made ∙ rw (installs.loads_are.installs.bank, installs.loads_are.installs.sequence) refl
+
+    asked : take (length end.request.items) (manifest_view all) ≡ loads
+    asked =
+        ap (λ (l : List LoadEntry). take (length end.request.items) l) made
+        ∙ take_at loads (kept_entries (types_of loads) (manifest_view m)) (length end.request.items) (sym installs.all)
 
 -- an installation is given up beside
 pub turns_too : (now mid : InstalledState) (id : Identity) (m : Manifest) (before after : Store) (next : Option Row) (row : RowView) → state id m before ≡ mid → SameActive before after → TurnsTo next row now mid

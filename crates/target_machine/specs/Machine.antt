@@ -1,5 +1,5 @@
 -- What the target's types mean (docs/EXCHANGE.md, "The target").
-use Rattle.std.specs.Prelude.{ℕ, ◌+◌, List, length, Option, Some, None}
+use Rattle.std.specs.Prelude.{ℕ, ◌+◌, List, length, take, Option, Some, None}
 use Rattle.disk_layout.specs.Manifest.{LoadEntry}
 use Rattle.session_rules.specs.Buffers.{Buffer}
 use Rattle.session_rules.specs.Target.{TargetSession}
@@ -10,7 +10,7 @@ use Rattle.target_machine.specs.declared.row.Row.{Row}
 use Rattle.target_machine.specs.declared.row.Row.TheVariants as rows
 use Rattle.target_machine.specs.declared.session.LiveSession.{LiveSession}
 
--- a row, where these loads are active
+-- a row, where these loads are active; after an installation those that were asked for stand first among them
 abbrev pub row_seen : List LoadEntry → Row → RowView
 row_seen active rows.GivesLci = Gives_lci
 row_seen active rows.WritesLcs = Writes_lcs
@@ -22,7 +22,7 @@ row_seen active rows.AwaitsLur = Awaits_lur
 row_seen active (rows.ReadsFile intake) = Reads_file intake.upload
 row_seen active (rows.WritesProgress intake) = Writes_progress intake.upload
 row_seen active (rows.WritesStop end) = Writes_stop (end_view end)
-row_seen active (rows.WritesCompletion end) = Writes_completion (end_view end) active
+row_seen active (rows.WritesCompletion end) = Writes_completion (end_view end) (take (length end.request.items) active)
 
 -- the next row, if the session isn't over
 abbrev pub next_seen : List LoadEntry → Option Row → RowView

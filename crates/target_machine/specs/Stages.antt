@@ -7,6 +7,7 @@ use Rattle.disk_layout.specs.declared.identity.Identity.{Identity}
 use Rattle.disk_layout.specs.declared.manifest.Manifest.{Manifest}
 use Rattle.bank_store.specs.DiskWrites.{IsRunning}
 use Rattle.bank_store.specs.Fits.{Fits, Works}
+use Rattle.bank_store.specs.Known.{KnowsActive}
 use Rattle.bank_store.specs.Store.{IsIdle, IsPrepared, IsSpent, active_bank, active_sequence, bank_size_of}
 use Rattle.bank_store.specs.declared.store.Store.{Store}
 use Rattle.session_rules.specs.Target.{active_in}
@@ -29,10 +30,11 @@ pub record InstalledState : Type 0 where
 abbrev pub outline_kept : Identity → Manifest → Store → Outline
 outline_kept id m store = record { identity = id; bank = active_bank store; sequence = active_sequence store; loads = manifest_view m }
 
--- the store has banks of the target's size, and there are at most 32 loads
+-- the store has banks of the target's size, and knows the loads, at most 32
 pub record IsInstalled (id : Identity) (m : Manifest) (store : Store) : Type 0 where
   pub size : bank_size_of store ≡ id.bank
   pub few : length (manifest_view m) ≤ 32
+  pub knows : KnowsActive store (manifest_view m)
 
 -- ---- how far an installation is
 

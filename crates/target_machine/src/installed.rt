@@ -275,7 +275,8 @@ impl Installed {
             (Reads_file intake.upload) intake.arriving)) result }
         ensures writes { Writes (K.state disk.old) (K.state disk.new) result }
     {
-        match intake.finish(interlock, &self.identity, &mut self.store, disk)? {
+        let active = self.manifest.loads.as_slice();
+        match intake.finish(interlock, &self.identity, active, &mut self.store, disk)? {
             Finished::MoreFiles(intake) => {
                 intake.no_more();
                 Ok(Row::ReadsFile(intake))
@@ -286,7 +287,8 @@ impl Installed {
             }
             Finished::Stopped(end) => Ok(Row::WritesStop(end)),
             Finished::Installed(end, new) => {
-                self.manifest = Manifest { loads: new.loads };
+                let loads = new.with_kept(&mut self.manifest.loads);
+                self.manifest = Manifest { loads };
                 Ok(Row::WritesCompletion(end))
             }
         }

@@ -17,9 +17,9 @@ pub(crate) struct LiveSession {
 }
 
 impl LiveSession {
-    ghost use Rattle.std.specs.Prelude.{◌≡◌, ◌≤◌, ◌++◌, List, OnOk};
+    ghost use Rattle.std.specs.Prelude.{◌≡◌, ◌≤◌, ◌++◌, List, OnErr, OnOk};
     ghost use Rattle.bank_store.specs.DiskWrites.{IsRunning};
-    ghost use Rattle.bank_store.specs.Store.{bank_size_of};
+    ghost use Rattle.bank_store.specs.Store.{bank_size_of, known_of};
     ghost use Rattle.bank_store.specs.declared.store.Store.{Store as StoreState};
     ghost use Rattle.disk_layout.specs.Holds.{StandingView};
     ghost use Rattle.disk_layout.specs.Manifest.{LoadEntry};
@@ -76,6 +76,7 @@ impl LiveSession {
         ensures goes_on { OnOk result (StoreGoesOn store.old store.new (K.state disk.old)
             (K.state disk.new)) }
         ensures size { bank_size_of store.new ≡ bank_size_of store.old }
+        ensures known { OnErr result (known_of store.new ≡ known_of store.old) }
         ensures writes { Writes (K.state disk.old) (K.state disk.new) result }
     {
         match &mut self.row {

@@ -2,6 +2,7 @@
 use Rattle.std.proofs.Common.{◌≡◌, List, [], ◌∷◌, ◌++◌, Bool, Option, Some, None, refl, sym, ap, subst, ◌∙◌}
 use Rattle.accept_rules.specs.Permissions.{Accepts}
 use Rattle.load_header.specs.declared.header.LoadHeader.{LoadHeader}
+use Rattle.accept_rules.specs.declared.kept.KeptLoad.{KeptLoad}
 use Rattle.disk_layout.specs.declared.identity.Identity.{Identity}
 use Rattle.disk_model.specs.State.{DiskState}
 use Rattle.exchange_trace.specs.declared.trace.Side.TheVariants as sides
@@ -34,7 +35,7 @@ abbrev pub some_setting : Media → (accepts : Accepts) → Identity → Setting
 some_setting media accepts identity = record { media = media; accepts = accepts; start = record { identity = identity; bank = 0; sequence = 0; loads = [] } }
 
 -- a step more
-pub lived_on : {R : Type 0} (may_say : R → LoadHeader → Bool → Type 0) (set : Setting) (state : TargetState) (before after : DriverState R) (h : HappeningView) (posts : List DatagramView) (old new : DiskState)
+pub lived_on : {R : Type 0} (may_say : R → LoadHeader → List KeptLoad → Bool → Type 0) (set : Setting) (state : TargetState) (before after : DriverState R) (h : HappeningView) (posts : List DatagramView) (old new : DiskState)
     → StepsAsSaid may_say set state h posts before.steps after.steps before.loader after.loader before.target after.target old new → GoesOn before
     → HasLived (media_of before.loader.set) set.accepts before.steps (target_kept before.target) → HasLived (media_of after.loader.set) set.accepts after.steps (target_kept after.target)
 lived_on may_say set state before after h posts old new said on lived =

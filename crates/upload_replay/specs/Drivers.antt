@@ -11,6 +11,7 @@ use Rattle.exchange_trace.specs.Steps.{Step}
 use Rattle.link_net.specs.Followed.{HasFollowed}
 use Rattle.link_net.specs.Links.{LinkState}
 use Rattle.load_header.specs.declared.header.LoadHeader.{LoadHeader}
+use Rattle.accept_rules.specs.declared.kept.KeptLoad.{KeptLoad}
 use Rattle.loader_machine.specs.Machine.{LoaderState, media_of}
 use Rattle.replay_rules.specs.BothEnds.{Setting, waiting}
 use Rattle.replay_rules.specs.Changes.{AllCarryBytes}
@@ -45,7 +46,7 @@ pub record GoesOn {R : Type 0} (d : DriverState R) : Type 0 where
   pub no_end : AllByRecursion (λ (s : Step). IsNoEnd s.given) d.steps
 
 -- It stands on this setting: its media set, and what its rule accepts.
-pub record StandsOn {R : Type 0} (may_say : R → LoadHeader → Bool → Type 0) (set : Setting) (d : DriverState R) : Type 0 where
+pub record StandsOn {R : Type 0} (may_say : R → LoadHeader → List KeptLoad → Bool → Type 0) (set : Setting) (d : DriverState R) : Type 0 where
   pub media : set.media ≡ media_of d.loader.set
   pub accepts : Follows may_say d.rule set.accepts
   pub up : RuleFollows may_say set.accepts d.target

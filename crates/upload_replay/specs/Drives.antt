@@ -3,6 +3,7 @@ use Rattle.std.specs.Prelude.{◌≡◌, List, [], ◌∷◌, ◌++◌, Bool, tr
 use Rattle.std.specs.List.{AllByRecursion}
 use Rattle.accept_rules.specs.Interlocks.{Follows}
 use Rattle.load_header.specs.declared.header.LoadHeader.{LoadHeader}
+use Rattle.accept_rules.specs.declared.kept.KeptLoad.{KeptLoad}
 use Rattle.disk_layout.specs.Holds.{HoldsConfig, StandingView}
 use Rattle.disk_model.specs.Image.{Image}
 use Rattle.media_check.specs.Sets.{SetView}
@@ -82,7 +83,7 @@ NeverBoots steps = AllByRecursion (λ (s : Step). IsNoBoot s.given) steps
 -- ---- a whole run
 
 -- A run stands on this media set, on this interlock, and on what this image of the disk holds.
-pub record IsSet {R : Type 0} (may_say : R → LoadHeader → Bool → Type 0) (set : Setting) (interlock : R) (shown : SetView) (image : Image) : Type 0 where
+pub record IsSet {R : Type 0} (may_say : R → LoadHeader → List KeptLoad → Bool → Type 0) (set : Setting) (interlock : R) (shown : SetView) (image : Image) : Type 0 where
   pub media : set.media ≡ media_of shown
   pub accepts : Follows may_say interlock set.accepts
   pub start : HoldsConfig image set.start

@@ -3,6 +3,7 @@ use Rattle.std.specs.Prelude.{◌≡◌, ℕ, List, [], ◌∷◌, ◌++◌, Boo
 use Rattle.accept_rules.specs.Interlocks.{Follows}
 use Rattle.accept_rules.specs.Permissions.{Accepts}
 use Rattle.load_header.specs.declared.header.LoadHeader.{LoadHeader}
+use Rattle.accept_rules.specs.declared.kept.KeptLoad.{KeptLoad}
 use Rattle.exchange_trace.specs.declared.trace.Side.TheVariants as sides
 use Rattle.exchange_trace.specs.Happenings.{DatagramView}
 use Rattle.exchange_trace.specs.Logs.{event_for}
@@ -34,8 +35,8 @@ HasLived media accepts (s ∷ earlier) target = (before : Option TargetView) × 
 abbrev pub LivesThrough : Media → (accepts : Accepts) → List Step → Type 0
 LivesThrough media accepts steps = (target : Option TargetView) × HasLived media accepts steps target
 
--- The target of a driver so lived so far, whose rule accepts these headers.
-pub record LivesOn {R : Type 0} (may_say : R → LoadHeader → Bool → Type 0) (accepts : Accepts) (d : DriverState R) : Type 0 where
+-- The target of a driver so lived so far, whose rule accepts these loads.
+pub record LivesOn {R : Type 0} (may_say : R → LoadHeader → List KeptLoad → Bool → Type 0) (accepts : Accepts) (d : DriverState R) : Type 0 where
   pub follows : Follows may_say d.rule accepts
   pub up : RuleFollows may_say accepts d.target
   pub lived : HasLived (media_of d.loader.set) accepts d.steps (target_kept d.target)

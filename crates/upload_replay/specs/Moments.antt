@@ -20,7 +20,7 @@ AllBootsAreTold set [] = ⊤
 AllBootsAreTold set (s ∷ earlier) = BootIsTold (target_at set (s ∷ earlier)) s.notes × AllBootsAreTold set earlier
 
 -- The disk tells its content, and each image that a power loss may leave now, or might have left since, holds what was active
--- at the start, or a configuration that has a load and good loads alone.
+-- at the start, or a configuration of which each load was active then or is checked, and one is checked.
 pub record LeavesGood (set : Setting) (since : ℕ) (disk : DiskState) : Type 0 where
   pub tells : is_some disk.reads ≡ true
   pub only : LeavesOnly since (HoldsFirstOrGood set) disk

@@ -121,7 +121,7 @@ header_bytes : all_bytes (hex digits) ≡ true
 unfolding f0 f1 run u0 u1 u2 u3 u4 u5 u6 u7 u8 u9 u10 u11 u12 u13 u14 u15 u16 u17 u18 u19 u20 u21 u22 u23 u24 u25 u26 u27 u28 u29 u30 u31 u32 u33 u34 u35 u36 u37 u38 u39 u40 u41 u42 u43 u44 u45 u46 u47 u48 u49 u50 u51 u52 u53 u54 u55 u56 u57 u58 u59 u60 u61 u62 u63 u64 u65 u66 u67 u68 u69 u70 u71 u72 u73 u74 u75 u76 u77 u78 u79 u80 u81 u82 u83 u84 u85 u86 u87 u88 u89 u90 u91 u92 u93 u94 u95 u96 u97 u98 u99 u100 u101 u102 u103 u104 u105 u106 u107 u108 u109 u110 u111 u112 u113 u114 u115 u116 u117 u118 u119 u120 u121 u122 u123 u124 u125 u126 u127 u128 u129 u130 u131 u132 u133 u134 u135 u136 u137 u138 u139 u140 u141 u142 u143 u144 u145 u146 u147 u148 u149 u150 u151 u152 u153 u154 u155
 header_bytes = refl
 
-app_is_good : HeadersAreSpelled → IsGoodLoad (IsGranted one_load) one_load.start.identity app
+app_is_good : HeadersAreSpelled → IsGoodLoad (IsGranted one_load) one_load.start.identity [] app
 unfolding f0 f1 run u0 u1 u2 u3 u4 u5 u6 u7 u8 u9 u10 u11 u12 u13 u14 u15 u16 u17 u18 u19 u20 u21 u22 u23 u24 u25 u26 u27 u28 u29 u30 u31 u32 u33 u34 u35 u36 u37 u38 u39 u40 u41 u42 u43 u44 u45 u46 u47 u48 u49 u50 u51 u52 u53 u54 u55 u56 u57 u58 u59 u60 u61 u62 u63 u64 u65 u66 u67 u68 u69 u70 u71 u72 u73 u74 u75 u76 u77 u78 u79 u80 u81 u82 u83 u84 u85 u86 u87 u88 u89 u90 u91 u92 u93 u94 u95 u96 u97 u98 u99 u100 u101 u102 u103 u104 u105 u106 u107 u108 u109 u110 u111 u112 u113 u114 u115 u116 u117 u118 u119 u120 u121 u122 u123 u124 u125 u126 u127 u128 u129 u130 u131 u132 u133 u134 u135 u136 u137 u138 u139 u140 u141 u142 u143 u144 u145 u146 u147 u148 u149 u150 u151 u152 u153 u154 u155
 app_is_good spells = record {
   header = app_header;
@@ -131,8 +131,8 @@ app_is_good spells = record {
   part = refl;
   type_id = refl;
   suits = refl;
-  accepted = (refl, (le_test 1 7 refl, le_test 7 32767 refl));
-  permitted = λ e. cc;
+  accepted = (refl, record { least = le_test 1 7 refl; most = le_test 7 32767 refl; part = refl });
+  permitted = record { type_id = λ e. cc; part = refl };
   whole = refl;
   each = (record { name = refl; size = refl; crc = refl }, tt);
   crc = refl;
@@ -160,7 +160,7 @@ upload_is_fault_free spells = record {
   stays_up = refl;
   loader_ends = (record { kind = Upload; outcome = Completed; listed = None } ∷ [], refl, (refl, tt));
   target_ends = (tt, ((tt, (Ack 1, refl, refl)), (tt, (tt, (tt, (tt, (tt, (tt, (tt, (tt, (tt, (tt, (tt, (tt, (tt, (tt, (tt, (tt, (tt, (tt, (tt, (tt, tt))))))))))))))))))))));
-  served = record { each = (record { part = refl; header = refl }, tt); good = (app_is_good spells, tt); media = (refl, (refl, tt)); fit = le_test _ 4096 refl };
+  served = record { each = (record { part = refl; header = refl }, tt); good = (app_is_good spells, tt); media = (refl, (refl, tt)); few = le_test 1 32 refl; fit = le_test _ 4096 refl };
   loader_ports = le_test _ 65536 refl;
   target_ready = (lt_test 1 4294967295 refl, le_test _ 65536 refl);
 }
@@ -187,7 +187,7 @@ losses_are_fault_free spells = record {
   stays_up = refl;
   loader_ends = ([], refl, tt);
   target_ends = (tt, (tt, (tt, (tt, (tt, (tt, (tt, (tt, (tt, (tt, (tt, (tt, (tt, (tt, (tt, (tt, (tt, (tt, (tt, (tt, tt))))))))))))))))))));
-  served = record { each = (record { part = refl; header = refl }, tt); good = (app_is_good spells, tt); media = (refl, (refl, tt)); fit = le_test _ 4096 refl };
+  served = record { each = (record { part = refl; header = refl }, tt); good = (app_is_good spells, tt); media = (refl, (refl, tt)); few = le_test 1 32 refl; fit = le_test _ 4096 refl };
   loader_ports = le_test _ 65536 refl;
   target_ready = (lt_test 1 4294967295 refl, le_test _ 65536 refl);
 }

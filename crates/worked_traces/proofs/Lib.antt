@@ -9,3 +9,6 @@ pub mod OptionsRun
 pub mod GivesUpRun
 pub mod BootsRun
 pub mod OtherHardwareRun
+pub mod TwoUploadsRun
+pub mod OtherTypeRun
+pub mod OldLayoutRun

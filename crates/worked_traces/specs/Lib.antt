@@ -12,3 +12,6 @@ pub mod Options
 pub mod GivesUp
 pub mod Boots
 pub mod OtherHardware
+pub mod TwoUploads
+pub mod OtherType
+pub mod OldLayout

@@ -1,5 +1,6 @@
 -- A trace gone through once, from its start (docs/EXCHANGE.md, "Runs").
 use Rattle.std.specs.Prelude.{◌≡◌, ℕ, List, [], ◌∷◌, ◌++◌, map, take, is_some, Option, Some, None, if◌then◌else◌, ⊤}
+use Rattle.load_base.specs.Config.{LoadView}
 use Rattle.exchange_trace.specs.declared.trace.Side.TheVariants as sides
 use Rattle.exchange_trace.specs.Happenings.{DatagramView, HappeningView}
 use Rattle.exchange_trace.specs.Following.{Plan, Scene, next_turn, plan_after}
@@ -76,6 +77,10 @@ steps_in run = onto run.trace []
 -- only its first steps, this many
 abbrev pub first_steps : ℕ → WorkedRun → List Step
 first_steps count run = onto (take count run.trace) []
+
+-- the part numbers of what is active at its end
+abbrev pub parts_after : WorkedRun → List (List ℕ)
+parts_after run = map (λ (load : LoadView). load.part) (active_at run.setting (steps_in run)).loads
 
 -- The definitions agree with a run, which ends with these numbers undelivered, these outcomes, the newest first, and this
 -- sequence number active.

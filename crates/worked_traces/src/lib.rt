@@ -4,7 +4,7 @@
 //! gives, and only that was noted which may be.
 #![tactic(auto)]
 
-ghost use Rattle.std.specs.Prelude.{[], ◌∷◌, codes};
+ghost use Rattle.std.specs.Prelude.{◌≡◌, [], ◌∷◌, codes};
 ghost use Rattle.worked_traces.specs.Information.{run as information_run};
 ghost use Rattle.worked_traces.specs.Upload.{run as upload_run};
 ghost use Rattle.worked_traces.specs.Losses.{run as losses_run};
@@ -15,7 +15,10 @@ ghost use Rattle.worked_traces.specs.Options.{run as options_run};
 ghost use Rattle.worked_traces.specs.GivesUp.{run as gives_up_run};
 ghost use Rattle.worked_traces.specs.Boots.{run as boots_run};
 ghost use Rattle.worked_traces.specs.OtherHardware.{run as other_hardware_run};
-ghost use Rattle.worked_traces.specs.Walks.{first_steps, IsWorked, steps_in};
+ghost use Rattle.worked_traces.specs.TwoUploads.{run as two_uploads_run};
+ghost use Rattle.worked_traces.specs.OtherType.{run as other_type_run};
+ghost use Rattle.worked_traces.specs.OldLayout.{run as old_layout_run};
+ghost use Rattle.worked_traces.specs.Walks.{first_steps, IsWorked, parts_after, steps_in};
 ghost use Rattle.replay_rules.specs.FaultFree.{IsFaultFree};
 ghost use Rattle.replay_rules.specs.Promises.{OnlyFinishIsLeft};
 ghost use Rattle.replay_rules.specs.Runs.{IsWithinMargin};
@@ -92,4 +95,23 @@ pub fn boots()
 /// An upload that is stopped, since its load is for other hardware.
 pub fn other_hardware()
     ensures { IsWorked other_hardware_run [] (TargetStopped (codes "A4") ∷ []) 1 }
+{}
+
+/// Two uploads, of which the second keeps what the first installed, behind its own load.
+pub fn two_uploads()
+    ensures worked { IsWorked two_uploads_run [] (Completed ∷ Completed ∷ []) 3 }
+    ensures parts { parts_after two_uploads_run
+        ≡ codes "ABC42-0000-0002" ∷ codes "ABC41-0000-0001" ∷ [] }
+{}
+
+/// An upload that is stopped, since a load of its part number is kept under another type.
+pub fn other_type()
+    ensures worked { IsWorked other_type_run [] (TargetStopped (codes "A5") ∷ []) 2 }
+    ensures parts { parts_after other_type_run ≡ codes "ABC41-0000-0001" ∷ [] }
+{}
+
+/// An upload onto a unit whose manifest says no type ids, so that nothing is kept.
+pub fn old_layout()
+    ensures worked { IsWorked old_layout_run [] (Completed ∷ []) 3 }
+    ensures parts { parts_after old_layout_run ≡ codes "ABC42-0000-0002" ∷ [] }
 {}

@@ -5,7 +5,7 @@ ghost use Rattle.bank_store.specs.Store.{IsIdle};
 use bank_store::{Identity, Store, StoreFault, format};
 use disk_layout::{Active, Bank, ManifestRange, Slot};
 use disk_model::{Call, Disk, FileDisk, MemDisk, Note};
-use load_base::{Ident, Name, PartText};
+use load_base::{Bytes, Ident, Name, PartText};
 use printed_text::Printed;
 use std::alloc::Global;
 use std::fs;
@@ -180,7 +180,7 @@ fn install(alloc: Global, disk: &mut MemDisk) -> Result<(u32, u8), Fail>
         },
     };
     format(disk, &identity)?;
-    let mut store = Store::new(alloc, 4096, active, false);
+    let mut store = Store::new(alloc, 4096, active, false, Bytes::new(alloc));
     let answer = install_one(&mut store, disk, part, name);
     let found = (store.sequence(), store.bank());
     drop(store);

@@ -2,8 +2,8 @@ ghost use Rattle.std.specs.Prelude.{◌≡◌};
 ghost use Rattle.load_header.specs.Header.{header_view};
 ghost use Rattle.accept_rules.specs.Interlocks.{IsInterlock, Says};
 
-use accept_rules::{Asks, Interlock, PermitsAll, Rule};
-use load_base::{Bytes, List, Text};
+use accept_rules::{Asks, Interlock, KeptLoad, PermitsAll, Rule};
+use load_base::{Bytes, List, PartText, Text};
 use load_header::LoadHeader;
 use part_number::PartNumber;
 use std::alloc::Global;
@@ -24,24 +24,30 @@ fn header(alloc: Global, type_id: u16) -> Result<LoadHeader, Fail> {
     })
 }
 
-fn answer_of<R: Rule + Drop>(rule: R, header: &LoadHeader) -> bool
+fn answer_of<R: Rule + Drop>(rule: R, header: &LoadHeader, kept: &[KeptLoad]) -> bool
     requires { IsInterlock R.may_ask R.may_say rule }
-    ensures { Says R.may_say rule (header_view header.now) result }
+    ensures { Says R.may_say rule (header_view header.now) kept.now result }
 {
     let interlock = Interlock::new(rule);
-    interlock.admits(header)
+    interlock.admits(header, kept)
 }
 
 /// A maker's rule that refuses types of its own.
-fn shared_types_alone(header: &LoadHeader) -> bool {
-    let rule = |header: &LoadHeader| -> bool { header.type_id != 0 && header.type_id < 0x8000 };
-    answer_of(Asks { rule }, header)
+fn shared_types_alone(header: &LoadHeader, kept: &[KeptLoad]) -> bool {
+    let rule = |header: &LoadHeader, kept: &[KeptLoad]| -> bool {
+        header.type_id < 0x8000 && PermitsAll.ask(header, kept)
+    };
+    answer_of(Asks { rule }, header, kept)
 }
 
-/// Whether a load of this type is accepted where every one but 0 is, and by that rule.
-fn answers(alloc: Global, type_id: u16) -> Result<(bool, bool), Fail> {
+/// Whether a load of this type is accepted beside these where every one is that may be, and by that
+/// rule.
+fn answers(alloc: Global, type_id: u16, kept: &[KeptLoad]) -> Result<(bool, bool), Fail> {
     let header = header(alloc, type_id)?;
-    let answers = (answer_of(PermitsAll, &header), shared_types_alone(&header));
+    let answers = (
+        answer_of(PermitsAll, &header, kept),
+        shared_types_alone(&header, kept),
+    );
     drop(header);
     Ok(answers)
 }
@@ -55,7 +61,23 @@ fn an_interlock_answers_as_its_rule_does(rt: HostRuntime) -> Result<(), Fail> {
         (0x8000, (true, false)),
         (0xFFFF, (true, false)),
     ] {
-        assert_eq!(rt; answers(rt.alloc(), type_id)?, wanted);
+        assert_eq!(rt; answers(rt.alloc(), type_id, &[])?, wanted);
     }
+    Ok(())
+}
+
+#[test]
+fn no_load_is_accepted_beside_one_of_its_part_number(rt: HostRuntime) -> Result<(), Fail> {
+    let other = KeptLoad {
+        part: PartText::read(b"ABC42-0000-0002")?,
+        type_id: 8,
+    };
+    let same = KeptLoad {
+        part: PartText::read(b"ABC41-0000-0001")?,
+        type_id: 8,
+    };
+    let beside_other = answers(rt.alloc(), 7, &[other])?;
+    let beside_both = answers(rt.alloc(), 7, &[other, same])?;
+    assert_eq!(rt; (beside_other, beside_both), ((true, true), (false, false)));
     Ok(())
 }

@@ -1,5 +1,6 @@
-ghost use Rattle.std.specs.Prelude.{◌≡◌, length, IfOk, OnOk};
+ghost use Rattle.std.specs.Prelude.{◌≡◌, [], length, IfOk, OnOk};
 ghost use Rattle.bank_store.specs.DiskWrites.{IsRunning};
+ghost use Rattle.bank_store.specs.Known.{KnowsActive};
 ghost use Rattle.bank_store.specs.Store.{IsPrepared, IsSpent, bank_size_of};
 ghost use Rattle.disk_model.specs.MemDisk.{state_of};
 ghost use Rattle.load_intake.specs.Stores.{IsInStep};
@@ -8,7 +9,7 @@ use accept_rules::{Interlock, PermitsAll};
 use bank_store::{Identity, Store, format};
 use disk_layout::{Active, Bank, ManifestRange, Slot};
 use disk_model::{Disk, MemDisk};
-use load_base::{Ident, List, Name};
+use load_base::{Bytes, Ident, List, Name};
 use load_header::HeaderFault;
 use load_intake::{Finished, Intake, Request, read_request};
 use load_protocol_files::{FileFault, Wanted};
@@ -71,6 +72,7 @@ fn first_store(alloc: Global) -> Result<Store, Fail>
     ensures prepared { IfOk result (λ store. IsPrepared store) }
     ensures sequence { IfOk result (λ store. ¬ IsSpent store) }
     ensures bank { IfOk result (λ store. bank_size_of store ≡ 4096) }
+    ensures knows { IfOk result (λ store. KnowsActive store []) }
 {
     let active = Active {
         slot: Slot::A,
@@ -81,7 +83,7 @@ fn first_store(alloc: Global) -> Result<Store, Fail>
             length: 4,
         },
     };
-    let mut store = Store::new(alloc, 4096, active, false);
+    let mut store = Store::new(alloc, 4096, active, false, Bytes::new(alloc));
     if let Err(fault) = store.prepare() {
         drop(store);
         return Err(Fail::from(fault));
@@ -151,6 +153,7 @@ fn told_by(
     requires prepared { IsPrepared store.old }
     requires sequence { ¬ IsSpent store.old }
     requires size { bank_size_of store.old ≡ 4096 }
+    requires knows { KnowsActive store.old [] }
     requires bank { identity.now.bank ≡ 4096 }
     requires running { IsRunning (state_of disk.old) }
 {
@@ -173,6 +176,7 @@ fn header_told(
 ) -> Result<(u16, Option<Reason>), Fail>
     requires in_step { IsInStep intake store.old }
     requires bank { identity.now.bank ≡ bank_size_of store.old }
+    requires knows { KnowsActive store.old [] }
     requires running { IsRunning (state_of disk.old) }
     ensures { OnOk result (IsRunning (state_of disk.new)) }
 {
@@ -181,7 +185,7 @@ fn header_told(
         return Err(Fail::from(down));
     }
     let interlock = Interlock::new(PermitsAll);
-    match intake.finish(&interlock, identity, store, disk)? {
+    match intake.finish(&interlock, identity, &[], store, disk)? {
         Finished::MoreFiles(intake) => {
             file_told(intake, file, &interlock, identity, store, disk)
         }
@@ -199,6 +203,7 @@ fn file_told(
 ) -> Result<(u16, Option<Reason>), Fail>
     requires in_step { IsInStep intake store.old }
     requires bank { identity.now.bank ≡ bank_size_of store.old }
+    requires knows { KnowsActive store.old [] }
     requires running { IsRunning (state_of disk.old) }
     ensures { OnOk result (IsRunning (state_of disk.new)) }
 {
@@ -206,7 +211,7 @@ fn file_told(
         drop(intake);
         return Err(Fail::from(down));
     }
-    Ok(ended(intake.finish(interlock, identity, store, disk)?))
+    Ok(ended(intake.finish(interlock, identity, &[], store, disk)?))
 }
 
 const HEADER_CRC: Reason = Reason::HeaderRefused {

@@ -1,7 +1,8 @@
 use Rattle.std.proofs.Common.{◌≡◌, ◌+◌, ◌-◌, length, ℕ, Some, None, refl, sym, ap, ◌∙◌, arith}
 use Rattle.std.proofs.lemmas.Result.{IfOk-weaker}
 use Rattle.disk_layout.specs.declared.manifest.ManifestFile.{ManifestFile}
-use Rattle.session_rules.specs.Uploads.{files_of, next_number}
+use Rattle.load_intake.specs.Keeping.{entries}
+use Rattle.session_rules.specs.Uploads.{OpenLoadView, files_of, next_number}
 use Rattle.session_rules.specs.TargetRows.{UploadEnd, Writes_stop, load_entry_of, placed_view}
 use Rattle.load_intake.specs.Intakes.{row_seen}
 use Rattle.load_intake.specs.Places.{arrived_at, next_seen}
@@ -11,7 +12,9 @@ use Rattle.session_rules.specs.TargetRows.{Kept_sums, Reads_file, done_move}
 use Rattle.load_intake.specs.Contents.{given_of}
 use Rattle.load_intake.proofs.Accepting.{file_brings}
 use Rattle.load_intake.proofs.Filling.{gives_more}
-use Rattle.load_intake.proofs.Moving.{brings_stop, stops}
+use Rattle.load_intake.proofs.Moving.{brings_stop, stops, types_listed}
+use Rattle.bank_store.specs.KnownLaws.{knows_on}
+use Rattle.load_intake.proofs.Staying.{knows_back, room_on}
 use Rattle.load_intake.proofs.Going.{continued, ends_after, stops_there}
 use Rattle.load_intake.proofs.Rows.{file_placed, file_stopped, moved}
 use Rattle.load_intake.proofs.arriving.file_arrived.Goals as goal
@@ -52,6 +55,10 @@ go_on-requires-clause-has g c =
     has_one c.args.whole l c.in_ok-load.load c.next_file-file.result c.load_crc.result c.args.sums.count c.end_file.new.store c.in_ok-load.ensures same
     (c.end_file.ensures.has c.args.whole.loads (load_entry_of l) (length (files_of l.header) - (length l.files + 1)) c.args.sums.count (before_end c.args.whole l c.args.sums c.args.store.now o right step))
     (omega (arith, step.fits, c.end_file.ensures.continues.active.size))
+    (λ active knows. room_on c.args.store.now c.end_file.new.store _ _ _ c.end_file.ensures.continues.active (step.keeps active (knows_back c.args.store.now c.end_file.new.store active c.end_file.ensures.continues.active knows)))
+
+pub go_on-requires-clause-active : goal.go_on-requires-clause-active
+go_on-requires-clause-active g c = knows_on c.args.store.now c.end_file.new.store (entries c.args.active.now) c.end_file.ensures.continues.active c.requires.active
 
 pub go_on-requires-clause-next : goal.go_on-requires-clause-next
 go_on-requires-clause-next g c = next_after_one c.args.whole c.args.load c.in_ok-load.load c.next_file-file.result c.load_crc.result (next_seen c.next_in-next.result) c.in_ok-load.ensures (c.next_in-next.ensures None)
@@ -86,5 +93,6 @@ returns-clause-brings g c = λ accepts active s u arrived is installs.
     let e = entry_after l in
     file_brings accepts active c.args.whole l c.args.sums e u arrived c.next_file-file.result.name (next_seen c.next_in-next.result) (g.K.Disk.state c.args.disk.now) c.go_on.new.store (g.K.Disk.state c.go_on.new.disk) s c.go_on.result is entry (c.next_in-next.ensures (Some l))
     (sym c.in_default.is ∙ c.verdict.ensures e entry) c.requires.arrived.keeps.next.left (ap (λ (f : ManifestFile). f.name) (c.next_file-file.ensures e entry)) installs.holds.headers
-    (c.go_on.ensures.goes_to s _
-    (gives_more c.args.store.now c.end_file.new.store (g.K.Disk.state c.args.disk.now) s (given_of u arrived) _ c.end_file.ensures.continues (λ image has. c.end_file.ensures.given image _ has) (record { beside = installs.beside; given = installs.holds.given })))
+    (λ typed. c.go_on.ensures.goes_to s _
+    (gives_more c.args.store.now c.end_file.new.store (g.K.Disk.state c.args.disk.now) s (given_of u arrived) _ c.end_file.ensures.continues (λ image has. c.end_file.ensures.given image _ has) (record { beside = installs.beside; given = installs.holds.given }))
+    (typed ∙ types_listed c.args.whole.loads c.args.whole.loads l.header c.in_ok-load.load refl (ap (λ (x : OpenLoadView). x.header) c.in_ok-load.ensures)))

@@ -10,11 +10,11 @@ returns-in_ok-next_load-in-NextLoad-clause-ends g c =
     goes_on_here c.in_ok-next_load-in-NextLoad.field-0 _ c.args.store.now _ e.row e.begins (e.in_step c.args.store.now c.requires.has) c.requires.running
 
 pub returns-in_ok-next_load-in-NextLoad-clause-goes_to : goal.returns-in_ok-next_load-in-NextLoad-clause-goes_to
-returns-in_ok-next_load-in-NextLoad-clause-goes_to g c = λ s given is. goes_next (next_seen c.args.next) c.args.store.now (g.K.Disk.state c.args.disk.now) s given _ (ap next_seen c.in-NextLoad.is) is
+returns-in_ok-next_load-in-NextLoad-clause-goes_to g c = λ s given is same. goes_next (next_seen c.args.next) c.args.store.now (g.K.Disk.state c.args.disk.now) s given _ (ap next_seen c.in-NextLoad.is) is
 
 pub returns-in-MoreFiles-clause-goes_to : goal.returns-in-MoreFiles-clause-goes_to
-returns-in-MoreFiles-clause-goes_to g c = λ s given is. goes_more (next_seen c.args.next) c.args.store.now (g.K.Disk.state c.args.disk.now) s given _ (ap next_seen c.in-MoreFiles.is) is
+returns-in-MoreFiles-clause-goes_to g c = λ s given is same. goes_more (next_seen c.args.next) c.args.store.now (g.K.Disk.state c.args.disk.now) s given _ (ap next_seen c.in-MoreFiles.is) is
 
 pub returns-in-Complete-clause-goes_to : goal.returns-in-Complete-clause-goes_to
-returns-in-Complete-clause-goes_to g c = λ s given is.
-    goes_complete (next_seen c.args.next) (g.K.Disk.state c.args.disk.now) c.complete.new.store (g.K.Disk.state c.complete.new.disk) s given c.complete.result (ap next_seen c.in-Complete.is) (c.complete.ensures.brings s given is)
+returns-in-Complete-clause-goes_to g c = λ s given is same.
+    goes_complete (next_seen c.args.next) (g.K.Disk.state c.args.disk.now) c.complete.new.store (g.K.Disk.state c.complete.new.disk) s given c.complete.result (ap next_seen c.in-Complete.is) (c.complete.ensures.brings s given is same)

@@ -60,6 +60,7 @@ returns-in-Err g c = record {
       ap (λ (e : UploadEnd). Writes_stop e) c.refuse_header.ensures.end
       ∙ refused_row accepts active c.args.whole b c.in-Err.fault c.requires.arrived.keeps (within_buffer b filled all) is;
   ends = stops_there c.refuse_header.result c.args.store.now c.refuse_header.new.store _ c.refuse_header.ensures.continues c.refuse_header.ensures.prepared c.requires.arrived.running;
+  spare = tt;
   brings = λ accepts follows active same s u arrived is installs.
       let b = c.args.buffer in
       let filled = c.count.ensures.filled.filled in
@@ -71,6 +72,7 @@ returns-in-Err g c = record {
       (ap (λ (e : UploadEnd). Writes_stop e) c.refuse_header.ensures.end ∙ refused_row accepts active c.args.whole b c.in-Err.fault c.requires.arrived.keeps (within_buffer b filled all) found))
       c.refuse_header.ensures.continues installs;
   size = c.refuse_header.ensures.continues.active.size;
+  known = tt;
   writes = search rules;
 }
 

@@ -1,6 +1,6 @@
 use Rattle.std.proofs.Common.{◌≡◌, [], length, Err, None, Some, refl, sym, ap, ◌∙◌, arith}
 use Rattle.crc_fields.specs.CheckSums.{crc32_of}
-use Rattle.session_rules.specs.Uploads.{covered_header}
+use Rattle.session_rules.specs.Uploads.{OpenLoadView, covered_header}
 use Rattle.std.proofs.lemmas.Result.{IfOk-weaker}
 use Rattle.session_rules.specs.TargetRows.{UploadEnd, Writes_stop, placed_view}
 use Rattle.load_header.specs.Header.{header_view}
@@ -9,11 +9,13 @@ use Rattle.load_intake.specs.Contents.{given_of}
 use Rattle.load_intake.specs.Judging.{header_row, whole_buffer, whole_header_row}
 use Rattle.load_intake.proofs.Accepting.{header_brings, header_judged, header_stops}
 use Rattle.load_intake.proofs.Filling.{begin_fails}
-use Rattle.load_intake.proofs.Moving.{brings_stop, brings_stop_after, goes_then}
+use Rattle.load_intake.proofs.Moving.{brings_stop, brings_stop_after, goes_then, types_listed}
 use Rattle.load_intake.specs.Places.{arrived_at, next_seen}
-use Rattle.load_intake.specs.States.{upload_of}
+use Rattle.load_intake.specs.Keeping.{entries}
+use Rattle.load_intake.specs.States.{WholeView, upload_of}
 use Rattle.load_intake.proofs.Going.{ends_after, stops_after, stops_there, writes_after}
-use Rattle.load_intake.proofs.Headers.{fails_first, has_header, header_accepted, header_next, header_placed, header_stopped, need_is, passes_first, refused_by, room_for_header}
+use Rattle.load_intake.proofs.Headers.{fails_first, has_header, header_accepted, header_next, header_placed, header_stopped, need_is, passes_first, reason_is, room_for_header}
+use Rattle.bank_store.specs.KnownLaws.{knows_on}
 use Rattle.load_intake.proofs.arriving.header_read.Goals as goal
 
 pub returns-in-Some-clause-row : goal.returns-in-Some-clause-row
@@ -22,10 +24,11 @@ returns-in-Some-clause-row g c accepts follows active same =
     let h = header_view c.args.header in
     let bytes = c.args.buffer.prefix in
     let wanted = c.next_wanted.result.now in
-    let need = (rw c.prefix-bytes.ensures at c.need_with-need.ensures) ∙ need_is w (whole_buffer bytes) wanted h (length bytes) c.requires.arrived.keeps c.requires.spelled.0 in
+    let need = (rw c.prefix-bytes.ensures at c.need_with-need.ensures.is) ∙ need_is w (whole_buffer bytes) wanted h (length bytes) c.requires.arrived.keeps c.requires.spelled.0 in
+    let first = c.header_reason.ensures.is accepts follows ∙ reason_is accepts active w wanted h (length bytes) c.args.identity.now (entries c.args.active.now) c.need_with-need.result same c.requires.active.fits c.requires.arrived.keeps.few need in
     ap (λ (e : UploadEnd). Writes_stop e) c.stop_before.ensures.end
-    ∙ header_stopped accepts active w wanted h bytes c.need_with-need.result (next_seen c.next_after-next.result) (crc32_of (covered_header bytes)) c.in-Some.reason (arrived_at (length w.loads) (next_seen c.next_after-next.result)) c.next_wanted.ensures need
-    (c.next_after-next.ensures None) refl (fails_first _ _ c.in-Some.reason (sym c.in-Some.is ∙ refused_by accepts active c.args.identity.now c.next_wanted.result.now (header_view c.args.header) c.need_with-need.result c.header_reason.result same (c.header_reason.ensures.is accepts follows))) refl
+    ∙ header_stopped accepts active w wanted h bytes c.header_reason.result (next_seen c.next_after-next.result) (crc32_of (covered_header bytes)) c.in-Some.reason (arrived_at (length w.loads) (next_seen c.next_after-next.result)) c.next_wanted.ensures first
+    (c.next_after-next.ensures None) refl (fails_first _ _ c.in-Some.reason (sym c.in-Some.is)) refl
 
 pub returns-in-Some-clause-ends : goal.returns-in-Some-clause-ends
 returns-in-Some-clause-ends g c = stops_there c.stop_before.result c.args.store.now c.stop_before.new.store _ c.stop_before.ensures.continues c.stop_before.ensures.prepared c.requires.arrived.running
@@ -40,19 +43,19 @@ pub write_header-requires-clause-room : goal.write_header-requires-clause-room
 write_header-requires-clause-room g c =
     let passes = c.header_reason.ensures.passed c.in_default.is in
     let room = room_for_header c.args.whole (whole_buffer c.args.buffer.prefix) c.next_wanted.result.now (header_view c.args.header) (length c.args.buffer.prefix) c.need_with-need.result c.args.identity.now.bank c.requires.arrived.keeps
-    (rw c.prefix-bytes.ensures at c.need_with-need.ensures) passes.fits in
+    (rw c.prefix-bytes.ensures at c.need_with-need.ensures.is) (omega (arith, passes.fits)) in
     omega (arith, room, c.requires.bank, ap length c.prefix-bytes.ensures)
 
 pub go_on-requires-clause-accepted : goal.go_on-requires-clause-accepted
 go_on-requires-clause-accepted g c =
-    header_accepted c.args.whole c.with_need-whole.result (whole_buffer c.args.buffer.prefix) c.next_wanted.result.now (header_view c.args.header) (length c.args.buffer.prefix) c.value-crc.result c.need_with-need.result c.new-load.result
-    c.args.identity.now c.requires.arrived.keeps c.requires.spelled.0 (c.header_reason.ensures.passed c.in_default.is) (rw c.prefix-bytes.ensures at c.need_with-need.ensures) c.with_need-whole.ensures (rw c.prefix-bytes.ensures at c.new-load.ensures)
+    header_accepted c.args.whole c.with_need-whole.result (whole_buffer c.args.buffer.prefix) c.next_wanted.result.now (header_view c.args.header) (length c.args.buffer.prefix) c.value-crc.result c.need_with-need.result _ _ c.new-load.result
+    c.args.identity.now c.requires.arrived.keeps c.requires.spelled.0 (c.header_reason.ensures.passed c.in_default.is) (rw c.prefix-bytes.ensures at c.need_with-need.ensures.is) c.with_need-whole.ensures (rw c.prefix-bytes.ensures at c.new-load.ensures)
 
 pub go_on-requires-clause-has : goal.go_on-requires-clause-has
 go_on-requires-clause-has g c =
-    has_header c.args.whole c.with_need-whole.result (whole_buffer c.args.buffer.prefix) c.next_wanted.result.now (header_view c.args.header) (length c.args.buffer.prefix) c.value-crc.result c.need_with-need.result c.new-load.result
-    c.args.identity.now c.args.store.now c.write_header.new.store c.requires.arrived.keeps c.requires.spelled.0 (c.header_reason.ensures.passed c.in_default.is) (rw c.prefix-bytes.ensures at c.need_with-need.ensures) c.with_need-whole.ensures
-    (rw c.prefix-bytes.ensures at c.new-load.ensures) c.requires.bank c.in-Ok.ensures.goes_on.active.size (rw c.prefix-bytes.ensures at c.in-Ok.ensures.has)
+    has_header (entries c.args.active.now) c.args.whole c.with_need-whole.result (whole_buffer c.args.buffer.prefix) c.next_wanted.result.now (header_view c.args.header) (length c.args.buffer.prefix) c.value-crc.result c.need_with-need.result c.new-load.result
+    c.args.identity.now c.args.store.now c.write_header.new.store c.requires.arrived.keeps c.requires.spelled.0 c.requires.active (c.header_reason.ensures.passed c.in_default.is) (rw c.prefix-bytes.ensures at c.need_with-need.ensures.is) c.with_need-whole.ensures
+    (rw c.prefix-bytes.ensures at c.new-load.ensures) c.requires.bank c.in-Ok.ensures.goes_on.active (rw c.prefix-bytes.ensures at c.in-Ok.ensures.has)
 
 pub go_on-requires-clause-next : goal.go_on-requires-clause-next
 go_on-requires-clause-next g c =
@@ -68,9 +71,10 @@ returns-clause-row g c accepts follows active same =
     let bytes = c.args.buffer.prefix in
     let wanted = c.next_wanted.result.now in
     let next = next_seen c.next_after-next.result in
-    let need = (rw c.prefix-bytes.ensures at c.need_with-need.ensures) ∙ need_is w (whole_buffer bytes) wanted h (length bytes) c.requires.arrived.keeps c.requires.spelled.0 in
-    let placed = header_placed accepts active w wanted h bytes c.need_with-need.result next c.value-crc.result new l c.next_wanted.ensures need (c.next_after-next.ensures None)
-    (rw c.prefix-bytes.ensures at (c.value-crc.ensures ∙ c.header_sum-sum.ensures)) (passes_first _ _ None (sym c.in_default.is ∙ refused_by accepts active c.args.identity.now c.next_wanted.result.now (header_view c.args.header) c.need_with-need.result c.header_reason.result same (c.header_reason.ensures.is accepts follows)) (sym c.in_default-load_reason.is ∙ c.load_reason.ensures)) c.with_need-whole.ensures (rw c.prefix-bytes.ensures at c.new-load.ensures) in
+    let need = (rw c.prefix-bytes.ensures at c.need_with-need.ensures.is) ∙ need_is w (whole_buffer bytes) wanted h (length bytes) c.requires.arrived.keeps c.requires.spelled.0 in
+    let first = c.header_reason.ensures.is accepts follows ∙ reason_is accepts active w wanted h (length bytes) c.args.identity.now (entries c.args.active.now) c.need_with-need.result same c.requires.active.fits c.requires.arrived.keeps.few need in
+    let placed = header_placed accepts active w wanted h bytes c.header_reason.result next c.value-crc.result c.need_with-need.result new l c.next_wanted.ensures first (c.next_after-next.ensures None)
+    (rw c.prefix-bytes.ensures at (c.value-crc.ensures ∙ c.header_sum-sum.ensures)) (passes_first _ _ None (sym c.in_default.is) (sym c.in_default-load_reason.is ∙ c.load_reason.ensures)) c.with_need-whole.ensures (rw c.prefix-bytes.ensures at c.new-load.ensures) in
     IfOk-weaker c.go_on.result (λ f. row_seen f ≡ placed_view (upload_of new None) l next) (λ f. row_seen f ≡ header_row accepts active w h bytes) (λ f is. is ∙ placed) c.go_on.ensures.row
 
 pub returns-clause-ends : goal.returns-clause-ends
@@ -93,10 +97,11 @@ returns-in-Some-load_reason-clause-row g c accepts follows active same =
     let h = header_view c.args.header in
     let bytes = c.args.buffer.prefix in
     let wanted = c.next_wanted.result.now in
-    let need = (rw c.prefix-bytes.ensures at c.need_with-need.ensures) ∙ need_is w (whole_buffer bytes) wanted h (length bytes) c.requires.arrived.keeps c.requires.spelled.0 in
-    let found = passes_first _ _ (Some c.in-Some-load_reason.reason) (sym c.in_default.is ∙ refused_by accepts active c.args.identity.now c.next_wanted.result.now (header_view c.args.header) c.need_with-need.result c.header_reason.result same (c.header_reason.ensures.is accepts follows)) (sym c.in-Some-load_reason.is ∙ c.load_reason.ensures) in
+    let need = (rw c.prefix-bytes.ensures at c.need_with-need.ensures.is) ∙ need_is w (whole_buffer bytes) wanted h (length bytes) c.requires.arrived.keeps c.requires.spelled.0 in
+    let first = c.header_reason.ensures.is accepts follows ∙ reason_is accepts active w wanted h (length bytes) c.args.identity.now (entries c.args.active.now) c.need_with-need.result same c.requires.active.fits c.requires.arrived.keeps.few need in
+    let found = passes_first _ _ (Some c.in-Some-load_reason.reason) (sym c.in_default.is) (sym c.in-Some-load_reason.is ∙ c.load_reason.ensures) in
     ap (λ (e : UploadEnd). Writes_stop e) c.stop_before-in-Some-load_reason.ensures.end
-    ∙ header_stopped accepts active w wanted h bytes c.need_with-need.result (next_seen c.next_after-next.result) c.value-crc.result c.in-Some-load_reason.reason (arrived_at (length w.loads) (next_seen c.next_after-next.result)) c.next_wanted.ensures need
+    ∙ header_stopped accepts active w wanted h bytes c.header_reason.result (next_seen c.next_after-next.result) c.value-crc.result c.in-Some-load_reason.reason (arrived_at (length w.loads) (next_seen c.next_after-next.result)) c.next_wanted.ensures first
     (c.next_after-next.ensures None) (rw c.prefix-bytes.ensures at (c.value-crc.ensures ∙ c.header_sum-sum.ensures)) found refl
 
 pub returns-in-Some-load_reason-clause-ends : goal.returns-in-Some-load_reason-clause-ends
@@ -116,12 +121,16 @@ returns-clause-brings g c = λ accepts follows active same s u seen installs.
     let bytes = c.args.buffer.prefix in
     let wanted = c.next_wanted.result.now in
     let next = next_seen c.next_after-next.result in
-    let need = (rw c.prefix-bytes.ensures at c.need_with-need.ensures) ∙ need_is w (whole_buffer bytes) wanted h (length bytes) c.requires.arrived.keeps c.requires.spelled.0 in
-    let judged = header_judged accepts active w wanted h bytes c.need_with-need.result next c.value-crc.result need (c.next_after-next.ensures None) (rw c.prefix-bytes.ensures at (c.value-crc.ensures ∙ c.header_sum-sum.ensures)) (passes_first _ _ None (sym c.in_default.is ∙ refused_by accepts active c.args.identity.now c.next_wanted.result.now (header_view c.args.header) c.need_with-need.result c.header_reason.result same (c.header_reason.ensures.is accepts follows)) (sym c.in_default-load_reason.is ∙ c.load_reason.ensures)) in
+    let need = (rw c.prefix-bytes.ensures at c.need_with-need.ensures.is) ∙ need_is w (whole_buffer bytes) wanted h (length bytes) c.requires.arrived.keeps c.requires.spelled.0 in
+    let first = c.header_reason.ensures.is accepts follows ∙ reason_is accepts active w wanted h (length bytes) c.args.identity.now (entries c.args.active.now) c.need_with-need.result same c.requires.active.fits c.requires.arrived.keeps.few need in
+    let judged = header_judged accepts active w wanted h bytes c.header_reason.result next c.value-crc.result first (c.next_after-next.ensures None) (rw c.prefix-bytes.ensures at (c.value-crc.ensures ∙ c.header_sum-sum.ensures)) (passes_first _ _ None (sym c.in_default.is) (sym c.in_default-load_reason.is ∙ c.load_reason.ensures)) in
     header_brings accepts active w wanted h bytes u next (g.K.Disk.state c.args.disk.now) c.go_on.new.store (g.K.Disk.state c.go_on.new.disk) s c.go_on.result seen c.next_wanted.ensures judged (c.next_after-next.ensures None) installs.holds.headers
-    (goes_then next (g.K.Disk.state c.args.disk.now) c.write_header.new.store (g.K.Disk.state c.write_header.new.disk) c.go_on.new.store (g.K.Disk.state c.go_on.new.disk) s _ _ c.go_on.result
-    (rw c.prefix-bytes.ensures at (c.in-Ok.ensures.gives s (given_of u bytes) (record { beside = installs.beside; given = installs.holds.given }))) (λ given. c.go_on.ensures.goes_to s _ given))
+    (λ typed. goes_then next (g.K.Disk.state c.args.disk.now) c.write_header.new.store (g.K.Disk.state c.write_header.new.disk) c.go_on.new.store (g.K.Disk.state c.go_on.new.disk) s _ _ c.go_on.result
+    (rw c.prefix-bytes.ensures at (c.in-Ok.ensures.gives s (given_of u bytes) (record { beside = installs.beside; given = installs.holds.given }))) (λ given. c.go_on.ensures.goes_to s _ given (typed ∙ types_listed w.loads c.with_need-whole.result.loads h c.new-load.result (ap (λ (x : WholeView). x.loads) c.with_need-whole.ensures) (ap (λ (x : OpenLoadView). x.header) c.new-load.ensures))))
 
 pub returns-clause-writes : goal.returns-clause-writes
 returns-clause-writes g c =
     writes_after (g.K.Disk.state c.args.disk.now) (g.K.Disk.state c.write_header.new.disk) (g.K.Disk.state c.go_on.new.disk) _ c.go_on.result c.in-Ok.ensures.writes c.go_on.ensures.writes
+
+pub go_on-requires-clause-active : goal.go_on-requires-clause-active
+go_on-requires-clause-active g c = knows_on c.args.store.now c.write_header.new.store (entries c.args.active.now) c.in-Ok.ensures.goes_on.active c.requires.active

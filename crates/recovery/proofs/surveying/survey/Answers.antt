@@ -1,3 +1,4 @@
+use Rattle.std.proofs.Common.{◌∙◌}
 use Rattle.recovery.proofs.Stores.{found_by_store, store_holds}
 use Rattle.recovery.proofs.surveying.survey.Goals as goal
 
@@ -11,7 +12,7 @@ returns-clause-holds g c image told =
     let found = returns-clause-found g c image told in
     let (s, by, is) = c.an_outline_is_filled.ensures image _ _ found.outline in
     let f = c.in_ok-found.found in
-    (s, store_holds image (record { identity = f.identity; manifest = f.manifest; store = c.new-store.result }) found c.new-store.ensures.size s by is, is)
+    (s, store_holds image (record { identity = f.identity; manifest = f.manifest; store = c.new-store.result }) found c.new-store.ensures.size (c.new-store.ensures.known ∙ c.in_ok-found.ensures.known) s by is, is)
 
 pub returns-clause-fits : goal.returns-clause-fits
 returns-clause-fits g c =

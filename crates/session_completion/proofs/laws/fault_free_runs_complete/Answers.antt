@@ -14,7 +14,7 @@ returns-clause-idle c =
     quiet_is_idle (record {
       crc16 = c.check_sum_laws.ensures.crc16_joined;
       crc32 = c.check_sum_laws.ensures.crc32_joined;
-    }) c.ports_stay_apart.ensures c.the_configuration_changes_by_good_verdicts.ensures.changes
+    }) c.ports_stay_apart.ensures
 
 pub returns-clause-complete : goal.returns-clause-complete
-returns-clause-complete c = fault_free_runs_complete c.a_step_keeps_the_tie.ensures (returns-clause-idle c) c.good_uploads_complete.ensures
+returns-clause-complete c = fault_free_runs_complete c.a_step_keeps_the_tie.ensures c.the_configuration_changes_by_good_verdicts.ensures.changes (returns-clause-idle c) c.good_uploads_complete.ensures

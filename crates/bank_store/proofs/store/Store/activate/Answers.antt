@@ -1,4 +1,5 @@
-use Rattle.std.proofs.Common.{inl, refl, ◌∙◌, rules}
+use Rattle.std.proofs.Common.{ℕ, inl, refl, ap, ◌∙◌, rules}
+use Rattle.load_base.specs.Listed.{Listed}
 use Rattle.bank_store.specs.Given.{configured}
 use Rattle.bank_store.specs.Keeps.{IsOldOrNew}
 use Rattle.bank_store.proofs.Activated.{while_opening, activated}
@@ -42,6 +43,6 @@ returns-clause-any_moment g c s loads can =
 
 pub returns-clause-activates : goal.returns-clause-activates
 returns-clause-activates g c =
-    activated c.args.self.now c.forget.new.self _ (g.K.Disk.state c.args.disk.now) _ c.other-slot.result c.in-Sealed.manifest c.forget.ensures.active c.other-slot.ensures refl c.other.ensures
-    c.other-2.ensures refl refl refl (search rules) c.in-Sealed.is (c.sync.ensures.elapses.tells ∙ c.write.ensures.elapses.tells)
+    activated c.args.self.now c.forget.new.self _ (g.K.Disk.state c.args.disk.now) _ c.other-slot.result c.in-Sealed.manifest c.forget.ensures.active.size c.forget.ensures.active.active c.other-slot.ensures refl c.other.ensures
+    c.other-2.ensures refl refl (ap (λ (l : Listed ℕ). l.items) (c.forget.ensures.known ∙ c.swap.ensures.x_after)) refl (search rules) c.in-Sealed.is (c.sync.ensures.elapses.tells ∙ c.write.ensures.elapses.tells)
     (λ image told. c.in_ok-sync.ensures.kept ∙ c.in_ok-write.ensures.bytes image told) c.in_ok-sync.ensures.settled (search rules)

@@ -51,7 +51,7 @@ returns-clause-appends g c =
       given = λ image told now later given was.
           let is : now ≡ overlay image (work_at store + c.in-Filling.progress.end) c.args.bytes.now =
           same_image now _ (sym later ∙ c.in_ok-write.ensures.bytes image told) ∙ ap (λ (at : ℕ). overlay image (at + c.in-Filling.progress.end) c.args.bytes.now) c.work.ensures.offset in
-          given_bytes store _ image now c.args.bytes.now c.in-Filling.progress given (record { size = refl; active = refl }) c.in-Filling.is refl refl is was;
+          given_bytes store _ image now c.args.bytes.now c.in-Filling.progress given (record { size = refl; active = refl; known = refl }) c.in-Filling.is refl refl is was;
     }
 
 pub returns-clause-keeps : goal.returns-clause-keeps
@@ -60,7 +60,7 @@ returns-clause-keeps g c =
     let disk = g.K.Disk.state c.args.disk.now in
     let work : IsWork store (c.work.result + c.in-Filling.progress.end) (length c.args.bytes.now) =
     bank_is_work store _ _ (omega (arith, c.work.ensures.offset)) (omega (arith, c.work.ensures.offset, c.if-need-from.false, c.from.ensures, c.from-2.ensures)) in
-    keeps_written store _ disk _ _ (record { size = refl; active = refl }) refl (search rules) c.write.ensures.elapses.tells (g.met.K.Disk.reads_now c.write.new.self)
+    keeps_written store _ disk _ _ (record { size = refl; active = refl; known = refl }) refl (search rules) c.write.ensures.elapses.tells (g.met.K.Disk.reads_now c.write.new.self)
     (λ image works told. near_write store disk image disk _ _ _ _ work (near_start store disk image works told) c.write.ensures.elapses)
     (λ image now told later.
     subst (λ (i : Image). SameButForWork store image i) (sym (same_image now _ (sym later ∙ c.in_ok-write.ensures.bytes image told))) (near_overlay store image _ c.args.bytes.now work))
@@ -69,5 +69,5 @@ returns-clause-keeps g c =
     let is : now ≡ overlay image (work_at store + c.in-Filling.progress.end) c.args.bytes.now =
     same_image now _ (sym later ∙ c.in_ok-write.ensures.bytes image told) ∙ ap (λ (at : ℕ). overlay image (at + c.in-Filling.progress.end) c.args.bytes.now) c.work.ensures.offset in
     has_work _ now _ _ refl
-    (given_bytes store _ image now c.args.bytes.now c.in-Filling.progress given.0 (record { size = refl; active = refl }) c.in-Filling.is refl refl is given.1))
+    (given_bytes store _ image now c.args.bytes.now c.in-Filling.progress given.0 (record { size = refl; active = refl; known = refl }) c.in-Filling.is refl refl is given.1))
     (λ sealed. absurd (filling_not_sealed _ sealed.0 sealed.1))

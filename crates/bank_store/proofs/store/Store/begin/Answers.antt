@@ -34,7 +34,7 @@ pub returns-clause-keeps : goal.returns-clause-keeps
 returns-clause-keeps g c =
     let store = c.args.self.now in
     let disk = g.K.Disk.state c.args.disk.now in
-    begun_keeps store _ disk _ _ (search rules) (record { size = refl; active = refl }) refl refl (store.keeps.idle c.requires.prepared.idle)
+    begun_keeps store _ disk _ _ (search rules) (record { size = refl; active = refl; known = refl }) refl refl (store.keeps.idle c.requires.prepared.idle)
     (c.sync.ensures.elapses.tells ∙ c.shut_other.ensures.goes_on.tells)
     (λ image now s told later was. c.in_ok-shut_other.ensures.shut image told now (sym c.in_ok-sync.ensures.kept ∙ later) s was) c.in_ok-sync.ensures.settled
     (λ s beside. adds_sync disk _ _ (λ left. HoldsConfig left s) _ (c.shut_other.ensures.leaves s beside) c.sync.ensures.elapses)

@@ -6,5 +6,5 @@ use Rattle.bank_store.proofs.store.Store.end_file.Goals as goal
 
 pub returns-clause-continues : goal.returns-clause-continues
 returns-clause-continues c =
-    continues_filling c.args.self.now _ c.in-Filling.progress _ (with_file c.args.name) (record { size = refl; active = refl }) refl c.in-Filling.is refl
+    continues_filling c.args.self.now _ c.in-Filling.progress _ (with_file c.args.name) (record { size = refl; active = refl; known = refl }) refl c.in-Filling.is refl
     (λ image g was. grind (arith, given_file))

@@ -50,6 +50,7 @@ returns-clause-seals g c =
     let fits : progress.end + manifest_length store ≤ store.size = omega (arith, c.if-need-from.false, c.from.ensures, c.from-2.ensures, c.len-length.ensures) in
     record {
       sealed = search rules;
+      manifest = refl;
       written = λ image told other filling.
           c.in_ok-sync.ensures.kept ∙ c.in_ok-write_slot.ensures.written _ (c.in_ok-write_manifest.ensures.written image told)
           ∙ seal_written store progress other image _ (ap (λ (n : ℕ). n + 4) c.len-length.ensures) c.in-Filling.is filling;
@@ -57,7 +58,7 @@ returns-clause-seals g c =
           let is : now ≡ sealed_image store progress image =
           same_image now _ (sym later ∙ c.in_ok-sync.ensures.kept ∙ c.in_ok-write_slot.ensures.written _ (c.in_ok-write_manifest.ensures.written image told))
           ∙ ap (λ (n : ℕ). with_slot store progress.end (n + 4) (with_manifest store progress image)) c.len-length.ensures in
-          is_ready store _ progress image now s given (record { offset = progress.end; length = c.len-length.result + 4 }) (record { size = refl; active = refl }) refl refl
+          is_ready store _ progress image now s given (record { offset = progress.end; length = c.len-length.result + 4 }) (record { size = refl; active = refl; known = refl }) refl refl refl
           (ap (λ (n : ℕ). n + 4) c.len-length.ensures) c.in-Filling.is
           (missing_none store progress c.requires.filling.0 c.in-Filling.is c.requires.filling.1 c.requires.filling.2) fits is was has;
       settled = c.in_ok-sync.ensures.settled;
@@ -74,7 +75,7 @@ returns-clause-keeps g c =
     λ image now told later.
     same_image now _ (sym later ∙ c.in_ok-sync.ensures.kept ∙ c.in_ok-write_slot.ensures.written _ (c.in_ok-write_manifest.ensures.written image told))
     ∙ ap (λ (n : ℕ). with_slot store progress.end (n + 4) (with_manifest store progress image)) c.len-length.ensures in
-    keeps_written store _ disk _ _ (record { size = refl; active = refl }) refl (search rules)
+    keeps_written store _ disk _ _ (record { size = refl; active = refl; known = refl }) refl (search rules)
     (c.sync.ensures.elapses.tells ∙ c.write_slot.ensures.goes_on.tells ∙ c.write_manifest.ensures.goes_on.tells) (g.met.K.Disk.reads_now c.sync.new.self)
     (λ image works told. adds_sync disk _ _ (SameButForWork store image) _
     (near_then store disk _ _ image (near_then store disk disk _ image (near_start store disk image works told) c.write_manifest.ensures.near) c.write_slot.ensures.near) c.sync.ensures.elapses)
@@ -82,8 +83,8 @@ returns-clause-keeps g c =
     (λ image now s told later was work.
     let given = given_of store image progress c.in-Filling.is work in
     sealed_work _ now _ s given.0 refl
-    (stands_sealed store _ progress image now s (record { size = refl; active = refl }) refl shut fits (is image now told later) was)
-    (is_ready store _ progress image now s given.0 (record { offset = progress.end; length = c.len-length.result + 4 }) (record { size = refl; active = refl }) refl refl
+    (stands_sealed store _ progress image now s (record { size = refl; active = refl; known = refl }) refl shut fits (is image now told later) was)
+    (is_ready store _ progress image now s given.0 (record { offset = progress.end; length = c.len-length.result + 4 }) (record { size = refl; active = refl; known = refl }) refl refl refl
     (ap (λ (n : ℕ). n + 4) c.len-length.ensures) c.in-Filling.is
     (missing_none store progress c.requires.filling.0 c.in-Filling.is c.requires.filling.1 c.requires.filling.2) fits (is image now told later) was given.1))
     (λ sealed. c.in_ok-sync.ensures.settled)

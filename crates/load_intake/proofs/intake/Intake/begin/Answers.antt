@@ -8,7 +8,7 @@ pub invariant_of-result : goal.invariant_of-result
 invariant_of-result g c = new_intake c.args.request.items c.new.result.items c.clear.new.self c.new.ensures c.requires.count.0 c.requires.count.1
 
 pub returns-clause-in_step : goal.returns-clause-in_step
-returns-clause-in_step g c = begins_in_step c.args.request.items c.new.result.items c.clear.new.self c.args.store.now c.begin.new.store _ _ c.new.ensures c.in_ok-begin.ensures.has c.in_ok-begin.ensures.goes_on
+returns-clause-in_step g c = begins_in_step c.args.request.items c.new.result.items c.clear.new.self c.args.store.now c.begin.new.store _ _ c.new.ensures c.requires.count.1 c.in_ok-begin.ensures.has c.in_ok-begin.ensures.goes_on
 
 pub returns-in_err-begin-clause-brings : goal.returns-in_err-begin-clause-brings
 returns-in_err-begin-clause-brings g c = λ s beside.

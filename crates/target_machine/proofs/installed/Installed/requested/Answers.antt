@@ -9,9 +9,6 @@ use Rattle.target_machine.specs.Stages.{InstalledState}
 use Rattle.target_machine.proofs.Holding.{begin_fails, begins_of}
 use Rattle.target_machine.proofs.installed.Installed.requested.Goals as goal
 
-pub invariant_of-self : goal.invariant_of-self
-invariant_of-self g c = still_installed _ _ c.self.inside.store _ c.begin.ensures.size c.self.invariant
-
 pub returns-in_ok-intake-in-Loads-clause-brings : goal.returns-in_ok-intake-in-Loads-clause-brings
 returns-in_ok-intake-in-Loads-clause-brings g c = λ accepts s arrived beside.
     let inside = subst (λ (x : InstalledState). InstallsBeside x.store (g.K.Disk.state c.args.disk.now) s) (sym c.self.view_is) beside in

@@ -24,7 +24,8 @@ returns-in_ok-take-in_default g c = record {
   stage = c.requires.stage;
   brings = λ active s x kept installs.
       passes_takes c.args.store.now (g.K.Disk.state c.args.disk.now) s x.row x.arrived c.args.payload.now (Ok tt) (λ u is. not_reading active c.args.self.now.row c.in_default.not-ReadsFile u (ap (λ (y : TargetSession). y.row) kept ∙ is)) installs;
-  goes_on = record { active = record { size = refl; active = refl }; running = c.requires.running; fits = λ f. f; works = λ w. w };
+  goes_on = record { active = record { size = refl; active = refl; known = refl }; running = c.requires.running; fits = λ f. f; works = λ w. w };
   size = refl;
+  known = tt;
   writes = search rules;
 }

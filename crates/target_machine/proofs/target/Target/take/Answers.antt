@@ -4,7 +4,12 @@ use Rattle.target_machine.specs.Decisions.{TargetState}
 use Rattle.target_machine.specs.Machine.{session_seen}
 use Rattle.target_machine.proofs.Bringing.{take_live}
 use Rattle.target_machine.proofs.Holding.{fails_so}
+use Rattle.target_machine.proofs.Turning.{still_installed}
 use Rattle.target_machine.proofs.target.Target.take.Goals as goal
+
+pub invariant_of-self-inside-in-Err : goal.invariant_of-self-inside-in-Err
+invariant_of-self-inside-in-Err g c =
+    still_installed _ _ _ c.take-2.new.store c.take-2.ensures.size (rw c.in-Err.is at c.take-2.ensures.known) c.self-inside.invariant
 
 pub returns-in-Ok-clause-brings : goal.returns-in-Ok-clause-brings
 returns-in-Ok-clause-brings g c = λ x kept holds.
