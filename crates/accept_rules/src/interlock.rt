@@ -43,6 +43,7 @@ impl<R: Rule> Interlock<R> {
     /// memory.
     pub fn admits(&self, header: &LoadHeader, kept: &[KeptLoad]) -> bool
         ensures says { Says R.may_say self.now (header_view header.now) kept.now result }
+        ensures accepts { result ≡ R.accepts self.now (header_view header.now) kept.now }
         ensures yes { result ≡ true → Permits (header_view header.now) kept.now }
         ensures no { result ≡ false → ¬ Grants (header_view header.now) kept.now }
     {

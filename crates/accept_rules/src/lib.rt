@@ -2,10 +2,13 @@
 //! loads that are kept beside it.
 #![tactic(auto)]
 
+mod asks;
 mod interlock;
 mod kept;
+pub mod laws;
 mod rule;
 
+pub use asks::{Asks, KnownRule};
 pub use interlock::Interlock;
 pub use kept::{KeptLoad, is_kept};
-pub use rule::{Asks, PermitsAll, Rule};
+pub use rule::{PermitsAll, Rule};

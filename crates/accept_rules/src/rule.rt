@@ -10,6 +10,8 @@ pub trait Rule {
     ghost use Rattle.std.specs.Prelude.{Bool, List};
     ghost use Rattle.load_header.specs.declared.header.LoadHeader.{LoadHeader};
     ghost use Rattle.accept_rules.specs.declared.kept.KeptLoad.{KeptLoad};
+    ghost use Rattle.accept_rules.specs.Interlocks.{Follows};
+    ghost use Rattle.accept_rules.specs.Permissions.{Accepts};
 
     /// It may be asked of this header beside these loads.
     ghost may_ask: { Self → LoadHeader → List KeptLoad → Type 0 };
@@ -17,28 +19,16 @@ pub trait Rule {
     /// It may give this answer on this header beside these loads.
     ghost may_say: { Self → LoadHeader → List KeptLoad → Bool → Type 0 };
 
+    /// What it accepts, by the fields of a header.
+    ghost accepts: { Self → Accepts };
+
     /// Whether it accepts a load with this header beside these loads. It takes no memory.
     fn ask(&self, header: &LoadHeader, kept: &[KeptLoad]) -> bool
         requires { may_ask self.now header.now kept.now }
         ensures { may_say self.now header.now kept.now result };
-}
 
-/// The rule that a closure is.
-#[derive(Drop)]
-pub struct Asks<F: Fn(&LoadHeader, &[KeptLoad]) -> bool> {
-    pub rule: F,
-}
-
-impl<F: Fn(&LoadHeader, &[KeptLoad]) -> bool> Rule for Asks<F> {
-    ghost use Rattle.accept_rules.specs.Closures.{MaySay, TakesHeader};
-
-    ghost may_ask = { λ asks header kept. TakesHeader F.Fn asks.rule header kept };
-
-    ghost may_say = { λ asks header kept answer. MaySay F.Fn asks.rule header kept answer };
-
-    fn ask(&self, header: &LoadHeader, kept: &[KeptLoad]) -> bool {
-        (self.rule)(header, kept)
-    }
+    /// Each answer that it may give says what it accepts.
+    ghost follows: { (rule : Self) → Follows may_say rule (accepts rule) };
 }
 
 /// The rule that accepts each load that a rule may accept: one whose type id isn't 0, and whose part
@@ -49,11 +39,16 @@ pub struct PermitsAll;
 impl Rule for PermitsAll {
     ghost use Rattle.std.specs.Prelude.{⊤};
     ghost use Rattle.load_header.specs.Header.{header_view};
+    ghost use Rattle.accept_rules.specs.InterlockLaws.{a_function_is_followed};
     ghost use Rattle.accept_rules.specs.Permissions.{permits};
 
     ghost may_ask = { λ _ _ _. ⊤ };
 
     ghost may_say = { λ _ header kept answer. answer ≡ permits (header_view header) kept };
+
+    ghost accepts = { λ _. permits };
+
+    ghost follows = { a_function_is_followed (λ _. permits) };
 
     fn ask(&self, header: &LoadHeader, kept: &[KeptLoad]) -> bool {
         header.type_id != 0 && !is_kept(header.part.as_slice(), kept)

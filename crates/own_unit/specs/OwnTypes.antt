@@ -2,5 +2,5 @@
 use Rattle.std.specs.Prelude.{ℕ, not, ◌&&◌, ◌||◌, ◌==◌, ltb}
 use Rattle.accept_rules.specs.Permissions.{Accepts, keeps_part}
 
-abbrev pub accepts : (own : ℕ) → Accepts
-accepts own h kept = not (h.type_id == 0) && (ltb h.type_id 0x8000 || h.type_id == own) && not (keeps_part h.part kept)
+abbrev pub own_types : (own : ℕ) → Accepts
+own_types own h kept = not (h.type_id == 0) && (ltb h.type_id 0x8000 || h.type_id == own) && not (keeps_part h.part kept)

@@ -17,11 +17,16 @@ pub struct OwnTypes {
 impl Rule for OwnTypes {
     ghost use Rattle.std.specs.Prelude.{⊤};
     ghost use Rattle.load_header.specs.Header.{header_view};
-    ghost use Rattle.own_unit.specs.OwnTypes.{accepts};
+    ghost use Rattle.accept_rules.specs.InterlockLaws.{a_function_is_followed};
+    ghost use Rattle.own_unit.specs.OwnTypes.{own_types};
 
     ghost may_ask = { λ _ _ _. ⊤ };
 
-    ghost may_say = { λ rule header kept answer. answer ≡ accepts rule.own (header_view header) kept };
+    ghost may_say = { λ rule header kept answer. answer ≡ own_types rule.own (header_view header) kept };
+
+    ghost accepts = { λ rule. own_types rule.own };
+
+    ghost follows = { a_function_is_followed (λ rule. own_types rule.own) };
 
     fn ask(&self, header: &LoadHeader, kept: &[KeptLoad]) -> bool {
         let id = header.type_id;

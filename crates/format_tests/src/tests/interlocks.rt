@@ -1,8 +1,9 @@
-ghost use Rattle.std.specs.Prelude.{◌≡◌};
+ghost use Rattle.std.specs.Prelude.{◌≡◌, ◌≤◌, ltb, ◌&&◌};
 ghost use Rattle.load_header.specs.Header.{header_view};
-ghost use Rattle.accept_rules.specs.Interlocks.{IsInterlock, Says};
+ghost use Rattle.accept_rules.specs.Interlocks.{IsInterlock};
+ghost use Rattle.accept_rules.specs.Permissions.{permits};
 
-use accept_rules::{Asks, Interlock, KeptLoad, PermitsAll, Rule};
+use accept_rules::{Asks, Interlock, KeptLoad, KnownRule, PermitsAll, Rule};
 use load_base::{Bytes, List, PartText, Text};
 use load_header::LoadHeader;
 use part_number::PartNumber;
@@ -26,18 +27,35 @@ fn header(alloc: Global, type_id: u16) -> Result<LoadHeader, Fail> {
 
 fn answer_of<R: Rule + Drop>(rule: R, header: &LoadHeader, kept: &[KeptLoad]) -> bool
     requires { IsInterlock R.may_ask R.may_say rule }
-    ensures { Says R.may_say rule (header_view header.now) kept.now result }
+    ensures { result ≡ R.accepts rule (header_view header.now) kept.now }
 {
     let interlock = Interlock::new(rule);
     interlock.admits(header, kept)
 }
 
-/// A maker's rule that refuses types of its own.
-fn shared_types_alone(header: &LoadHeader, kept: &[KeptLoad]) -> bool {
+/// Accepts each load of a type below this one that a rule may accept.
+#[derive(Clone, Copy)]
+struct TypesBelow {
+    limit: u16,
+}
+
+impl KnownRule for TypesBelow {
+    ghost use Rattle.std.specs.Prelude.{ltb, ◌&&◌};
+    ghost use Rattle.accept_rules.specs.Permissions.{permits};
+
+    ghost accepts = { λ rule h kept. ltb h.type_id rule.limit && permits h kept };
+}
+
+/// A maker's rule that refuses types of its own from this one on.
+fn refuses_from(limit: u16, header: &LoadHeader, kept: &[KeptLoad]) -> bool
+    requires own { 0x8000 ≤ limit }
+    ensures { result ≡ (ltb header.now.type_id limit && permits (header_view header.now) kept.now) }
+{
     let rule = |header: &LoadHeader, kept: &[KeptLoad]| -> bool {
-        header.type_id < 0x8000 && PermitsAll.ask(header, kept)
+        header.type_id < limit && PermitsAll.ask(header, kept)
     };
-    answer_of(Asks { rule }, header, kept)
+    let known = TypesBelow { limit };
+    answer_of(Asks { rule, known }, header, kept)
 }
 
 /// Whether a load of this type is accepted beside these where every one is that may be, and by that
@@ -46,7 +64,7 @@ fn answers(alloc: Global, type_id: u16, kept: &[KeptLoad]) -> Result<(bool, bool
     let header = header(alloc, type_id)?;
     let answers = (
         answer_of(PermitsAll, &header, kept),
-        shared_types_alone(&header, kept),
+        refuses_from(0x8000, &header, kept),
     );
     drop(header);
     Ok(answers)

@@ -9,6 +9,13 @@ returns-clause-says g c = record {
   says = subst (λ (r : _). g.R.Rule.may_say r c.args.header.now c.args.kept.now c.ask.result) c.self.view_is c.ask.ensures;
 }
 
+pub returns-clause-accepts : goal.returns-clause-accepts
+returns-clause-accepts g c = g.met.R.Rule.follows c.args.self.now (header_view c.args.header.now) c.args.kept.now c.ask.result (record {
+  header = c.args.header.now;
+  same = refl;
+  says = subst (λ (r : _). g.R.Rule.may_say r c.args.header.now c.args.kept.now c.ask.result) c.self.view_is c.ask.ensures;
+})
+
 pub returns-clause-yes : goal.returns-clause-yes
 returns-clause-yes g c = λ is. c.self.invariant.permits (header_view c.args.header.now) c.args.kept.now (record {
   header = c.args.header.now;
