@@ -69,7 +69,6 @@ use Rattle.replay_rules.proofs.StatusRows.{giving_not, taking_not}
 use Rattle.replay_rules.proofs.Reasons.{HasText, UploadSmall}
 use Rattle.replay_rules.proofs.RowsFit.{RowFits}
 use Rattle.replay_rules.proofs.PlacedRows.{HasServed, PlacedRow}
-use Rattle.replay_rules.proofs.ShortTexts.{IsLittle}
 use Rattle.replay_rules.proofs.TargetRoles.{IsGiving, IsTaking}
 use Rattle.replay_rules.proofs.StatusFiles.{AllWanted, last_read, progress_read, ready_read, turns_by}
 use Rattle.replay_rules.proofs.ListedBefore.{target_writes_in_time}

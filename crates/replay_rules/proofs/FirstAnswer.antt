@@ -1,5 +1,5 @@
 -- Where a session of the loader takes its first LUS, the target answered it since the session's start.
-use Rattle.std.proofs.Common.{◌≡◌, ℕ, inl, true, false, List, [], ◌∷◌, ◌++◌, Option, Some, None, refl, sym, ap, subst, ◌∙◌}
+use Rattle.std.proofs.Common.{◌≡◌, ℕ, inl, inr, true, false, List, [], ◌∷◌, ◌++◌, Option, Some, None, refl, sym, ap, subst, ◌∙◌}
 use Rattle.std.specs.Prelude.{fold}
 use Rattle.std.specs.List.{AllByRecursion}
 use Rattle.std.proofs.lemmas.List.{append_cancel_right}
@@ -97,8 +97,32 @@ read_answered mine h = record {
   no_error = h.no_error;
 }
 
+-- it read in one of these transfers, and got an answer that is no ERROR
+pub record HasRead (mine : List Transfer) : Type 0 where
+  pub request : Transfer
+  pub among : Among request mine
+  pub reads : IsReading request.role
+  pub packet : PacketView
+  pub heard : Among packet request.got
+  pub no_error : IsNoError packet
+
+answered_read : (mine : List Transfer) → ReadAnswered mine → HasRead mine
+answered_read mine h = record {
+  request = h.request;
+  among = subst (λ (ts : List Transfer). Among h.request ts) (sym h.split) (among_right h.request h.since (h.request ∷ h.before) (inl refl));
+  reads = h.reads;
+  packet = h.packet;
+  heard = h.heard;
+  no_error = h.no_error;
+}
+
+more_read : (t : Transfer) (mine : List Transfer) → HasRead mine → HasRead (t ∷ mine)
+more_read t mine h = record { request = h.request; among = inr h.among; reads = h.reads; packet = h.packet; heard = h.heard; no_error = h.no_error }
+
 abbrev AnsweredIn : LoaderRow → List Transfer → Type 0
 AnsweredIn Takes_lus mine = ReadAnswered mine
+AnsweredIn Writes_lur mine = HasRead mine
+AnsweredIn Serves_files mine = HasRead mine
 AnsweredIn row mine = Unit {0}
 
 -- the session is that of the newest start, and these are its transfers that are over
@@ -122,15 +146,15 @@ first_come_to Info mine = tt
 first_come_to Upload mine = tt
 
 -- a transfer of a row is over, by a packet that was no ERROR
-come_to_then : (start : Start) (row : LoaderRow) (t : Transfer) (from : _) (p : PacketView) (mine : List Transfer) → IsNoError p → LiveReads row (Some t) → AnsweredIn (row_after row) (with_packet t from p ∷ mine)
-come_to_then start Reads_lui t from p mine no_error is =
+come_to_then : (start : Start) (row : LoaderRow) (t : Transfer) (from : _) (p : PacketView) (mine : List Transfer) → IsNoError p → LiveReads row (Some t) → AnsweredIn row mine → AnsweredIn (row_after row) (with_packet t from p ∷ mine)
+come_to_then start Reads_lui t from p mine no_error is before =
     record { since = []; request = with_packet t from p; before = mine; split = refl; serves = tt; reads = is; packet = p; heard = among_right p t.got (p ∷ []) (inl refl); no_error = no_error }
-come_to_then start Reads_lci t from p mine no_error is = tt
-come_to_then start Takes_lcs t from p mine no_error is = tt
-come_to_then start Takes_lcl t from p mine no_error is = tt
-come_to_then start Takes_lus t from p mine no_error is = tt
-come_to_then start Writes_lur t from p mine no_error is = tt
-come_to_then start Serves_files t from p mine no_error is = tt
+come_to_then start Reads_lci t from p mine no_error is before = tt
+come_to_then start Takes_lcs t from p mine no_error is before = tt
+come_to_then start Takes_lcl t from p mine no_error is before = tt
+come_to_then start Takes_lus t from p mine no_error is before = more_read (with_packet t from p) mine (answered_read mine before)
+come_to_then start Writes_lur t from p mine no_error is before = more_read (with_packet t from p) mine before
+come_to_then start Serves_files t from p mine no_error is before = more_read (with_packet t from p) mine before
 
 module _ (media : Media) (e : Event) (log : List Event) where
   abbrev before_now : LoaderReading
@@ -167,7 +191,7 @@ module _ (media : Media) (e : Event) (log : List Event) where
         started = h.started;
         mine = t ∷ h.mine;
         past = past_is ∙ ends.past ∙ ap (λ (ts : List Transfer). t ∷ ts) h.past;
-        come_to = subst (λ (x : LoaderRow). AnsweredIn x (t ∷ h.mine)) (sym row) (come_to_then s.start (loader_row s) ends.live ends.from ends.packet h.mine ends.no_error of_row);
+        come_to = subst (λ (x : LoaderRow). AnsweredIn x (t ∷ h.mine)) (sym row) (come_to_then s.start (loader_row s) ends.live ends.from ends.packet h.mine ends.no_error of_row h.come_to);
       }
 
   by_change : (live : Option SessionLog) (change : LoaderChange) → FitsLoaderChange before_now.end live moves_now change → BeginsBy media e change → begun_by change ≡ started_by e → SessionReads before_now.end live → LiveIsAnswered media log live
@@ -222,15 +246,23 @@ same_start [] (z ∷ ys) x y before other e none (no_start, also) first second =
 same_start (z ∷ xs) [] x y before other e (no_start, none) also first second = absurd (second (ap started_by (sym (event_is z y (xs ++ x ∷ before) other e).0) ∙ no_start))
 same_start (z ∷ xs) (w ∷ ys) x y before other e (no_start, none) (too, also) first second = same_start xs ys x y before other (event_is z w (xs ++ x ∷ before) (ys ++ y ∷ other) e).1 none also first second
 
--- a session that takes its first LUS was answered
-pub first_answer : (media : Media) (log : List Event) (s : SessionLog) → (loader_reading media log).live ≡ Some s → loader_row s ≡ Takes_lus → (own : IsOfNewestStart media log s) → ReadAnswered own.mine
-first_answer media log s live row own =
+-- what the transfers of the live session have come to
+own_answers : (media : Media) (log : List Event) (s : SessionLog) (row : LoaderRow) → (loader_reading media log).live ≡ Some s → loader_row s ≡ row → (own : IsOfNewestStart media log s) → AnsweredIn row own.mine
+own_answers media log s at live row own =
     let h : IsAnsweredSince media log s = subst (λ (x : Option SessionLog). LiveIsAnswered media log x) live (answered_since media log) in
     let before : h.before ≡ own.before = same_start h.since own.since h.event own.event h.before own.before (sym h.split ∙ own.split) h.newest_one own.newest (λ none. starts_not media h.event s.start h.started none) (λ none. starts_not media own.event s.start own.started none) in
     let older : List Transfer = past_with (loader_reading media own.before).end.live (loader_reading media own.before).end.past in
     let same : h.mine ≡ own.mine =
     append_cancel_right h.mine own.mine older (ap (λ (x : List Event). h.mine ++ past_with (loader_reading media x).end.live (loader_reading media x).end.past) (sym before) ∙ (sym h.past ∙ own.past)) in
-    subst ReadAnswered same (subst (λ (x : LoaderRow). AnsweredIn x h.mine) row h.come_to)
+    subst (λ (ts : List Transfer). AnsweredIn at ts) same (subst (λ (x : LoaderRow). AnsweredIn x h.mine) row h.come_to)
+
+-- a session that takes its first LUS was answered
+pub first_answer : (media : Media) (log : List Event) (s : SessionLog) → (loader_reading media log).live ≡ Some s → loader_row s ≡ Takes_lus → (own : IsOfNewestStart media log s) → ReadAnswered own.mine
+first_answer media log s live row own = own_answers media log s Takes_lus live row own
+
+-- and so was one that serves files
+pub files_answer : (media : Media) (log : List Event) (s : SessionLog) → (loader_reading media log).live ≡ Some s → loader_row s ≡ Serves_files → (own : IsOfNewestStart media log s) → HasRead own.mine
+files_answer media log s live row own = own_answers media log s Serves_files live row own
 
 -- ---- the rows of an information session
 

@@ -1,5 +1,5 @@
 -- Proofs that what may be active is what was active at the start, or good.
-use Rattle.std.proofs.Common.{◌≡◌, inl, inr, ℕ, ◌≤◌, cond, List, [], ◌∷◌, ◌++◌, Bool, true, false, Option, Some, None, length, refl, sym, subst, ◌∙◌, arith}
+use Rattle.std.proofs.Common.{◌≡◌, inl, inr, ◌≤◌, List, [], ◌∷◌, true, length, refl, sym, subst, arith}
 use Rattle.std.specs.List.{AllByRecursion}
 use Rattle.load_base.specs.Config.{LoadView}
 use Rattle.disk_layout.specs.declared.identity.Identity.{Identity}
@@ -12,7 +12,7 @@ use Rattle.session_rules.specs.TargetLog.{standing_after}
 use Rattle.replay_rules.specs.BothEnds.{Setting}
 use Rattle.replay_rules.specs.CompletedRows.{new_has_load}
 use Rattle.replay_rules.specs.Changes.{AreGood, ChangesAreNew}
-use Rattle.replay_rules.specs.FirstOrGood.{ActiveIsFirstOrGood, HasGoodLoads, IsFirstOrChecked, IsFirstOrGood}
+use Rattle.replay_rules.specs.FirstOrGood.{ActiveIsFirstOrGood, IsFirstOrChecked, IsFirstOrGood}
 use Rattle.replay_rules.proofs.ActiveStays.{IsKept, all_have}
 
 -- ---- one step

@@ -9,7 +9,6 @@ use Rattle.field_grammar.specs.Grammar.{IsBytes}
 use Rattle.load_base.specs.Config.{FileView, LoadView}
 use Rattle.load_base.specs.Name.{IsName}
 use Rattle.load_header.specs.declared.header.FileEntry.{FileEntry}
-use Rattle.load_header.specs.Header.{HeaderView}
 use Rattle.load_header.specs.HeaderFields.{IsHeaderFile}
 use Rattle.load_protocol_files.specs.declared.lur.Wanted.{Wanted}
 use Rattle.disk_layout.specs.declared.identity.Identity.{Identity}

@@ -34,8 +34,10 @@ pub mod RowsFit
 pub mod SessionRows
 pub mod TargetRoles
 pub mod PlacedRows
+pub mod BegunSessions
 pub mod OtherEnd
 pub mod StatusRows
+pub mod ServedSince
 pub mod ShortTexts
 pub mod SmallFaults
 pub mod TextFaults

@@ -1,5 +1,5 @@
 -- Proofs that sessions are denied and stopped for the target's reasons.
-use Rattle.std.proofs.Common.{arith, ◌≡◌, ◌⊎◌, inl, inr, ℕ, List, [], ◌∷◌, ◌++◌, Some, sym, subst, ◌∙◌}
+use Rattle.std.proofs.Common.{◌≡◌, ◌⊎◌, inl, inr, ℕ, List, [], ◌∷◌, ◌++◌, Some, sym, subst, ◌∙◌}
 use Rattle.load_base.specs.Text.{IsText}
 use Rattle.exchange_trace.specs.Steps.{Step}
 use Rattle.transfer_end.specs.OtherEnds.{MovesStayFair, TellsLength, file_sent}

@@ -94,16 +94,16 @@ begins_live (ServesRead name o file) = refl
 begins_live (ServesWrite name o) = refl
 
 -- packets came in it
-over_heard : (t : Transfer) → is_live (phase_of (end_in t)) ≡ false → t.got ≡ [] → ⊥
+pub over_heard : (t : Transfer) → is_live (phase_of (end_in t)) ≡ false → t.got ≡ [] → ⊥
 over_heard t over none = let wrong : true ≡ false = sym (begins_live t.role) ∙ (sym (ap (λ (got : _). is_live (phase_of (end_of t.role got))) none) ∙ over) in cc
 
 -- ---- which move comes in which row
 
-abbrev Awaits : RowView → Type 0
+abbrev pub Awaits : RowView → Type 0
 Awaits Awaits_lur = Unit {0}
 Awaits row = ⊥
 
-abbrev ComesIn : RowView → RowMove → Type 0
+abbrev pub ComesIn : RowView → RowMove → Type 0
 ComesIn row (Requests loads) = Awaits row
 ComesIn row (Refuses_request fault) = Awaits row
 ComesIn row move = Unit {0}
@@ -144,7 +144,7 @@ module _ (accepts : Accepts) (active : Outline) where
   error_comes (Writes_completion e loads) code = tt
   error_comes Over code = tt
 
-  move_comes : (row : RowView) (error : Option ℕ) (arriving : Arriving) → ComesIn row (row_move_by accepts active row arriving error)
+  pub move_comes : (row : RowView) (error : Option ℕ) (arriving : Arriving) → ComesIn row (row_move_by accepts active row arriving error)
   move_comes row (Some code) arriving = error_comes row code
   move_comes (Reads_file u) None arriving = read_comes (Reads_file u) u u.current arriving
   move_comes Awaits_lur None arriving = awaited_comes _
@@ -236,7 +236,7 @@ abbrev pub SessionPlaced : Reading → Option TargetSessionLog → Type 0
 SessionPlaced end None = Unit {0}
 SessionPlaced end (Some s) = IsPlaced (seen_row s) end
 
-of_role : (row : RowView) (live : Option Transfer) (role : Role) → HasRole live role → LiveOfRow row live → IsOfTargetRow row role
+pub of_role : (row : RowView) (live : Option Transfer) (role : Role) → HasRole live role → LiveOfRow row live → IsOfTargetRow row role
 of_role row None role was fits = absurd was
 of_role row (Some t) role was fits = subst (λ (x : Role). IsOfTargetRow row x) was fits
 

@@ -22,12 +22,12 @@ use Rattle.session_rules.specs.LoaderLog.{newest}
 use Rattle.session_rules.specs.Target.{Begins, Continues, Ends, TargetChange, Turns, Turns_without_port, target_decision}
 use Rattle.session_rules.specs.TargetLaws.{FitsChange, HasTurned, after, decision_fits, seen_row, turned_row}
 use Rattle.session_rules.specs.TargetLog.{TargetReading, TargetSessionLog, log_turned, reading_turned, reading_without_port, standing_after, standing_in, target_extended, target_reading_changed, target_view, with_done}
-use Rattle.session_rules.specs.TargetRows.{Arriving, Awaits_lur, Breaks_off, Gives_denial, Gives_lci, Gives_lui, Judges, Over, Passes, Reads_file, Refuses_request, Requests, RowMove, RowView, TransferEnd, UploadEnd, WholeRow, Writes_completion, Writes_lcl, Writes_lcs, Writes_progress, Writes_ready, Writes_stop, arriving_of, first_row, row_move, row_view, view_moved, with_bytes, with_file_view, with_header_view}
-use Rattle.session_rules.specs.Uploads.{Accepts_file, Accepts_header, Judgement, OpenLoadView, Stops_for, UploadView, next_name, next_wanted}
+use Rattle.session_rules.specs.TargetRows.{Arriving, Awaits_lur, Gives_denial, Gives_lci, Gives_lui, Over, Reads_file, RowMove, TransferEnd, UploadEnd, WholeRow, Writes_completion, Writes_lcl, Writes_lcs, Writes_progress, Writes_ready, Writes_stop, arriving_of, first_row, row_move, row_view, view_moved, with_bytes}
+use Rattle.session_rules.specs.Uploads.{UploadView}
 use Rattle.replay_rules.specs.BothEnds.{Is_down, Is_up, Setting, TargetState, changed, come_up, gone_down, noted, reached, settled, target_at}
 use Rattle.replay_rules.specs.Histories.{active_in}
 use Rattle.replay_rules.specs.TieLaws.{HasLive, target_is_live}
-use Rattle.replay_rules.proofs.RowsFit.{Brings, BringsJudged, RowFits, SoundPlaced, row_fits}
+use Rattle.replay_rules.proofs.RowsFit.{Brings, RowFits, row_fits}
 
 module _ (Asked : List Wanted → Type 0) (Sound : UploadView → Type 0) (Told : Reason → Type 0) where
   abbrev Fits : WholeRow → Type 0

@@ -1,17 +1,16 @@
 -- What is active in a run is small, where it began with what a disk can hold.
-use Rattle.std.proofs.Common.{◌≡◌, ℕ, ◌≤◌, List, [], ◌∷◌, ◌++◌, length, Option, None, refl, sym, subst, arith}
+use Rattle.std.proofs.Common.{◌≡◌, List, [], ◌∷◌, length, sym, subst, arith}
 use Rattle.std.specs.List.{AllByRecursion}
 use Rattle.std.proofs.lemmas.List.{length-map}
 use Rattle.std.proofs.lemmas.List.Elements.{recursion_from_All}
-use Rattle.load_base.specs.Config.{LoadView}
 use Rattle.disk_layout.specs.Contents.{entries_of, entry_of}
 use Rattle.disk_layout.specs.Holds.{StandingView}
-use Rattle.disk_layout.specs.Manifest.{FileFits, FitsALayout, LoadEntry, LoadFits}
+use Rattle.disk_layout.specs.Manifest.{FileFits, LoadEntry, LoadFits}
 use Rattle.disk_layout.specs.declared.manifest.Layout.{Layout}
 use Rattle.disk_layout.specs.declared.manifest.ManifestFile.{ManifestFile}
 use Rattle.exchange_trace.specs.Steps.{Step}
 use Rattle.session_rules.specs.KeptLaws.{with_kept_same}
-use Rattle.session_rules.specs.KeptLoads.{kept_entries, types_of, with_kept_entries}
+use Rattle.session_rules.specs.KeptLoads.{kept_entries, types_of}
 use Rattle.replay_rules.specs.BothEnds.{Setting, target_at}
 use Rattle.replay_rules.specs.Causes.{BeginsSmall, HasFewLoads}
 use Rattle.replay_rules.specs.Changes.{AllStayOrAreNew}

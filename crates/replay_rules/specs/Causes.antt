@@ -1,5 +1,5 @@
 -- Why sessions of a run are denied or stopped where nothing is injected (docs/EXCHANGE.md, "Operations").
-use Rattle.std.specs.Prelude.{◌≡◌, ℕ, ◌≤◌, List, [], ◌∷◌, ◌++◌, length, Some, ⊤}
+use Rattle.std.specs.Prelude.{◌≡◌, ℕ, ◌<◌, ◌≤◌, List, [], ◌∷◌, ◌++◌, length, Some, ⊤}
 use Rattle.load_base.specs.Ident.{IsIdent}
 use Rattle.load_base.specs.Text.{IsText}
 use Rattle.disk_layout.specs.Contents.{entries_of}
@@ -8,6 +8,8 @@ use Rattle.disk_layout.specs.Manifest.{FitsALayout}
 use Rattle.exchange_trace.specs.Happenings.{Upload_started}
 use Rattle.exchange_trace.specs.Steps.{Step}
 use Rattle.accept_rules.specs.Permissions.{AcceptsPermitted}
+use Rattle.transfer_end.specs.OtherEnds.{Among, AnswersRequest}
+use Rattle.transfer_end.specs.Transfers.{Transfer}
 use Rattle.session_rules.specs.declared.outcome.FileKind.{FileKind}
 use Rattle.session_rules.specs.declared.outcome.Outcome.{Outcome}
 use Rattle.session_rules.specs.declared.outcome.Outcome.TheVariants.{BadFile, Completed, Denied, TargetStopped}
@@ -21,7 +23,7 @@ use Rattle.replay_rules.specs.BothEnds.{Is_down, Is_up, Setting, TargetState, lo
 use Rattle.replay_rules.specs.Histories.{active_at}
 use Rattle.replay_rules.specs.ListTraces.{AllCanBeListed, OwnFilesAreNamed}
 use Rattle.replay_rules.specs.MediaTraces.{LengthsAreTold}
-use Rattle.replay_rules.specs.OtherEndTraces.{IsUninjected}
+use Rattle.replay_rules.specs.OtherEndTraces.{IsUninjected, loader_transfers, target_transfers}
 use Rattle.replay_rules.specs.OwnSessionTraces.{NoneStarts}
 
 -- ---- how a session ended
@@ -80,14 +82,29 @@ DenialsAreForSequence = (set : Setting) (steps : List Step) → AcceptsPermitted
 
 -- ---- stopped
 
--- the verdict on what arrived in the target's live session is that it fails for this reason
-abbrev pub FailsFor : TargetState → Reason → Type 0
-FailsFor (Is_up r) reason = (session : TargetSessionLog) × (r.live ≡ Some session) × (verdict_in session.row ≡ Fails_for reason)
-FailsFor (Is_down active interrupted) reason = ⊥
+-- this is the target's live session, and the verdict on what arrived in it is that it fails for this reason
+abbrev pub FailsFor : TargetState → TargetSessionLog → Reason → Type 0
+FailsFor (Is_up r) session reason = (r.live ≡ Some session) × (verdict_in session.row ≡ Fails_for reason)
+FailsFor (Is_down active interrupted) session reason = ⊥
+
+-- The session of the target was begun since a step by the loader: the first of its transfers serves the request of one of the
+-- loader's, and each of both has the other's port. As the step began the loader had drawn lower ports alone, and as it ended no
+-- life of the target had a transfer of that first one's port.
+pub record WasBegunSince (set : Setting) (steps : List Step) (step : Step) (before : List Step) (session : TargetSessionLog) : Type 0 where
+  pub first : Transfer
+  pub rest : List Transfer
+  pub done : session.done ≡ first ∷ rest
+  pub request : Transfer
+  pub asked : Among request (loader_transfers set steps)
+  pub answers : AnswersRequest first request
+  pub port : first.peer ≡ Some request.own
+  pub back : request.peer ≡ Some first.own
+  pub asked_since : (t : Transfer) → Among t (loader_transfers set before) → t.own < request.own
+  pub served_since : (t : Transfer) → Among t (target_transfers set step before) → t.own ≡ first.own → ⊥
 
 -- The newest start is that of an upload, and the session that ended last is the one that ended since: so it is that upload.
--- Since its start there was a step after which the verdict of a session of the target was that it fails for this reason; the
--- text is that of the reason, where that is a text, as it is where its numbers are those of files.
+-- Since its start there was a step after which the verdict of the session of the target that it began was that this fails for
+-- this reason; the text is that of the reason, where that is a text, as it is where its numbers are those of files.
 pub record IsStoppedByVerdict (set : Setting) (steps : List Step) (text : List ℕ) : Type 0 where
   pub since : List Step
   pub failed : Step
@@ -98,12 +115,14 @@ pub record IsStoppedByVerdict (set : Setting) (steps : List Step) (text : List �
   pub pos : List ℕ
   pub parts : List (List ℕ)
   pub session : EndedSession
+  pub failing : TargetSessionLog
   pub reason : Reason
   pub split : steps ≡ since ++ failed ∷ (between ++ start ∷ before)
   pub starts : start.given ≡ Upload_started hw pos parts
   pub newest : NoneStarts (since ++ failed ∷ between)
   pub one : (loader_at set steps).ended ≡ session ∷ (loader_at set (start ∷ before)).ended
-  pub fails : FailsFor (target_at set (failed ∷ (between ++ start ∷ before))) reason
+  pub fails : FailsFor (target_at set (failed ∷ (between ++ start ∷ before))) failing reason
+  pub begun : WasBegunSince set steps start before failing
   pub tells : IsText (reason_text reason) → text ≡ reason_text reason
 
 abbrev pub StoppedWhereFailed : Setting → Step → List Step → Type 0
@@ -113,8 +132,8 @@ abbrev pub AllStoppedWhereFailed : Setting → List Step → Type 0
 AllStoppedWhereFailed set [] = ⊤
 AllStoppedWhereFailed set (s ∷ earlier) = StoppedWhereFailed set s earlier × AllStoppedWhereFailed set earlier
 
--- Under the same premises a session is stopped by the target only after the verdict of a session of the target gave, since its
--- own start, the reason that is told, with its numbers.
+-- Under the same premises a session is stopped by the target only after the verdict of the session of the target that it began
+-- gave, since its own start, the reason that is told, with its numbers.
 abbrev pub StopsAreForVerdicts : Type 0
 StopsAreForVerdicts = (set : Setting) (steps : List Step) → AcceptsPermitted set.accepts → IsIdent set.start.identity.hw → IsUninjected set steps → AllStoppedWhereFailed set steps
 

@@ -171,9 +171,9 @@ pub fn each_session_ends_by_its_cause()
 {}
 
 /// Where nothing is injected, a session is denied only where no sequence number is left after that
-/// of the active configuration, and stopped by the target only for a reason that the verdict of a
-/// session of the target gave since its own start, with its numbers: through losses, repeats, other
-/// orders, power losses and boots.
+/// of the active configuration, and stopped by the target only for a reason that the verdict of the
+/// session of the target that it began gave since its own start, with its numbers: through losses,
+/// repeats, other orders, power losses and boots.
 pub fn outcomes_have_their_causes()
     ensures denied { DenialsAreForSequence }
     ensures stopped { StopsAreForVerdicts }

@@ -112,7 +112,7 @@ pub record DenialIsTrue (set : Setting) (steps : List Step) (before : List Ended
   pub ended : EndsIn set steps before session
   pub denied : IsDeniedForSequence set (ended.step ∷ ended.earlier) text
 
--- the target stopped a session with this text, which is that of a verdict since the session's start
+-- the target stopped a session with this text, which is that of the verdict of its own session that this one began
 pub record StopIsTrue (set : Setting) (steps : List Step) (before : List EndedSession) (session : EndedSession) (text : List ℕ) : Type 0 where
   pub ended : EndsIn set steps before session
   pub stopped : IsStoppedByVerdict set (ended.step ∷ ended.earlier) text
