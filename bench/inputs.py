@@ -15,9 +15,9 @@ FULL_BANKS = {
 }
 
 
-def write_full_bank(path, loads):
+def write_full_bank(path, loads, layout=2):
     """A disk whose bank 0 has these loads of random bytes; gives how many bytes these are."""
-    manifest = manifest_of(loads)
+    manifest = manifest_of(loads, layout=layout)
     total = sum(size for files in loads for _, size in files)
     assert total + len(manifest) <= BANK
     pieces = (os.urandom(min(PIECE, total - at)) for at in range(0, total, PIECE))

@@ -21,6 +21,12 @@ def program_argument(usage):
     return os.path.abspath(sys.argv[1])
 
 
+def text_of(path):
+    """A file of the project, by its path from the top."""
+    with open(os.path.join(TOP, path), encoding="utf-8") as text:
+        return text.read()
+
+
 def build(folder, name, crate, files, extra=()):
     """Proves and builds the program `name` over one of the project's crates in a scratch folder, and gives its path.
 
@@ -29,7 +35,9 @@ def build(folder, name, crate, files, extra=()):
     """
     with open(os.path.join(TOP, "crates.txt")) as text:
         uses = {line.split(":")[0]: line.split(":")[1].split() for line in text if ":" in line and not line.startswith("#")}
-    below = [other for other in uses if other == crate or other in uses[crate]]
+    below = [crate]
+    for other in below:
+        below += [used for used in uses[other] if used in uses and used not in below]
     libraries = [other for other in uses[crate] if other not in uses]
     at = os.path.join(folder, "crates", name)
     for path, text in files.items():
@@ -185,11 +193,12 @@ def short(text):
     return bytes([len(text)]) + text
 
 
-def manifest_of(loads, types=None):
-    """A manifest of loads of these types, or else of type 1, each the names and lengths of its files, in layout 2."""
-    parts = [struct.pack(">HH", 0xA002, len(loads))]
+def manifest_of(loads, types=None, layout=2):
+    """A manifest of loads of these types, or else of type 1, each the names and lengths of its files. Layout 1 says no types."""
+    parts = [struct.pack(">HH", 0xA002, len(loads)) if layout == 2 else struct.pack(">H", len(loads))]
     for files, kind in zip(loads, types or [1] * len(loads)):
-        parts.append(b"ABC41-0000-0001" + struct.pack(">HH", kind, len(files)))
+        said = struct.pack(">H", kind) if layout == 2 else b""
+        parts.append(b"ABC41-0000-0001" + said + struct.pack(">H", len(files)))
         parts += [short(name) + struct.pack(">I", size) for name, size in files]
     return b"".join(parts)
 

@@ -1,4 +1,7 @@
 mod disks;
+mod images;
+mod keepings;
 mod listings;
+mod places;
 mod recoveries;
 mod stores;

@@ -1,20 +1,18 @@
 -- What an installation leaves that keeps loads.
-use Rattle.std.proofs.Common.{◌≡◌, ◌⊎◌, inl, inr, ℕ, ◌+◌, ◌<◌, ◌≤◌, Bool, true, false, cond, List, [], ◌∷◌, ◌++◌, Result, Ok, Err, Option, length, map, refl, sym, ap, ap₂, subst, ◌∙◌, arith, length-append, append-nil}
-use Rattle.std.specs.List.{All, AllByRecursion}
-use Rattle.std.proofs.lemmas.List.{map-append, length-map}
-use Rattle.std.proofs.lemmas.List.Elements.{All-cons, All-head, All-nil, All-tail, recursion_from_All}
+use Rattle.std.proofs.Common.{◌≡◌, ◌⊎◌, inl, inr, ℕ, ◌≤◌, Bool, true, false, cond, List, [], ◌∷◌, ◌++◌, Result, Ok, Err, length, map, refl, sym, ap, ap₂, subst, ◌∙◌, arith, length-append}
+use Rattle.std.specs.List.{AllByRecursion}
+use Rattle.std.proofs.lemmas.List.{map-append}
+use Rattle.std.proofs.lemmas.List.Elements.{recursion_from_All}
 use Rattle.load_base.specs.Config.{LoadView}
 use Rattle.disk_model.specs.State.{DiskState}
 use Rattle.disk_layout.specs.Contents.{HeaderIsFirst, HeadersAreFirst}
 use Rattle.disk_layout.specs.Entries.{entry_bytes, typed_loads}
 use Rattle.disk_layout.specs.EntriesLaws.{all_are_typed}
 use Rattle.disk_layout.specs.Holds.{HoldsConfig, StandingView}
-use Rattle.disk_layout.specs.Manifest.{FitsALayout, LoadEntry, LoadFits, ManifestFits, entry_view, total_length}
-use Rattle.disk_layout.specs.Offsets.{most_loads}
+use Rattle.disk_layout.specs.Manifest.{LoadEntry, ManifestFits}
 use Rattle.disk_layout.specs.declared.manifest.Layout.TheVariants as layouts
 use Rattle.bank_store.specs.declared.store.Store.{Store}
-use Rattle.bank_store.specs.Given.{Given, GivenLoad, configured, load_of, loads_of, whole_given}
-use Rattle.bank_store.specs.Keeps.{Activates}
+use Rattle.bank_store.specs.Given.{Given, configured, load_of, loads_of, whole_given}
 use Rattle.bank_store.specs.Known.{KnowsActive}
 use Rattle.bank_store.specs.KnownLaws.{knows_one, same_or_untyped}
 use Rattle.bank_store.specs.Store.{bank_size_of, body_of, known_of, manifest_length}

@@ -1,5 +1,5 @@
 -- What keeping loads gives and leaves.
-use Rattle.std.proofs.Common.{◌≡◌, ℕ, ◌+◌, ◌<◌, ◌≤◌, Bool, true, false, cond, List, [], ◌∷◌, ◌++◌, Result, Ok, Some, Option, length, map, inl, refl, sym, ap, subst, ◌∙◌, arith, append-nil, length-append}
+use Rattle.std.proofs.Common.{◌≡◌, ℕ, ◌+◌, ◌≤◌, Bool, true, false, cond, List, [], ◌∷◌, ◌++◌, Ok, Some, Option, length, inl, sym, ap, subst, ◌∙◌, arith, append-nil, length-append}
 use Rattle.std.specs.List.{concat, flat_map}
 use Rattle.std.proofs.lemmas.List.Folds.{concat-append}
 use Rattle.load_base.specs.Config.{LoadView}
@@ -11,16 +11,15 @@ use Rattle.disk_layout.specs.EntriesLaws.{load_fits}
 use Rattle.load_intake.proofs.Fits.{begun_fit, load_fits_begun}
 use Rattle.disk_layout.specs.Manifest.{LoadEntry, LoadFits, entries_length, head_fields, load_entry_fields, manifest_fields, total_length}
 use Rattle.disk_layout.specs.declared.manifest.Layout.TheVariants as layouts
-use Rattle.bank_store.specs.declared.stage.Filling.{Filling}
 use Rattle.bank_store.specs.declared.store.Store.{Store}
 use Rattle.bank_store.specs.Given.{Given, GivenLoad, with_whole}
 use Rattle.bank_store.specs.Keeps.{FitsOn, KeepsLoad, LeavesActive}
 use Rattle.bank_store.specs.KnownLaws.{kept_one}
-use Rattle.bank_store.specs.Store.{IsFilling, IsKept, PassesBank, PassesByKept, active_at, bank_size_of, body_of, load_kept, manifest_length, with_piece}
+use Rattle.bank_store.specs.Store.{IsKept, PassesBank, PassesByKept, active_at, body_of, load_kept, manifest_length, with_piece}
 use Rattle.session_rules.specs.KeptLoads.{has_other_type, kept_entries, kept_loads}
 use Rattle.load_intake.specs.declared.down.Down.{Down}
 use Rattle.load_intake.specs.Contents.{AddsAtMost, Gives, IsGiven, with_whole_loads}
-use Rattle.load_intake.specs.Stores.{CanKeepLoad, Has, HasRoomFor, entries_begun}
+use Rattle.load_intake.specs.Stores.{CanKeepLoad, Has, entries_begun}
 use Rattle.load_intake.proofs.Entries.{entries_with_kept, whole_entries}
 use Rattle.load_intake.proofs.Filling.{beside_on, leaves_old}
 use Rattle.load_intake.proofs.Sizes.{head_size, total_more}

@@ -1,5 +1,5 @@
 -- All loads that are kept, one after the other.
-use Rattle.std.proofs.Common.{◌≡◌, ◌≢◌, ◌⊎◌, inl, inr, ℕ, zero, suc, ◌+◌, ◌<◌, ◌≤◌, Bool, true, false, cond, List, [], ◌∷◌, ◌++◌, get_or, take, drop, Result, Ok, Option, Some, None, length, map, refl, sym, ap, ap₂, subst, ◌∙◌, arith, append-nil, append_assoc, length-append}
+use Rattle.std.proofs.Common.{◌≡◌, ◌≢◌, ◌⊎◌, inl, inr, ℕ, zero, suc, ◌+◌, ◌<◌, ◌≤◌, Bool, true, false, cond, List, [], ◌∷◌, ◌++◌, get_or, take, drop, Result, Ok, Option, Some, None, length, map, refl, sym, ap, subst, ◌∙◌, arith, append-nil, append_assoc, length-append}
 use Rattle.std.specs.Prelude.{is_some}
 use Rattle.std.proofs.Math.Seq.{split_at}
 use Rattle.std.proofs.lemmas.List.{length-map, length-take-le, get_or-map, take_all, map-append, take_more}
@@ -16,7 +16,6 @@ use Rattle.bank_store.specs.declared.store.Store.{Store}
 use Rattle.bank_store.specs.Given.{Given, GivenLoad, whole_given}
 use Rattle.bank_store.specs.Known.{KnowsActive}
 use Rattle.bank_store.specs.KnownLaws.{can_keep, knows_one, knows_standing, same_or_untyped}
-use Rattle.bank_store.specs.Store.{IsKept, bank_size_of}
 use Rattle.session_rules.specs.KeptLoads.{has_other_type, kept_entries, kept_loads, types_of}
 use Rattle.load_intake.specs.declared.down.Down.{Down}
 use Rattle.load_intake.specs.Contents.{Gives, IsGiven, with_whole_loads}

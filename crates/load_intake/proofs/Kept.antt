@@ -1,7 +1,7 @@
 -- Which active loads are kept, load by load.
-use Rattle.std.proofs.Common.{◌≡◌, ℕ, ◌+◌, ◌<◌, ◌≤◌, List, [], ◌∷◌, ◌++◌, length, map, take, filter, get_or, cond, Bool, true, false, ◌==◌, ◌||◌, ◌&&◌, not, Option, Some, None, refl, sym, ap, ◌∙◌, arith, append-nil, length-append}
-use Rattle.std.specs.List.{flat_map, list_any, sum_by}
-use Rattle.std.proofs.lemmas.Bool.{eq-eqb, ne_eqb}
+use Rattle.std.proofs.Common.{◌≡◌, ℕ, ◌+◌, ◌<◌, ◌≤◌, List, [], ◌∷◌, ◌++◌, length, take, get_or, cond, Bool, true, false, ◌==◌, ◌||◌, ◌&&◌, not, Option, Some, None, refl, sym, ap, ◌∙◌, arith, append-nil, length-append}
+use Rattle.std.specs.List.{list_any, sum_by}
+use Rattle.std.proofs.lemmas.Grind.{common_steps}
 use Rattle.std.proofs.lemmas.List.{get_or-map, length-map, map-append, take_more}
 use Rattle.std.proofs.lemmas.List.Concat.{flat_map-append}
 use Rattle.std.proofs.lemmas.List.Elements.{All-get_or, filter-append}
@@ -32,23 +32,21 @@ pub any_type : (id : ℕ) (loads : List ManifestLoad) → list_any (λ (load : M
 any_type id [] = refl
 any_type id (m ∷ ms) = ap (λ (b : Bool). says_type id m.type_id || b) (any_type id ms) ∙ sym (any_one id m.type_id (types_of (entries ms)))
 
-neither : (a b : Bool) → not (a || (b || false)) ≡ (not b && not a)
+neither : (a b : Bool) → not (a || (b || false)) ≡ (not a && not b)
 neither true true = refl
 neither true false = refl
 neither false true = refl
 neither false false = refl
 
+either_way : (a b : ℕ) → (a == b) ≡ (b == a)
+either_way a b = grind (arith, common_steps)
+
 -- a load has another type than these and one more
-pub other_more : (types : List ℕ) (t id : ℕ) → has_other_type (types ++ t ∷ []) (Some id) ≡ (not (t == id) && not (list_any (λ one. one == id) types))
-other_more types t id = ap not (list_any-append (λ one. one == id) types (t ∷ [])) ∙ neither (list_any (λ one. one == id) types) (t == id)
-
--- where it isn't the one more, that one changes nothing
-pub other_apart : (types : List ℕ) (t id : ℕ) → (t ≡ id → ⊥) → has_other_type (types ++ t ∷ []) (Some id) ≡ not (list_any (λ one. one == id) types)
-other_apart types t id apart = other_more types t id ∙ ap (λ (b : Bool). not b && not (list_any (λ one. one == id) types)) (ne_eqb t id apart)
-
--- and where it is, no load with it is kept
-pub other_same : (types : List ℕ) (t id : ℕ) → t ≡ id → has_other_type (types ++ t ∷ []) (Some id) ≡ false
-other_same types t id same = other_more types t id ∙ ap (λ (b : Bool). not b && not (list_any (λ one. one == id) types)) (eq-eqb t id same)
+pub other_one : (types : List ℕ) (id : ℕ) (t : Option ℕ) → has_other_type (types ++ id ∷ []) t ≡ (has_other_type types t && not (says_type id t))
+other_one types id None = refl
+other_one types id (Some one) =
+    ap not (list_any-append (λ n. n == one) types (id ∷ [])) ∙ (neither (list_any (λ n. n == one) types) (id == one)
+    ∙ ap (λ (b : Bool). not (list_any (λ n. n == one) types) && not b) (either_way id one))
 
 -- ---- load by load
 

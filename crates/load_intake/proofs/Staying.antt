@@ -1,5 +1,5 @@
 -- Which active loads a store knows, and that there is room for those that stay.
-use Rattle.std.proofs.Common.{◌≡◌, ℕ, ◌+◌, ◌≤◌, List, [], ◌∷◌, ◌++◌, length, cond, Bool, true, false, Option, Some, None, refl, sym, ap, ◌∙◌, arith}
+use Rattle.std.proofs.Common.{◌≡◌, ℕ, List, [], ◌∷◌, cond, Bool, true, false, Option, Some, None, refl, sym, ap, ◌∙◌, arith}
 use Rattle.std.specs.List.{AllByRecursion}
 use Rattle.std.proofs.lemmas.List.Elements.{recursion_from_All}
 use Rattle.disk_layout.specs.Entries.{typed_loads}
@@ -8,7 +8,7 @@ use Rattle.disk_layout.specs.declared.manifest.Layout.{Layout}
 use Rattle.bank_store.specs.declared.store.Store.{Store}
 use Rattle.bank_store.specs.Known.{KnowsActive}
 use Rattle.bank_store.specs.KnownLaws.{knows_one}
-use Rattle.bank_store.specs.Store.{SameActive, bank_size_of}
+use Rattle.bank_store.specs.Store.{SameActive}
 use Rattle.session_rules.specs.KeptLoads.{has_other_type, kept_entries}
 use Rattle.load_intake.specs.Stores.{HasRoomToKeep}
 use Rattle.load_intake.proofs.Sizes.{IsListed}

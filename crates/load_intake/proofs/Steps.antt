@@ -1,5 +1,5 @@
 -- What the store has after each of its calls.
-use Rattle.std.proofs.Common.{◌≡◌, ℕ, ◌+◌, ◌-◌, ◌<◌, ◌≤◌, Some, List, [], ◌∷◌, ◌++◌, length, refl, sym, ap, subst, ◌∙◌, arith, length-append}
+use Rattle.std.proofs.Common.{◌≡◌, ℕ, ◌+◌, ◌-◌, ◌<◌, ◌≤◌, Some, List, [], ◌∷◌, ◌++◌, length, refl, ap, subst, ◌∙◌, arith, length-append}
 use Rattle.bank_store.specs.declared.fault.StoreFault.{StoreFault}
 use Rattle.bank_store.specs.declared.fault.StoreFault.TheVariants.{BankFull, SequenceSpent, DiskFailed, Memory}
 use Rattle.bank_store.specs.declared.stage.Filling.{Filling}

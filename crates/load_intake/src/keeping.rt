@@ -77,15 +77,11 @@ pub(crate) fn is_kept_beside(load: &ManifestLoad, new: &[ManifestLoad]) -> bool
 }
 
 /// Whether it is kept beside these and one of this type.
-#[tactic(auto, using(crate::proofs::Kept::any_type, crate::proofs::Kept::other_more))]
 fn is_kept_with(load: &ManifestLoad, new: &[ManifestLoad], type_id: u16) -> bool
     ensures { result
         ≡ has_other_type (types_of (entries new.now) ++ type_id ∷ []) load.now.type_id }
 {
-    match load.type_id {
-        Some(id) => type_id != id && !any_has_type(new, id),
-        None => false,
-    }
+    is_kept_beside(load, new) && !has_type(load, type_id)
 }
 
 /// Whether one of these has this type id.
@@ -99,10 +95,7 @@ fn any_has_type(loads: &[ManifestLoad], id: u16) -> bool
 fn has_type(load: &ManifestLoad, id: u16) -> bool
     ensures { result ≡ says_type id load.now.type_id }
 {
-    match load.type_id {
-        Some(one) => one == id,
-        None => false,
-    }
+    load.type_id == Some(id)
 }
 
 /// The loads of the active configuration that are kept beside these and one with this header, in

@@ -1,4 +1,4 @@
-use Rattle.std.proofs.Common.{◌≡◌, [], ◌∷◌, List, take, ap, ◌∙◌, arith}
+use Rattle.std.proofs.Common.{[], ◌∷◌, List, ap, ◌∙◌, arith}
 use Rattle.std.specs.List.{sum_by}
 use Rattle.std.proofs.lemmas.List.{take_all}
 use Rattle.disk_layout.specs.Manifest.{entry_view}

@@ -1,4 +1,4 @@
-use Rattle.std.proofs.Common.{◌≡◌, ◌+◌, ◌*◌, ◌^◌, ◌≤◌, [], ◌∷◌, take}
+use Rattle.std.proofs.Common.{◌≡◌, ◌*◌, ◌^◌, ◌≤◌, [], ◌∷◌, take}
 use Rattle.std.specs.List.{sum_by}
 use Rattle.disk_layout.specs.Manifest.{entry_view}
 use Rattle.disk_layout.specs.declared.manifest.ManifestLoad.{ManifestLoad}

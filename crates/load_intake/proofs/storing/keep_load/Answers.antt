@@ -1,9 +1,9 @@
 use Rattle.std.proofs.Common.{◌≡◌, true, false, Err, ap, sym, ◌∙◌}
 use Rattle.disk_layout.specs.Manifest.{entry_view}
-use Rattle.session_rules.specs.KeptLoads.{has_other_type, types_of}
+use Rattle.session_rules.specs.KeptLoads.{types_of}
 use Rattle.load_intake.specs.Keeping.{entries}
 use Rattle.load_intake.proofs.Filling.{gives_failed}
-use Rattle.load_intake.proofs.Keeps.{gives_none, gives_same, has_none, keep_gives, keep_has, keeps_within}
+use Rattle.load_intake.proofs.Keeps.{gives_none, gives_same, keep_gives, keep_has, keeps_within}
 use Rattle.load_intake.proofs.Steps.{fails}
 use Rattle.load_intake.proofs.storing.keep_load.Goals as goal
 

@@ -1,4 +1,4 @@
-use Rattle.std.proofs.Common.{◌≡◌, ◌+◌, ◌<◌, ◌≤◌, ℕ, Ok, length, refl, sym, subst, ap, ◌∙◌, arith, rules}
+use Rattle.std.proofs.Common.{◌+◌, Ok, subst, arith, rules}
 use Rattle.std.proofs.lemmas.List.{length-map}
 use Rattle.disk_layout.specs.Manifest.{entry_view}
 use Rattle.bank_store.specs.Given.{Given}

@@ -1,4 +1,4 @@
-use Rattle.std.proofs.Common.{◌≡◌, ◌++◌, Ok, take, ℕ}
+use Rattle.std.proofs.Common.{◌≡◌, ◌++◌, Ok, take}
 use Rattle.disk_layout.specs.Holds.{StandingView}
 use Rattle.bank_store.specs.Given.{Given}
 use Rattle.session_rules.specs.KeptLoads.{kept_loads, types_of}

@@ -1,4 +1,4 @@
-use Rattle.std.proofs.Common.{None, List, length, sym, ap, ◌∙◌, arith}
+use Rattle.std.proofs.Common.{None, length, sym, ap, ◌∙◌, arith}
 use Rattle.load_intake.specs.States.{WholeView}
 use Rattle.load_intake.proofs.Kept.{counted_before, counted_last}
 use Rattle.load_intake.proofs.whole.Whole.count_with.Goals as goal

@@ -1,7 +1,7 @@
-use Rattle.std.proofs.Common.{◌≡◌, List, length, sym, ap, ◌∙◌}
+use Rattle.std.proofs.Common.{◌≡◌, List, length, ap, ◌∙◌}
 use Rattle.accept_rules.specs.declared.kept.KeptLoad.{KeptLoad}
 use Rattle.load_header.specs.Header.{header_view}
-use Rattle.session_rules.specs.KeptLoads.{told_loads, types_of}
+use Rattle.session_rules.specs.KeptLoads.{told_loads}
 use Rattle.load_intake.specs.Keeping.{entries, kept_with}
 use Rattle.load_intake.specs.States.{WholeView}
 use Rattle.load_intake.proofs.Kept.{same_passes, same_refusal, told_length}

@@ -1,7 +1,6 @@
 use Rattle.std.proofs.Common.{None, sym, ap, ◌∙◌}
 use Rattle.load_header.specs.Header.{header_view}
-use Rattle.disk_layout.specs.Manifest.{LoadEntry}
-use Rattle.load_intake.specs.Keeping.{entries, kept_with, listed_needs}
+use Rattle.load_intake.specs.Keeping.{entries}
 use Rattle.load_intake.specs.States.{WholeView}
 use Rattle.load_intake.proofs.Kept.{needed_before, needed_last}
 use Rattle.load_intake.proofs.whole.Whole.need_of_kept.Goals as goal
