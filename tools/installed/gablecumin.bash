@@ -3,7 +3,7 @@ _gablecumin() {
     local word=${COMP_WORDS[COMP_CWORD]}
     COMPREPLY=()
     if [ "$COMP_CWORD" = 1 ]; then
-        mapfile -t COMPREPLY < <(compgen -W 'list format show check build make replay wire trial' -- "$word")
+        mapfile -t COMPREPLY < <(compgen -W 'list format show check build make replay wire trial rollback' -- "$word")
         return
     fi
     case ${COMP_WORDS[1]} in

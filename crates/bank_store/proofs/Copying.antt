@@ -1,7 +1,7 @@
 -- What is copied piece by piece from the active bank to the other.
-use Rattle.std.proofs.Common.{◌≡◌, ◌⊎◌, inl, inr, ℕ, zero, suc, ◌+◌, ◌-◌, ◌<◌, ◌≤◌, List, ◌++◌, length, Some, refl, sym, ◌∙◌, ap, ap₂, arith}
+use Rattle.std.proofs.Common.{◌≡◌, ◌⊎◌, inl, inr, ℕ, zero, suc, ◌+◌, ◌-◌, ◌<◌, ◌≤◌, List, length, Some, refl, sym, ◌∙◌, ap, arith}
 use Rattle.std.specs.Option.{ForSome}
-use Rattle.disk_model.specs.Image.{Image, overlay, range}
+use Rattle.disk_model.specs.Image.{overlay, range}
 use Rattle.disk_model.specs.OverlayLaws.{overlay_joined, overlay_nothing, range_beside_overlay}
 use Rattle.disk_model.specs.RangeLaws.{length_range}
 use Rattle.disk_model.specs.State.{DiskState, KeepsCounts}

@@ -1,12 +1,12 @@
 -- What a power loss leaves while a disk is formatted.
-use Rattle.std.proofs.Common.{◌≡◌, ◌⊎◌, inl, inr, ℕ, ◌≤◌, Option, Some, None, Result, true, false, refl, sym, ap, subst, ◌∙◌}
+use Rattle.std.proofs.Common.{◌≡◌, inl, inr, ℕ, ◌≤◌, Option, Some, None, Result, true, false, refl, sym, ap, subst, ◌∙◌}
 use Rattle.std.specs.Prelude.{is_some}
 use Rattle.disk_model.specs.Image.{Image}
 use Rattle.disk_model.specs.State.{DiskState, IsSettled, Torn}
 use Rattle.disk_layout.specs.Offsets.{IsBankSize, slot_a}
 use Rattle.disk_layout.specs.declared.identity.Identity.{Identity}
 use Rattle.bank_store.specs.DiskWrites.{AddsOnly}
-use Rattle.bank_store.specs.Formatting.{IsShut, GatesTorn, HoldsTheSame, IsLaidOut, IsOldOrFormatted, WhileFormatting, LeavesOldOrFormatted, ShutsGates}
+use Rattle.bank_store.specs.Formatting.{IsShut, HoldsTheSame, IsLaidOut, IsOldOrFormatted, WhileFormatting, LeavesOldOrFormatted, ShutsGates}
 use Rattle.bank_store.specs.declared.fault.StoreFault.{StoreFault}
 use Rattle.bank_store.proofs.Gates.{same_image, opened_or_shut, as_it_was}
 use Rattle.bank_store.proofs.Moments.{adds_joined, adds_less, adds_none, leaves_only}

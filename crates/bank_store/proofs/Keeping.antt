@@ -41,10 +41,14 @@ of_disk : (fault : DiskFault) → IsFailure (store_fault_of fault)
 of_disk disk.Failed = tt
 of_disk disk.Memory = tt
 
--- the disk failed
-pub keeps_failed : {T : Type 0} (store : Store) (old new : DiskState) (fault : DiskFault) → LeavesActive store old new → Keeps {T = T} store store old new (Err (store_fault_of fault))
-keeps_failed store old new fault leaves = record {
-  active = same_active store;
+-- the disk failed, and the same is active
+pub keeps_active : {T : Type 0} (before after : Store) (old new : DiskState) (fault : DiskFault) → SameActive before after → LeavesActive before old new → Keeps {T = T} before after old new (Err (store_fault_of fault))
+keeps_active before after old new fault same leaves = record {
+  active = same;
   leaves = leaves;
   answered = λ answered. absurd (answered (of_disk fault));
 }
+
+-- and nothing became of the store
+pub keeps_failed : {T : Type 0} (store : Store) (old new : DiskState) (fault : DiskFault) → LeavesActive store old new → Keeps {T = T} store store old new (Err (store_fault_of fault))
+keeps_failed store old new fault leaves = keeps_active store store old new fault (same_active store) leaves

@@ -1,8 +1,8 @@
 -- A load that is kept, as the store counts it.
-use Rattle.std.proofs.Common.{◌≡◌, ◌≢◌, ℕ, ◌+◌, ◌-◌, ◌*◌, ◌<◌, ◌≤◌, Bool, List, ◌++◌, length, take, drop, refl, sym, ◌∙◌, ap, subst, arith, length-append}
+use Rattle.std.proofs.Common.{◌≡◌, ℕ, ◌+◌, ◌-◌, ◌<◌, ◌≤◌, Bool, List, ◌++◌, length, take, drop, refl, sym, ◌∙◌, ap, subst, arith, length-append}
 use Rattle.std.proofs.lemmas.List.{length-drop, length-take-le, take_rest}
 use Rattle.load_base.specs.Listed.{Listed}
-use Rattle.disk_layout.specs.Offsets.{longest_manifest, most_loads}
+use Rattle.disk_layout.specs.Offsets.{most_loads}
 use Rattle.disk_layout.specs.declared.active.Active.{Active}
 use Rattle.bank_store.specs.Bounds.{IsFillingInRange, IsStore, longest_load}
 use Rattle.bank_store.specs.Store.{load_kept}

@@ -3,7 +3,7 @@ use Rattle.std.proofs.Common.{◌≡◌, ◌↔◌, inl, ℕ, suc, ◌+◌, ◌-
 use Rattle.std.specs.Prelude.{IsErrOf}
 use Rattle.std.specs.List.{All, concat, flat_map}
 use Rattle.std.proofs.lemmas.Grind.{flat_map-append}
-use Rattle.std.proofs.lemmas.List.{append-nil, append_cancel_left, drop_at, length-map, map-append, nil_from_length, take_at}
+use Rattle.std.proofs.lemmas.List.{append-nil, drop_at, length-map, map-append, nil_from_length, take_at}
 use Rattle.std.proofs.lemmas.List.Elements.{All-nil, All-cons, All-head, All-tail, All-push}
 use Rattle.std.proofs.lemmas.List.Sums.{sum_by-append}
 use Rattle.load_base.specs.Config.{FileView, LoadView}
@@ -12,10 +12,9 @@ use Rattle.disk_model.specs.OverlayLaws.{range_beside_overlay, range_of_overlay}
 use Rattle.disk_model.specs.RangeLaws.{drop_range, length_range, take_range}
 use Rattle.disk_layout.specs.Contents.{bytes_of, contents_of_loads, entries_of, entry_of, file_entry_of}
 use Rattle.disk_layout.specs.Entries.{SaysLoads, StandsAfter, entry_bytes}
-use Rattle.disk_layout.specs.EntriesLaws.{all_are_typed, entry_bytes_first, entry_is_short, entry_is_there, entry_within, load_fits, none_is_typed, one_load_there}
+use Rattle.disk_layout.specs.EntriesLaws.{all_are_typed, entry_bytes_first, entry_is_short, entry_is_there, entry_within, load_fits, none_is_typed}
 use Rattle.disk_layout.specs.Holds.{StandingView}
-use Rattle.field_grammar.specs.Fields.{number_fields}
-use Rattle.disk_layout.specs.Manifest.{FileFits, LoadEntry, LoadFits, ManifestFits, entries_length, file_entry_fields, load_entry_fields, total_length, type_fields}
+use Rattle.disk_layout.specs.Manifest.{FileFits, LoadEntry, LoadFits, ManifestFits, entries_length, load_entry_fields, total_length}
 use Rattle.disk_layout.specs.ManifestSpelling.{manifest_spelling}
 use Rattle.disk_layout.specs.Offsets.{bank_at, most_loads}
 use Rattle.disk_layout.specs.RangeLaws.{ranges_joined}

@@ -11,11 +11,14 @@ pub mod Images
 pub mod Keeping
 pub mod Kept
 mod KeptLoads
+pub mod KnownRead
 pub mod Layouts
 pub mod Moments
 pub mod Near
 pub mod Opened
 pub mod Premises
+pub mod Reading
+pub mod Readopted
 pub mod Ready
 pub mod Rests
 pub mod Sealing

@@ -2,7 +2,7 @@
 use Rattle.std.proofs.Common.{ℕ, ◌≤◌, inl, inr, arith}
 use Rattle.disk_model.specs.Image.{Image}
 use Rattle.disk_model.specs.Moments.{LeavesOnly}
-use Rattle.disk_model.specs.State.{DiskState, Elapses}
+use Rattle.disk_model.specs.State.{DiskState, Elapses, OnlyReads}
 use Rattle.disk_model.specs.declared.disk.DiskFault.{DiskFault}
 use Rattle.std.specs.Prelude.{Result}
 use Rattle.bank_store.specs.DiskWrites.{AddsOnly}
@@ -55,3 +55,10 @@ leaves_only old new P only were adds = record {
 -- over a sync or a restart
 pub adds_sync : {T : Type 0} (a b c : DiskState) (P : Image → Type 0) (result : Result T DiskFault) → AddsOnly a b P → Elapses b c b.now result → AddsOnly a c P
 adds_sync a b c P result was elapses = adds_more a b c b.now P result was elapses was.here
+
+-- over reads
+pub adds_read : (a b c : DiskState) (P : Image → Type 0) → AddsOnly a b P → OnlyReads b c → AddsOnly a c P
+adds_read a b c P was reads = record {
+  each = λ t u image might. was.each t u image (reads.between t u image might);
+  here = λ image may. was.here image (reads.now image may);
+}

@@ -4,10 +4,10 @@ use Rattle.std.proofs.lemmas.Bool.{cases_eq, cases_lt}
 use Rattle.disk_model.specs.Image.{Image, SameOutside}
 use Rattle.disk_layout.specs.Offsets.{bank_at}
 use Rattle.disk_layout.specs.Slots.{IsOpen, IsSlot, manifest_offset_of, manifest_length_of}
-use Rattle.disk_layout.specs.SlotLaws.{offset_is_slot, number_below}
+use Rattle.disk_layout.specs.SlotLaws.{offset_is_slot}
 use Rattle.disk_layout.specs.Holds.{StandingView, HoldsBy, HoldsConfig}
 use Rattle.disk_layout.specs.Slots.{other_slot}
-use Rattle.bank_store.specs.Store.{active_slot, active_bank, work_at}
+use Rattle.bank_store.specs.Store.{active_slot, work_at}
 use Rattle.bank_store.specs.Fits.{HoldsFor, GateIsAsKept, MayChange, SameButForWork}
 use Rattle.bank_store.specs.declared.store.Store.{Store}
 use Rattle.bank_store.proofs.Footprint.{standing_kept, number_same}

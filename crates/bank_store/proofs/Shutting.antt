@@ -1,24 +1,24 @@
 -- What a disk holds while its gates are shut.
 use Rattle.std.proofs.Common.{◌≡◌, ◌⊎◌, inl, inr, ℕ, zero, suc, ◌+◌, ◌<◌, ◌≤◌, [], ◌∷◌, Option, Some, Result, Ok, Err, OnOk, refl, sym, ap, subst, ◌∙◌, arith}
-use Rattle.std.specs.Prelude.{◌↔◌, is_some, IsErr, true, false}
-use Rattle.std.proofs.lemmas.Bool.{cases_eq, cases_lt}
+use Rattle.std.specs.Prelude.{is_some, IsErr, true, false}
+use Rattle.std.proofs.lemmas.Bool.{cases_eq}
 use Rattle.disk_model.specs.Image.{Image, SameOutside}
 use Rattle.disk_model.specs.OverlayLaws.{overlay_inside, overlay_outside}
 use Rattle.disk_model.specs.State.{DiskState, IsSettled, OnlyReads, Torn}
 use Rattle.disk_layout.specs.Offsets.{slot_a, slot_b, bank_at}
 use Rattle.disk_layout.specs.Slots.{IsOpen, IsSlot, IsActiveSlot, other_slot, slot_offset}
 use Rattle.disk_layout.specs.SlotLaws.{a_is_active, b_is_active, one_slot, offset_is_slot}
-use Rattle.disk_layout.specs.Holds.{StandingView, HoldsBy, HoldsConfig}
+use Rattle.disk_layout.specs.Holds.{HoldsBy}
 use Rattle.disk_layout.specs.declared.active.Slot.{Slot}
 use Rattle.bank_store.specs.DiskWrites.{AddsOnly}
 use Rattle.bank_store.specs.Formatting.{IsShut, GatesTorn, HoldsTheSame, SameButForGates, ShutsGates, with_gate}
 use Rattle.bank_store.specs.declared.fault.StoreFault.{StoreFault}
 use Rattle.bank_store.proofs.Begun.{on_ok_by}
-use Rattle.bank_store.proofs.Footprint.{Agrees, HasSame, active_same, held_by}
+use Rattle.bank_store.proofs.Footprint.{HasSame, active_same, held_by}
 use Rattle.bank_store.proofs.Gates.{other_offset, same_image, as_it_was}
 use Rattle.bank_store.proofs.Images.{told_before}
 use Rattle.bank_store.proofs.Moments.{adds_joined, adds_less}
-use Rattle.bank_store.proofs.Near.{slots_apart, other_low, slot_low}
+use Rattle.bank_store.proofs.Near.{slots_apart, other_low}
 
 -- ---- one gate differs
 

@@ -14,6 +14,10 @@ use Rattle.bank_store.specs.declared.stage.Filling.{Filling}
 abbrev pub longest_load : ℕ
 longest_load = 17683
 
+-- the most bytes that a bank may have; with it each range of a bank lies on the disk, whatever the size of the store's own is
+abbrev pub largest_bank : ℕ
+largest_bank = 67108864
+
 -- The bank has room for the bytes that came, and what its manifest may take is enough for the files that are still to
 -- come of the last load. Where none is, no file is in progress.
 pub record IsFillingInRange (size : ℕ) (body : Listed ℕ) (progress : Filling) : Type 0 where
@@ -37,8 +41,8 @@ pub record HasBegun (sequence : ℕ) (known : Listed ℕ) (other_is_open : Bool)
 
 pub record IsStore (size : ℕ) (active : Active) (known : Listed ℕ) (other_is_open : Bool) (body : Listed ℕ) (stage : Stage) : Type 0 where
   pub is_size : IsBankSize size
-  pub manifest : IsManifestRange size active.manifest
+  pub manifest : IsManifestRange largest_bank active.manifest
   pub idle : stage ≡ stages.Idle → body.items ≡ []
   pub begun : stage ≢ stages.Idle → HasBegun active.sequence known other_is_open body
   pub in_range : (progress : Filling) → stage ≡ stages.Filling progress → IsFillingInRange size body progress
-  pub sealed : (manifest : ManifestRange) → stage ≡ stages.Sealed manifest → IsManifestRange size manifest
+  pub sealed : (manifest : ManifestRange) → stage ≡ stages.Sealed manifest → IsManifestRange largest_bank manifest

@@ -1,7 +1,6 @@
 -- Laws of what a store knows.
-use Rattle.std.proofs.Common.{◌≡◌, ◌≢◌, ◌⊎◌, inl, inr, ℕ, ◌+◌, ◌<◌, ◌≤◌, List, [], ◌∷◌, ◌++◌, length, true, Option, Some, None, refl, sym, ◌∙◌, ap, ap₂, subst, arith, length-append}
-use Rattle.std.specs.Prelude.{is_some}
-use Rattle.std.specs.List.{All, concat, flat_map}
+use Rattle.std.proofs.Common.{◌≡◌, ◌≢◌, ◌⊎◌, inl, inr, ℕ, ◌+◌, ◌≤◌, List, [], ◌∷◌, ◌++◌, length, None, refl, sym, ◌∙◌, ap, ap₂, subst, arith, length-append}
+use Rattle.std.specs.List.{concat, flat_map}
 use Rattle.std.proofs.lemmas.List.{append_cancel_left}
 use Rattle.std.proofs.lemmas.List.Elements.{All-head, All-nil, All-tail}
 use Rattle.field_grammar.specs.Fields.{number_fields}
@@ -11,12 +10,12 @@ use Rattle.disk_layout.specs.Holds.{StandingView}
 use Rattle.disk_layout.specs.ManifestSpelling.{manifest_spelling}
 use Rattle.disk_layout.specs.Entries.{SaysLoads, entry_bytes, typed_loads}
 use Rattle.disk_layout.specs.EntriesLaws.{all_are_typed, entry_bytes_first, files_within, none_is_typed, one_load_there, one_type_tells}
-use Rattle.disk_layout.specs.Manifest.{FitsALayout, LoadEntry, LoadFits, ManifestFits, entries_length, file_entry_fields, load_entry_fields, total_length, type_fields}
+use Rattle.disk_layout.specs.Manifest.{FitsALayout, LoadEntry, LoadFits, ManifestFits, file_entry_fields, load_entry_fields, type_fields}
 use Rattle.disk_layout.specs.declared.manifest.Layout.{Layout}
 use Rattle.disk_layout.specs.declared.manifest.Layout.TheVariants as layouts
 use Rattle.bank_store.specs.Fits.{HoldsFor}
 use Rattle.bank_store.specs.Known.{KnowsActive}
-use Rattle.bank_store.specs.Store.{IsKept, SameActive, bank_size_of, known_of}
+use Rattle.bank_store.specs.Store.{IsKept, SameActive, known_of}
 use Rattle.bank_store.specs.declared.store.Store.{Store}
 
 -- ---- bytes and the loads that they say

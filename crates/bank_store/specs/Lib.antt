@@ -7,4 +7,5 @@ pub mod Given
 pub mod Keeps
 pub mod Known
 pub mod KnownLaws
+pub mod Readopting
 pub mod Store

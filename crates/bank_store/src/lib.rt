@@ -4,6 +4,7 @@
 mod fault;
 mod formatting;
 mod head;
+mod known;
 mod laws;
 mod stage;
 mod store;

@@ -14,10 +14,11 @@ ghost use Rattle.bank_store.specs.declared.fault.StoreFault.TheVariants.{BankFul
 ghost use Rattle.bank_store.specs.declared.fault.StoreFault.TheVariants.{Memory};
 ghost use Rattle.bank_store.specs.declared.stage.Filling.{Filling};
 ghost use Rattle.disk_layout.specs.Slots.{IsManifestRange};
-ghost use Rattle.bank_store.specs.Bounds.{IsStore, longest_load};
+ghost use Rattle.bank_store.specs.Bounds.{IsStore, largest_bank, longest_load};
 
 use crate::fault::StoreFault;
 use crate::head::head_of;
+use crate::known::read_entries;
 use crate::stage::{Filling, Stage};
 use disk_layout::numbers::{u8_bytes, u16_bytes, u32_bytes};
 use disk_layout::offsets::{LONGEST_MANIFEST, OPEN, SEQUENCE_IN_SLOT};
@@ -62,7 +63,7 @@ impl Store {
     ghost use Rattle.bank_store.specs.Store.{file_ended, manifest_length, slot_body};
     ghost use Rattle.bank_store.specs.Store.{with_gate_shut, with_manifest, with_slot};
     ghost use Rattle.bank_store.specs.Store.{IsKept, PassesByKept, active_at, body_of, known_of};
-    ghost use Rattle.bank_store.specs.Store.{knows_entry, load_kept, work_at};
+    ghost use Rattle.bank_store.specs.Store.{knows_entry, load_kept, nothing_filled, work_at};
     ghost use Rattle.bank_store.specs.Given.{Given, HasGiven, with_load, with_file, configured};
     ghost use Rattle.bank_store.specs.Fits.{HoldsFor, CanActivate};
     ghost use Rattle.bank_store.specs.Keeps.{Keeps, Continues, Begins, Appends, Seals, Activates};
@@ -71,6 +72,7 @@ impl Store {
     ghost use Rattle.bank_store.specs.Keeps.{IsOldOrNew};
     ghost use Rattle.bank_store.specs.DiskWrites.{WritesDisk, AddsOnly, TimeGoesOn, IsAnswered};
     ghost use Rattle.bank_store.specs.DiskWrites.{IsRunning};
+    ghost use Rattle.bank_store.specs.Readopting.{HasLoadsAt, Readopts};
     ghost use Rattle.disk_layout.specs.Slots.{other_slot};
 
     /// A store for a disk with banks of `size` bytes on which this is active, with a manifest that
@@ -78,7 +80,7 @@ impl Store {
     /// its loads, as [`disk_layout::typed_entries`] gives it. It takes no memory yet.
     pub fn new(alloc: Global, size: u32, active: Active, other_is_open: bool, known: Bytes) -> Store
         requires size { IsBankSize size }
-        requires manifest { IsManifestRange size active.manifest }
+        requires manifest { IsManifestRange largest_bank active.manifest }
         ensures idle { IsIdle result }
         ensures size { bank_size_of result ≡ size }
         ensures active { active_of result ≡ active }
@@ -429,6 +431,45 @@ impl Store {
         self.stage = Stage::Sealed(ManifestRange {
             offset: progress.end,
             length: length as u32,
+        });
+        Ok(())
+    }
+
+    /// Names a manifest again that stands in the other bank, at this place and of this many bytes, in
+    /// the place of all that [`Store::start_load`] to [`Store::seal`] do: writes all of the other slot
+    /// but its gate, and syncs. What the manifest says of its loads is read, so that they can be kept
+    /// later. It takes no memory.
+    pub fn readopt<K: Disk>(
+        &mut self,
+        disk: &mut K,
+        place: u32,
+        length: u32,
+    ) -> Result<(), StoreFault>
+        requires filling { IsFilling self.old nothing_filled }
+        requires range { IsManifestRange largest_bank (record { offset = place; length = length }) }
+        requires manifest { ForSome (K.state disk.old).reads (λ image.
+            (loads : List LoadView) × HasLoadsAt self.old image place length loads) }
+        requires running { IsRunning (K.state disk.old) }
+        // With Ok.
+        ensures readopts { OnOk result (Readopts self.old self.new (K.state disk.old)
+            (K.state disk.new) place length) }
+        // Refusals.
+        ensures only_failures { IsOk result ⊎ ¬ IsAnswered result }
+        ensures refused { IfErr result (λ fault. IsFilling self.new nothing_filled
+            × Continues self.old self.new) }
+        // Whatever it answers.
+        ensures clock { OnOk result ((K.state disk.old).clock < (K.state disk.new).clock) }
+        ensures writes_disk { WritesDisk (K.state disk.old) (K.state disk.new) result }
+        ensures keeps { Keeps self.old self.new (K.state disk.old) (K.state disk.new) result }
+    {
+        self.write_slot(disk, place, length)?;
+        // All that the gate lets count has to last before the gate is opened.
+        disk.sync()?;
+        let at = self.work() + place;
+        read_entries(disk, at, length, &mut self.body)?;
+        self.stage = Stage::Sealed(ManifestRange {
+            offset: place,
+            length,
         });
         Ok(())
     }

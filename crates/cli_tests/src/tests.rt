@@ -144,10 +144,11 @@ fn the_real_host_sink_and_disk(rt: HostRuntime) -> Result<(), Fail> {
     fs::create_dir(&rt, "folder.disk")?;
     fs::write(&rt, "SHOWN.LUH", &APP_HEADER)?;
     fs::create_dir(&rt, "FOLDER.LUH")?;
-    let rows: [(&[&str], &str, u8); 6] = [
+    let rows: [(&[&str], &str, u8); 7] = [
         (&["list"], "listed.disk", 0),
         (&["list"], "missing.disk", 8),
         (&["list"], "folder.disk", 5),
+        (&["rollback"], "listed.disk", 9),
         (&["show", "SHOWN.LUH"], "missing.disk", 0),
         (&["show", "NONE.LUH"], "missing.disk", 3),
         (&["show", "FOLDER.LUH"], "missing.disk", 4),

@@ -4,4 +4,5 @@ mod keepings;
 mod listings;
 mod places;
 mod recoveries;
+mod rollbacks;
 mod stores;

@@ -1,21 +1,26 @@
 -- What arguments ask for, they ask for alone.
-use Rattle.std.proofs.Common.{◌≡◌, ℕ, List, [], ◌∷◌, sym, ap, subst, ◌∙◌, arith}
+use Rattle.std.proofs.Common.{◌≡◌, ◌⊎◌, inl, inr, ℕ, List, [], ◌∷◌, Bool, true, false, refl, sym, ap, subst, ◌∙◌, arith}
 use Rattle.std.specs.Fmt.{decimal}
 use Rattle.std.specs.Prelude.{codes}
+use Rattle.std.specs.Bool.{Decides}
+use Rattle.std.specs.Cmp.Lexicographic.{pointwise, pointwise_decides}
 use Rattle.std.proofs.lemmas.Fmt.{decimal_injective}
+use Rattle.load_base.specs.Bytes.{same_bytes}
+use Rattle.load_base.specs.EqualityLaws.{equal_bytes}
 use Rattle.loader_cli.specs.Builds.{Builds, Makes}
-use Rattle.loader_cli.specs.Commands.{CommandView, FormatsDisk, IsCommand, IsNo}
-use Rattle.loader_cli.specs.Commands.CommandView.{list, format, show, check, build, make, replay, wire, trial}
+use Rattle.loader_cli.specs.Commands.{CommandView, FormatsOrRollsBack, IsCommand, IsNo}
+use Rattle.loader_cli.specs.Commands.CommandView.{list, format, show, check, build, make, replay, wire, trial, rollback}
 use Rattle.loader_cli.specs.Replays.{Replays, run_command}
 use Rattle.shown_files.specs.Kinds.{IsNameOf}
 use Rattle.shown_files.specs.declared.kind.ShownKind.{ShownKind}
 use Rattle.disk_layout.specs.declared.identity.Identity.{Identity}
 use Rattle.loader_cli.specs.Runs.{Work, host_work, Says, Checks, Formats, Lists, Shows}
+use Rattle.loader_cli.specs.Rollbacks.{RollsBackAs}
 use Rattle.loader_cli.specs.Trials.{Trials}
 use Rattle.loader_cli.specs.declared.replay.Telling.{Telling}
 use Rattle.loader_cli.specs.declared.replay.Telling.TheVariants.{Report, Trace}
 use Rattle.loader_cli.proofs.ShownOnce.{one_kind}
-use Rattle.loader_cli.specs.Runs.Says.{refused, lists, formats, shows, checks, builds, makes, replays, traces, tries}
+use Rattle.loader_cli.specs.Runs.Says.{refused, lists, formats, shows, checks, builds, makes, replays, traces, tries, rolls_back}
 
 -- ---- the first argument
 
@@ -29,6 +34,7 @@ verb (make number folder) = codes "make"
 verb (replay folder script) = codes "replay"
 verb (wire folder script) = codes "wire"
 verb (trial number) = codes "trial"
+verb rollback = codes "rollback"
 
 first : List (List ℕ) → List ℕ
 first [] = []
@@ -45,6 +51,7 @@ begins words (make number folder) is = ap first is.0
 begins words (replay folder script) is = ap first is.0
 begins words (wire folder script) is = ap first is.0
 begins words (trial number) is = ap first is.0
+begins words rollback is = ap first is
 
 -- arguments aren't two commands with other first arguments
 same_verb : (words : List (List ℕ)) (one other : CommandView) → IsCommand words one → IsCommand words other → verb one ≡ verb other
@@ -82,6 +89,7 @@ pub says_of_check : (work : Work) (folder : List ℕ) (status : ℕ) (text : Lis
     → Checks folder work.files work.host_faults work.host_faults_after status text
 unfolding verb
 says_of_check work folder status text asked (refused none _ _) = absurd (none (check folder) asked tt)
+says_of_check work folder status text asked (rolls_back is _) = let no = same_verb work.words (check folder) rollback asked is in absurd cc
 says_of_check work folder status text asked (replays other script is _) = let no = same_verb work.words (check folder) (replay other script) asked is in absurd cc
 says_of_check work folder status text asked (traces other script is _) = let no = same_verb work.words (check folder) (wire other script) asked is in absurd cc
 says_of_check work folder status text asked (tries number is _) = absurd (not_trial (same_verb work.words (check folder) (trial number) asked is))
@@ -97,6 +105,7 @@ pub says_of_build : (work : Work) (recipe folder : List ℕ) (status : ℕ) (tex
     → Builds recipe folder (host_work work) status text
 unfolding verb
 says_of_build work recipe folder status text asked (refused none _ _) = absurd (none (build recipe folder) asked tt)
+says_of_build work recipe folder status text asked (rolls_back is _) = let no = same_verb work.words (build recipe folder) rollback asked is in absurd cc
 says_of_build work recipe folder status text asked (replays other script is _) = let no = same_verb work.words (build recipe folder) (replay other script) asked is in absurd cc
 says_of_build work recipe folder status text asked (traces other script is _) = let no = same_verb work.words (build recipe folder) (wire other script) asked is in absurd cc
 says_of_build work recipe folder status text asked (tries number is _) = let no = same_verb work.words (build recipe folder) (trial number) asked is in absurd cc
@@ -113,6 +122,7 @@ pub says_of_make : (work : Work) (number : ℕ) (folder : List ℕ) (status : �
     → Makes number folder (host_work work) status text
 unfolding verb
 says_of_make work number folder status text asked (refused none _ _) = absurd (none (make number folder) asked tt)
+says_of_make work number folder status text asked (rolls_back is _) = let no = same_verb work.words (make number folder) rollback asked is in absurd cc
 says_of_make work number folder status text asked (replays other script is _) = let no = same_verb work.words (make number folder) (replay other script) asked is in absurd cc
 says_of_make work number folder status text asked (traces other script is _) = absurd (not_wire (same_verb work.words (make number folder) (wire other script) asked is))
 says_of_make work number folder status text asked (tries other is _) = let no = same_verb work.words (make number folder) (trial other) asked is in absurd cc
@@ -136,6 +146,7 @@ pub says_of_trial : (work : Work) (number : ℕ) (status : ℕ) (text : List ℕ
     → Trials number work.disk work.disk_after work.handed status text
 unfolding verb
 says_of_trial work number status text asked (refused none _ _) = absurd (none (trial number) asked tt)
+says_of_trial work number status text asked (rolls_back is _) = let no = same_verb work.words (trial number) rollback asked is in absurd cc
 says_of_trial work number status text asked (replays other script is _) = let no = same_verb work.words (trial number) (replay other script) asked is in absurd cc
 says_of_trial work number status text asked (traces other script is _) = let no = same_verb work.words (trial number) (wire other script) asked is in absurd cc
 says_of_trial work number status text asked (lists is _) = let no = same_verb work.words (trial number) list asked is in absurd cc
@@ -147,10 +158,11 @@ says_of_trial work number status text asked (makes other folder is _) = let no =
 says_of_trial work number status text asked (tries other is found) =
     subst (λ (n : ℕ). Trials n work.disk work.disk_after work.handed status text) (one_trial work.words number other asked is) found
 
--- which formats no disk
-pub trial_formats_none : (words : List (List ℕ)) (number : ℕ) → IsCommand words (trial number) → IsNo FormatsDisk words
+-- which formats no disk, and rolls none back
+pub trial_formats_none : (words : List (List ℕ)) (number : ℕ) → IsCommand words (trial number) → IsNo FormatsOrRollsBack words
 unfolding verb
 trial_formats_none words number asked (format id) is writes = let no = same_verb words (trial number) (format id) asked is in absurd cc
+trial_formats_none words number asked rollback is writes = let no = same_verb words (trial number) rollback asked is in absurd cc
 trial_formats_none words number asked list is writes = writes
 trial_formats_none words number asked (show kind file) is writes = writes
 trial_formats_none words number asked (check other) is writes = writes
@@ -187,6 +199,7 @@ ReplaysIt work telling folder script status text = Replays telling folder script
 says_of_replay : (work : Work) (folder script : List ℕ) (status : ℕ) (text : List ℕ) → IsCommand work.words (replay folder script) → Says work status text → ReplaysIt work Report folder script status text
 unfolding verb
 says_of_replay work folder script status text asked (refused none _ _) = absurd (none (replay folder script) asked tt)
+says_of_replay work folder script status text asked (rolls_back is _) = let no = same_verb work.words (replay folder script) rollback asked is in absurd cc
 says_of_replay work folder script status text asked (lists is _) = let no = same_verb work.words (replay folder script) list asked is in absurd cc
 says_of_replay work folder script status text asked (formats id is _) = absurd (not_format (same_verb work.words (replay folder script) (format id) asked is))
 says_of_replay work folder script status text asked (shows kind file is _) = let no = same_verb work.words (replay folder script) (show kind file) asked is in absurd cc
@@ -202,6 +215,7 @@ says_of_replay work folder script status text asked (replays folder_2 script_2 i
 says_of_wire : (work : Work) (folder script : List ℕ) (status : ℕ) (text : List ℕ) → IsCommand work.words (wire folder script) → Says work status text → ReplaysIt work Trace folder script status text
 unfolding verb
 says_of_wire work folder script status text asked (refused none _ _) = absurd (none (wire folder script) asked tt)
+says_of_wire work folder script status text asked (rolls_back is _) = let no = same_verb work.words (wire folder script) rollback asked is in absurd cc
 says_of_wire work folder script status text asked (lists is _) = absurd (not_list (same_verb work.words (wire folder script) list asked is))
 says_of_wire work folder script status text asked (formats id is _) = let no = same_verb work.words (wire folder script) (format id) asked is in absurd cc
 says_of_wire work folder script status text asked (shows kind file is _) = absurd (not_show (same_verb work.words (wire folder script) (show kind file) asked is))
@@ -219,11 +233,13 @@ pub says_of_run : (telling : Telling) (work : Work) (folder script : List ℕ) (
 says_of_run Report work folder script status text asked says = says_of_replay work folder script status text asked says
 says_of_run Trace work folder script status text asked says = says_of_wire work folder script status text asked says
 
--- and such a run formats no disk
-pub formats_none : (telling : Telling) (words : List (List ℕ)) (folder script : List ℕ) → IsCommand words (run_command telling folder script) → IsNo FormatsDisk words
+-- and such a run formats no disk, and rolls none back
+pub formats_none : (telling : Telling) (words : List (List ℕ)) (folder script : List ℕ) → IsCommand words (run_command telling folder script) → IsNo FormatsOrRollsBack words
 unfolding verb
 formats_none Report words folder script asked (format id) is writes = not_format (same_verb words (replay folder script) (format id) asked is)
 formats_none Trace words folder script asked (format id) is writes = let no = same_verb words (wire folder script) (format id) asked is in absurd cc
+formats_none Report words folder script asked rollback is writes = let no = same_verb words (replay folder script) rollback asked is in absurd cc
+formats_none Trace words folder script asked rollback is writes = let no = same_verb words (wire folder script) rollback asked is in absurd cc
 formats_none telling words folder script asked list is writes = writes
 formats_none telling words folder script asked (show kind file) is writes = writes
 formats_none telling words folder script asked (check other) is writes = writes
@@ -259,6 +275,7 @@ apart_format_replay same = let head : 102 ≡ 114 = same_head 102 114 (codes "or
 pub says_of_list : (work : Work) (status : ℕ) (text : List ℕ) → IsCommand work.words list → Says work status text → Lists work.disk work.disk_after status text
 unfolding verb
 says_of_list work status text asked (refused none _ _) = absurd (none list asked tt)
+says_of_list work status text asked (rolls_back is _) = let no = same_verb work.words list rollback asked is in absurd cc
 says_of_list work status text asked (formats id_2 is _) = let no = same_verb work.words list (format id_2) asked is in absurd cc
 says_of_list work status text asked (shows kind_2 file_2 is _) = absurd (apart_list_show (same_verb work.words list (show kind_2 file_2) asked is))
 says_of_list work status text asked (checks other is _) = let no = same_verb work.words list (check other) asked is in absurd cc
@@ -274,6 +291,7 @@ pub says_of_format : (work : Work) (id : Identity) (status : ℕ) (text : List �
     → (other : Identity) × IsCommand work.words (format other) × Formats work.disk work.disk_after other status text
 unfolding verb
 says_of_format work id status text asked (refused none _ _) = absurd (none (format id) asked tt)
+says_of_format work id status text asked (rolls_back is _) = let no = same_verb work.words (format id) rollback asked is in absurd cc
 says_of_format work id status text asked (lists is _) = let no = same_verb work.words (format id) list asked is in absurd cc
 says_of_format work id status text asked (shows kind_2 file_2 is _) = let no = same_verb work.words (format id) (show kind_2 file_2) asked is in absurd cc
 says_of_format work id status text asked (checks other is _) = let no = same_verb work.words (format id) (check other) asked is in absurd cc
@@ -288,6 +306,7 @@ pub says_of_show : (work : Work) (kind : ShownKind) (file : List ℕ) (status : 
     → Shows kind work.files work.host_faults work.host_faults_after file status text
 unfolding verb
 says_of_show work kind file status text asked (refused none _ _) = absurd (none (show kind file) asked tt)
+says_of_show work kind file status text asked (rolls_back is _) = let no = same_verb work.words (show kind file) rollback asked is in absurd cc
 says_of_show work kind file status text asked (lists is _) = absurd (apart_show_list (same_verb work.words (show kind file) list asked is))
 says_of_show work kind file status text asked (formats id_2 is _) = let no = same_verb work.words (show kind file) (format id_2) asked is in absurd cc
 says_of_show work kind file status text asked (checks other is _) = let no = same_verb work.words (show kind file) (check other) asked is in absurd cc
@@ -303,10 +322,10 @@ says_of_show work kind file status text asked (shows kind_2 file_2 is found) =
     subst (λ (k : ShownKind). Shows k work.files work.host_faults work.host_faults_after file status text) shown
     (subst (λ (f : List ℕ). Shows kind_2 work.files work.host_faults work.host_faults_after f status text) name found)
 
--- ---- `format`
+-- ---- `format` and `rollback`
 
--- another command formats nothing
-pub formats_no : (words : List (List ℕ)) (command : CommandView) (id : Identity) → IsCommand words command → ¬ FormatsDisk command → IsCommand words (format id) → ⊥
+-- another command formats nothing, and rolls nothing back
+pub formats_no : (words : List (List ℕ)) (command : CommandView) (id : Identity) → IsCommand words command → ¬ FormatsOrRollsBack command → IsCommand words (format id) → ⊥
 unfolding verb
 formats_no words list id asked other is = let no = same_verb words (format id) list is asked in absurd cc
 formats_no words (format target) id asked other is = other tt
@@ -317,3 +336,47 @@ formats_no words (make number folder) id asked other is = let no = same_verb wor
 formats_no words (replay folder script) id asked other is = apart_format_replay (same_verb words (format id) (replay folder script) is asked)
 formats_no words (wire folder script) id asked other is = let no = same_verb words (format id) (wire folder script) is asked in absurd cc
 formats_no words (trial number) id asked other is = let no = same_verb words (format id) (trial number) is asked in absurd cc
+formats_no words rollback id asked other is = other tt
+
+pub rolls_no : (words : List (List ℕ)) (command : CommandView) → IsCommand words command → ¬ FormatsOrRollsBack command → IsCommand words rollback → ⊥
+unfolding verb
+rolls_no words list asked other is = let no = same_verb words rollback list is asked in absurd cc
+rolls_no words (format target) asked other is = other tt
+rolls_no words (show kind file) asked other is = let no = same_verb words rollback (show kind file) is asked in absurd cc
+rolls_no words (check folder) asked other is = let no = same_verb words rollback (check folder) is asked in absurd cc
+rolls_no words (build recipe folder) asked other is = let no = same_verb words rollback (build recipe folder) is asked in absurd cc
+rolls_no words (make number folder) asked other is = let no = same_verb words rollback (make number folder) is asked in absurd cc
+rolls_no words (replay folder script) asked other is = let no = same_verb words rollback (replay folder script) is asked in absurd cc
+rolls_no words (wire folder script) asked other is = let no = same_verb words rollback (wire folder script) is asked in absurd cc
+rolls_no words (trial number) asked other is = let no = same_verb words rollback (trial number) is asked in absurd cc
+rolls_no words rollback asked other is = other tt
+
+-- arguments that format roll nothing back
+pub not_both_asked : (words : List (List ℕ)) (id : Identity) → IsCommand words (format id) → IsCommand words rollback → ⊥
+unfolding verb
+not_both_asked words id asked is = let no = same_verb words (format id) rollback asked is in absurd cc
+
+pub says_of_rollback : (work : Work) (status : ℕ) (text : List ℕ) → IsCommand work.words rollback → Says work status text → RollsBackAs work.disk work.disk_after status text
+unfolding verb
+says_of_rollback work status text asked (refused none _ _) = absurd (none rollback asked tt)
+says_of_rollback work status text asked (lists is _) = let no = same_verb work.words rollback list asked is in absurd cc
+says_of_rollback work status text asked (formats id is _) = let no = same_verb work.words rollback (format id) asked is in absurd cc
+says_of_rollback work status text asked (shows kind file is _) = let no = same_verb work.words rollback (show kind file) asked is in absurd cc
+says_of_rollback work status text asked (checks folder is _) = let no = same_verb work.words rollback (check folder) asked is in absurd cc
+says_of_rollback work status text asked (builds recipe folder is _) = let no = same_verb work.words rollback (build recipe folder) asked is in absurd cc
+says_of_rollback work status text asked (makes number folder is _) = let no = same_verb work.words rollback (make number folder) asked is in absurd cc
+says_of_rollback work status text asked (replays folder script is _) = let no = same_verb work.words rollback (replay folder script) asked is in absurd cc
+says_of_rollback work status text asked (traces folder script is _) = let no = same_verb work.words rollback (wire folder script) asked is in absurd cc
+says_of_rollback work status text asked (tries number is _) = let no = same_verb work.words rollback (trial number) asked is in absurd cc
+says_of_rollback work status text asked (rolls_back is found) = found
+
+-- arguments roll back, or they don't
+pub is_rollback : (words : List (List ℕ)) → IsCommand words rollback ⊎ (IsCommand words rollback → ⊥)
+is_rollback words = by (pointwise same_bytes words (codes "rollback" ∷ [])) refl
+  where
+    decides : Decides (pointwise same_bytes words (codes "rollback" ∷ [])) (words ≡ codes "rollback" ∷ [])
+    decides = pointwise_decides equal_bytes words (codes "rollback" ∷ [])
+
+    by : (is : Bool) → pointwise same_bytes words (codes "rollback" ∷ []) ≡ is → IsCommand words rollback ⊎ (IsCommand words rollback → ⊥)
+    by true same = inl (decides.0 same)
+    by false other = inr (λ same. let both : true ≡ false = sym (decides.1 same) ∙ other in cc)

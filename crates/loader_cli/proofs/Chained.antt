@@ -1,5 +1,5 @@
 -- Commands one after the other on one disk.
-use Rattle.std.proofs.Common.{◌≡◌, ℕ, List, [], ◌∷◌, Option, Some, None, true, refl, sym, subst, ◌∙◌}
+use Rattle.std.proofs.Common.{◌≡◌, inl, inr, ℕ, List, [], ◌∷◌, Option, Some, None, true, refl, sym, ap, subst, ◌∙◌}
 use Rattle.std.specs.Prelude.{is_some}
 use Rattle.std.specs.Option.{ForSome}
 use Rattle.load_base.specs.Host.{Files}
@@ -12,12 +12,13 @@ use Rattle.disk_model.specs.State.{DiskState, IsSettled}
 use Rattle.media_check.specs.Sets.{SetView}
 use Rattle.media_check.specs.declared.found.Found.TheVariants.{Missing}
 use Rattle.exchange_trace.specs.Lines.{Line}
+use Rattle.bank_rollback.specs.Rollbacks.{IsActiveOrFormer}
 use Rattle.run_promises.specs.Promises.{HoldsFirstOrGood}
 use Rattle.loader_cli.specs.Calls.{Call, IsPromised, run_of}
 use Rattle.loader_cli.specs.Chains.{AreInTurn, EachKeeps, IsRestarted, LeavesAtRest, Took}
-use Rattle.loader_cli.specs.Chains.LeavesAtRest.{looks, stands, stays, was_formatted}
-use Rattle.loader_cli.specs.Commands.{CommandView, FormatsDisk, IsCommand, IsNo, UsesScript}
-use Rattle.loader_cli.specs.Commands.CommandView.{build, check, format, list, make, replay, show, trial, wire}
+use Rattle.loader_cli.specs.Chains.LeavesAtRest.{looks, rolls_back, stands, stays, was_formatted}
+use Rattle.loader_cli.specs.Commands.{CommandView, FormatsDisk, FormatsOrRollsBack, IsCommand, IsNo, UsesScript}
+use Rattle.loader_cli.specs.Commands.CommandView.{build, check, format, list, make, replay, rollback, show, trial, wire}
 use Rattle.loader_cli.specs.Replays.{Replays, RunSeen, RunsTo, setting_of}
 use Rattle.loader_cli.specs.Replays.Replays.{ran, unread}
 use Rattle.loader_cli.specs.Replays.RunsTo.{disk_failed, ended, no_config, unknown}
@@ -29,7 +30,7 @@ use Rattle.loader_cli.specs.Trials.Trials.{no_target, target_unread, tried}
 use Rattle.loader_cli.specs.declared.replay.Telling.{Telling}
 use Rattle.loader_cli.specs.declared.replay.Telling.TheVariants.{Report, Trace}
 use Rattle.loader_cli.specs.declared.top_call.Ended.{Ended}
-use Rattle.loader_cli.proofs.Asked.{says_of_format, says_of_run, says_of_trial}
+use Rattle.loader_cli.proofs.Asked.{is_rollback, says_of_format, says_of_run, says_of_trial}
 use Rattle.loader_cli.proofs.ReplayRuns.{read_of}
 use Rattle.loader_cli.proofs.SetRuns.{apart}
 
@@ -78,6 +79,7 @@ module _ (run : Run) (end : Ended) (laws : RestLaws run.work.disk run.work.disk_
   of_script (check folder) seen last status text asked uses handed known says = absurd uses
   of_script (build recipe folder) seen last status text asked uses handed known says = absurd uses
   of_script (make number folder) seen last status text asked uses handed known says = absurd uses
+  of_script rollback seen last status text asked uses handed known says = absurd uses
 
   stood : (command : CommandView) (seen : RunSeen) (last : StandingView) → IsCommand run.work.words command → UsesScript command → run.work.handed ≡ Some seen → seen.standing ≡ Some last → Ends run end
       → LosesOnlyWork run.work.disk_after
@@ -103,6 +105,7 @@ module _ (run : Run) (end : Ended) (settled : (image : Image) (s : StandingView)
 
 pub rests_after : (run : Run) (end : Ended) → RestLaws run.work.disk run.work.disk_after → IsPromised run end → LosesOnlyWork run.work.disk → LeavesAtRest run end → LosesOnlyWork run.work.disk_after
 rests_after run end laws promised rests (looks none running) = let looked = promised.looks none in laws.still (looked.same running) looked.only_reads.now rests
+rests_after run end laws promised rests (rolls_back asked running) = (promised.leaves.while_rolling_back asked).rests rests running
 rests_after run end laws promised rests (stays same) = laws.still same.reads same.only_reads.now rests
 rests_after run end laws promised rests (was_formatted id asked tells zero) = after_formatting run end laws.settled id asked tells zero promised.ends.ends
 rests_after run end laws promised rests (stands command seen last asked uses handed known) = stood run end laws promised rests command seen last asked uses handed known promised.ends.ends
@@ -118,7 +121,11 @@ module _ {H O K : Type 0} (files : H → Option Files) (host_faults : H → ℕ)
   each_keeps disk [] rests turn = tt
   each_keeps disk (took ∷ later) rests (same, promised, turn) =
       let here : LosesOnlyWork (state took.call.disk) = subst (λ (d : K). LosesOnlyWork (state d)) (sym same) rests in (
-        record { rests = here; leaves = λ other set start image is holds. promised.leaves other set start image is holds here },
+        record {
+          rests = here;
+          leaves = λ other set start image is holds. promised.leaves.while_running other set start image is holds here;
+          leaves_rolled_back = λ asked active image is holds. (promised.leaves.while_rolling_back asked).either here image active is holds;
+        },
         λ goes. each_keeps took.call.disk_after later (rests_after (seen took.call) took.ended (laws took.call) promised here goes) turn,
       )
 
@@ -128,18 +135,51 @@ module _ {H O K : Type 0} (files : H → Option Files) (host_faults : H → ℕ)
 no_set : SetView
 no_set = record { first = record { loads = Missing; files = Missing }; further = []; files = [] }
 
+-- arguments that neither format nor roll back
+neither : (words : List (List ℕ)) → IsNo FormatsDisk words → (IsCommand words rollback → ⊥) → IsNo FormatsOrRollsBack words
+neither words none never (format id) asked sort = none (format id) asked tt
+neither words none never rollback asked sort = never asked
+neither words none never list asked sort = sort
+neither words none never (show kind file) asked sort = sort
+neither words none never (check folder) asked sort = sort
+neither words none never (build recipe folder) asked sort = sort
+neither words none never (make number folder) asked sort = sort
+neither words none never (replay folder script) asked sort = sort
+neither words none never (wire folder script) asked sort = sort
+neither words none never (trial number) asked sort = sort
+
 module _ (run : Run) (end : Ended) (disk : DiskState) (settled : (image : Image) (s : StandingView) → disk.reads ≡ Some image → HoldsConfig image s → IsSettled disk → LosesOnlyWork disk)
-    (reads_now : (image : Image) → disk.reads ≡ Some image → disk.now image) (promised : IsPromised run end) (other : IsNo FormatsDisk run.work.words) (rests : LosesOnlyWork run.work.disk)
+    (reads_now : (image : Image) → disk.reads ≡ Some image → disk.now image) (promised : IsPromised run end) (rests : LosesOnlyWork run.work.disk)
     (restarted : IsRestarted run.work.disk_after disk) where
-  pub stands_then : (set : SetView) (start : StandingView) (image : Image) → run.work.disk.reads ≡ Some image → HoldsConfig image start → ForSome disk.reads (HoldsFirstOrGood (setting_of set start))
-  stands_then set start image is holds = λ left read.
-      let leaves = promised.leaves other set start image is holds rests in
+  pub stands_then : IsNo FormatsOrRollsBack run.work.words → (set : SetView) (start : StandingView) (image : Image) → run.work.disk.reads ≡ Some image → HoldsConfig image start
+      → ForSome disk.reads (HoldsFirstOrGood (setting_of set start))
+  stands_then other set start image is holds = λ left read.
+      let leaves = promised.leaves.while_running other set start image is holds rests in
       leaves.only.here left (restarted.now left (reads_now left read))
 
-  pub rests_again : LosesOnlyWork disk
-  rests_again =
-      let start : HoldsConfig rests.image rests.active = record { slot = rests.slot; by = rests.holds } in
-      let leaves = promised.leaves other no_set rests.active rests.image rests.told start rests in
+  pub rolled_back_then : IsCommand run.work.words rollback → (active : StandingView) (image : Image) → run.work.disk.reads ≡ Some image → HoldsConfig image active
+      → ForSome disk.reads (IsActiveOrFormer image active)
+  rolled_back_then asked active image is holds = λ left read.
+      ((promised.leaves.while_rolling_back asked).either rests image active is holds).here left (restarted.now left (reads_now left read))
+
+  first_holds : HoldsConfig rests.image rests.active
+  first_holds = record { slot = rests.slot; by = rests.holds }
+
+  rests_running : IsNo FormatsOrRollsBack run.work.words → LosesOnlyWork disk
+  rests_running other =
+      let leaves = promised.leaves.while_running other no_set rests.active rests.image rests.told first_holds rests in
       let (image, read) = read_of disk (restarted.tells ∙ leaves.tells) in
-      let held = stands_then no_set rests.active rests.image rests.told start image read in
+      let held = stands_then other no_set rests.active rests.image rests.told first_holds image read in
       settled image held.active read held.holds restarted.settled
+
+  rests_rolled_back : IsCommand run.work.words rollback → LosesOnlyWork disk
+  rests_rolled_back asked =
+      let leaves = promised.leaves.while_rolling_back asked in
+      let (image, read) = read_of disk (restarted.tells ∙ (leaves.tells ∙ ap is_some rests.told)) in
+      elim (rolled_back_then asked rests.active rests.image rests.told first_holds image read) [
+        | inl holds ↦ settled image rests.active read holds restarted.settled
+        | inr brought ↦ settled image brought.0 read brought.2 restarted.settled
+      ]
+
+  pub rests_again : IsNo FormatsDisk run.work.words → LosesOnlyWork disk
+  rests_again none = elim (is_rollback run.work.words) [ inl asked ↦ rests_rolled_back asked | inr never ↦ rests_running (neither run.work.words none never) ]

@@ -14,7 +14,7 @@ use Rattle.media_check.specs.Sets.{SetView}
 use Rattle.shown_files.specs.declared.kind.ShownKind.{ShownKind}
 use Rattle.fixed_runs.specs.FixedRuns.{ActiveIsFixed, WholeRunsAreFixed}
 use Rattle.loader_cli.specs.Commands.{CommandView, IsAny, IsCommand, IsNo}
-use Rattle.loader_cli.specs.Commands.CommandView.{build, check, format, list, make, replay, show, trial, wire}
+use Rattle.loader_cli.specs.Commands.CommandView.{build, check, format, list, make, replay, rollback, show, trial, wire}
 use Rattle.loader_cli.specs.FixedOutputs.{CallsSteadily, PutTheSame}
 use Rattle.loader_cli.specs.Runs.{Checks, Ends, Finds, Formats, Lists, Run, Says, Shows, ShowsBytes, host_work, reading_of}
 use Rattle.loader_cli.specs.Runs.Checks.{large_set, long_file, opened, set_unread}
@@ -22,16 +22,17 @@ use Rattle.loader_cli.specs.Runs.Ends.{no_memory, sink_failed, told}
 use Rattle.loader_cli.specs.Runs.Finds.{clean, faulty_set}
 use Rattle.loader_cli.specs.Runs.Formats.{formatted_it, formatting_failed}
 use Rattle.loader_cli.specs.Runs.Lists.{failed, listed, no_listing}
-use Rattle.loader_cli.specs.Runs.Says.{builds, checks, formats, lists, makes, refused, replays, shows, traces, tries}
+use Rattle.loader_cli.specs.Runs.Says.{builds, checks, formats, lists, makes, refused, replays, rolls_back, shows, traces, tries}
 use Rattle.loader_cli.specs.Runs.Shows.{absent, host_failed, read, too_long}
 use Rattle.loader_cli.specs.Runs.ShowsBytes.{faulty, shown}
 use Rattle.loader_cli.specs.Texts.{formatted_line, no_configuration, refused_input}
 use Rattle.loader_cli.specs.declared.replay.Telling.TheVariants.{Report, Trace}
 use Rattle.loader_cli.specs.declared.top_call.Ended.{Ended}
-use Rattle.loader_cli.proofs.Asked.{says_of_build, says_of_check, says_of_format, says_of_list, says_of_make, says_of_show}
+use Rattle.loader_cli.proofs.Asked.{says_of_build, says_of_check, says_of_format, says_of_list, says_of_make, says_of_rollback, says_of_show}
 use Rattle.loader_cli.proofs.BuiltOnce.{one_build, one_make, some_none, some_same}
 use Rattle.loader_cli.proofs.OneOutput.{ImageLaws, one_output_given, one_trial, said_of_replay, said_of_trial}
 use Rattle.loader_cli.proofs.Refusals.{rest_is_large, rest_is_long, rest_passes, rest_refusal}
+use Rattle.loader_cli.proofs.RolledBack.{FormerLaws, one_rollback}
 use Rattle.loader_cli.proofs.ShownOnce.{ShownLaws, shown_once}
 use Rattle.loader_cli.proofs.SteadyRuns.{DiskLaws}
 
@@ -139,7 +140,7 @@ module _ (folder : List ℕ) (known : Files) (before after before_2 after_2 : �
 
 -- ---- any command
 
-module _ (fixed : WholeRunsAreFixed) (active : ActiveIsFixed) (laws : ImageLaws) (shows_laws : ShownLaws) (one two : Run) (first second : Ended) (words : List (List ℕ)) (known : Files) (image : Image)
+module _ (fixed : WholeRunsAreFixed) (active : ActiveIsFixed) (laws : ImageLaws) (formers : FormerLaws) (shows_laws : ShownLaws) (one two : Run) (first second : Ended) (words : List (List ℕ)) (known : Files) (image : Image)
     (is : CallsSteadily one first words known image) (so : CallsSteadily two second words known image) (at_end : DiskLaws one.work.disk_after) (at_end_2 : DiskLaws two.work.disk_after) where
   asked_too : (c : CommandView) → IsCommand one.work.words c → IsCommand two.work.words c
   asked_too c asked = subst (λ (w : List (List ℕ)). IsCommand w c) (is.asked ∙ sym so.asked) asked
@@ -158,6 +159,7 @@ module _ (fixed : WholeRunsAreFixed) (active : ActiveIsFixed) (laws : ImageLaws)
   same_said a b s t (refused none _ _) (replays folder script asked _) = absurd (none_too none (replay folder script) asked)
   same_said a b s t (refused none _ _) (traces folder script asked _) = absurd (none_too none (wire folder script) asked)
   same_said a b s t (refused none _ _) (tries number asked _) = absurd (none_too none (trial number) asked)
+  same_said a b s t (refused none _ _) (rolls_back asked _) = absurd (none_too none rollback asked)
   same_said a b s t (lists asked found) says =
       one_list laws image one.work.disk one.work.disk_after two.work.disk two.work.disk_after a b s t is.steady.reads so.steady.reads is.steady.disk_answers so.steady.disk_answers found
       (says_of_list two.work b t (asked_too list asked) says)
@@ -191,6 +193,9 @@ module _ (fixed : WholeRunsAreFixed) (active : ActiveIsFixed) (laws : ImageLaws)
       one_trial laws number image a b s t
       (said_of_trial fixed active one first number image (record { asked = asked; steady = is.steady; promised = is.promised }) at_end a s (tries number asked found))
       (said_of_trial fixed active two second number image (record { asked = asked_too (trial number) asked; steady = so.steady; promised = so.promised }) at_end_2 b t says)
+  same_said a b s t (rolls_back asked found) says =
+      one_rollback laws formers image one.work.disk one.work.disk_after two.work.disk two.work.disk_after is.steady.reads so.steady.reads is.steady.disk_answers so.steady.disk_answers a b s t found
+      (says_of_rollback two.work b t (asked_too rollback asked) says)
 
   ended_alike : Ends one first → Ends two second → (first.status ≡ 6) ⊎ ((second.status ≡ 6) ⊎ PutTheSame one two first second)
   ended_alike (told text all put) (told text_2 all_2 put_2) =

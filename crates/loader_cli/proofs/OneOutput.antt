@@ -109,7 +109,7 @@ module _ (fixed : WholeRunsAreFixed) (active : ActiveIsFixed) (run : Run) (ended
       → Gives telling folder name files image status text
   given status text (ran set script has ran_to) =
       runs set script has
-      (outcome_gives fixed active telling set script image run.work.disk run.work.disk_after run.work.handed laws (is.promised.leaves (formats_none telling run.work.words folder name is.asked))
+      (outcome_gives fixed active telling set script image run.work.disk run.work.disk_after run.work.handed laws (is.promised.leaves.while_running (formats_none telling run.work.words folder name is.asked))
       is.steady.reads is.steady.rests is.steady.disk_answers is.steady.stays_up status text ran_to)
   given status text (unread refused kept handed) = refuses run.work.host_faults run.work.host_faults_after is.steady.answers.host_answers refused
 
@@ -191,7 +191,7 @@ module _ (fixed : WholeRunsAreFixed) (active : ActiveIsFixed) (run : Run) (ended
   trial_given : (status : ℕ) (text : List ℕ) → Trials number run.work.disk run.work.disk_after run.work.handed status text → GivesTrial number image status text
   trial_given status text (tried id set names generated ran_to) =
       tries id set (names image is.steady.reads) generated
-      (outcome_gives fixed active Report set (trial_script id) image run.work.disk run.work.disk_after run.work.handed laws (is.promised.leaves (trial_formats_none run.work.words number is.asked))
+      (outcome_gives fixed active Report set (trial_script id) image run.work.disk run.work.disk_after run.work.handed laws (is.promised.leaves.while_running (trial_formats_none run.work.words number is.asked))
       is.steady.reads is.steady.rests is.steady.disk_answers is.steady.stays_up status text ran_to)
   trial_given status text (target_unread read rose stopped handed _ _) = absurd (is.steady.disk_answers rose)
   trial_given status text (no_target fault other none_held handed eight tells) = untried fault (none_held.none image is.steady.reads) eight tells

@@ -10,12 +10,13 @@ use Rattle.disk_layout.specs.declared.identity.Identity.{Identity}
 use Rattle.bank_store.specs.Formatting.{LeavesOldOrFormatted}
 use Rattle.media_build.specs.WrittenFolders.{KeepsAllBut}
 use Rattle.upload_replay.specs.Endings.{HoldsSome, StaysAsItWas}
-use Rattle.loader_cli.specs.Commands.{CommandView, FormatsDisk, IsAny, IsCommand, IsNo, UsesDisk, UsesHost, UsesScript, WritesDisk, WritesHost}
-use Rattle.loader_cli.specs.Commands.CommandView.{format, list}
+use Rattle.loader_cli.specs.Commands.{CommandView, FormatsOrRollsBack, IsAny, IsCommand, IsNo, UsesDisk, UsesHost, UsesScript, WritesDisk, WritesHost}
+use Rattle.loader_cli.specs.Commands.CommandView.{format, list, rollback}
 use Rattle.loader_cli.specs.Replays.{LeavesFirstOrGood}
+use Rattle.loader_cli.specs.Rollbacks.{LeavesRollback}
 use Rattle.loader_cli.specs.Runs.{IsWritten}
-use Rattle.loader_cli.specs.Touches.{LeavesDisk, OnlyLooks, TouchesDisk, TouchesHost}
-use Rattle.loader_cli.proofs.Asked.{formats_no}
+use Rattle.loader_cli.specs.Touches.{LeavesByCommand, OnlyLooks, TouchesDisk, TouchesHost}
+use Rattle.loader_cli.proofs.Asked.{formats_no, not_both_asked, rolls_no}
 use Rattle.loader_cli.proofs.OtherFiles.{nothing_set}
 use Rattle.loader_cli.proofs.Targets.{one_target}
 
@@ -72,6 +73,16 @@ disk_run words before after old new command asked uses writes runs not_both held
   never_armed = λ none. absurd (none command asked runs);
 }
 
+-- a disk is rolled back that holds a former configuration, and any other is only read
+pub disk_rolled_back : {K : Type 0} (words : List (List ℕ)) (before after : K) (old new : DiskState) → IsCommand words rollback
+    → ((image : Image) (s : StandingView) (f : RecoverFault) → HoldsConfig image s → HasDiskFault image f → ⊥) → KeepsPower old new → LeavesRollback old new → TouchesDisk words before after old new
+disk_rolled_back words before after old new asked not_both power left = record {
+  untouched = λ none. absurd (none rollback asked tt);
+  looks = λ none. absurd (none rollback asked tt);
+  none_held = λ none image fault read has. elim left.writes [ inl reads ↦ reads | inr some ↦ absurd (let (brought, brings) = some image read in not_both image brings.active fault brings.holds has) ];
+  never_armed = λ none. power;
+}
+
 -- ---- the host
 
 pub host_unused : {H : Type 0} (words : List (List ℕ)) (host : H) (files : Option Files) → TouchesHost words host host files files
@@ -86,14 +97,26 @@ host_written words before after old new command asked uses writes others = recor
 
 -- ---- a power loss
 
-pub leaves_running : (words : List (List ℕ)) (old new : DiskState) (command : CommandView) → IsCommand words command → ¬ FormatsDisk command → LeavesFirstOrGood old new → LeavesDisk words old new
-leaves_running words old new command asked other left = record { while_formatting = λ id so. absurd (formats_no words command id asked other so); while_running = λ none. left }
+pub leaves_running : (words : List (List ℕ)) (old new : DiskState) (command : CommandView) → IsCommand words command → ¬ FormatsOrRollsBack command → LeavesFirstOrGood old new → LeavesByCommand words old new
+leaves_running words old new command asked other left = record {
+  while_formatting = λ id so. absurd (formats_no words command id asked other so);
+  while_rolling_back = λ so. absurd (rolls_no words command asked other so);
+  while_running = λ none. left;
+}
 
-pub leaves_alone : (words : List (List ℕ)) (old new : DiskState) → IsNo IsAny words → LeavesFirstOrGood old new → LeavesDisk words old new
-leaves_alone words old new none left = record { while_formatting = λ id so. absurd (none (format id) so tt); while_running = λ any. left }
+pub leaves_alone : (words : List (List ℕ)) (old new : DiskState) → IsNo IsAny words → LeavesFirstOrGood old new → LeavesByCommand words old new
+leaves_alone words old new none left = record { while_formatting = λ id so. absurd (none (format id) so tt); while_rolling_back = λ so. absurd (none rollback so tt); while_running = λ any. left }
 
-pub leaves_formatting : (words : List (List ℕ)) (old new : DiskState) (id : Identity) → IsCommand words (format id) → LeavesOldOrFormatted id old new → LeavesDisk words old new
+pub leaves_formatting : (words : List (List ℕ)) (old new : DiskState) (id : Identity) → IsCommand words (format id) → LeavesOldOrFormatted id old new → LeavesByCommand words old new
 leaves_formatting words old new id asked left = record {
   while_formatting = λ other so. subst (λ (i : Identity). LeavesOldOrFormatted i old new) (one_target words id other asked so) left;
+  while_rolling_back = λ so. absurd (not_both_asked words id asked so);
   while_running = λ none. absurd (none (format id) asked tt);
+}
+
+pub leaves_rolled_back : (words : List (List ℕ)) (old new : DiskState) → IsCommand words rollback → LeavesRollback old new → LeavesByCommand words old new
+leaves_rolled_back words old new asked left = record {
+  while_formatting = λ id so. absurd (not_both_asked words id so asked);
+  while_rolling_back = λ is. left;
+  while_running = λ none. absurd (none rollback asked tt);
 }

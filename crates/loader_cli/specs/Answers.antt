@@ -1,10 +1,13 @@
 -- The status and the text of what a run answers (docs/FORMATS.md, "Printed text").
 use Rattle.std.specs.Prelude.{◌≡◌, ◌≢◌, ℕ, List, codes, None, Result, Ok, Err, IfErr, IfOk}
 use Rattle.load_base.specs.declared.list.NoMemory.{NoMemory}
-use Rattle.loader_cli.specs.Texts.{refused_words, refused_input, disk_fault, host_fault, no_configuration}
+use Rattle.recovery.specs.declared.former_fault.FormerFault.TheVariants as formers
+use Rattle.bank_rollback.specs.declared.fault.RollbackFault.{RollbackFault}
+use Rattle.bank_rollback.specs.declared.fault.RollbackFault.TheVariants as rollbacks
+use Rattle.loader_cli.specs.Texts.{refused_words, refused_input, disk_fault, host_fault, no_configuration, no_former}
 use Rattle.loader_cli.specs.declared.answer.Answer.{Answer}
 use Rattle.loader_cli.specs.declared.answer.Answered.{Answered}
-use Rattle.loader_cli.specs.declared.answer.Answer.TheVariants.{Done, Findings, Unfinished, RefusedWords, Absent, TooLong, AbsentFile, TooLongFile, TooLarge, RefusedInput, RefusedFile, HostFault, DiskFault, NoConfiguration}
+use Rattle.loader_cli.specs.declared.answer.Answer.TheVariants.{Done, Findings, Unfinished, RefusedWords, Absent, TooLong, AbsentFile, TooLongFile, TooLarge, RefusedInput, RefusedFile, HostFault, DiskFault, NoConfiguration, NoFormer}
 
 abbrev pub status_of : Answer → ℕ
 status_of (Done text) = 0
@@ -21,6 +24,7 @@ status_of (RefusedFile name fault) = 3
 status_of HostFault = 4
 status_of DiskFault = 5
 status_of (NoConfiguration fault) = 8
+status_of (NoFormer fault) = 9
 
 abbrev pub text_of : Answer → List ℕ
 text_of (Done text) = text.items
@@ -37,11 +41,19 @@ text_of (RefusedFile name fault) = refused_input name.items fault
 text_of HostFault = host_fault
 text_of DiskFault = disk_fault
 text_of (NoConfiguration fault) = no_configuration fault
+text_of (NoFormer fault) = no_former fault
 
 -- the answer of a command that hands out no run
 abbrev pub answered_of : Result Answer NoMemory → Result Answered NoMemory
 answered_of (Ok answer) = Ok (record { answer = answer; drive = None })
 answered_of (Err fault) = Err fault
+
+-- what is answered where a rollback is refused
+abbrev pub refusal_of : RollbackFault → Result Answer NoMemory
+refusal_of rollbacks.Memory = Err (record {})
+refusal_of rollbacks.DiskFailed = Ok DiskFault
+refusal_of (rollbacks.Former (formers.Recover fault)) = Ok (NoConfiguration fault)
+refusal_of fault = Ok (NoFormer fault)
 
 -- the status of the answer beside a run
 abbrev pub answered_status : Answered → ℕ

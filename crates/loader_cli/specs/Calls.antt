@@ -2,18 +2,18 @@
 use Rattle.std.specs.Prelude.{ℕ, List, Option}
 use Rattle.load_base.specs.Host.{Files}
 use Rattle.disk_model.specs.State.{DiskState}
-use Rattle.loader_cli.specs.Commands.{FormatsDisk, IsNo, WritesDisk}
-use Rattle.loader_cli.specs.Replays.{LeavesFirstOrGood, RunSeen}
+use Rattle.loader_cli.specs.Commands.{IsNo, WritesDisk}
+use Rattle.loader_cli.specs.Replays.{RunSeen}
 use Rattle.loader_cli.specs.Runs.{EndsAsPromised, Run}
-use Rattle.loader_cli.specs.Touches.{OnlyLooks}
+use Rattle.loader_cli.specs.Touches.{LeavesByCommand, OnlyLooks}
 use Rattle.loader_cli.specs.declared.top_call.Ended.{Ended}
 
 -- What `run` promises of a call: how it ends; that a command that doesn't write the disk only looks at it; and what a power loss
--- leaves.
+-- leaves, by the command.
 pub record IsPromised (run : Run) (ended : Ended) : Type 0 where
   pub ends : EndsAsPromised run ended
   pub looks : IsNo WritesDisk run.work.words → OnlyLooks run.work.disk run.work.disk_after
-  pub leaves : IsNo FormatsDisk run.work.words → LeavesFirstOrGood run.work.disk run.work.disk_after
+  pub leaves : LeavesByCommand run.work.words run.work.disk run.work.disk_after
 
 -- A call of `run`: its arguments, the run that it handed out, if one, and host, sink and disk before and after.
 pub record Call (H O K : Type 0) : Type 0 where

@@ -1,6 +1,7 @@
 -- Commands one after the other on one disk (docs/POWER.md).
 use Rattle.std.specs.Prelude.{◌≡◌, List, [], ◌∷◌, Some, false, true, is_some, ⊤}
 use Rattle.disk_model.specs.Image.{Image}
+use Rattle.disk_model.specs.Moments.{LeavesOnly}
 use Rattle.disk_model.specs.State.{DiskState, IsSettled}
 use Rattle.bank_store.specs.Fits.{LosesOnlyWork}
 use Rattle.disk_layout.specs.Holds.{HoldsConfig, StandingView}
@@ -8,17 +9,19 @@ use Rattle.disk_layout.specs.declared.identity.Identity.{Identity}
 use Rattle.media_check.specs.Sets.{SetView}
 use Rattle.upload_replay.specs.Endings.{StaysAsItWas}
 use Rattle.upload_replay.specs.Moments.{LeavesGood}
+use Rattle.bank_rollback.specs.Rollbacks.{IsActiveOrFormer}
 use Rattle.loader_cli.specs.Calls.{Call, IsPromised}
-use Rattle.loader_cli.specs.Commands.{CommandView, FormatsDisk, IsCommand, IsNo, UsesScript, WritesDisk}
-use Rattle.loader_cli.specs.Commands.CommandView.{format}
+use Rattle.loader_cli.specs.Commands.{CommandView, FormatsOrRollsBack, IsCommand, IsNo, UsesScript, WritesDisk}
+use Rattle.loader_cli.specs.Commands.CommandView.{format, rollback}
 use Rattle.loader_cli.specs.Replays.{RunSeen, setting_of}
 use Rattle.loader_cli.specs.Runs.{Run}
 use Rattle.loader_cli.specs.declared.top_call.Ended.{Ended}
 
--- A call after which the next has its premise: the disk runs, and the command doesn't write it; the disk is as it was; it was
--- formatted; or a script was run, and it is known what stands on the disk.
+-- A call after which the next has its premise: the disk runs, and the command doesn't write it, or rolls it back; the disk is as
+-- it was; it was formatted; or a script was run, and it is known what stands on the disk.
 pub data LeavesAtRest (run : Run) (ended : Ended) : Type 0 where
   looks : IsNo WritesDisk run.work.words → run.work.disk_after.stopped ≡ false → LeavesAtRest run ended
+  rolls_back : IsCommand run.work.words rollback → run.work.disk_after.stopped ≡ false → LeavesAtRest run ended
   stays : StaysAsItWas run.work.disk run.work.disk_after → LeavesAtRest run ended
   was_formatted : (id : Identity) → IsCommand run.work.words (format id) → is_some run.work.disk.reads ≡ true → ended.status ≡ 0 → LeavesAtRest run ended
   stands : (command : CommandView) (seen : RunSeen) (last : StandingView) → IsCommand run.work.words command → UsesScript command → run.work.handed ≡ Some seen
@@ -36,11 +39,14 @@ AreInTurn seen disk (took ∷ later) = (took.call.disk ≡ disk) × IsPromised (
 
 -- What a call keeps on a disk at rest, which is the premise of all that is said of what a disk holds: so each image that a
 -- power loss may leave now, or might have left since its start, holds what was active at its start, or loads of which each
--- was active then or is checked, and one is checked, unless it formats.
+-- was active then or is checked, and one is checked, unless it formats or rolls back; of `rollback` it holds what was active at
+-- its start, or what the rollback brings.
 pub record Keeps (run : Run) : Type 0 where
   pub rests : LosesOnlyWork run.work.disk
-  pub leaves : IsNo FormatsDisk run.work.words → (set : SetView) (start : StandingView) (image : Image) → run.work.disk.reads ≡ Some image → HoldsConfig image start
+  pub leaves : IsNo FormatsOrRollsBack run.work.words → (set : SetView) (start : StandingView) (image : Image) → run.work.disk.reads ≡ Some image → HoldsConfig image start
       → LeavesGood (setting_of set start) run.work.disk.clock run.work.disk_after
+  pub leaves_rolled_back : IsCommand run.work.words rollback → (active : StandingView) (image : Image) → run.work.disk.reads ≡ Some image → HoldsConfig image active
+      → LeavesOnly run.work.disk.clock (IsActiveOrFormer image active) run.work.disk_after
 
 -- each does, as long as those before it left the disk at rest
 abbrev pub EachKeeps : {H O K : Type 0} → (seen : Call H O K → Run) → List (Took H O K) → Type 0

@@ -33,6 +33,8 @@ pub data CommandView : Type 0 where
   wire : (folder script : List ℕ) → CommandView
   -- `trial NUMBER`
   trial : (number : ℕ) → CommandView
+  -- `rollback`
+  rollback : CommandView
 
 -- 1 to 150 bytes 0x21 to 0x7E
 abbrev pub IsWord : List ℕ → Type 0
@@ -57,6 +59,7 @@ IsCommand words (make number folder) = (words ≡ codes "make" ∷ decimal numbe
 IsCommand words (replay folder script) = (words ≡ codes "replay" ∷ folder ∷ script ∷ []) × IsWord folder × IsWord script
 IsCommand words (wire folder script) = (words ≡ codes "wire" ∷ folder ∷ script ∷ []) × IsWord folder × IsWord script
 IsCommand words (trial number) = (words ≡ codes "trial" ∷ decimal number ∷ []) × (number < 2 ^ 32)
+IsCommand words rollback = words ≡ codes "rollback" ∷ []
 
 -- the arguments are no command of this sort
 abbrev pub IsNo : (CommandView → Type 0) → List (List ℕ) → Type 0
@@ -76,6 +79,7 @@ UsesDisk (make number folder) = ⊥
 UsesDisk (replay folder script) = Unit {0}
 UsesDisk (wire folder script) = Unit {0}
 UsesDisk (trial number) = Unit {0}
+UsesDisk rollback = Unit {0}
 
 -- it writes to the disk
 abbrev pub WritesDisk : CommandView → Type 0
@@ -88,11 +92,18 @@ WritesDisk (make number folder) = ⊥
 WritesDisk (replay folder script) = Unit {0}
 WritesDisk (wire folder script) = Unit {0}
 WritesDisk (trial number) = Unit {0}
+WritesDisk rollback = Unit {0}
 
 -- it formats the disk
 abbrev pub FormatsDisk : CommandView → Type 0
 FormatsDisk (format id) = Unit {0}
 FormatsDisk command = ⊥
+
+-- it formats the disk, or makes the disk's former configuration active again: what it leaves need not be good
+abbrev pub FormatsOrRollsBack : CommandView → Type 0
+FormatsOrRollsBack (format id) = Unit {0}
+FormatsOrRollsBack rollback = Unit {0}
+FormatsOrRollsBack command = ⊥
 
 -- it reads or writes files of the host
 abbrev pub UsesHost : CommandView → Type 0
@@ -105,6 +116,7 @@ UsesHost (make number folder) = Unit {0}
 UsesHost (replay folder script) = Unit {0}
 UsesHost (wire folder script) = Unit {0}
 UsesHost (trial number) = ⊥
+UsesHost rollback = ⊥
 
 -- it writes files of the host
 abbrev pub WritesHost : CommandView → Type 0
@@ -117,6 +129,7 @@ WritesHost (make number folder) = Unit {0}
 WritesHost (replay folder script) = ⊥
 WritesHost (wire folder script) = ⊥
 WritesHost (trial number) = ⊥
+WritesHost rollback = ⊥
 
 -- it runs a script
 abbrev pub UsesScript : CommandView → Type 0
@@ -135,3 +148,4 @@ command_view (commands.Make number folder) = make number folder.now
 command_view (commands.Replay folder script) = replay folder.now script.now
 command_view (commands.Wire folder script) = wire folder.now script.now
 command_view (commands.Trial number) = trial number
+command_view commands.Rollback = rollback

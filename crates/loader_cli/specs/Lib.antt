@@ -7,6 +7,7 @@ pub mod FixedOutputs
 pub mod HostFiles
 pub mod Inputs
 pub mod Replays
+pub mod Rollbacks
 pub mod Runs
 pub mod Texts
 pub mod Touches

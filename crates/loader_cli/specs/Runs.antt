@@ -20,11 +20,13 @@ use Rattle.disk_model.specs.Image.{Image}
 use Rattle.disk_model.specs.State.{DiskState, IsSettled}
 use Rattle.bank_store.specs.Fits.{LosesOnlyWork}
 use Rattle.bank_store.specs.Formatting.{formatted, KeepsRest}
+use Rattle.bank_store.specs.Given.{configured}
 use Rattle.disk_layout.specs.declared.identity.Identity.{Identity}
 use Rattle.disk_layout.specs.Offsets.{IsBankSize}
 use Rattle.disk_layout.specs.DiskReads.{IsOfDisk, IsOutOfMemory, RunsOn}
 use Rattle.disk_layout.specs.Holds.{StandingView, HoldsConfig, HasDiskFault}
 use Rattle.disk_layout.specs.declared.fault.RecoverFault.{RecoverFault}
+use Rattle.recovery.specs.Formers.{HoldsFormer}
 use Rattle.listing.specs.Listing.{listing}
 use Rattle.exchange_trace.specs.Lines.{Line}
 use Rattle.generated_uploads.specs.GeneratedMedia.{uploaded_load}
@@ -32,9 +34,10 @@ use Rattle.generated_uploads.specs.GeneratedUploads.{CanTakeGeneratedSet, IsOneU
 use Rattle.replay_turns.specs.Powers.{RoseBy}
 use Rattle.upload_replay.specs.Endings.{HoldsSome}
 use Rattle.loader_cli.specs.Commands.{CommandView, IsAny, IsCommand, IsNo, UsesScript}
-use Rattle.loader_cli.specs.Commands.CommandView.{list, format, show, check, build, make, replay, wire, trial}
+use Rattle.loader_cli.specs.Commands.CommandView.{list, format, show, check, build, make, replay, wire, trial, rollback}
 use Rattle.loader_cli.specs.Builds.{Builds, Makes, IsNameBuilt, IsNameMade}
 use Rattle.loader_cli.specs.Replays.{HasInputs, Replays, RunSeen, RunsScript, StatusOfRun, run_command, stops_of, told_as}
+use Rattle.loader_cli.specs.Rollbacks.{RollsBackAs}
 use Rattle.loader_cli.specs.Trials.{Trials}
 use Rattle.loader_cli.specs.declared.replay.Telling.{Telling}
 use Rattle.loader_cli.specs.declared.replay.Telling.TheVariants.{Report, Trace}
@@ -158,6 +161,7 @@ pub data Says (work : Work) (status : ℕ) (text : List ℕ) : Type 0 where
   traces : (folder script : List ℕ) → IsCommand work.words (wire folder script)
       → Replays Trace folder script work.files work.host_faults work.host_faults_after work.disk work.disk_after work.handed status text → Says work status text
   tries : (number : ℕ) → IsCommand work.words (trial number) → Trials number work.disk work.disk_after work.handed status text → Says work status text
+  rolls_back : IsCommand work.words rollback → RollsBackAs work.disk work.disk_after status text → Says work status text
 
 -- What a command has to say, in which no failure is hidden: unless it says that the host failed, no call of it did; and unless
 -- it says that the disk failed, the disk runs on, where no script was run.
@@ -229,6 +233,18 @@ pub record ListsSound (run : Run) (s : StandingView) : Type 0 where
 -- The arguments format the disk for this target; and neither disk nor sink fails in the run.
 pub record FormatsSound (run : Run) (id : Identity) : Type 0 where
   pub asked : IsCommand run.work.words (format id)
+  pub disk_answers : ¬ Rose run.work.disk.faults run.work.disk_after.faults
+  pub sink_answers : ¬ Rose run.sink_faults run.sink_faults_after
+
+-- The arguments roll back a disk that tells its content, and holds this active configuration, which hasn't the last sequence
+-- number, and this former one; and neither disk nor sink fails in the run.
+pub record RollsBackSound (run : Run) (active former : StandingView) : Type 0 where
+  pub asked : IsCommand run.work.words rollback
+  pub image : Image
+  pub reads : run.work.disk.reads ≡ Some image
+  pub holds : HoldsConfig image active
+  pub holds_former : HoldsFormer image former
+  pub goes_on : active.sequence < 4294967295
   pub disk_answers : ¬ Rose run.work.disk.faults run.work.disk_after.faults
   pub sink_answers : ¬ Rose run.sink_faults run.sink_faults_after
 
@@ -350,6 +366,7 @@ pub record EndsAsPromised (run : Run) (ended : Ended) : Type 0 where
   pub sink_told : ended.status ≢ 7 → run.sink_faults_after ≡ run.sink_faults
   pub lists_it : (s : StandingView) → ListsSound run s → Succeeds run ended (listing s)
   pub formats_it : (id : Identity) → FormatsSound run id → Succeeds run ended (formatted_line id)
+  pub rolls_it_back : (active former : StandingView) → RollsBackSound run active former → Succeeds run ended (listing (configured active former.loads))
   pub shows_it : (kind : ShownKind) (file : List ℕ) (told : Files) (fields : List ℕ) → ShowsSound run kind file told fields → Succeeds run ended fields
   pub finds_nothing : (folder : List ℕ) (told : Files) → ChecksCleanSet run folder told → Succeeds run ended (findings_text [])
   pub builds_it : (recipe folder : List ℕ) (told : Files) (lines : List RecipeLine) → BuildsRightSet run recipe folder told lines

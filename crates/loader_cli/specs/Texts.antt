@@ -7,6 +7,8 @@ use Rattle.printed_text.specs.Lines.{line}
 use Rattle.disk_layout.specs.Faults.{recover_fault_text}
 use Rattle.disk_layout.specs.declared.identity.Identity.{Identity}
 use Rattle.disk_layout.specs.declared.fault.RecoverFault.{RecoverFault}
+use Rattle.bank_rollback.specs.Faults.{rollback_fault_text}
+use Rattle.bank_rollback.specs.declared.fault.RollbackFault.{RollbackFault}
 use Rattle.media_build.specs.declared.building_fault.BuildFault.{BuildFault}
 use Rattle.media_build.specs.declared.building_fault.BuildFault.TheVariants.{Absent, TooLong, TooLarge, HeaderTooLong, ListTooLong, Failed, Memory}
 use Rattle.media_check.specs.declared.finding.Finding.{Finding}
@@ -40,6 +42,10 @@ findings_text findings = flat_map finding_line findings ++ line (codes "findings
 -- `no configuration FAULT`
 abbrev pub no_configuration : RecoverFault → List ℕ
 no_configuration fault = line (codes "no" ∷ codes "configuration" ∷ recover_fault_text fault ∷ [])
+
+-- `no former FAULT`
+abbrev pub no_former : RollbackFault → List ℕ
+no_former fault = line (codes "no" ∷ codes "former" ∷ rollback_fault_text fault ∷ [])
 
 abbrev pub refused_words : List ℕ
 refused_words = line (codes "refused" ∷ codes "words" ∷ [])

@@ -9,9 +9,10 @@ use Rattle.disk_layout.specs.declared.fault.RecoverFault.{RecoverFault}
 use Rattle.disk_layout.specs.declared.identity.Identity.{Identity}
 use Rattle.bank_store.specs.Formatting.{LeavesOldOrFormatted}
 use Rattle.media_build.specs.WrittenFolders.{KeepsAllBut}
-use Rattle.loader_cli.specs.Commands.{FormatsDisk, IsCommand, IsNo, UsesDisk, UsesHost, UsesScript, WritesDisk, WritesHost}
-use Rattle.loader_cli.specs.Commands.CommandView.{format}
+use Rattle.loader_cli.specs.Commands.{FormatsDisk, FormatsOrRollsBack, IsCommand, IsNo, UsesDisk, UsesHost, UsesScript, WritesDisk, WritesHost}
+use Rattle.loader_cli.specs.Commands.CommandView.{format, rollback}
 use Rattle.loader_cli.specs.Replays.{LeavesFirstOrGood}
+use Rattle.loader_cli.specs.Rollbacks.{LeavesRollback}
 use Rattle.loader_cli.specs.Runs.{IsWritten}
 
 -- Nothing is written; and where the disk runs, it reads what it read.
@@ -38,8 +39,10 @@ pub record TouchesHost {H : Type 0} (words : List (List ℕ)) (before after : H)
   pub kept : IsNo WritesHost words → new ≡ old
   pub others : ForSome old (λ told. KeepsAllBut (IsWritten words told) told new)
 
--- What a power loss leaves: of `format` the old configuration whole, nothing, or the formatted disk; of each other command
--- what was active at first, or loads of which each was active then or is checked, and one is checked.
-pub record LeavesDisk (words : List (List ℕ)) (old new : DiskState) : Type 0 where
+-- What a power loss leaves: of `format` the old configuration whole, nothing, or the formatted disk; of `rollback` what was
+-- active at first, or what the rollback brings; of each other command what was active at first, or loads of which each was
+-- active then or is checked, and one is checked.
+pub record LeavesByCommand (words : List (List ℕ)) (old new : DiskState) : Type 0 where
   pub while_formatting : (id : Identity) → IsCommand words (format id) → LeavesOldOrFormatted id old new
-  pub while_running : IsNo FormatsDisk words → LeavesFirstOrGood old new
+  pub while_rolling_back : IsCommand words rollback → LeavesRollback old new
+  pub while_running : IsNo FormatsOrRollsBack words → LeavesFirstOrGood old new

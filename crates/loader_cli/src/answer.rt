@@ -2,7 +2,8 @@
 ghost use Rattle.std.specs.Prelude.{◌≡◌, None, IfOk};
 ghost use Rattle.loader_cli.specs.Answers.{status_of, text_of};
 
-use crate::text::{copy_of, no_configuration_text, refused_text};
+use crate::text::{copy_of, no_configuration_text, no_former_text, refused_text};
+use bank_rollback::RollbackFault;
 use load_base::{Bytes, NoMemory, Text};
 use recovery::RecoverFault;
 use std::alloc::Global;
@@ -37,6 +38,8 @@ pub(crate) enum Answer<'w> {
     DiskFault,
     /// The disk holds no configuration.
     NoConfiguration(RecoverFault),
+    /// The disk holds no former configuration, or no sequence number is left for it.
+    NoFormer(RollbackFault),
 }
 
 /// What a run answers, and what a script came to, where it ran one to its end.
@@ -73,6 +76,7 @@ impl Answer<'_> {
             Answer::HostFault => 4,
             Answer::DiskFault => 5,
             Answer::NoConfiguration(_) => 8,
+            Answer::NoFormer(_) => 9,
         }
     }
 
@@ -95,6 +99,7 @@ impl Answer<'_> {
             Answer::HostFault => copy_of(alloc, b"host fault\n"),
             Answer::DiskFault => copy_of(alloc, b"disk fault\n"),
             Answer::NoConfiguration(fault) => no_configuration_text(alloc, fault),
+            Answer::NoFormer(fault) => no_former_text(alloc, fault),
         }
     }
 }

@@ -36,6 +36,8 @@ pub(crate) enum Command<'w> {
     Wire { folder: &'w str, script: &'w str },
     /// `trial NUMBER`: upload the generated set of a number in one session, and print the report.
     Trial { number: u32 },
+    /// `rollback`: make the former configuration active again, and print it.
+    Rollback,
 }
 
 impl<'w> Command<'w> {
@@ -68,6 +70,7 @@ impl<'w> Command<'w> {
                 wire_of(folder.as_str(), script.as_str())
             }
             [word, number] if is_text(word.as_str(), "trial") => trial_of(number.as_str()),
+            [word] if is_text(word.as_str(), "rollback") => Some(Command::Rollback),
             _ => None,
         }
     }

@@ -8,10 +8,11 @@ ghost use Rattle.disk_layout.specs.declared.identity.Identity.{Identity};
 ghost use Rattle.disk_model.specs.Image.{Image};
 ghost use Rattle.media_check.specs.Sets.{SetView};
 ghost use Rattle.run_promises.specs.Promises.{HoldsFirstOrGood};
+ghost use Rattle.bank_rollback.specs.Rollbacks.{IsActiveOrFormer};
 ghost use Rattle.loader_cli.specs.Calls.{Call, IsPromised, run_of};
 ghost use Rattle.loader_cli.specs.Chains.{AreInTurn, EachKeeps, IsRestarted, Took};
-ghost use Rattle.loader_cli.specs.Commands.{FormatsDisk, IsCommand, IsNo};
-ghost use Rattle.loader_cli.specs.Commands.CommandView.{format};
+ghost use Rattle.loader_cli.specs.Commands.{FormatsDisk, FormatsOrRollsBack, IsCommand, IsNo};
+ghost use Rattle.loader_cli.specs.Commands.CommandView.{format, rollback};
 ghost use Rattle.loader_cli.specs.FixedOutputs.{CallsSteadily, Gives, GivesTrial, PutTheSame};
 ghost use Rattle.loader_cli.specs.FixedOutputs.{PutsOnly, ReplaysSteadily, TriesSteadily};
 ghost use Rattle.loader_cli.specs.Replays.{setting_of};
@@ -26,6 +27,7 @@ use load_base::{Host, Sink};
 use load_header::header_laws;
 use load_protocol_files::protocol_file_laws;
 use media_lists::{files_list_laws, loads_list_laws};
+use recovery::an_image_holds_one_former;
 
 /// What `replay` and `wire` put is a function of their arguments, of the host's files and of what
 /// the disk reads at the start, where neither host nor sink nor disk fails and the target doesn't go
@@ -95,6 +97,7 @@ pub fn two_calls_put_the_same<H: Host, O: Sink, K: Power>()
 {
     // For the proof: these do nothing.
     an_image_holds_one_configuration();
+    an_image_holds_one_former();
     a_run_is_fixed_by_its_script();
     header_laws();
     loads_list_laws();
@@ -107,7 +110,8 @@ pub fn two_calls_put_the_same<H: Host, O: Sink, K: Power>()
 /// status 0 on any disk that tells its content. After a call that didn't leave it so, since the disk
 /// failed, power was lost or memory ran out, a restart of the disk does: it is at rest then, and
 /// what stands on it was active as the call began, or each of its loads was active then or is checked,
-/// and one is checked.
+/// and one is checked. After `rollback` it was active as the call began, or is what the rollback
+/// brings.
 pub fn commands_follow_one_another<H: Host, O: Sink, K: Power>()
     ensures at_rest { (disk : K) (calls : List (Took H O K)) → LosesOnlyWork (K.state disk)
         → AreInTurn (run_of H.files H.faults O.content O.faults K.state) disk calls
@@ -125,10 +129,17 @@ pub fn commands_follow_one_another<H: Host, O: Sink, K: Power>()
     ensures stands_then { (last : Took H O K) (disk : K) (set : SetView) (start : StandingView)
         (image : Image)
         → IsPromised (run_of H.files H.faults O.content O.faults K.state last.call) last.ended
-        → IsNo FormatsDisk last.call.words → LosesOnlyWork (K.state last.call.disk)
+        → IsNo FormatsOrRollsBack last.call.words → LosesOnlyWork (K.state last.call.disk)
         → (K.state last.call.disk).reads ≡ Some image → HoldsConfig image start
         → IsRestarted (K.state last.call.disk_after) (K.state disk)
         → ForSome (K.state disk).reads (HoldsFirstOrGood (setting_of set start)) }
+    ensures rolled_back_then { (last : Took H O K) (disk : K) (active : StandingView)
+        (image : Image)
+        → IsPromised (run_of H.files H.faults O.content O.faults K.state last.call) last.ended
+        → IsCommand last.call.words rollback → LosesOnlyWork (K.state last.call.disk)
+        → (K.state last.call.disk).reads ≡ Some image → HoldsConfig image active
+        → IsRestarted (K.state last.call.disk_after) (K.state disk)
+        → ForSome (K.state disk).reads (IsActiveOrFormer image active) }
 {
     // For the proof: these do nothing.
     an_image_holds_one_configuration();

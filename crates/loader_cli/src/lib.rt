@@ -12,6 +12,7 @@ mod command;
 mod inputs;
 pub mod laws;
 mod replay;
+mod rollback;
 mod show;
 mod text;
 mod top_call;

@@ -1,8 +1,9 @@
 //! The lines that are printed.
 ghost use Rattle.std.specs.Prelude.{◌≡◌, IfOk};
 ghost use Rattle.loader_cli.specs.Texts.{built_line, formatted_line};
-ghost use Rattle.loader_cli.specs.Texts.{no_configuration, refused_input};
+ghost use Rattle.loader_cli.specs.Texts.{no_configuration, no_former, refused_input};
 
+use bank_rollback::RollbackFault;
 use disk_layout::{Identity, RecoverFault};
 use load_base::{Bytes, NoMemory};
 use printed_text::{Printed, put_number};
@@ -45,6 +46,18 @@ pub(crate) fn no_configuration_text(alloc: Global, fault: RecoverFault) -> Resul
     let text = fault.text(alloc)?;
     let mut out = Bytes::new(alloc);
     out.extend(b"no configuration ")?;
+    out.extend(text.as_slice())?;
+    out.extend(b"\n")?;
+    Ok(out)
+}
+
+/// Why a disk has no former configuration to go back to.
+pub(crate) fn no_former_text(alloc: Global, fault: RollbackFault) -> Result<Bytes, NoMemory>
+    ensures { IfOk result (λ text. text.items ≡ no_former fault) }
+{
+    let text = fault.text(alloc)?;
+    let mut out = Bytes::new(alloc);
+    out.extend(b"no former ")?;
     out.extend(text.as_slice())?;
     out.extend(b"\n")?;
     Ok(out)

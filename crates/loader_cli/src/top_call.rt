@@ -7,7 +7,7 @@ ghost use Rattle.loader_cli.specs.Answers.{answered_of, status_of, text_of};
 ghost use Rattle.loader_cli.specs.Commands.{texts_of, IsNo, UsesScript};
 ghost use Rattle.loader_cli.specs.Replays.{run_seen};
 ghost use Rattle.loader_cli.specs.Runs.{EndsAsPromised, Formats, Lists, RunsOutInCommand, TellsAll};
-ghost use Rattle.loader_cli.specs.Touches.{LeavesDisk, OnlyLooks, TouchesDisk, TouchesHost};
+ghost use Rattle.loader_cli.specs.Touches.{LeavesByCommand, OnlyLooks, TouchesDisk, TouchesHost};
 ghost use Rattle.replay_turns.specs.Turns.{RunsOut};
 
 use crate::answer::{Answer, Answered};
@@ -15,6 +15,7 @@ use crate::build::{build, make};
 use crate::check::check;
 use crate::command::Command;
 use crate::replay::{Telling, replay};
+use crate::rollback::rollback;
 use crate::show::show;
 use crate::text::formatted_text;
 use crate::trial::trial;
@@ -29,7 +30,7 @@ use load_header::header_laws;
 use load_protocol_files::protocol_file_laws;
 use media_build::laws::{a_written_folder_holds_the_set, building_laws};
 use media_lists::{files_list_laws, loads_list_laws};
-use recovery::RecoverFault;
+use recovery::{RecoverFault, an_image_holds_one_former};
 use run_promises::laws::what_a_disk_holds_can_be_listed;
 use std::alloc::Global;
 use upload_replay::Drive;
@@ -51,6 +52,7 @@ const OUTPUT_FAILED: u8 = 7;
 /// | 6 | out of memory |
 /// | 7 | the output failed, and a prefix of it may have gone out |
 /// | 8 | the disk holds no configuration |
+/// | 9 | the disk holds no former configuration, or no sequence number is left for it |
 #[derive(Drop)]
 pub struct Ended {
     pub status: u8,
@@ -61,15 +63,17 @@ pub struct Ended {
 
 /// Runs the program on its arguments: `list`, `format HW POS SERIAL BANK`, `show FILE` with the
 /// name of a file of one of the kinds of [`shown_files::ShownKind`], `check FOLDER`,
-/// `build RECIPE FOLDER`, `make NUMBER FOLDER`, `replay FOLDER SCRIPT`, `wire FOLDER SCRIPT` or
-/// `trial NUMBER`. The output goes out in one piece at the end.
+/// `build RECIPE FOLDER`, `make NUMBER FOLDER`, `replay FOLDER SCRIPT`, `wire FOLDER SCRIPT`,
+/// `trial NUMBER` or `rollback`. The output goes out in one piece at the end.
 ///
 /// Only `build` and `make` write files of the host: those of the set, under their names. Where the
 /// host fails, those before it were written.
 ///
-/// Only `list`, `format`, `replay`, `wire` and `trial` use the disk, and `list` only reads it.
-/// While `format` writes, a power loss leaves the old configuration whole, or a disk that holds
-/// nothing, or the formatted one. `list`, `format` and `trial` don't use the host.
+/// Only `list`, `format`, `rollback`, `replay`, `wire` and `trial` use the disk, and `list` only
+/// reads it. While `format` writes, a power loss leaves the old configuration whole, or a disk that
+/// holds nothing, or the formatted one; while `rollback` does, the active configuration, or the
+/// former one with the next sequence number. `list`, `format`, `rollback` and `trial` don't use the
+/// host.
 pub fn run<H: Host, O: Sink, K: Power>(
     alloc: Global,
     words: &[String],
@@ -82,7 +86,8 @@ pub fn run<H: Host, O: Sink, K: Power>(
     // fails, `show` of a file that spells its fields, `check` of a set that can be read and has no
     // finding, `build` of a recipe of which nothing is refused, and `make` succeed, but for out of
     // memory; where neither sink nor disk fails, `list` of a disk that holds a configuration,
-    // `format`, and `trial` on a target that can take its set. After `build` and `make` with status
+    // `format`, `rollback` on a disk that holds a former configuration and has a sequence number
+    // left, and `trial` on a target that can take its set. After `build` and `make` with status
     // 0 the folder has exactly their set, can be read and has no finding.
     ensures ends { EndsAsPromised (record {
       work = record {
@@ -107,12 +112,13 @@ pub fn run<H: Host, O: Sink, K: Power>(
         (H.files host.new) }
     ensures no_run { IsNo UsesScript (texts_of words.now) → result.drive ≡ None }
     // What a power loss leaves.
-    ensures leaves { LeavesDisk (texts_of words.now) (K.state disk.old) (K.state disk.new) }
+    ensures leaves { LeavesByCommand (texts_of words.now) (K.state disk.old) (K.state disk.new) }
 {
     // For the proof: these do nothing.
     building_laws();
     a_written_folder_holds_the_set();
     an_image_holds_one_configuration();
+    an_image_holds_one_former();
     what_a_disk_holds_can_be_listed();
     only_a_trial_happens();
     a_generated_upload_completes();
@@ -186,7 +192,7 @@ fn answer<'w, H: Host, K: Power>(
         (H.files host.new) }
     ensures no_run { IsNo UsesScript (texts_of words.now)
         → IfOk result (λ said. said.drive ≡ None) }
-    ensures leaves { LeavesDisk (texts_of words.now) (K.state disk.old) (K.state disk.new) }
+    ensures leaves { LeavesByCommand (texts_of words.now) (K.state disk.old) (K.state disk.new) }
 {
     // For the proof: these do nothing.
     a_power_loss_takes_only_work::<K>();
@@ -206,6 +212,7 @@ fn answer<'w, H: Host, K: Power>(
             replay(alloc, host, disk, folder, script, Telling::Trace)
         }
         Some(Command::Trial { number }) => trial(alloc, disk, number),
+        Some(Command::Rollback) => alone(rollback(alloc, disk)),
     }
 }
 

@@ -1,5 +1,8 @@
 pub mod DiskReads
 pub mod Files
+pub mod FormerFound
+pub mod FormerLoads
+pub mod Formers
 pub mod Lines
 pub mod Loads
 pub mod Outlined
@@ -8,3 +11,4 @@ pub mod Refusals
 pub mod Rulings
 pub mod Standings
 pub mod Stores
+pub mod WithoutSlot

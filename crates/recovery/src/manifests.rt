@@ -1,14 +1,18 @@
 //! The manifest of a disk as bytes, whose loads are read one at a time.
-ghost use Rattle.std.specs.Prelude.{◌≡◌, ◌+◌, ◌<◌, ℕ, length, OnOk, IfOk, IfErr, IfSome, IfNone};
-ghost use Rattle.std.specs.Prelude.{IsErrOf};
+ghost use Rattle.std.specs.Prelude.{◌≡◌, ◌+◌, ◌<◌, ℕ, List, length, OnOk, IfOk, IfErr, IfSome};
+ghost use Rattle.std.specs.Prelude.{IfNone, IsErrOf};
 ghost use Rattle.std.specs.Option.{ForSome};
 ghost use Rattle.disk_model.specs.Image.{range};
 ghost use Rattle.disk_layout.specs.Offsets.{IsBankSize, bank_at};
-ghost use Rattle.disk_layout.specs.Manifest.{RefusesManifestBytes, entries_length};
+ghost use Rattle.field_grammar.specs.Grammar.{Spelled};
+ghost use Rattle.disk_layout.specs.Manifest.{FitsALayout, LoadEntry, RefusesManifestBytes};
+ghost use Rattle.disk_layout.specs.Manifest.{entries_length};
+ghost use Rattle.disk_layout.specs.Manifest.{manifest, manifest_view, total_length};
 ghost use Rattle.disk_layout.specs.Holds.{Refuses};
 ghost use Rattle.disk_layout.specs.DiskReads.{ReadsDisk};
 ghost use Rattle.disk_layout.specs.declared.fault.RecoverFault.TheVariants.{DiskFailed};
 ghost use Rattle.bank_store.specs.DiskWrites.{IsRunning};
+ghost use Rattle.recovery.specs.FormerParts.{IsOfSlot};
 ghost use Rattle.recovery.specs.Parts.{IsSoundFor, RefusesLoads, RefusesManifest};
 ghost use Rattle.recovery.specs.Outlines.{LeftAfterLoads, IsLeftAfter, IsOutlineInRange, TellsLoads};
 ghost use Rattle.recovery.specs.Outlines.{TellsOutline};
@@ -16,10 +20,11 @@ ghost use Rattle.recovery.specs.Outlines.{TellsOutline};
 use crate::reading::bytes_on;
 use crate::slots::{active_by, sound_slot_on};
 use disk_layout::{
-    Active, Bank, Identity, ManifestFault, ManifestFile, ManifestReader, RecoverFault, SlotFields,
+    Active, Bank, Identity, Manifest, ManifestFault, ManifestFile, ManifestReader, RecoverFault,
+    SlotFields,
 };
 use disk_model::Disk;
-use load_base::Bytes;
+use load_base::{Bytes, NoMemory};
 use std::alloc::Global;
 
 /// What is active on a disk, with its manifest as the bytes that the disk has.
@@ -54,6 +59,47 @@ pub(crate) fn outline_on<K: Disk>(alloc: Global, disk: &mut K) -> Result<Outline
     })
 }
 
+/// The manifest that the slot names, whose files have as many bytes as stand before it.
+pub(crate) fn manifest_on<K: Disk>(
+    alloc: Global,
+    disk: &mut K,
+    bank_size: u32,
+    slot: &SlotFields,
+) -> Result<Manifest, RecoverFault>
+    requires running { IsRunning (K.state disk.old) }
+    requires size { IsBankSize bank_size }
+    requires can_be { IsSoundFor bank_size slot.now }
+    ensures spelled { IfOk result (λ m. ForSome (K.state disk.old).reads (λ image.
+        Spelled manifest (range image (bank_at bank_size slot.now.bank + slot.now.manifest.offset)
+        slot.now.manifest.length) (manifest_view m))) }
+    ensures lengths { IfOk result
+        (λ m. total_length (manifest_view m) ≡ slot.now.manifest.offset) }
+    ensures fits { IfOk result (λ m. FitsALayout (manifest_view m)) }
+    ensures refused { IfErr result (λ fault. ForSome (K.state disk.old).reads
+        (λ image. RefusesManifest image (bank_at bank_size slot.now.bank + slot.now.manifest.offset)
+        slot.now.manifest.length slot.now.manifest.offset fault)) }
+    ensures of_slot { IfErr result (λ fault. IsOfSlot fault) }
+    ensures reads_disk { ReadsDisk (K.state disk.old) (K.state disk.new) result }
+{
+    let bytes = manifest_bytes_on(alloc, disk, bank_size, slot)?;
+    Ok(manifest_told(alloc, bytes.as_slice())?)
+}
+
+/// The manifest that bytes tell which were read over before.
+pub(crate) fn manifest_told(alloc: Global, bytes: &[u8]) -> Result<Manifest, NoMemory>
+    requires { (contents : ℕ) × TellsLoads bytes.now contents }
+    ensures found { IfOk result (λ m. (loads : List LoadEntry) → Spelled manifest bytes.now loads
+        → loads ≡ manifest_view m) }
+    ensures spelled { IfOk result (λ m. Spelled manifest bytes.now (manifest_view m)) }
+    ensures fits { IfOk result (λ m. FitsALayout (manifest_view m)) }
+{
+    match Manifest::decode(alloc, bytes) {
+        Ok(manifest) => Ok(manifest),
+        Err(ManifestFault::Memory) => Err(NoMemory),
+        Err(ManifestFault::Wrong(_)) => unreachable!(),
+    }
+}
+
 // The bytes of the manifest that the slot names, whose files have as many bytes as stand before it.
 fn manifest_bytes_on<K: Disk>(
     alloc: Global,
@@ -71,6 +117,7 @@ fn manifest_bytes_on<K: Disk>(
     ensures refused { IfErr result (λ fault. ForSome (K.state disk.old).reads
         (λ image. RefusesManifest image (bank_at bank_size slot.now.bank + slot.now.manifest.offset)
         slot.now.manifest.length slot.now.manifest.offset fault)) }
+    ensures of_slot { IfErr result (λ fault. IsOfSlot fault) }
     ensures reads_disk { ReadsDisk (K.state disk.old) (K.state disk.new) result }
 {
     let start = Bank::numbered(slot.bank).offset(bank_size) + slot.manifest.offset;

@@ -78,7 +78,8 @@ fn identity_on<K: Disk>(disk: &mut K) -> Result<Identity, RecoverFault>
     }
 }
 
-fn slot_on<K: Disk>(disk: &mut K, at: u32) -> Result<SlotFields, RecoverFault>
+/// What the slot at this offset says.
+pub(crate) fn slot_on<K: Disk>(disk: &mut K, at: u32) -> Result<SlotFields, RecoverFault>
     requires running { IsRunning (K.state disk.old) }
     requires within { at ≤ SLOT_B }
     ensures found { IfOk result (λ slot. ForSome (K.state disk.old).reads
@@ -126,8 +127,8 @@ fn active_slot_on<K: Disk>(disk: &mut K) -> Result<ActiveSlot, RecoverFault>
     }
 }
 
-// What a slot says can be on a disk with banks of this size.
-fn check_slot(bank_size: u32, slot: Slot, says: &SlotFields) -> Result<(), RecoverFault>
+/// What a slot says can be on a disk with banks of this size.
+pub(crate) fn check_slot(bank_size: u32, slot: Slot, says: &SlotFields) -> Result<(), RecoverFault>
     ensures ok { OnOk result (IsSoundFor bank_size says.now) }
     ensures refused { IfErr result
         (λ fault. RefusesSlot bank_size (slot_offset slot) says.now fault) }

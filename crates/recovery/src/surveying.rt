@@ -9,11 +9,9 @@ ghost use Rattle.bank_store.specs.Fits.{HoldsFor, Fits, LosesOnlyWork, Works};
 ghost use Rattle.recovery.specs.Surveys.{IsSurveyed, IsSurveyInRange, FindsActive, IsFoundInRange};
 ghost use Rattle.recovery.specs.Surveys.{KnowsManifest, outline_of_survey};
 
-use crate::manifests::outline_on;
+use crate::manifests::{manifest_told, outline_on};
 use bank_store::{Store, a_store_goes_on_fitting, an_idle_store_works};
-use disk_layout::{
-    Active, Identity, Manifest, ManifestFault, RecoverFault, an_outline_is_filled, typed_entries,
-};
+use disk_layout::{Active, Identity, Manifest, RecoverFault, an_outline_is_filled, typed_entries};
 use disk_model::Disk;
 use load_base::Bytes;
 use std::alloc::Global;
@@ -97,15 +95,12 @@ pub(crate) fn active_on<K: Disk>(alloc: Global, disk: &mut K) -> Result<Found, R
     let found = outline_on(alloc, disk)?;
     let mut known = Bytes::new(alloc);
     known.extend(typed_entries(found.manifest.as_slice()))?;
-    match Manifest::decode(alloc, found.manifest.as_slice()) {
-        Ok(manifest) => Ok(Found {
-            identity: found.identity,
-            manifest,
-            active: found.active,
-            other_is_open: found.other_is_open,
-            known,
-        }),
-        Err(ManifestFault::Memory) => Err(RecoverFault::Memory),
-        Err(ManifestFault::Wrong(_)) => unreachable!(),
-    }
+    let manifest = manifest_told(alloc, found.manifest.as_slice())?;
+    Ok(Found {
+        identity: found.identity,
+        manifest,
+        active: found.active,
+        other_is_open: found.other_is_open,
+        known,
+    })
 }

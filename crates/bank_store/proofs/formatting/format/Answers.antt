@@ -1,6 +1,5 @@
-use Rattle.std.proofs.Common.{Some, inl, inr, sym, ap, subst, ◌∙◌, ◌∷◌, []}
-use Rattle.disk_model.specs.Image.{Image, overlay}
-use Rattle.disk_layout.specs.Offsets.{slot_a}
+use Rattle.std.proofs.Common.{sym, ap, subst, ◌∙◌}
+use Rattle.disk_model.specs.Image.{Image}
 use Rattle.disk_layout.specs.Holds.{HoldsConfig}
 use Rattle.bank_store.specs.Formatting.{formatted}
 use Rattle.bank_store.proofs.Formatted.{told_after, while_shutting, while_laying_out, while_opening}

@@ -1,4 +1,3 @@
-use Rattle.std.proofs.Common.{refl}
 use Rattle.bank_store.proofs.Moments.{adds_first}
 use Rattle.bank_store.proofs.Shutting.{shuts_none}
 use Rattle.bank_store.proofs.formatting.settle.Goals as goal

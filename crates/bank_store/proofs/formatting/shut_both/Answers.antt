@@ -1,4 +1,3 @@
-use Rattle.std.proofs.Common.{sym, subst, ◌∙◌, ap}
 use Rattle.bank_store.proofs.Shutting.{shuts_first, shuts_both}
 use Rattle.bank_store.proofs.formatting.shut_both.Goals as goal
 

@@ -1,4 +1,3 @@
-use Rattle.std.proofs.Common.{sym, ◌∙◌}
 use Rattle.bank_store.proofs.Shutting.{shuts_after_reads, shuts_not}
 use Rattle.bank_store.proofs.formatting.shut_gates.Goals as goal
 

@@ -1,5 +1,5 @@
 use Rattle.loader_cli.specs.Calls.{run_of}
-use Rattle.loader_cli.proofs.Chained.{after_formatting, each_keeps, rests_again, stands_then}
+use Rattle.loader_cli.proofs.Chained.{after_formatting, each_keeps, rests_again, rolled_back_then, stands_then}
 use Rattle.loader_cli.proofs.laws.commands_follow_one_another.Goals as goal
 
 pub returns-clause-at_rest : goal.returns-clause-at_rest
@@ -19,9 +19,14 @@ returns-clause-after_format g c = λ first id calls promised asked tells zero tu
 pub returns-clause-after_restart : goal.returns-clause-after_restart
 returns-clause-after_restart g c = λ last disk promised other rests restarted.
     rests_again (run_of g.H.Host.files g.H.Host.faults g.O.Sink.content g.O.Sink.faults g.K.Disk.state last.call) last.ended (g.K.Disk.state disk)
-    (λ image s read holds is. c.a_power_loss_takes_only_work.ensures.settled disk image s read holds is) (g.met.K.Disk.reads_now disk) promised other rests restarted
+    (λ image s read holds is. c.a_power_loss_takes_only_work.ensures.settled disk image s read holds is) (g.met.K.Disk.reads_now disk) promised rests restarted other
 
 pub returns-clause-stands_then : goal.returns-clause-stands_then
 returns-clause-stands_then g c = λ last disk set start image promised other rests read holds restarted.
     stands_then (run_of g.H.Host.files g.H.Host.faults g.O.Sink.content g.O.Sink.faults g.K.Disk.state last.call) last.ended (g.K.Disk.state disk)
-    (λ left s is held settled. c.a_power_loss_takes_only_work.ensures.settled disk left s is held settled) (g.met.K.Disk.reads_now disk) promised other rests restarted set start image read holds
+    (λ left s is held settled. c.a_power_loss_takes_only_work.ensures.settled disk left s is held settled) (g.met.K.Disk.reads_now disk) promised rests restarted other set start image read holds
+
+pub returns-clause-rolled_back_then : goal.returns-clause-rolled_back_then
+returns-clause-rolled_back_then g c = λ last disk active image promised asked rests read holds restarted.
+    rolled_back_then (run_of g.H.Host.files g.H.Host.faults g.O.Sink.content g.O.Sink.faults g.K.Disk.state last.call) last.ended (g.K.Disk.state disk)
+    (λ left s is held settled. c.a_power_loss_takes_only_work.ensures.settled disk left s is held settled) (g.met.K.Disk.reads_now disk) promised rests restarted asked active image read holds

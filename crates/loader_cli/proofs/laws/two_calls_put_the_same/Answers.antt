@@ -9,6 +9,10 @@ returns g c =
       one_standing = c.an_image_holds_one_configuration.ensures.one_standing;
       one_fault = c.an_image_holds_one_configuration.ensures.one_fault;
     }) (record {
+      not_both = c.an_image_holds_one_former.ensures.not_both;
+      one_former = c.an_image_holds_one_former.ensures.one_former;
+      one_fault = c.an_image_holds_one_former.ensures.one_fault;
+    }) (record {
       of_header = λ value bytes spells. (c.header_laws.ensures.spelled value bytes).1 spells;
       of_loads = λ value bytes spells. (c.loads_list_laws.ensures.spelled value bytes).1 spells;
       of_files = λ value bytes spells. (c.files_list_laws.ensures.spelled value bytes).1 spells;

@@ -6,12 +6,13 @@ use Rattle.loader_cli.specs.Commands.{texts_of}
 use Rattle.loader_cli.specs.Commands.CommandView.{build, check, list, make, replay, show, trial, wire}
 use Rattle.loader_cli.specs.Runs.{IsWritten}
 use Rattle.loader_cli.specs.Runs.IsWritten.{built, made}
-use Rattle.loader_cli.specs.Runs.Says.{builds, checks, formats, lists, makes, refused, replays, shows, traces, tries}
+use Rattle.loader_cli.specs.Runs.Says.{builds, checks, formats, lists, makes, refused, replays, rolls_back, shows, traces, tries}
 use Rattle.loader_cli.proofs.Left.{reads_leave, untouched_leaves}
 use Rattle.loader_cli.proofs.OtherFiles.{sets_more}
 use Rattle.loader_cli.proofs.Replayed.{none_failed}
+use Rattle.loader_cli.proofs.RolledBack.{rollback_runs}
 use Rattle.loader_cli.proofs.ToldAll.{alone_out, alone_tells, format_runs, list_runs, never_fails, run_out, run_tells, runs_anyway}
-use Rattle.loader_cli.proofs.Touched.{disk_formatted, disk_listed, disk_run, disk_unused, host_read, host_unused, host_written, leaves_alone, leaves_formatting, leaves_running}
+use Rattle.loader_cli.proofs.Touched.{disk_formatted, disk_listed, disk_rolled_back, disk_run, disk_unused, host_read, host_unused, host_written, leaves_alone, leaves_formatting, leaves_rolled_back, leaves_running}
 use Rattle.loader_cli.proofs.top_call.answer.Goals as goal
 
 -- ---- what is said
@@ -79,6 +80,13 @@ returns-in-Some-Trial-clause-tells g c =
     run_tells (texts_of c.args.words.now) (g.K.Disk.state c.args.disk.now) (g.K.Disk.state c.trial.new.disk) (g.H.Host.files c.args.host.now) (g.H.Host.files c.args.host.now) (g.H.Host.faults c.args.host.now) (g.H.Host.faults c.args.host.now) c.trial.result (trial c.in-Some-Trial.number) command tt
     (IfOk-weaker c.trial.result _ _ (λ answer says. tries c.in-Some-Trial.number command says) c.trial.ensures.tries) (none_failed _ (g.H.Host.faults c.args.host.now) (g.H.Host.faults c.args.host.now) c.trial.result refl)
 
+pub returns-in-Some-Rollback-clause-tells : goal.returns-in-Some-Rollback-clause-tells
+returns-in-Some-Rollback-clause-tells g c =
+    let command = rw c.in-Some-Rollback.field-0-is at c.in-Some-Rollback.ensures.some in
+    alone_tells (texts_of c.args.words.now) (g.K.Disk.state c.args.disk.now) (g.K.Disk.state c.rollback.new.disk) (g.H.Host.files c.args.host.now) (g.H.Host.files c.args.host.now) (g.H.Host.faults c.args.host.now) (g.H.Host.faults c.args.host.now) c.rollback.result c.alone-in-Some-Rollback.result c.alone-in-Some-Rollback.ensures.same
+    (IfOk-weaker c.rollback.result _ _ (λ answer says. rolls_back command says) c.rollback.ensures.says) (none_failed status_of (g.H.Host.faults c.args.host.now) (g.H.Host.faults c.args.host.now) c.rollback.result refl)
+    (IfOk-weaker c.rollback.result _ _ (λ answer says. rollback_runs (g.K.Disk.state c.args.disk.now) (g.K.Disk.state c.rollback.new.disk) _ _ says) c.rollback.ensures.says)
+
 -- ---- where memory runs out
 
 pub returns-in-Some-List-clause-no_memory : goal.returns-in-Some-List-clause-no_memory
@@ -113,6 +121,9 @@ pub returns-in-Some-Trial-clause-no_memory : goal.returns-in-Some-Trial-clause-n
 returns-in-Some-Trial-clause-no_memory g c =
     let command = rw c.in-Some-Trial.field-0-is at c.in-Some-Trial.ensures.some in
     run_out (texts_of c.args.words.now) (g.K.Disk.state c.args.disk.now) (g.K.Disk.state c.trial.new.disk) (g.H.Host.files c.args.host.now) (g.H.Host.files c.args.host.now) (g.H.Host.faults c.args.host.now) (g.H.Host.faults c.args.host.now) c.trial.result (trial c.in-Some-Trial.number) command tt (none_failed _ (g.H.Host.faults c.args.host.now) (g.H.Host.faults c.args.host.now) c.trial.result refl) c.trial.ensures.memory
+
+pub returns-in-Some-Rollback-clause-no_memory : goal.returns-in-Some-Rollback-clause-no_memory
+returns-in-Some-Rollback-clause-no_memory g c = alone_out (texts_of c.args.words.now) (g.K.Disk.state c.args.disk.now) (g.K.Disk.state c.rollback.new.disk) (g.H.Host.files c.args.host.now) (g.H.Host.files c.args.host.now) (g.H.Host.faults c.args.host.now) (g.H.Host.faults c.args.host.now) c.rollback.result c.alone-in-Some-Rollback.result c.alone-in-Some-Rollback.ensures.same (none_failed status_of (g.H.Host.faults c.args.host.now) (g.H.Host.faults c.args.host.now) c.rollback.result refl) c.rollback.ensures.memory
 
 -- ---- what is touched
 
@@ -159,6 +170,11 @@ returns-in-Some-Trial-clause-disk g c =
     let command = rw c.in-Some-Trial.field-0-is at c.in-Some-Trial.ensures.some in
     disk_run (texts_of c.args.words.now) c.args.disk.now c.trial.new.disk (g.K.Disk.state c.args.disk.now) (g.K.Disk.state c.trial.new.disk) (trial c.in-Some-Trial.number) command tt tt tt c.an_image_holds_one_configuration.ensures.not_both c.trial.ensures.held
 
+pub returns-in-Some-Rollback-clause-disk : goal.returns-in-Some-Rollback-clause-disk
+returns-in-Some-Rollback-clause-disk g c =
+    let command = rw c.in-Some-Rollback.field-0-is at c.in-Some-Rollback.ensures.some in
+    disk_rolled_back (texts_of c.args.words.now) c.args.disk.now c.rollback.new.disk (g.K.Disk.state c.args.disk.now) (g.K.Disk.state c.rollback.new.disk) command c.an_image_holds_one_configuration.ensures.not_both c.rollback.ensures.power c.rollback.ensures.leaves
+
 pub returns-in-Some-List-clause-host : goal.returns-in-Some-List-clause-host
 returns-in-Some-List-clause-host g c = host_unused (texts_of c.args.words.now) c.args.host.now (g.H.Host.files c.args.host.now)
 
@@ -203,6 +219,9 @@ returns-in-Some-Wire-clause-host g c =
 
 pub returns-in-Some-Trial-clause-host : goal.returns-in-Some-Trial-clause-host
 returns-in-Some-Trial-clause-host g c = host_unused (texts_of c.args.words.now) c.args.host.now (g.H.Host.files c.args.host.now)
+
+pub returns-in-Some-Rollback-clause-host : goal.returns-in-Some-Rollback-clause-host
+returns-in-Some-Rollback-clause-host g c = host_unused (texts_of c.args.words.now) c.args.host.now (g.H.Host.files c.args.host.now)
 
 -- ---- what a power loss leaves
 
@@ -258,3 +277,8 @@ pub returns-in-Some-Trial-clause-leaves : goal.returns-in-Some-Trial-clause-leav
 returns-in-Some-Trial-clause-leaves g c =
     let command = rw c.in-Some-Trial.field-0-is at c.in-Some-Trial.ensures.some in
     leaves_running (texts_of c.args.words.now) (g.K.Disk.state c.args.disk.now) (g.K.Disk.state c.trial.new.disk) (trial c.in-Some-Trial.number) command (λ no. no) c.trial.ensures.leaves
+
+pub returns-in-Some-Rollback-clause-leaves : goal.returns-in-Some-Rollback-clause-leaves
+returns-in-Some-Rollback-clause-leaves g c =
+    let command = rw c.in-Some-Rollback.field-0-is at c.in-Some-Rollback.ensures.some in
+    leaves_rolled_back (texts_of c.args.words.now) (g.K.Disk.state c.args.disk.now) (g.K.Disk.state c.rollback.new.disk) command c.rollback.ensures.leaves

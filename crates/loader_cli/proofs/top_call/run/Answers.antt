@@ -9,6 +9,7 @@ use Rattle.loader_cli.specs.Runs.RunsOutOfMemory.{as_it_was_put, in_command}
 use Rattle.loader_cli.proofs.OneOutput.{ImageLaws}
 use Rattle.loader_cli.proofs.Promised.{as_promised}
 use Rattle.loader_cli.proofs.ReplayRuns.{EndLaws}
+use Rattle.loader_cli.proofs.RolledBack.{FormerLaws}
 use Rattle.loader_cli.proofs.SetRuns.{BuildingLaws}
 use Rattle.loader_cli.proofs.ShownOnce.{ShownLaws}
 use Rattle.loader_cli.proofs.Uploaded.{UploadLaws}
@@ -35,6 +36,11 @@ returns-in-Ok-put-clause-ends g c =
       one_standing = c.an_image_holds_one_configuration.ensures.one_standing;
       one_fault = c.an_image_holds_one_configuration.ensures.one_fault;
     } in
+    let formers : FormerLaws = record {
+      not_both = c.an_image_holds_one_former.ensures.not_both;
+      one_former = c.an_image_holds_one_former.ensures.one_former;
+      one_fault = c.an_image_holds_one_former.ensures.one_fault;
+    } in
     let shows : ShownLaws = record {
       of_header = λ value bytes spells. (c.header_laws.ensures.spelled value bytes).1 spells;
       of_loads = λ value bytes spells. (c.loads_list_laws.ensures.spelled value bytes).1 spells;
@@ -47,7 +53,7 @@ returns-in-Ok-put-clause-ends g c =
       of_lus = λ value bytes spells. (c.protocol_file_laws.ensures.lus.spelled bytes value).1 spells;
     } in
     let at_end : EndLaws (g.K.Disk.state c.args.disk.now) (g.K.Disk.state c.answer.new.disk) = record { not_both = c.an_image_holds_one_configuration.ensures.not_both; reads_now = g.met.K.Disk.reads_now c.answer.new.disk } in
-    as_promised laws uploads images shows _ _ at_end c.answer.ensures.leaves.while_running
+    as_promised laws uploads images formers shows _ _ at_end c.answer.ensures.leaves.while_running
     (told (text_of c.in-Ok.field-0.answer) (rw (← c.status-status.ensures) at c.in-Ok.ensures.tells) (subst (λ (bytes : List ℕ). IsExtended was now bytes) text c.in-Ok-put.ensures.content))
     (λ not_seven. c.in-Ok-put.ensures.cause.ok)
 
@@ -74,6 +80,11 @@ returns-in-Err-Failed-clause-ends g c =
       one_standing = c.an_image_holds_one_configuration.ensures.one_standing;
       one_fault = c.an_image_holds_one_configuration.ensures.one_fault;
     } in
+    let formers : FormerLaws = record {
+      not_both = c.an_image_holds_one_former.ensures.not_both;
+      one_former = c.an_image_holds_one_former.ensures.one_former;
+      one_fault = c.an_image_holds_one_former.ensures.one_fault;
+    } in
     let shows : ShownLaws = record {
       of_header = λ value bytes spells. (c.header_laws.ensures.spelled value bytes).1 spells;
       of_loads = λ value bytes spells. (c.loads_list_laws.ensures.spelled value bytes).1 spells;
@@ -86,7 +97,7 @@ returns-in-Err-Failed-clause-ends g c =
       of_lus = λ value bytes spells. (c.protocol_file_laws.ensures.lus.spelled bytes value).1 spells;
     } in
     let at_end : EndLaws (g.K.Disk.state c.args.disk.now) (g.K.Disk.state c.answer.new.disk) = record { not_both = c.an_image_holds_one_configuration.ensures.not_both; reads_now = g.met.K.Disk.reads_now c.answer.new.disk } in
-    as_promised laws uploads images shows _ _ at_end c.answer.ensures.leaves.while_running
+    as_promised laws uploads images formers shows _ _ at_end c.answer.ensures.leaves.while_running
     (sink_failed c.status-status.result (text_of c.in-Ok.field-0.answer) part.0 (rw (← c.status-status.ensures) at c.in-Ok.ensures.tells)
     (subst (λ (bytes : List ℕ). IsExtended was now (take part.0 bytes)) text part.1) (c.in-Err-Failed.ensures.cause.failed (cc)) refl)
     (λ not_seven. absurd (not_seven refl))
@@ -109,6 +120,11 @@ returns-in_default-clause-ends g c =
       one_standing = c.an_image_holds_one_configuration.ensures.one_standing;
       one_fault = c.an_image_holds_one_configuration.ensures.one_fault;
     } in
+    let formers : FormerLaws = record {
+      not_both = c.an_image_holds_one_former.ensures.not_both;
+      one_former = c.an_image_holds_one_former.ensures.one_former;
+      one_fault = c.an_image_holds_one_former.ensures.one_fault;
+    } in
     let shows : ShownLaws = record {
       of_header = λ value bytes spells. (c.header_laws.ensures.spelled value bytes).1 spells;
       of_loads = λ value bytes spells. (c.loads_list_laws.ensures.spelled value bytes).1 spells;
@@ -122,7 +138,7 @@ returns-in_default-clause-ends g c =
     } in
     let at_end : EndLaws (g.K.Disk.state c.args.disk.now) (g.K.Disk.state c.answer.new.disk) = record { not_both = c.an_image_holds_one_configuration.ensures.not_both; reads_now = g.met.K.Disk.reads_now c.answer.new.disk } in
     rw (c.out_of_memory.ensures.status, c.out_of_memory.ensures.drive)
-    (as_promised laws uploads images shows _ _ at_end c.answer.ensures.leaves.while_running (no_memory refl refl (in_command c.in_default.ensures.no_memory)) (λ not_seven. refl))
+    (as_promised laws uploads images formers shows _ _ at_end c.answer.ensures.leaves.while_running (no_memory refl refl (in_command c.in_default.ensures.no_memory)) (λ not_seven. refl))
 
 pub returns-in_default-into_text-clause-ends : goal.returns-in_default-into_text-clause-ends
 returns-in_default-into_text-clause-ends g c =
@@ -142,6 +158,11 @@ returns-in_default-into_text-clause-ends g c =
       one_standing = c.an_image_holds_one_configuration.ensures.one_standing;
       one_fault = c.an_image_holds_one_configuration.ensures.one_fault;
     } in
+    let formers : FormerLaws = record {
+      not_both = c.an_image_holds_one_former.ensures.not_both;
+      one_former = c.an_image_holds_one_former.ensures.one_former;
+      one_fault = c.an_image_holds_one_former.ensures.one_fault;
+    } in
     let shows : ShownLaws = record {
       of_header = λ value bytes spells. (c.header_laws.ensures.spelled value bytes).1 spells;
       of_loads = λ value bytes spells. (c.loads_list_laws.ensures.spelled value bytes).1 spells;
@@ -155,7 +176,7 @@ returns-in_default-into_text-clause-ends g c =
     } in
     let at_end : EndLaws (g.K.Disk.state c.args.disk.now) (g.K.Disk.state c.answer.new.disk) = record { not_both = c.an_image_holds_one_configuration.ensures.not_both; reads_now = g.met.K.Disk.reads_now c.answer.new.disk } in
     rw (c.out_of_memory-in_default-into_text.ensures.status, c.out_of_memory-in_default-into_text.ensures.drive)
-    (as_promised laws uploads images shows _ _ at_end c.answer.ensures.leaves.while_running
+    (as_promised laws uploads images formers shows _ _ at_end c.answer.ensures.leaves.while_running
     (no_memory refl refl (as_it_was_put (option_map run_seen c.in-Ok.field-0.drive) (status_of c.in-Ok.field-0.answer) (text_of c.in-Ok.field-0.answer) c.in-Ok.ensures.tells)) (λ not_seven. refl))
 
 pub returns-clause-ends : goal.returns-clause-ends
@@ -176,6 +197,11 @@ returns-clause-ends g c =
       one_standing = c.an_image_holds_one_configuration.ensures.one_standing;
       one_fault = c.an_image_holds_one_configuration.ensures.one_fault;
     } in
+    let formers : FormerLaws = record {
+      not_both = c.an_image_holds_one_former.ensures.not_both;
+      one_former = c.an_image_holds_one_former.ensures.one_former;
+      one_fault = c.an_image_holds_one_former.ensures.one_fault;
+    } in
     let shows : ShownLaws = record {
       of_header = λ value bytes spells. (c.header_laws.ensures.spelled value bytes).1 spells;
       of_loads = λ value bytes spells. (c.loads_list_laws.ensures.spelled value bytes).1 spells;
@@ -190,6 +216,6 @@ returns-clause-ends g c =
     let at_end : EndLaws (g.K.Disk.state c.args.disk.now) (g.K.Disk.state c.answer.new.disk) = record { not_both = c.an_image_holds_one_configuration.ensures.not_both; reads_now = g.met.K.Disk.reads_now c.answer.new.disk } in
     let memory : c.in-Err-Memory.field-0 ≡ Memory = c.in-Err-Memory.field-0-is in
     rw (c.out_of_memory-in-Err-Memory.ensures.status, c.out_of_memory-in-Err-Memory.ensures.drive)
-    (as_promised laws uploads images shows _ _ at_end c.answer.ensures.leaves.while_running
+    (as_promised laws uploads images formers shows _ _ at_end c.answer.ensures.leaves.while_running
     (no_memory refl refl (as_it_was_put (option_map run_seen c.in-Ok.field-0.drive) (status_of c.in-Ok.field-0.answer) (text_of c.in-Ok.field-0.answer) c.in-Ok.ensures.tells))
     (λ not_seven. c.in-Err-Memory.ensures.cause.memory (cc)))

@@ -1,5 +1,5 @@
-use Rattle.std.proofs.Common.{◌≡◌, ◌++◌, ℕ, List, length, ap, sym, arith, ◌∙◌}
-use Rattle.bank_store.specs.Store.{body_of, knows_entry}
+use Rattle.std.proofs.Common.{◌≡◌, ◌++◌, ℕ, List, length, ap, arith, ◌∙◌}
+use Rattle.bank_store.specs.Store.{knows_entry}
 use Rattle.bank_store.proofs.Kept.{kept_in_range, length_part, same_part}
 use Rattle.bank_store.proofs.store.Store.add_entry.Goals as goal
 

@@ -1,6 +1,6 @@
 use Rattle.std.proofs.Common.{◌≤◌, length, refl, arith, rules}
 use Rattle.std.proofs.lemmas.List.{length-take-le}
-use Rattle.bank_store.proofs.Copying.{BetweenBanks, more_copied, near_joined, nothing_copied, nothing_near}
+use Rattle.bank_store.proofs.Copying.{more_copied, near_joined, nothing_copied, nothing_near}
 use Rattle.bank_store.proofs.store.Store.copy.Goals as goal
 
 pub loop-done-init : goal.loop-done-init

@@ -1,8 +1,7 @@
-use Rattle.std.proofs.Common.{◌≡◌, ◌+◌, ◌++◌, ◌<◌, ◌≤◌, ℕ, List, length, refl, sym, ◌∙◌, ap, ap₂, subst, arith, rules}
+use Rattle.std.proofs.Common.{◌+◌, ◌++◌, ℕ, List, refl, sym, ◌∙◌, ap, ap₂, subst, arith, rules}
 use Rattle.std.proofs.lemmas.Result.{err_from_is_err_and}
 use Rattle.disk_model.specs.Image.{Image, overlay, range}
 use Rattle.disk_model.specs.RangeLaws.{length_range}
-use Rattle.disk_layout.specs.Entries.{SaysLoads}
 use Rattle.bank_store.specs.Fits.{SameButForWork}
 use Rattle.bank_store.specs.KnownLaws.{says_one}
 use Rattle.bank_store.proofs.Continuing.{filling_not_sealed, given_of, has_work, missing_none}

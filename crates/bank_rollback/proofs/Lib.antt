@@ -1,0 +1,3 @@
+pub mod Bringing
+pub mod Finding
+pub mod Rolled

@@ -1,0 +1,3 @@
+pub mod Beside
+pub mod Faults
+pub mod Rollbacks
