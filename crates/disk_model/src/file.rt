@@ -158,7 +158,7 @@ impl<R: Files<File = File>> DiskFile<'_, R> {
     // In no file all reads as zero.
     fn read_at(&mut self, at: u32, buf: &mut [u8]) -> io::Result<()> {
         self.find()?;
-        if let Found::File(file) = &mut self.found {
+        if let Found::File(file) = &self.found {
             return file.read_at(at, buf);
         }
         buf.fill(0);
@@ -168,7 +168,7 @@ impl<R: Files<File = File>> DiskFile<'_, R> {
     fn write_at(&mut self, at: u32, bytes: &[u8]) -> io::Result<()> {
         self.find()?;
         self.make()?;
-        match &mut self.found {
+        match &self.found {
             Found::File(file) => file.write_at(at, bytes),
             _ => Err(io::Error::from(ErrorKind::Other)),
         }

@@ -5,8 +5,8 @@ ghost use Rattle.disk_model.specs.FilledReads.{IsFilled, ReadsUpTo};
 
 use load_base::{folder_of, read_some, sync_folder, sync_for_reading};
 use std::fs::{File, OpenOptions};
-use std::io::{self, ErrorKind, Read, Seek, SeekFrom, Write};
-use std::os::unix::fs::{FileTypeExt, MetadataExt};
+use std::io::{self, ErrorKind, Read, Write};
+use std::os::unix::fs::{FileExt, FileTypeExt, MetadataExt};
 use std::rt::Files;
 
 /// The locked file of a disk, which isn't synced yet. No other run has the lock until this one
@@ -22,8 +22,14 @@ pub(crate) struct LockedFile {
 pub(crate) struct HeldFile {
     file: File,
     access: Access,
-    // Where the file stands, where that is known.
-    offset: Option<u64>,
+}
+
+// A file from an offset on. It is read and written there in one call of the system each, and where
+// the file itself stands doesn't matter.
+#[derive(Drop)]
+struct FileFrom<'f> {
+    file: &'f File,
+    offset: u64,
 }
 
 // How a file was opened.
@@ -73,39 +79,48 @@ impl LockedFile {
         let LockedFile { file, access } = self;
         sync(&file, access)?;
         sync_folder(rt, folder_of(name), access == Access::New)?;
-        Ok(HeldFile {
-            file,
-            access,
-            offset: None,
-        })
+        Ok(HeldFile { file, access })
     }
 }
 
 impl HeldFile {
     /// What lies after the file's end reads as zero.
-    pub(crate) fn read_at(&mut self, at: u32, buf: &mut [u8]) -> io::Result<()> {
-        self.go_to(at)?;
-        let count = fill_from(&mut self.file, buf)?;
-        self.offset = u64::from(at).checked_add(count as u64);
-        Ok(())
+    pub(crate) fn read_at(&self, at: u32, buf: &mut [u8]) -> io::Result<()> {
+        fill_from(&mut self.from(at), buf)
     }
 
-    pub(crate) fn write_at(&mut self, at: u32, bytes: &[u8]) -> io::Result<()> {
-        self.go_to(at)?;
-        self.file.write_all(bytes)?;
-        self.offset = u64::from(at).checked_add(bytes.len() as u64);
-        Ok(())
+    pub(crate) fn write_at(&self, at: u32, bytes: &[u8]) -> io::Result<()> {
+        self.from(at).write_all(bytes)
     }
 
     pub(crate) fn sync(&self) -> io::Result<()> {
         sync(&self.file, self.access)
     }
 
-    // A file that stands right needs no seek. After an error it isn't known where it stands.
-    fn go_to(&mut self, at: u32) -> io::Result<()> {
-        if self.offset.take() != Some(u64::from(at)) {
-            self.file.seek(SeekFrom::Start(u64::from(at)))?;
+    fn from(&self, at: u32) -> FileFrom<'_> {
+        FileFrom {
+            file: &self.file,
+            offset: u64::from(at),
         }
+    }
+}
+
+impl Read for FileFrom<'_> {
+    fn read(&mut self, buf: &mut [u8]) -> io::Result<usize> {
+        let count = self.file.read_at(buf, self.offset)?;
+        self.offset = self.offset.saturating_add(count as u64);
+        Ok(count)
+    }
+}
+
+impl Write for FileFrom<'_> {
+    fn write(&mut self, buf: &[u8]) -> io::Result<usize> {
+        let count = self.file.write_at(buf, self.offset)?;
+        self.offset = self.offset.saturating_add(count as u64);
+        Ok(count)
+    }
+
+    fn flush(&mut self) -> io::Result<()> {
         Ok(())
     }
 }
@@ -184,13 +199,13 @@ fn sync(file: &File, access: Access) -> io::Result<()> {
     file.sync_all()
 }
 
-// Fills the buffer with what the file has, and with zeros after its end. How many bytes it had.
-fn fill_from<F: Read>(file: &mut F, buf: &mut [u8]) -> io::Result<usize>
+// Fills the buffer with what the file has, and with zeros after its end.
+fn fill_from<F: Read>(file: &mut F, buf: &mut [u8]) -> io::Result<()>
     ensures { OnOk result (IfSome (F.remaining file.old) (λ told. IsFilled told buf.new)) }
 {
     let filled = read_up_to(file, buf)?;
     buf[filled..].fill(0);
-    Ok(filled)
+    Ok(())
 }
 
 // Reads until the buffer is full or the file ends.
