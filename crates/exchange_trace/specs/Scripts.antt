@@ -44,7 +44,7 @@ written_lines text = written_from 1 (slice_split (λ byte. byte == 10) text)
 
 infixl 10 ◌>>=◌
 -- what follows, where nothing was refused
-abbrev ◌>>=◌ : {A B : Type 0} → Result A ScriptFault → (A → Result B ScriptFault) → Result B ScriptFault
+abbrev pub ◌>>=◌ : {A B : Type 0} → Result A ScriptFault → (A → Result B ScriptFault) → Result B ScriptFault
 Ok a >>= next = next a
 Err fault >>= next = Err fault
 

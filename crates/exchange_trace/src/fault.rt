@@ -18,6 +18,9 @@ pub enum ScriptFault {
     Name(u64),
     /// S5: the text has more than 1,000,000 bytes.
     TooLong,
+    /// S6: in a fleet's script, the word after `at` is no decimal number from 1 to the number of
+    /// units.
+    Unit(u64),
     /// Out of memory.
     Memory,
 }

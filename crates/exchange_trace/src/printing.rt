@@ -11,7 +11,7 @@ impl Printed for ScriptFault {
 
     ghost longest = { 23 };
 
-    /// `S1 LINE` to `S4 LINE`, or `S5`.
+    /// `S1 LINE` to `S4 LINE`, `S5`, or `S6 LINE`.
     fn text(&self, alloc: Global) -> Result<Text, NoMemory> {
         match *self {
             ScriptFault::Word(line) => coded(alloc, b"S1", &[line]),
@@ -19,6 +19,7 @@ impl Printed for ScriptFault {
             ScriptFault::Hex(line) => coded(alloc, b"S3", &[line]),
             ScriptFault::Name(line) => coded(alloc, b"S4", &[line]),
             ScriptFault::TooLong => coded(alloc, b"S5", &[]),
+            ScriptFault::Unit(line) => coded(alloc, b"S6", &[line]),
             ScriptFault::Memory => Ok(Text::empty(alloc)),
         }
     }

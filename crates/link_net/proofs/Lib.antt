@@ -1,5 +1,6 @@
 pub mod Fates
 pub mod Gives
+pub mod NoUnits
 pub mod Parts
 pub mod Readings
 pub mod Sides

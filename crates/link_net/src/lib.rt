@@ -4,15 +4,17 @@
 
 mod fail_link;
 pub mod laws;
-mod line;
+// How a line is read, what becomes of datagrams and what a line gives: the link of a fleet is made
+// of the same parts.
+pub mod line;
 mod link;
-mod mail;
+pub mod mail;
 mod number;
 mod script;
 mod script_link;
-mod turn;
+pub mod turn;
 mod values;
-mod words;
+pub mod words;
 
 pub use exchange_trace::{Datagram, Happening, ScriptFault, Side};
 pub use fail_link::FailLink;

@@ -92,9 +92,9 @@ pub fn read_line(alloc: Global, line: u64, text: &[u8]) -> Result<Line, ScriptFa
     }
 }
 
-// What the words after a keyword say.
+/// What the words after a keyword say.
 #[tactic(auto, using(crate::proofs::Parts::give_words, crate::proofs::Parts::lose_words, crate::proofs::Parts::next_words))]
-fn line_of(
+pub fn line_of(
     alloc: Global,
     line: u64,
     keyword: Keyword,
@@ -149,7 +149,9 @@ fn upload_of(alloc: Global, line: u64, rest: Option<&[u8]>) -> Result<Line, Scri
     Ok(Line::Upload { hw, pos, parts })
 }
 
-fn count_of(line: u64, rest: Option<&[u8]>) -> Result<u32, ScriptFault>
+/// The number that the only word of what is left of a line writes: a datagram's number, or how many
+/// are delivered.
+pub fn count_of(line: u64, rest: Option<&[u8]>) -> Result<u32, ScriptFault>
     ensures { result ≡ only_count line (only_word (words_of (option_copied rest.entry))) }
 {
     match only_word_in(rest) {
@@ -236,8 +238,8 @@ fn finish_of(line: u64, rest: Option<&[u8]>) -> Result<Line, ScriptFault>
     }
 }
 
-// Which keyword a word is.
-fn keyword_of(word: &[u8]) -> Option<Keyword>
+/// Which keyword a word is.
+pub fn keyword_of(word: &[u8]) -> Option<Keyword>
     ensures { option_map keyword_view result ≡ scripts.found_in scripts.keywords word.now }
 {
     if word == b"info".as_slice() {

@@ -84,6 +84,13 @@ impl Mail {
         Ok(())
     }
 
+    /// How many datagrams were posted.
+    pub fn posted_count(&self) -> usize
+        ensures { result ≡ length self.now.posted }
+    {
+        self.sides.len()
+    }
+
     /// The delivery of the datagram of this number, if it was posted.
     pub fn delivery(&self, number: u64) -> Option<Happening>
         ensures value { (loader target : Bool) → option_map happening_view result
@@ -132,8 +139,8 @@ impl Mail {
         self.given = self.given.and(given, &());
     }
 
-    // What became of the datagram of this number.
-    fn fate(&self, number: u64) -> Fate
+    /// What became of the datagram of this number.
+    pub fn fate(&self, number: u64) -> Fate
         requires { (1 ≤ number) × (number ≤ length self.now.posted) }
         ensures { result ≡ fate_of self.now.given number }
     {

@@ -1,8 +1,8 @@
 //! Scripts as they are read.
-ghost use Rattle.std.specs.Prelude.{◌≡◌, ◌⊎◌, ◌≤◌, ◌∷◌, [], length, Ok, Err, IsOk, IsErr, IfOk};
+ghost use Rattle.std.specs.Prelude.{◌≡◌, ◌≢◌, ◌⊎◌, ◌≤◌, ℕ, ◌∷◌, [], length, Ok, Err, IsOk, IsErr, IfOk};
 ghost use Rattle.std.specs.Prelude.{IfErr, OnOk};
 ghost use Rattle.exchange_trace.specs.Lines.{Finish, Upload};
-ghost use Rattle.exchange_trace.specs.declared.fault.ScriptFault.TheVariants.{Memory};
+ghost use Rattle.exchange_trace.specs.declared.fault.ScriptFault.TheVariants.{Memory, Unit};
 ghost use Rattle.exchange_trace.specs.Scripts.{script_said, lines_said, written_lines};
 ghost use Rattle.link_net.specs.Lines.{line_views};
 ghost use Rattle.link_net.specs.Reading.{Said, and_later, and_said};
@@ -48,6 +48,8 @@ impl Script {
         // So what the text says is read, unless it is out of memory, and a text with a fault isn't.
         ensures only { IsOk (script_said bytes.now) → IfErr result (λ fault. fault ≡ Memory) }
         ensures faulty { IsErr (script_said bytes.now) → IsErr result }
+        // A script of one target has no word for a unit.
+        ensures never_unit { IfErr result (λ fault. (line : ℕ) → fault ≢ Unit line) }
     {
         if bytes.len() > LONGEST_SCRIPT {
             return Err(ScriptFault::TooLong);

@@ -97,8 +97,8 @@ fn from_lines(
     Ok((end, at))
 }
 
-// The first that a line gives, if it gives anything.
-fn begins(
+/// The first that a line gives, if it gives anything.
+pub fn begins(
     alloc: Global,
     mail: &Mail,
     line: &Line,
@@ -142,7 +142,8 @@ fn copy_of(alloc: Global, parts: &[PartText]) -> Result<List<PartText>, NoMemory
     Ok(copy)
 }
 
-fn tick(side: Side) -> Happening
+/// The timer of this side expires.
+pub fn tick(side: Side) -> Happening
     ensures { happening_view result ≡ Ticked side }
 {
     match side {
@@ -200,8 +201,8 @@ fn finishing(mail: &Mail, first: Side, waiting: Waiting) -> Option<Turn>
     })
 }
 
-// The side that is ticked: the one whose turn it is, or else the other, if it waits.
-fn ticked_side(first: Side, waiting: Waiting) -> Option<Side>
+/// The side that is ticked: the one whose turn it is, or else the other, if it waits.
+pub fn ticked_side(first: Side, waiting: Waiting) -> Option<Side>
     ensures { (mail : MailView)
         → result ≡ following.ticked_side (scene_in mail waiting.loader waiting.target) first }
 {

@@ -9,12 +9,13 @@ fn is_printed(alloc: Global, fault: ScriptFault, text: &[u8]) -> bool {
     }
 }
 
-const TEXTS: [(ScriptFault, &[u8]); 5] = [
+const TEXTS: [(ScriptFault, &[u8]); 6] = [
     (ScriptFault::Word(1), b"S1 1"),
     (ScriptFault::Number(4), b"S2 4"),
     (ScriptFault::Hex(1000000), b"S3 1000000"),
     (ScriptFault::Name(2), b"S4 2"),
     (ScriptFault::TooLong, b"S5"),
+    (ScriptFault::Unit(3), b"S6 3"),
 ];
 
 #[test]

@@ -1,0 +1,55 @@
+-- What the link of a fleet was posted and gave (docs/FORMATS.md, "Script of a fleet").
+use Rattle.std.specs.Prelude.{◌≡◌, ℕ, ◌≤◌, List, [], ◌∷◌, ◌++◌, length, ⊤}
+use Rattle.exchange_trace.specs.Happenings.{DatagramView}
+use Rattle.fleet_trace.specs.FleetTraces.{FleetHappeningView, At_unit, All_ended}
+use Rattle.fleet_trace.specs.FleetPosts.{UnitPost, happenings_of_unit, posts_of_unit, unit_post}
+use Rattle.fleet_trace.specs.FleetFollowing.{FleetPlan, FleetScene, next_fleet_turn}
+use Rattle.fleet_trace.specs.OwnScripts.{CanBeGiven}
+use Rattle.fleet_trace.specs.FleetLines as spec
+use Rattle.link_net.specs.declared.link.Waits.{Waits}
+use Rattle.fleet_link.specs.declared.fleet_line.FleetLine.{FleetLine}
+use Rattle.fleet_link.specs.declared.fleet_turn.FleetRest.{FleetRest}
+use Rattle.fleet_link.specs.FleetMail.{kept_gift}
+use Rattle.fleet_link.specs.FleetPlans.{fleet_rest_view, waits_in}
+use Rattle.fleet_link.specs.Lines.{AreAtUnits, fleet_line_views}
+
+-- a link of so many units: what it was posted, the oldest first; what it gave at units, the newest first; and what is
+-- left of the line that it follows, and the lines that come later
+pub record FleetLinkState : Type 0 where
+  pub units : ℕ
+  pub posted : List UnitPost
+  pub given : List FleetHappeningView
+  pub rest : FleetRest
+  pub lines : List spec.FleetLine
+
+-- what is left of the script that it follows
+abbrev pub plan_in : FleetLinkState → FleetPlan
+plan_in link = record { rest = fleet_rest_view link.rest; lines = link.lines }
+
+-- The lines are of so many units, which are eight at most.
+pub record HoldsScript (units : ℕ) (lines : List FleetLine) (next : ℕ) : Type 0 where
+  pub few : units ≤ 8
+  pub within : next ≤ length lines
+  pub each : AreAtUnits units (fleet_line_views lines)
+
+-- what the link sees when it is asked, where these sides have a live session
+abbrev pub fleet_scene_of : FleetLinkState → List Waits → FleetScene
+fleet_scene_of link waits = record { posted = link.posted; happenings = link.given; units = link.units; waits_at = waits_in waits }
+
+-- the link, with one datagram of this unit more
+abbrev pub with_post_at : FleetLinkState → (unit : ℕ) → DatagramView → FleetLinkState
+with_post_at link unit d = record { units = link.units; posted = link.posted ++ unit_post unit d ∷ []; given = link.given; rest = link.rest; lines = link.lines }
+
+-- it can be given at its unit: what is delivered to a side was posted to it there, and it isn't the end
+abbrev pub CanBeGivenIn : FleetLinkState → FleetHappeningView → Type 0
+CanBeGivenIn link (At_unit unit h) = CanBeGiven (posts_of_unit unit link.posted) (happenings_of_unit unit link.given) h
+CanBeGivenIn link All_ended = ⊤
+
+-- The link gives what its script gives next.
+pub record GivesInFleet (old new : FleetLinkState) (waits : List Waits) (h : FleetHappeningView) : Type 0 where
+  pub units : new.units ≡ old.units
+  pub posted : new.posted ≡ old.posted
+  pub given : new.given ≡ kept_gift h old.given
+  pub follows : h ≡ (next_fleet_turn (fleet_scene_of old waits) (plan_in old)).given
+  pub plan : plan_in new ≡ (next_fleet_turn (fleet_scene_of old waits) (plan_in old)).plan
+  pub can : CanBeGivenIn old h

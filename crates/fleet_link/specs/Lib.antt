@@ -1,0 +1,5 @@
+pub mod Lines
+pub mod Reading
+pub mod FleetMail
+pub mod FleetPlans
+pub mod FleetLinks

@@ -1,0 +1,123 @@
+//! The link of a fleet, which follows a script.
+ghost use Rattle.std.specs.Prelude.{◌≡◌, ◌≤◌, [], IfOk, OnOk, OnErr, length};
+ghost use Rattle.exchange_trace.specs.Happenings.{datagram_view};
+ghost use Rattle.fleet_trace.specs.FleetFollowing.{next_fleet_turn};
+ghost use Rattle.fleet_trace.specs.FleetTraces.{fleet_happening_view};
+ghost use Rattle.fleet_link.specs.FleetLinks.{GivesInFleet, fleet_scene_of, plan_in, with_post_at};
+ghost use Rattle.fleet_link.specs.FleetMail.{NamesPlaced, with_gift};
+ghost use Rattle.fleet_link.specs.FleetPlans.{FleetTakesMemory};
+ghost use Rattle.fleet_link.specs.declared.fleet_turn.FleetRest.TheVariants as rests;
+
+use crate::fleet_line::FleetLine;
+use crate::fleet_mail::FleetMail;
+use crate::fleet_script::FleetScript;
+use crate::fleet_turn::{FleetRest, FleetTurn, next_turn};
+use exchange_trace::Datagram;
+use fleet_trace::FleetHappening;
+use link_net::Waits;
+use load_base::{List, NoMemory};
+use std::alloc::Global;
+use std::marker::Model;
+
+/// A link between one loader and the targets of a fleet, on which happens what a script says
+/// (docs/FORMATS.md, "Script of a fleet"). It never fails. A call costs the same whatever came
+/// before it, but for the lines that give nothing, each of which is passed once, and the datagrams
+/// that aren't undelivered any more, which are too.
+#[derive(Drop)]
+pub struct FleetLink {
+    alloc: Global,
+    units: u8,
+    lines: List<FleetLine>,
+    mail: FleetMail,
+    /// The offset of the line that comes next.
+    next: usize,
+    rest: FleetRest,
+}
+
+impl Model for FleetLink {
+    ghost use Rattle.fleet_link.specs.FleetLinks.{FleetLinkState, HoldsScript};
+    ghost use Rattle.fleet_link.specs.Lines.{fleet_line_views};
+    ghost use Rattle.std.specs.Prelude.{drop};
+
+    ghost Value = { FleetLinkState };
+
+    ghost view = { λ link. record {
+      units = link.units;
+      posted = link.mail.posted;
+      given = link.mail.given;
+      rest = link.rest;
+      lines = fleet_line_views (drop link.next link.lines.items);
+    } };
+
+    ghost invariant = { λ link. HoldsScript link.units link.lines.items link.next };
+}
+
+impl FleetLink {
+    /// A link that begins the script, of eight units at most. Nothing was posted, and nothing
+    /// happened.
+    pub fn new(alloc: Global, script: FleetScript) -> FleetLink
+        requires { script.units ≤ 8 }
+        ensures { result ≡ record {
+          units = script.units;
+          posted = [];
+          given = [];
+          rest = rests.Nothing;
+          lines = script.lines;
+        } }
+    {
+        let FleetScript { units, lines } = script;
+        FleetLink {
+            alloc,
+            units,
+            lines,
+            mail: FleetMail::new(alloc),
+            next: 0,
+            rest: FleetRest::Nothing,
+        }
+    }
+
+    /// Takes a datagram that a side of this unit posts, the loader to it or its target. A call that
+    /// is refused changes nothing.
+    pub fn post(&mut self, unit: u8, datagram: Datagram) -> Result<(), NoMemory>
+        requires { (1 ≤ unit) × (unit ≤ self.old.units) }
+        ensures ok { OnOk result
+            (self.new ≡ with_post_at self.old unit (datagram_view datagram)) }
+        ensures err { OnErr result (self.new ≡ self.old) }
+    {
+        self.mail.post(unit, datagram)
+    }
+
+    /// What happens next, where these sides of each unit have a live session. A call that is
+    /// refused changes nothing.
+    pub fn next(&mut self, waits: &[Waits]) -> Result<FleetHappening, NoMemory>
+        requires { length waits.now ≡ self.old.units }
+        ensures ok { IfOk result (λ happening. GivesInFleet self.old self.new waits.now
+            (fleet_happening_view happening)) }
+        ensures err { OnErr result (self.new ≡ self.old) }
+        // It is out of memory only where it copies what a line says.
+        ensures memory { OnErr result (FleetTakesMemory
+            (next_fleet_turn (fleet_scene_of self.old waits.now) (plan_in self.old)).given) }
+    {
+        let lines = self.lines.as_slice();
+        let Ok((turn, next)) = next_turn(self.alloc, lines, &self.mail, self.next, self.rest, waits)
+        else {
+            return Err(NoMemory);
+        };
+        let FleetTurn { given, rest } = turn;
+        keep(&mut self.mail, &given);
+        self.next = next;
+        self.rest = rest;
+        Ok(given)
+    }
+}
+
+// Keeps what is given at a unit.
+fn keep(mail: &mut FleetMail, given: &FleetHappening)
+    requires { NamesPlaced mail.old (fleet_happening_view given.now) }
+    ensures { mail.new ≡ with_gift mail.old (fleet_happening_view given.now) }
+{
+    match given {
+        FleetHappening::At { unit, happening } => mail.give(*unit, happening),
+        FleetHappening::End => {}
+    }
+}

@@ -1,0 +1,2 @@
+mod fleet_links;
+mod fleet_scripts;

@@ -1,0 +1,10 @@
+pub mod UnitParts
+pub mod CanBeGiven
+pub mod FleetEnds
+pub mod OwnFollowing
+pub mod OwnUndelivered
+pub mod PostPlaces
+pub mod OwnTicks
+pub mod OwnFinishes
+pub mod LastFleetFinish
+pub mod Merging
