@@ -7,10 +7,11 @@ use Rattle.link_net.specs.declared.link.Waits.{Waits}
 use Rattle.fleet_link.specs.declared.fleet_line.FleetLine.{FleetLine}
 use Rattle.fleet_link.specs.declared.fleet_turn.FleetRest.{FleetRest}
 use Rattle.fleet_link.specs.declared.fleet_turn.FleetTurn.{FleetTurn}
-use Rattle.fleet_link.specs.FleetLinks.{CanBeGivenIn, FleetLinkState, GivesInFleet, fleet_scene_of, plan_in}
+use Rattle.fleet_link.specs.FleetLinks.{ArePostsOf, CanBeGivenIn, FleetLinkState, GivesInFleet, fleet_scene_of, plan_in}
 use Rattle.fleet_link.specs.FleetMail.{FleetMailView, with_gift}
 use Rattle.fleet_link.specs.FleetPlans.{fleet_plan_at, fleet_turn_view, seen_with}
-use Rattle.fleet_link.specs.Lines.{fleet_line_views}
+use Rattle.fleet_link.specs.Lines.{AreAtUnits, fleet_line_views}
+use Rattle.fleet_link.proofs.FleetUnits.{given_at_one}
 
 abbrev pub link_with : (units : ℕ) → List FleetLine → FleetMailView → FleetRest → (next : ℕ) → FleetLinkState
 link_with units lines mail rest next = record { units = units; posted = mail.posted; given = mail.given; rest = rest; lines = fleet_line_views (drop next lines) }
@@ -19,10 +20,10 @@ can_be : (link : FleetLinkState) (waits : List Waits) (h : FleetHappeningView) �
 can_be link waits (At_unit unit h) e = given_can (fleet_scene_of link waits) (plan_in link) unit h (sym e)
 can_be link waits All_ended e = tt
 
-pub gives_in_fleet : (units : ℕ) (lines : List FleetLine) (before after : FleetMailView) (rest : FleetRest) (next later : ℕ) (t : FleetTurn) (waits : List Waits) → length waits ≡ units
+pub gives_in_fleet : (units : ℕ) (lines : List FleetLine) (before after : FleetMailView) (rest : FleetRest) (next later : ℕ) (t : FleetTurn) (waits : List Waits) → length waits ≡ units → ArePostsOf units before.posted → AreAtUnits units (fleet_line_views (drop next lines))
     → fleet_turn_view (fleet_line_views (drop later lines)) t ≡ following.next_fleet_turn (seen_with before waits) (fleet_plan_at rest lines next) → after ≡ with_gift before (fleet_happening_view t.given)
     → GivesInFleet (link_with units lines before rest next) (link_with units lines after t.rest later) waits (fleet_happening_view t.given)
-gives_in_fleet units lines before after rest next later t waits count said kept =
+gives_in_fleet units lines before after rest next later t waits count posts each said kept =
     let turn = rw count at said in
     let given = ap (λ (x : following.FleetTurn). x.given) turn in
     record {
@@ -31,5 +32,6 @@ gives_in_fleet units lines before after rest next later t waits count said kept 
       given = ap (λ (m : FleetMailView). m.given) kept;
       follows = given;
       plan = ap (λ (x : following.FleetTurn). x.plan) turn;
+      unit = rw given (given_at_one units (fleet_scene_of (link_with units lines before rest next) waits) refl posts (plan_in (link_with units lines before rest next)) each);
       can = can_be (link_with units lines before rest next) waits (fleet_happening_view t.given) given;
     }

@@ -1,5 +1,5 @@
 -- What lines of a fleet's script give.
-use Rattle.std.proofs.Common.{◌≡◌, ℕ, suc, ◌+◌, ◌-◌, ◌<◌, ◌≤◌, ◌==◌, Bool, true, false, cond, List, [], length, Option, Some, None, option_map, eqb-true, arith, refl, ap, ◌∙◌}
+use Rattle.std.proofs.Common.{◌≡◌, ℕ, suc, ◌+◌, ◌-◌, ◌<◌, ◌≤◌, ◌==◌, Bool, true, false, cond, List, [], length, Option, Some, None, option_map, eqb-true, ne_eqb, arith, refl, ap, ◌∙◌}
 use Rattle.std.specs.Prelude.{slice_get}
 use Rattle.std.specs.List.{range_with_len, slice_index_or}
 use Rattle.exchange_trace.specs.declared.trace.Side.{Side}
@@ -54,7 +54,10 @@ module _ (mail : FleetMailView) (waits : List Waits) (firsts : List Side) where
 
   scene_at : (at : ℕ) (w : Waits) → slice_get waits at ≡ Some w → unit_scene scene (at + 1) ≡ scene_in (mail_of (at + 1) mail) w.loader w.target
   unfolding scene
-  scene_at at w there = let back : at + 1 - 1 ≡ at = omega arith in rw (back, there) refl
+  scene_at at w there =
+      let back : at + 1 - 1 ≡ at = omega arith in
+      let counted : ((at + 1) == 0) ≡ false = ne_eqb (at + 1) 0 (λ none. omega (arith, none)) in
+      rw (counted, back, there) refl
 
   pub one_unit : (at : ℕ) (w : Waits) → at < length waits → slice_get waits at ≡ Some w
       → ticked_from at ≡ tick_or_later (at + 1) (ticked_side (scene_in (mail_of (at + 1) mail) w.loader w.target) (slice_index_or firsts at sides.Loader)) (ticked_from (at + 1))

@@ -1,6 +1,8 @@
+pub mod FleetFollowed
 pub mod FleetGives
 pub mod FleetMails
 pub mod FleetTurns
+pub mod FleetUnits
 pub mod Placed
 pub mod Readings
 pub mod UnitsSaid

@@ -26,9 +26,15 @@ pub record FleetLinkState : Type 0 where
 abbrev pub plan_in : FleetLinkState → FleetPlan
 plan_in link = record { rest = fleet_rest_view link.rest; lines = link.lines }
 
--- The lines are of so many units, which are eight at most.
-pub record HoldsScript (units : ℕ) (lines : List FleetLine) (next : ℕ) : Type 0 where
+-- each datagram was posted at one of so many units
+abbrev pub ArePostsOf : (units : ℕ) → List UnitPost → Type 0
+ArePostsOf units [] = ⊤
+ArePostsOf units (p ∷ later) = ((1 ≤ p.unit) × (p.unit ≤ units)) × ArePostsOf units later
+
+-- The lines and the posts are of so many units, which are eight at most.
+pub record HoldsScript (units : ℕ) (lines : List FleetLine) (next : ℕ) (posted : List UnitPost) : Type 0 where
   pub few : units ≤ 8
+  pub posts : ArePostsOf units posted
   pub within : next ≤ length lines
   pub each : AreAtUnits units (fleet_line_views lines)
 
@@ -39,6 +45,11 @@ fleet_scene_of link waits = record { posted = link.posted; happenings = link.giv
 -- the link, with one datagram of this unit more
 abbrev pub with_post_at : FleetLinkState → (unit : ℕ) → DatagramView → FleetLinkState
 with_post_at link unit d = record { units = link.units; posted = link.posted ++ unit_post unit d ∷ []; given = link.given; rest = link.rest; lines = link.lines }
+
+-- it happens at one of so many units, or is the end
+abbrev pub IsOfUnit : (units : ℕ) → FleetHappeningView → Type 0
+IsOfUnit units (At_unit unit h) = (1 ≤ unit) × (unit ≤ units)
+IsOfUnit units All_ended = ⊤
 
 -- it can be given at its unit: what is delivered to a side was posted to it there, and it isn't the end
 abbrev pub CanBeGivenIn : FleetLinkState → FleetHappeningView → Type 0
@@ -52,4 +63,5 @@ pub record GivesInFleet (old new : FleetLinkState) (waits : List Waits) (h : Fle
   pub given : new.given ≡ kept_gift h old.given
   pub follows : h ≡ (next_fleet_turn (fleet_scene_of old waits) (plan_in old)).given
   pub plan : plan_in new ≡ (next_fleet_turn (fleet_scene_of old waits) (plan_in old)).plan
+  pub unit : IsOfUnit old.units h
   pub can : CanBeGivenIn old h

@@ -20,9 +20,9 @@ use Rattle.fleet_link.specs.FleetMail.{FleetMailView, NamesPlaced, fleet_scene_i
 
 -- ---- as the code keeps it
 
--- whether a side of a unit has a live session, of these from unit 1 on
+-- whether a side of a unit has a live session, of these from unit 1 on; no unit has number 0
 abbrev pub waits_in : List Waits → (unit : ℕ) → Side → Bool
-waits_in waits unit side = of (slice_get waits (unit - 1)) side
+waits_in waits unit side = if unit == 0 then false else of (slice_get waits (unit - 1)) side
   where
     of : Option Waits → Side → Bool
     of (Some w) sides.Loader = w.loader

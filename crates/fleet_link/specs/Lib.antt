@@ -3,3 +3,4 @@ pub mod Reading
 pub mod FleetMail
 pub mod FleetPlans
 pub mod FleetLinks
+pub mod FleetFollowed

@@ -49,7 +49,8 @@ impl Model for FleetLink {
       lines = fleet_line_views (drop link.next link.lines.items);
     } };
 
-    ghost invariant = { λ link. HoldsScript link.units link.lines.items link.next };
+    ghost invariant = { λ link. HoldsScript link.units link.lines.items link.next
+        link.mail.posted };
 }
 
 impl FleetLink {

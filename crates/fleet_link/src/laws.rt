@@ -1,11 +1,51 @@
-//! Laws of scripts of fleets, for readers. The function does nothing; its clauses are the law.
-ghost use Rattle.std.specs.Prelude.{◌≡◌, ◌∷◌, [], codes, Ok, Err};
+//! Laws of scripts of fleets and of their links, for callers and readers. Each function does
+//! nothing; its clauses are the law.
+ghost use Rattle.std.specs.Prelude.{◌≡◌, ◌∷◌, [], ℕ, List, codes, Ok, Err};
 ghost use Rattle.exchange_trace.specs.Lines as lines;
 ghost use Rattle.exchange_trace.specs.Scripts.{lines as written};
 ghost use Rattle.exchange_trace.specs.declared.fault.ScriptFault.TheVariants as faults;
 ghost use Rattle.exchange_trace.specs.declared.trace.Side.TheVariants as sides;
 ghost use Rattle.fleet_trace.specs.FleetLines.{Finish_all, Line_at, Lose_numbered, Next_of_all};
+ghost use Rattle.fleet_trace.specs.FleetFollowing.{FleetWaiting, FollowsFleet};
+ghost use Rattle.fleet_trace.specs.FleetLines.{FleetLine};
 ghost use Rattle.fleet_trace.specs.FleetScripts.{fleet_script_said};
+ghost use Rattle.fleet_trace.specs.FleetTraces.{All_ended, At_unit, Of_all, Of_unit, StepOfFleet};
+ghost use Rattle.exchange_trace.specs.Happenings.{DatagramView, HappeningView};
+ghost use Rattle.exchange_trace.specs.Steps.{Step};
+ghost use Rattle.link_net.specs.declared.link.Waits.{Waits};
+ghost use Rattle.fleet_link.specs.FleetFollowed.{HasFollowedFleet, TellsWaits, begun_step};
+ghost use Rattle.fleet_link.specs.FleetFollowed.{posting_step};
+ghost use Rattle.fleet_link.specs.FleetLinks.{FleetLinkState, GivesInFleet, with_post_at};
+ghost use Rattle.fleet_link.specs.declared.fleet_turn.FleetRest.TheVariants as rests;
+
+/// Who hands the link of a fleet all that the sides of its units post, and tells it which of them
+/// wait, gets a trace that follows the script.
+pub fn a_fleets_link_follows_its_script()
+    ensures start { (units : ℕ) (waiting : FleetWaiting) (script : List FleetLine)
+        → HasFollowedFleet units waiting script [] (record {
+          units = units;
+          posted = [];
+          given = [];
+          rest = rests.Nothing;
+          lines = script;
+        }) }
+    ensures next { (units : ℕ) (waiting : FleetWaiting) (script : List FleetLine)
+        (steps : List StepOfFleet) (old new : FleetLinkState) (waits : List Waits) (unit : ℕ)
+        (h : HappeningView)
+        → HasFollowedFleet units waiting script steps old → TellsWaits waiting steps waits
+        → GivesInFleet old new waits (At_unit unit h)
+        → HasFollowedFleet units waiting script (Of_unit unit (begun_step h) ∷ steps) new }
+    ensures post { (units : ℕ) (waiting : FleetWaiting) (script : List FleetLine) (unit : ℕ)
+        (s : Step) (earlier : List StepOfFleet) (link : FleetLinkState) (d : DatagramView)
+        → HasFollowedFleet units waiting script (Of_unit unit s ∷ earlier) link
+        → HasFollowedFleet units waiting script (Of_unit unit (posting_step s d) ∷ earlier)
+        (with_post_at link unit d) }
+    ensures end { (units : ℕ) (waiting : FleetWaiting) (script : List FleetLine)
+        (steps : List StepOfFleet) (old new : FleetLinkState) (waits : List Waits)
+        → HasFollowedFleet units waiting script steps old → TellsWaits waiting steps waits
+        → GivesInFleet old new waits All_ended
+        → FollowsFleet units waiting script (Of_all ∷ steps) }
+{}
 
 /// What some scripts of fleets say, and how some are refused: the words of the definitions computed
 /// (docs/FORMATS.md, "Script of a fleet"), a clause for each script.
