@@ -77,6 +77,14 @@ impl FleetLink {
         }
     }
 
+    /// How many units its script was read for: eight at most.
+    pub fn units(&self) -> usize
+        ensures count { result ≡ self.now.units }
+        ensures few { result ≤ 8 }
+    {
+        usize::from(self.units)
+    }
+
     /// Takes a datagram that a side of this unit posts, the loader to it or its target. A call that
     /// is refused changes nothing.
     pub fn post(&mut self, unit: u8, datagram: Datagram) -> Result<(), NoMemory>

@@ -10,4 +10,5 @@ mod fleet_turn;
 pub mod laws;
 
 pub use fleet_link::FleetLink;
+pub use fleet_mail::MOST_UNITS;
 pub use fleet_script::FleetScript;

@@ -1,3 +1,4 @@
+mod fleets;
 mod link_refusals;
 mod power_losses;
 mod reports;

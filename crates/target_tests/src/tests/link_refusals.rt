@@ -29,7 +29,7 @@ use worked_files::{APP_FILES, APP_HEADER, APP_LOADS};
 // The contents of the one file of each of the first two loads.
 const BODY: &[u8] = b"123456789";
 
-const ONE_LOAD: [(&[u8], &[u8]); 4] = [
+pub(crate) const ONE_LOAD: [(&[u8], &[u8]); 4] = [
     (b"P/1/LOADS.LUM", &APP_LOADS),
     (b"P/1/FILES.LUM", &APP_FILES),
     (b"P/1/APP.LUH", &APP_HEADER),
@@ -99,7 +99,7 @@ fn write_and_open(
 }
 
 // The set of these files.
-fn opened(alloc: Global, files: &[(&[u8], &[u8])]) -> Result<MediaSet, Fail> {
+pub(crate) fn opened(alloc: Global, files: &[(&[u8], &[u8])]) -> Result<MediaSet, Fail> {
     let mut host = MemHost::new(alloc);
     let opened = write_and_open(alloc, &mut host, files);
     drop(host);
@@ -109,15 +109,15 @@ fn opened(alloc: Global, files: &[(&[u8], &[u8])]) -> Result<MediaSet, Fail> {
 /// A target: its hardware, position and serial number, the size of its banks, and the bytes of its
 /// identity, with zeros after them.
 #[derive(Clone, Copy)]
-struct UnitUnderTest<'a> {
+pub(crate) struct UnitUnderTest<'a> {
     hw: &'a [u8],
     pos: &'a [u8],
     serial: &'a [u8],
     bank: u32,
-    identity: &'a [u8; 25],
+    pub(crate) identity: &'a [u8; 25],
 }
 
-const HW1: UnitUnderTest<'static> = UnitUnderTest {
+pub(crate) const HW1: UnitUnderTest<'static> = UnitUnderTest {
     hw: b"HW1",
     pos: b"L",
     serial: b"SN1",
@@ -362,7 +362,7 @@ fn run_on(
 }
 
 // The disk of a target that was formatted, by the bytes of its identity.
-fn disk_of(alloc: Global, identity: &[u8; 25]) -> Result<Fused<MemDisk>, NoMemory>
+pub(crate) fn disk_of(alloc: Global, identity: &[u8; 25]) -> Result<Fused<MemDisk>, NoMemory>
     ensures { IfOk result (λ disk. IsRunning (fused_in state_of disk)) }
 {
     let mut image = [0; 4125];

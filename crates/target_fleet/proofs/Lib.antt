@@ -1,0 +1,13 @@
+pub mod FirstBoots
+pub mod FleetTurns
+pub mod Indexed
+pub mod LeftBehind
+pub mod MergedSteps
+pub mod OwnFinish
+pub mod OwnLinks
+pub mod UnitEnds
+pub mod UnitSteps
+pub mod WholeFleet
+pub mod StepsInFleet
+pub mod TakenLines
+pub mod TurnsLeave

@@ -1,0 +1,13 @@
+pub mod Boots
+pub mod Clocks
+pub mod Orders
+pub mod PartPosts
+pub mod Ends
+pub mod Finishes
+pub mod Fleets
+pub mod Leaves
+pub mod Merges
+pub mod Runs
+pub mod Steps
+pub mod Units
+pub mod Waits

@@ -1,0 +1,54 @@
+-- A fleet's trace, taken line by line from those of its units (docs/EXCHANGE.md, "Fleets").
+use Rattle.std.specs.Prelude.{◌≡◌, ℕ, ◌+◌, ◌≤◌, List, [], ◌∷◌, ◌++◌, fold, map, reverse, slice_get, Some, Bool, true, false}
+use Rattle.exchange_trace.specs.Steps.{Step, steps_of}
+use Rattle.exchange_trace.specs.declared.trace.TraceStep.{TraceStep}
+use Rattle.exchange_trace.specs.declared.trace.TraceStep.TheVariants as trace_lines
+use Rattle.fleet_trace.specs.FleetTraces.{HasNotEnded, Of_all, Of_unit, StepOfFleet, fleet_steps_of, steps_of_unit, with_fleet_line}
+use Rattle.fleet_trace.specs.Merging.{stepping_order}
+use Rattle.fleet_trace.specs.declared.trace.FleetStep.{FleetStep}
+use Rattle.load_base.specs.Listed.{Listed}
+use Rattle.replay_turns.specs.Orders.{IsInOrder}
+use Rattle.target_fleet.specs.Orders.{IsFleetInOrder, SeenInFleet, lines_of_fleet, seen_in_fleet}
+
+-- each is the number of one of so many units
+abbrev pub AreUnits : (units : ℕ) → List ℕ → Type 0
+AreUnits units order = (k unit : ℕ) → slice_get order k ≡ Some unit → (1 ≤ unit) × (unit ≤ units)
+
+-- each unit's trace, from unit 1 on, has its own steps of these, and their lines stand in order
+abbrev pub HaveOwnSteps : List (Listed TraceStep) → List StepOfFleet → Type 0
+HaveOwnSteps traces steps = (i : ℕ) (trace : Listed TraceStep) → slice_get traces i ≡ Some trace → (steps_of trace.items ≡ steps_of_unit (i + 1) steps) × IsInOrder trace.items
+
+-- the steps after these, where lines of the fleet's trace come, of which the newest stands first
+abbrev pub fleet_steps_on : (before : List StepOfFleet) → (lines : List FleetStep) → List StepOfFleet
+fleet_steps_on before lines = fold with_fleet_line before (reverse lines)
+
+-- the lines of these steps, and then lines of the fleet's trace, of which the newest stands first
+abbrev pub fleet_lines_on : (before : List StepOfFleet) → (lines : List FleetStep) → List SeenInFleet
+fleet_lines_on before lines = lines_of_fleet before ++ map seen_in_fleet (reverse lines)
+
+-- a line of a trace begins a step
+abbrev pub begins_step : TraceStep → Bool
+begins_step (trace_lines.Given h) = true
+begins_step line = false
+
+-- Where a unit's trace has a newest step, it has the older ones left, and the fleet's lines are those of that step, and then
+-- what they were.
+pub record TakesNewest (unit : ℕ) (trace trace_then : List TraceStep) (lines lines_then : List FleetStep) : Type 0 where
+  pub left : (s : Step) (earlier : List Step) → steps_of trace ≡ s ∷ earlier → steps_of trace_then ≡ earlier
+  pub taken : (s : Step) (earlier : List Step) (before : List StepOfFleet) → steps_of trace ≡ s ∷ earlier
+      → fleet_steps_on before lines_then ≡ fleet_steps_on (Of_unit unit s ∷ before) lines
+  pub ordered : (s : Step) (earlier : List Step) (before : List StepOfFleet) → steps_of trace ≡ s ∷ earlier → IsInOrder trace
+      → IsInOrder trace_then × (fleet_lines_on before lines_then ≡ fleet_lines_on (Of_unit unit s ∷ before) lines)
+
+-- Where the units stepped in this order, and have their own steps of these, the fleet's lines are those of all these steps, and
+-- then what they were.
+abbrev pub TakesAll : (order : List ℕ) → List (Listed TraceStep) → (lines lines_then : List FleetStep) → Type 0
+TakesAll order traces lines lines_then =
+    (steps : List StepOfFleet) → HasNotEnded steps → order ≡ reverse (stepping_order steps) → HaveOwnSteps traces steps
+    → (fleet_steps_on [] lines_then ≡ fleet_steps_on steps lines) × (fleet_lines_on [] lines_then ≡ fleet_lines_on steps lines)
+
+-- so the fleet's trace is these steps and then its end, in order
+abbrev pub MergesAll : (order : List ℕ) → List (Listed TraceStep) → (trace : List FleetStep) → Type 0
+MergesAll order traces trace =
+    (steps : List StepOfFleet) → HasNotEnded steps → order ≡ reverse (stepping_order steps) → HaveOwnSteps traces steps
+    → (fleet_steps_of trace ≡ Of_all ∷ steps) × IsFleetInOrder trace

@@ -1,0 +1,18 @@
+//! Laws of fleets that ran. Each function does nothing; its clauses are the law.
+ghost use Rattle.std.specs.Prelude.{ℕ, List, Option};
+ghost use Rattle.disk_layout.specs.Holds.{StandingView};
+ghost use Rattle.fleet_trace.specs.FleetLines.{FleetLine};
+ghost use Rattle.fleet_trace.specs.FleetTraces.{StepOfFleet};
+ghost use Rattle.replay_rules.specs.BothEnds.{Setting};
+ghost use Rattle.session_rules.specs.Loader.{EndedSession};
+ghost use Rattle.target_fleet.specs.Finishes.{CompletesAtUnit};
+
+/// In a fleet that is left to the last `finish` of its script, each unit that is fault-free
+/// completes, whatever befell the others. Its premises are what [`fleet`](crate::fleet) promises of
+/// the unit and of the script.
+pub fn a_fleets_last_finish_completes()
+    ensures { (units : ℕ) (sets : ℕ → Setting) (script : List FleetLine)
+        (steps : List StepOfFleet) (unit : ℕ) (sessions : List EndedSession)
+        (standing : Option StandingView)
+        → CompletesAtUnit units sets script steps unit sessions standing }
+{}

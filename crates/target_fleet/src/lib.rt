@@ -1,0 +1,18 @@
+//! A run of the exchange between a loader and the targets of a fleet, over one link
+//! (docs/EXCHANGE.md, "Fleets").
+#![tactic(auto)]
+
+mod booting;
+mod ending;
+pub mod laws;
+mod merging;
+mod outcome;
+mod posting;
+mod running;
+mod stepping;
+mod waiting;
+mod whole_run;
+
+pub use fleet_trace::FleetStep;
+pub use outcome::{FleetDrive, FleetFault, UnitEnd};
+pub use whole_run::fleet;

@@ -1,0 +1,39 @@
+//! What a run of a fleet comes to.
+use disk_layout::{RecoverFault, Standing};
+use fleet_trace::FleetStep;
+use load_base::List;
+use loader_machine::Session;
+use thiserror::Error;
+
+/// A run of a fleet that came to its end.
+#[derive(Drop)]
+pub struct FleetDrive {
+    /// What happened at each unit, what its two sides posted, and what became of its target's
+    /// power.
+    pub trace: List<FleetStep>,
+    /// What each unit came to, from unit 1 on.
+    pub units: List<UnitEnd>,
+}
+
+/// What one unit of a fleet came to.
+#[derive(Drop)]
+pub struct UnitEnd {
+    /// The loader's sessions with this unit, in the order of their starts.
+    pub sessions: List<Session>,
+    /// The configuration that the unit's disk holds at the end. None where the disk failed there.
+    pub standing: Option<Standing>,
+}
+
+/// Why there was no run of a fleet. Units are counted from 1.
+#[derive(Clone, Copy, Debug, PartialEq, Eq, Drop, Error)]
+pub enum FleetFault {
+    /// The disk of this unit failed as its target came up first, and its count of faults rose.
+    #[error("the disk of unit {0} failed")]
+    Disk(u8),
+    /// The disk of this unit holds no configuration: V1 to V4.
+    #[error("the disk of unit {unit} holds no configuration: {fault}")]
+    NoConfig { unit: u8, fault: RecoverFault },
+    /// Out of memory.
+    #[error("out of memory")]
+    Memory,
+}

@@ -1,0 +1,104 @@
+//! A whole run of a fleet.
+ghost use Rattle.std.specs.Prelude.{◌≡◌, [], ℕ, IfErr, IfOk, length};
+ghost use Rattle.bank_store.specs.DiskWrites.{IsRunning};
+ghost use Rattle.fleet_link.specs.FleetFollowed.{HasFollowedFleet};
+ghost use Rattle.fleet_trace.specs.FleetFollowing.{FollowsFleet};
+ghost use Rattle.fleet_trace.specs.FleetTraces.{fleet_steps_of};
+ghost use Rattle.media_check.specs.Sets.{set_view};
+ghost use Rattle.replay_rules.specs.BothEnds.{Setting};
+ghost use Rattle.target_fleet.specs.Fleets.{AllEndInFleet, AllLeaveGood, EndsFleet};
+ghost use Rattle.target_fleet.specs.Fleets.{IsFleetRefusal};
+ghost use Rattle.target_fleet.specs.Leaves.{AllLeave};
+ghost use Rattle.target_fleet.specs.Runs.{AllStandOn, FollowsOnEach};
+ghost use Rattle.target_fleet.specs.Units.{AllDisks};
+
+use crate::booting::boot_all;
+use crate::ending::{Ends, end_all};
+use crate::merging::merge;
+use crate::outcome::{FleetDrive, FleetFault};
+use crate::running::{Units, run_to_end};
+use accept_rules::{Interlock, Rule};
+use bank_store::a_power_loss_takes_only_work;
+use disk_model::Power;
+use fleet_link::FleetLink;
+use load_base::{List, NoMemory};
+use media_check::MediaSet;
+use replay_rules::laws::the_configuration_changes_by_good_verdicts;
+use std::alloc::Global;
+
+/// Runs a loader that serves this media set, and the targets of these disks, unit 1 on the first,
+/// until the link gives the end. Each unit has a loader of its own, and what is said of a run with
+/// one target ([`upload_replay::drive`]) is said of each unit by its part of the trace. A target's
+/// disk is touched in the steps of its own unit alone.
+///
+/// Nothing was posted to the link before, and its script was read for as many units as there are
+/// disks.
+pub fn fleet<K: Power, R: Rule>(
+    alloc: Global,
+    link: &mut FleetLink,
+    disks: &mut [K],
+    media: &MediaSet,
+    interlock: &Interlock<R>,
+) -> Result<FleetDrive, FleetFault>
+    requires nothing_posted { link.old.posted ≡ [] }
+    requires many { length disks.old ≡ link.old.units }
+    requires running { AllDisks (λ (k : K). IsRunning (K.state k)) disks.old }
+    // With Ok.
+    ensures ended { IfOk result (λ drive. EndsFleet link.old link.new drive) }
+    ensures units { IfOk result (λ drive. AllEndInFleet K.state R.may_say interlock.now
+        (set_view media.now) drive disks.old disks.new) }
+    ensures follows { (sets : ℕ → Setting) → AllStandOn K.state R.may_say interlock.now
+        (set_view media.now) sets disks.old → IfOk result (λ drive. FollowsOnEach link.old sets
+        (fleet_steps_of drive.trace.items)) }
+    // Refusals.
+    ensures refused { IfErr result (λ fault. IsFleetRefusal K.state fault link.old link.new
+        disks.old disks.new) }
+    // Whatever it answers.
+    ensures same { length disks.new ≡ length disks.old }
+    ensures leaves { AllLeave K.state R.may_say interlock.now (set_view media.now) link.old link.new
+        disks.old disks.new }
+    ensures good { AllLeaveGood K.state R.may_say interlock.now (set_view media.now) disks.old
+        disks.new }
+{
+    // For the proof: these do nothing.
+    a_power_loss_takes_only_work::<K>();
+    the_configuration_changes_by_good_verdicts();
+    // For the proof: there are eight units at most.
+    link.units();
+    let drivers = match boot_all(alloc, disks, media, interlock) {
+        Ok(drivers) => drivers,
+        Err(fault) => return Err(fault),
+    };
+    let mut units = Units {
+        drivers,
+        order: Vec::new(alloc),
+    };
+    match run_to_end(link, disks, &mut units) {
+        Ok(()) => {}
+        Err(NoMemory) => {
+            // For the proof: dropped by a call, not by scope.
+            drop(units);
+            return Err(FleetFault::Memory);
+        }
+    }
+    let Units { drivers, order } = units;
+    match end_all(alloc, disks, drivers) {
+        Ok(ends) => {
+            let Ends { units, mut traces } = ends;
+            match merge(alloc, &order, &mut traces) {
+                Ok(trace) => {
+                    drop(traces);
+                    Ok(FleetDrive {
+                        trace,
+                        units: List::from(units),
+                    })
+                }
+                Err(NoMemory) => {
+                    drop((units, traces));
+                    Err(FleetFault::Memory)
+                }
+            }
+        }
+        Err(fault) => Err(fault),
+    }
+}
