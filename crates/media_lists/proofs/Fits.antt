@@ -1,23 +1,17 @@
 -- What it means for a list to fit.
-use Rattle.std.proofs.Common.{◌≡◌, ℕ, zero, suc, ◌+◌, ◌%◌, ◌<◌, ◌≤◌, ◌^◌, List, [], ◌∷◌, ◌++◌, length, take, get_or, Bool, true, false, Some, None, refl, sym, ap, subst, ◌∙◌, arith, append_assoc, leb}
-use Rattle.std.specs.Prelude.{map, not, IsTrue, ⊤}
+use Rattle.std.proofs.Common.{◌≡◌, ℕ, zero, suc, ◌+◌, ◌<◌, ◌≤◌, List, [], ◌∷◌, ◌++◌, length, take, get_or, Bool, true, false, Some, None, refl, sym, ap, subst, ◌∙◌, arith, append_assoc}
+use Rattle.std.specs.Prelude.{map, not, ⊤}
 use Rattle.std.specs.List.{AllByRecursion, All}
-use Rattle.std.proofs.lemmas.Bool.{leb-true, le-leb}
 use Rattle.std.proofs.lemmas.List.{append-nil, take_more, take-map, get_or-map, length-map}
 use Rattle.std.proofs.lemmas.List.Elements.{All-nil, All-cons}
-use Rattle.part_number.specs.VerdictLaws.{part_size}
-use Rattle.field_grammar.specs.Spelling.{spelled_length}
-use Rattle.part_number.specs.PartNumber.{IsPartNumberText}
-use Rattle.field_grammar.specs.Grammar.{IsBytes}
-use Rattle.media_lists.specs.Lists.{ListView}
 use Rattle.media_lists.specs.Entries.{is_listed}
-use Rattle.header_sections.specs.SectionFields.{entry_size, entries_fields, HaveDistances}
-use Rattle.media_lists.specs.ListFields.{IsMember, AreNew, AreEntries, IsMediaList}
+use Rattle.header_sections.specs.SectionFields.{entry_size, HaveDistances}
+use Rattle.media_lists.specs.ListFields.{AreNew}
 use Rattle.media_lists.specs.Files.{file_body_fields, IsListedFile}
 use Rattle.media_lists.specs.Loads.{load_entry_view, IsListedLoad}
 use Rattle.media_lists.specs.declared.lists.ListedFile.{ListedFile}
 use Rattle.media_lists.specs.declared.lists.LoadEntry.{LoadEntry}
-use Rattle.media_lists.proofs.Sizes.{size_file, whole_size}
+use Rattle.media_lists.proofs.Sizes.{size_file}
 
 pub few_hardware : (members : ℕ) (loads : List LoadEntry) → AllByRecursion (IsListedLoad members) (map load_entry_view loads) → All (λ load. length load.hardware.items ≤ 1024) loads
 few_hardware members [] each = All-nil (λ load. length load.hardware.items ≤ 1024)
@@ -74,28 +68,6 @@ some_or_none x same = absurd cc
 pub true_or_false : (b : Bool) → b ≡ true → b ≡ false → ⊥
 true_or_false true one other = absurd cc
 true_or_false false one other = absurd cc
-
--- ---- the whole
-
--- a list that meets all limits but that of its size
-pub list_tells : {E : Type 0} (P : ℕ → E → Type 0) (name_of : E → List ℕ) (f : E → List (List ℕ)) (v : ListView E) (entries size : ℕ) → IsPartNumberText v.set → v.members < 2 ^ 8 → IsBytes v.user
-    → IsMember v.members v.member → (length v.user % 2 ≡ 0) × (length v.user ≤ 131070) → AreEntries (P v.members) name_of f v.entries
-    → entries ≡ spelled_length (entries_fields f v.entries) → size ≡ 44 + entries + length v.user
-    → (IsTrue (leb size 1048576) → IsMediaList P name_of f v) × (IsMediaList P name_of f v → IsTrue (leb size 1048576))
-list_tells P name_of f v entries size set members bytes member user meet is total =
-    let whole = whole_size f v entries (part_size v.set set) is in (
-      λ small. record {
-        set = set;
-        member = member;
-        members = members;
-        entries = meet;
-        user = bytes;
-        user_even = user.0;
-        user_size = user.1;
-        size = omega (arith, whole, total, leb-true size 1048576 small);
-      },
-      λ fits. le-leb size 1048576 (omega (arith, whole, total, fits.size)),
-    )
 
 not_so : (b : Bool) → not b ≡ false → b ≡ true
 not_so true same = refl

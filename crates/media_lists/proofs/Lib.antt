@@ -6,10 +6,5 @@ pub mod PathPrefixes
 pub mod Texts
 pub mod Pieces
 pub mod Sizes
-pub mod Entries
-pub mod Heads
-pub mod Groups
-pub mod ListSpelled
-pub mod Writes
 pub mod Fits
 pub mod NameOrder

@@ -8,7 +8,7 @@ use Rattle.std.specs.Ordering.{nat_cmp, is_lt, is_eq, ordering_reverse}
 use Rattle.std.specs.declared.cmp.Ordering.TheVariants.{Less, Equal, Greater}
 use Rattle.std.proofs.lemmas.Cmp.{nat_list_cmp_total, same_from_slice_cmp}
 use Rattle.std.proofs.lemmas.Bool.Decides.{nat_tests}
-use Rattle.std.proofs.lemmas.List.{get_or_append_left, length-map, map-append}
+use Rattle.std.proofs.lemmas.List.{get_or_append_left, length-map}
 use Rattle.std.proofs.lemmas.List.Edits.{length-insert, get_or-insert_below, get_or-insert_at, get_or-insert_above}
 use Rattle.std.proofs.lemmas.List.Elements.{All-cons, All-tail}
 use Rattle.std.proofs.lemmas.List.Sorted.{searchable_from_sorted, list_any-IsPermutation, IsPermutation-trans, IsPermutation-insert, IsPermutation-to_front, IsPermutation-cons, IsPermutation-map, All-permutation, length_permutation}
@@ -141,8 +141,3 @@ one_more_name names offsets name at order within parts =
       whole = IsPermutation-trans (names ++ name ∷ []) (map key (p ∷ offsets)) (map key (insert offsets at p)) (subst (λ (l : List (List ℕ)). IsPermutation (names ++ name ∷ []) l) seen all)
           (IsPermutation-map key (p ∷ offsets) (insert offsets at p) (IsPermutation-insert offsets at p));
     }
-
--- an entry was added after the others
-pub order_pushed : {E : Type 0} (name_of : E → List ℕ) (es new : List E) (e : E) (offsets : List ℕ) → new ≡ es ++ e ∷ [] → IsOrder (map name_of es ++ name_of e ∷ []) offsets → IsOrder (map name_of new) offsets
-order_pushed name_of es new e offsets pushed order =
-    subst (λ (l : List (List ℕ)). IsOrder l offsets) (sym (ap (λ (l : List _). map name_of l) pushed ∙ map-append name_of es (e ∷ []))) order

@@ -13,8 +13,8 @@ use header_sections::{entries_size, put_entries, put_user, with_check_sum};
 use load_base::{Bytes, NoMemory};
 use std::alloc::Global;
 
-// The words at which the sections begin, where that of the entries takes N bytes.
-fn pointers_of(entries: u64) -> Pointers
+/// The words at which the sections begin, where that of the entries takes this many bytes.
+pub fn pointers_of(entries: u64) -> Pointers
     requires { entries ≤ 1048576 }
     ensures { result ≡ record { set = 10; entries = 20; user = (40 + entries) / 2 } }
 {

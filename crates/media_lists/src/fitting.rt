@@ -13,7 +13,7 @@ ghost use Rattle.media_lists.specs.Loads.{IsLoadsList};
 
 use crate::lists::{FilesList, ListedFile, LoadEntry, LoadsList};
 use crate::measuring::{list_size, load_body_size};
-use crate::names::{Order, is_new, is_new_load};
+use crate::names::{Named, Order, is_new, is_new_load};
 use crate::paths::path_fault;
 use crate::reading::{LONGEST_LIST, MOST_ENTRIES};
 use header_sections::entries_size;
@@ -22,7 +22,8 @@ use load_base::Text;
 /// The most bytes of user data and of an entry that isn't the last: 65,535 words.
 const MOST_BYTES: usize = 131_070;
 
-fn is_member(members: u8, member: u16) -> bool
+/// Whether a member of a set of `members` has this number.
+pub fn is_member(members: u8, member: u16) -> bool
     ensures { IsTrue result ↔ is_such_member members member }
 {
     1 <= member && member <= u16::from(members)
@@ -37,7 +38,8 @@ fn is_path(bytes: &[u8]) -> bool
     }
 }
 
-fn is_user_data(user: &[u8]) -> bool
+/// Whether a list can have this user data.
+pub fn is_user_data(user: &[u8]) -> bool
     ensures fits { IsTrue result ↔ ((length user.now % 2 ≡ 0) × (length user.now ≤ 131070)) }
     ensures bytes { IsBytes user.now }
 {
@@ -66,13 +68,14 @@ fn are_files(files: &[ListedFile], members: u8) -> bool
     true
 }
 
-fn are_new_files(files: &[ListedFile]) -> bool
-    requires { length files.now ≤ 1024 }
-    ensures { IsTrue result ↔ AreNew file_name [] files.now }
+/// Whether no entry has the name of one before it.
+pub fn are_new<E: Named>(entries: &[E]) -> bool
+    requires { length entries.now ≤ 1024 }
+    ensures { IsTrue result ↔ AreNew E.name_of [] entries.now }
 {
     let mut order = Order::new();
-    for (index, file) in files.iter().enumerate() {
-        if !is_new(&mut order, &files[..index], file.name.as_slice()) {
+    for (index, entry) in entries.iter().enumerate() {
+        if !is_new(&mut order, &entries[..index], entry.name()) {
             return false;
         }
     }
@@ -86,7 +89,7 @@ fn files_meet_limits(files: &[ListedFile], members: u8) -> bool
     if files.len() > MOST_ENTRIES {
         return false;
     }
-    are_files(files, members) && are_new_files(files)
+    are_files(files, members) && are_new(files)
 }
 
 /// The list of files meets the limits.

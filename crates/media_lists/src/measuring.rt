@@ -18,7 +18,7 @@ pub(crate) fn load_body_size(load: &LoadEntry) -> u64
 }
 
 /// The bytes of a list, from those of its section of entries and of its user data.
-pub(crate) fn list_size(entries: u64, user: usize) -> u64
+pub fn list_size(entries: u64, user: usize) -> u64
     requires entries { entries < 2 ^ 50 }
     requires user { user ≤ 131070 }
     ensures { result ≡ 44 + entries + user }

@@ -14,11 +14,13 @@ use arrayvec::ArrayVec;
 use std::cmp::Ordering;
 
 /// An entry of a list, which has the name of a file.
-pub(crate) trait Named {
+pub trait Named {
     ghost use Rattle.std.specs.Prelude.{List, ℕ};
 
+    /// The name.
     ghost name_of: { Self → List ℕ };
 
+    /// The name.
     fn name(&self) -> &[u8]
         ensures { result.now ≡ name_of self.now };
 }
@@ -40,10 +42,10 @@ impl Named for LoadEntry {
 }
 
 /// The indices of entries in the order of their names. It takes no memory.
-pub(crate) type Order = ArrayVec<u16, MOST_ENTRIES>;
+pub type Order = ArrayVec<u16, MOST_ENTRIES>;
 
-/// Adds the index of the next entry, unless one of these entries has its name.
-pub(crate) fn is_new<E: Named>(order: &mut Order, entries: &[E], name: &[u8]) -> bool
+/// Adds the index of the next entry, whose name this is, unless one of these entries has it.
+pub fn is_new<E: Named>(order: &mut Order, entries: &[E], name: &[u8]) -> bool
     requires few { length entries.now < 1024 }
     requires order { IsOrder (map E.name_of entries.now) order.old.items }
     ensures new { result ≡ not (is_listed E.name_of name.now entries.now) }

@@ -15,21 +15,22 @@ use part_number::PartNumber;
 use std::alloc::Global;
 
 /// The most bytes of a list.
-pub(crate) const LONGEST_LIST: usize = 1_048_576;
+pub const LONGEST_LIST: usize = 1_048_576;
 
 /// The most entries of a list, and the most kinds of hardware of an entry.
-pub(crate) const MOST_ENTRIES: usize = 1_024;
+pub const MOST_ENTRIES: usize = 1_024;
 
 /// The words at which the sections begin, as read from the head.
 #[derive(Clone, Copy)]
-pub(crate) struct Pointers {
-    pub(crate) set: u32,
-    pub(crate) entries: u32,
-    pub(crate) user: u32,
+pub struct Pointers {
+    pub set: u32,
+    pub entries: u32,
+    pub user: u32,
 }
 
+/// Tests that at most 1,048,576 bytes are left, those of the whole list. It reads nothing.
 #[tactic(auto, unfolding(crate::specs::Lists::limit))]
-pub(crate) fn test_limit(reader: &mut Reader) -> Result<(), ListFault>
+pub fn test_limit(reader: &mut Reader) -> Result<(), ListFault>
     ensures { Decodes Memory (λ u. u) limit reader.old result reader.new }
 {
     if reader.left() <= LONGEST_LIST {
@@ -41,8 +42,9 @@ pub(crate) fn test_limit(reader: &mut Reader) -> Result<(), ListFault>
 
 // ---- the head
 
+/// The length in words, the version, the spare word and the pointers.
 #[tactic(auto, unfolding(crate::specs::Lists::head))]
-pub(crate) fn read_head(reader: &mut Reader, version: u16) -> Result<Pointers, ListFault>
+pub fn read_head(reader: &mut Reader, version: u16) -> Result<Pointers, ListFault>
     ensures { Decodes Memory (λ p. p) (head version) reader.old result reader.new }
 {
     read_start(reader, version)?;
@@ -78,8 +80,9 @@ pub(crate) fn read_path(alloc: Global, reader: &mut Reader) -> Result<Text, List
     Ok(path)
 }
 
+/// A count, 2 bytes, of at most 1,024.
 #[tactic(auto, unfolding(crate::specs::Lists::counted))]
-pub(crate) fn read_count(reader: &mut Reader) -> Result<usize, ListFault>
+pub fn read_count(reader: &mut Reader) -> Result<usize, ListFault>
     ensures count { Decodes Memory (λ n. n) counted reader.old result reader.new }
     ensures few { IfOk result (λ n. n ≤ 1024) }
 {
@@ -117,8 +120,9 @@ fn read_membership(reader: &mut Reader) -> Result<(u8, u8), ListFault>
     }
 }
 
+/// The number of a member of a set of `members`, 2 bytes.
 #[tactic(auto, unfolding(crate::specs::Lists::member_of))]
-pub(crate) fn read_member_of(reader: &mut Reader, members: u8) -> Result<u16, ListFault>
+pub fn read_member_of(reader: &mut Reader, members: u8) -> Result<u16, ListFault>
     ensures { Decodes Memory (λ n. n) (member_of members) reader.old result reader.new }
 {
     let offset = reader.place() as u64;
@@ -130,11 +134,10 @@ pub(crate) fn read_member_of(reader: &mut Reader, members: u8) -> Result<u16, Li
     }
 }
 
+/// The part number of the set, and which member of how many the list belongs to; `said` is the
+/// first pointer.
 #[tactic(auto, unfolding(crate::specs::Lists::identity))]
-pub(crate) fn read_identity(
-    reader: &mut Reader,
-    said: u32,
-) -> Result<(PartNumber, u8, u8), ListFault>
+pub fn read_identity(reader: &mut Reader, said: u32) -> Result<(PartNumber, u8, u8), ListFault>
     ensures { Decodes Memory (λ x. x) (identity said) reader.old result reader.new }
 {
     test_section(reader, 1, said)?;
@@ -145,8 +148,9 @@ pub(crate) fn read_identity(
 
 // ---- the end
 
+/// The user data, to which the third pointer, `said`, leads, and the check sum.
 #[tactic(auto, unfolding(crate::specs::Lists::tail))]
-pub(crate) fn read_tail(alloc: Global, reader: &mut Reader, said: u32) -> Result<Bytes, ListFault>
+pub fn read_tail(alloc: Global, reader: &mut Reader, said: u32) -> Result<Bytes, ListFault>
     ensures { Decodes Memory (λ b. b.items) (tail said) reader.old result reader.new }
 {
     let user = read_user_data(alloc, reader, 3, said)?;

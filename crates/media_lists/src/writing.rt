@@ -16,7 +16,7 @@ use part_number::PartNumber;
 
 /// The head of a list of `size` bytes.
 #[tactic(auto, unfolding(crate::specs::ListFields::head_fields))]
-pub(crate) fn put_head(
+pub fn put_head(
     out: &mut Writer,
     version: u16,
     size: u32,
@@ -42,8 +42,9 @@ fn put_pointers(out: &mut Writer, offsets: Pointers) -> Result<(), NoMemory>
     Ok(())
 }
 
+/// The part number of the set, and which member of how many the list belongs to.
 #[tactic(auto, using(part_number::specs::VerdictLaws::part_size), unfolding(crate::specs::ListFields::identity_fields))]
-pub(crate) fn put_identity(
+pub fn put_identity(
     out: &mut Writer,
     set: &PartNumber,
     member: u8,

@@ -5,8 +5,8 @@ use Rattle.media_lists.specs.Loads.{load_entry_view, loads_list_view, load_body_
 use Rattle.part_number.specs.VerdictLaws.{part_size}
 use Rattle.media_lists.proofs.Fits.{few_hardware}
 use Rattle.media_lists.proofs.Seen.{entries_seen, distances_seen}
-use Rattle.media_lists.proofs.Sizes.{whole_size}
-use Rattle.media_lists.proofs.Writes.{sections_written, covered_written, list_written}
+use Rattle.media_lists.specs.SizeLaws.{whole_size}
+use Rattle.media_lists.specs.WrittenLaws.{sections_written, covered_written, list_written}
 use Rattle.media_lists.proofs.encoding.loads_bytes.Goals as goal
 
 pub entries_size-entries-requires-clause-each : goal.entries_size-entries-requires-clause-each

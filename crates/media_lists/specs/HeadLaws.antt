@@ -13,7 +13,7 @@ use Rattle.header_sections.specs.SectionLaws.{placed-user_data, placed-end}
 use Rattle.media_lists.specs.Lists.{refused, shared, pointers, membership, check_sum, limit}
 use Rattle.media_lists.specs.ListFields.{IsMember}
 use Rattle.media_lists.specs.declared.reading.Pointers.{Pointers}
-use Rattle.media_lists.proofs.Pieces.{both, spelled-u8, spelled-u16, spelled-u32}
+use Rattle.media_lists.specs.PieceLaws.{both, spelled-u8, spelled-u16, spelled-u32}
 
 pub placed-limit : IsPlacedBy limit (λ before u. []) (λ before after u. after ≤ 1048576)
 unfolding limit

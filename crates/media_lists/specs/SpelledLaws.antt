@@ -1,23 +1,26 @@
--- A list is spelled by its fields, and by no others.
+-- A list is spelled by its fields, and by no others, and nothing stands after it.
 use Rattle.std.proofs.Common.{◌≡◌, ℕ, ◌+◌, ◌/◌, ◌%◌, ◌<◌, ◌≤◌, ◌^◌, List, [], ◌++◌, length, refl, sym, ap, subst, ◌∙◌, arith, length-append, append_assoc}
 use Rattle.std.specs.List.{concat}
 use Rattle.std.proofs.lemmas.List.{append-nil}
 use Rattle.std.proofs.lemmas.List.Folds.{concat-append}
 use Rattle.crc_fields.specs.CheckSums.{crc16_of}
-use Rattle.field_grammar.specs.Grammar.{Grammar, Follows}
+use Rattle.field_grammar.specs.Grammar.{Grammar, Follows, EndsTheBytes}
 use Rattle.field_grammar.specs.Spelling.{IsSpelledBy, SpellsWhole, spelled_length}
+use Rattle.field_grammar.specs.ExactLaws.{ends_renamed, ends_last, ends_before}
 use Rattle.field_grammar.specs.SectionLaws.{size_more, size_number}
 use Rattle.field_grammar.specs.Fields.{number_fields}
-use Rattle.media_lists.specs.Lists.{head, ListView, media_list}
+use Rattle.header_sections.specs.Sections.{end}
+use Rattle.header_sections.specs.SectionLaws.{ends-end}
+use Rattle.media_lists.specs.Lists.{refused, head, tail, check_sum, ListView, media_list}
 use Rattle.media_lists.specs.Entries.{entries}
 use Rattle.header_sections.specs.SectionFields.{entry_size, entries_fields, user_fields, IsUserData}
 use Rattle.media_lists.specs.ListFields.{head_fields, entries_offset, user_offset, list_size, pointers_of, sections_fields, covered_fields, list_fields, IsMediaList}
 use Rattle.media_lists.specs.declared.fault.ListFault.{ListFault}
 use Rattle.media_lists.specs.declared.reading.Pointers.{Pointers}
-use Rattle.media_lists.proofs.Entries.{placed-entries}
-use Rattle.media_lists.proofs.Heads.{placed-limit, ArePointers}
-use Rattle.media_lists.proofs.Groups.{IsHead, head_to, head_from, Identity, identity_parts, placed-identity, placed-tail}
-use Rattle.media_lists.proofs.Sizes.{size_head, even_size}
+use Rattle.media_lists.specs.EntryLaws.{placed-entries}
+use Rattle.media_lists.specs.HeadLaws.{placed-limit, ArePointers}
+use Rattle.media_lists.specs.GroupLaws.{IsHead, head_to, head_from, Identity, identity_parts, placed-identity, placed-tail}
+use Rattle.media_lists.specs.SizeLaws.{size_head, even_size}
 
 -- a format of entries, and how its entries are spelled
 pub record HasEntries {E : Type 0} (body : ℕ → Grammar ListFault E) (f : E → List (List ℕ)) (P : ℕ → E → Type 0) : Type 0 where
@@ -170,3 +173,17 @@ list_from {E = E} version body name_of f P small has v fits =
 pub spells-list : {E : Type 0} (version : ℕ) (body : ℕ → Grammar ListFault E) (name_of : E → List ℕ) (f : E → List (List ℕ)) (P : ℕ → E → Type 0) → version < 2 ^ 16 → HasEntries body f P
     → SpellsWhole (list_of version body name_of) (list_fields version f) (IsMediaList P name_of f)
 spells-list version body name_of f P small has = record { to = list_to version body name_of f P small has; from = list_from version body name_of f P small has }
+
+-- ---- nothing stands after it
+
+ends-check_sum : EndsTheBytes check_sum
+unfolding check_sum
+ends-check_sum = ends_last _ _ (λ before. ends_last _ _ (λ said. ends_renamed refused (end said (crc16_of before)) (ends-end said (crc16_of before))))
+
+ends-tail : (said : ℕ) → EndsTheBytes (tail said)
+unfolding tail
+ends-tail said = ends_last _ _ (λ user. ends_before _ _ ends-check_sum)
+
+pub ends-media_list : {E : Type 0} (version : ℕ) (section_of : ℕ → ℕ → Grammar ListFault (List E)) → EndsTheBytes (media_list version section_of)
+unfolding media_list
+ends-media_list version section_of = ends_last _ _ (λ limit. ends_last _ _ (λ offsets. ends_last _ _ (λ what. ends_last _ _ (λ list. ends_before _ _ (ends-tail offsets.user)))))

@@ -18,7 +18,7 @@ use Rattle.media_lists.specs.Entries.{numbered_entry, is_listed, new_entry, entr
 use Rattle.media_lists.specs.ListFields.{AreNew, AreEntries}
 use Rattle.media_lists.specs.declared.fault.ListFault.{ListFault}
 use Rattle.media_lists.specs.declared.fault.ListFault.TheVariants as faults
-use Rattle.media_lists.proofs.Pieces.{spelled-u16, spelled-counted_few, placed-section}
+use Rattle.media_lists.specs.PieceLaws.{spelled-u16, spelled-counted_few, placed-section}
 
 spelled-entry : {E : Type 0} (body : Grammar ListFault E) (f : E → List (List ℕ)) (P : E → Type 0) (number : ℕ) (last : Bool) → IsSpelledBy body f P
     → IsSpelledBy (numbered_entry body number last) (entry_fields f last) (λ e. (distance_of last (entry_size f e) < 2 ^ 16) × P e)

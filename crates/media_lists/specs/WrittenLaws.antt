@@ -10,7 +10,7 @@ use Rattle.media_lists.specs.Lists.{ListView}
 use Rattle.header_sections.specs.SectionFields.{entries_fields, user_fields}
 use Rattle.media_lists.specs.ListFields.{head_fields, identity_fields, entries_offset, list_size, pointers_of, sections_fields, covered_fields, list_fields}
 use Rattle.media_lists.specs.declared.reading.Pointers.{Pointers}
-use Rattle.media_lists.proofs.Sizes.{size_identity, whole_size}
+use Rattle.media_lists.specs.SizeLaws.{size_identity, whole_size}
 
 pub sections_written : {E : Type 0} (f : E → List (List ℕ)) (v : ListView E) (o0 o1 o2 o3 : List ℕ) → o1 ≡ o0 ++ concat (identity_fields v.set v.member v.members) → o2 ≡ o1 ++ concat (entries_fields f v.entries)
     → o3 ≡ o2 ++ concat (user_fields v.user) → o3 ≡ o0 ++ concat (sections_fields f v)

@@ -17,8 +17,8 @@ use Rattle.media_lists.specs.ListFields.{head_fields, identity_fields}
 use Rattle.media_lists.specs.declared.fault.ListFault.{ListFault}
 use Rattle.media_lists.specs.declared.fault.ListFault.TheVariants as faults
 use Rattle.media_lists.specs.declared.reading.Pointers.{Pointers}
-use Rattle.media_lists.proofs.Pieces.{spelled-u16, spelled-part, placed-section}
-use Rattle.media_lists.proofs.Heads.{pointers_parts, ArePointers, spelled-pointers, membership_parts, IsMembership, spelled-membership, placed-user, placed-check_sum}
+use Rattle.media_lists.specs.PieceLaws.{spelled-u16, spelled-part, placed-section}
+use Rattle.media_lists.specs.HeadLaws.{pointers_parts, ArePointers, spelled-pointers, membership_parts, IsMembership, spelled-membership, placed-user, placed-check_sum}
 
 -- ---- the head
 
