@@ -12,6 +12,8 @@ abbrev pub ending_of : ShownKind → List ℕ
 ending_of kinds.Header = codes ".LUH"
 ending_of kinds.LoadsList = codes "LOADS.LUM"
 ending_of kinds.FilesList = codes "FILES.LUM"
+ending_of kinds.BatchesList = codes "BATCHES.LUM"
+ending_of kinds.Batch = codes ".LUB"
 ending_of kinds.Lci = codes ".LCI"
 ending_of kinds.Lcl = codes ".LCL"
 ending_of kinds.Lcs = codes ".LCS"

@@ -1,3 +1,4 @@
+pub mod BatchText
 pub mod HeaderText
 pub mod Kinds
 pub mod ListText

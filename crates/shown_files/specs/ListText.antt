@@ -13,7 +13,7 @@ use Rattle.shown_files.specs.UserLine.{user_line}
 unfoldable pub member_line : (member members : ℕ) → List ℕ
 member_line member members = line (codes "member" ∷ decimal member ∷ codes "of" ∷ decimal members ∷ [])
 
--- `loads WORDS VERSION` or `files WORDS VERSION`
+-- `loads WORDS VERSION`, `files WORDS VERSION`, or what another kind has in place of the first word
 unfoldable pub kind_line : (kind : List ℕ) (words version : ℕ) → List ℕ
 kind_line kind words version = line (kind ∷ decimal words ∷ hex_16 version ∷ [])
 

@@ -1,6 +1,12 @@
 -- What is shown of the bytes of a file, by its kind: its fields, or its first fault (docs/FORMATS.md).
 use Rattle.std.specs.Prelude.{◌≡◌, ◌≢◌, List, ℕ}
 use Rattle.field_grammar.specs.Grammar.{Fault}
+use Rattle.batch_lists.specs.Batch.{batch}
+use Rattle.batch_lists.specs.BatchFields.{BatchSpells}
+use Rattle.batch_lists.specs.Batches.{batches_list, BatchesSpells}
+use Rattle.batch_lists.specs.FaultTexts.{batch_fault_text, batches_fault_text}
+use Rattle.batch_lists.specs.declared.fault.BatchFault.TheVariants as batches
+use Rattle.batch_lists.specs.declared.fault.BatchesFault.TheVariants as batches_lists
 use Rattle.load_header.specs.Header.{header}
 use Rattle.load_header.specs.HeaderFields.{HeaderSpells}
 use Rattle.load_header.specs.HeaderFaultText.{header_fault_text}
@@ -18,6 +24,7 @@ use Rattle.media_lists.specs.Files.{files_list, FilesSpells}
 use Rattle.media_lists.specs.Loads.{loads_list, LoadsSpells}
 use Rattle.media_lists.specs.ListFaultText.{list_fault_text}
 use Rattle.media_lists.specs.declared.fault.ListFault.TheVariants as lists
+use Rattle.shown_files.specs.BatchText.{shown_batch, shown_batches_list}
 use Rattle.shown_files.specs.HeaderText.{shown_header}
 use Rattle.shown_files.specs.ListText.{shown_files_list, shown_loads_list}
 use Rattle.shown_files.specs.ProtocolText.{shown_lci, shown_lcl, shown_lcs, shown_lui, shown_lur, shown_lus}
@@ -39,6 +46,8 @@ abbrev pub HasFields : ShownKind → (bytes text : List ℕ) → Type 0
 HasFields kinds.Header bytes text = IsTextOfValue HeaderSpells (shown_header bytes) bytes text
 HasFields kinds.LoadsList bytes text = IsTextOfValue LoadsSpells (shown_loads_list bytes) bytes text
 HasFields kinds.FilesList bytes text = IsTextOfValue FilesSpells (shown_files_list bytes) bytes text
+HasFields kinds.BatchesList bytes text = IsTextOfValue BatchesSpells (shown_batches_list bytes) bytes text
+HasFields kinds.Batch bytes text = IsTextOfValue BatchSpells (shown_batch bytes) bytes text
 HasFields kinds.Lci bytes text = IsTextOfValue LciSpells shown_lci bytes text
 HasFields kinds.Lcl bytes text = IsTextOfValue LclSpells shown_lcl bytes text
 HasFields kinds.Lcs bytes text = IsTextOfValue LcsSpells shown_lcs bytes text
@@ -55,6 +64,8 @@ abbrev pub HasFault : ShownKind → (bytes text : List ℕ) → Type 0
 HasFault kinds.Header bytes text = IsTextOfFault headers.Memory (Fault header) header_fault_text bytes text
 HasFault kinds.LoadsList bytes text = IsTextOfFault lists.Memory (Fault loads_list) list_fault_text bytes text
 HasFault kinds.FilesList bytes text = IsTextOfFault lists.Memory (Fault files_list) list_fault_text bytes text
+HasFault kinds.BatchesList bytes text = IsTextOfFault batches_lists.Memory (Fault batches_list) batches_fault_text bytes text
+HasFault kinds.Batch bytes text = IsTextOfFault batches.Memory (Fault batch) batch_fault_text bytes text
 HasFault kinds.Lci bytes text = IsFileFault (Fault lci) bytes text
 HasFault kinds.Lcl bytes text = IsFileFault (Fault lcl) bytes text
 HasFault kinds.Lcs bytes text = IsFileFault (Fault lcs) bytes text

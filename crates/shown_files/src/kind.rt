@@ -11,6 +11,10 @@ pub enum ShownKind {
     LoadsList,
     /// A list of a media set's files, `FILES.LUM`.
     FilesList,
+    /// A list of a media set's batches, `BATCHES.LUM`.
+    BatchesList,
+    /// A batch, `.LUB`.
+    Batch,
     /// A configuration initialization file, `.LCI`.
     Lci,
     /// A configuration list file, `.LCL`.
@@ -37,6 +41,10 @@ impl ShownKind {
             Some(ShownKind::LoadsList)
         } else if ends_with(name, b"FILES.LUM") {
             Some(ShownKind::FilesList)
+        } else if ends_with(name, b"BATCHES.LUM") {
+            Some(ShownKind::BatchesList)
+        } else if ends_with(name, b".LUB") {
+            Some(ShownKind::Batch)
         } else if ends_with(name, b".LCI") {
             Some(ShownKind::Lci)
         } else if ends_with(name, b".LCL") {

@@ -1,6 +1,7 @@
 //! What `show` prints of a file: its fields in the order of its format, or its first fault.
 #![tactic(auto)]
 
+mod batches;
 mod header;
 mod kind;
 mod lists;
@@ -8,6 +9,7 @@ mod protocol;
 mod shown;
 mod user;
 
+pub use batches::{batch_text, batches_list_text};
 pub use header::header_text;
 pub use kind::ShownKind;
 pub use lists::{files_list_text, loads_list_text};

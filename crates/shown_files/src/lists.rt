@@ -47,8 +47,9 @@ pub fn loads_list_text(alloc: Global, bytes: &[u8], list: &LoadsList) -> Result<
     Ok(out)
 }
 
+/// `loads WORDS VERSION` or what another kind has in place of `loads`.
 #[tactic(auto, unfolding(crate::specs::ListText::kind_line))]
-fn put_kind(
+pub(crate) fn put_kind(
     alloc: Global,
     out: &mut Bytes,
     kind: &[u8],
@@ -65,8 +66,9 @@ fn put_kind(
     out.extend(b"\n")
 }
 
+/// The part number of the set, and which member of how many.
 #[tactic(auto, unfolding(crate::specs::ListText::set_lines))]
-fn put_set(
+pub(crate) fn put_set(
     alloc: Global,
     out: &mut Bytes,
     set: &PartNumber,
@@ -179,9 +181,9 @@ fn put_hardware(out: &mut Bytes, hardware: &[Text]) -> Result<(), NoMemory>
     Ok(())
 }
 
-// The sum that the reader of these bytes has tested.
+/// The sum at the end of these bytes, which their reader has tested.
 #[tactic(auto, unfolding(crate::specs::ListText::crc_line, printed_text::specs::Lines::field_line))]
-fn put_crc(out: &mut Bytes, bytes: &[u8]) -> Result<(), NoMemory>
+pub(crate) fn put_crc(out: &mut Bytes, bytes: &[u8]) -> Result<(), NoMemory>
     ensures { OnOk result (out.new.items ≡ out.old.items ++ crc_line bytes.now) }
 {
     out.extend(b"crc ")?;

@@ -9,10 +9,12 @@ ghost use Rattle.load_protocol_files.specs.declared.fault.FileFault.TheVariants 
 ghost use Rattle.shown_files.specs.declared.kind.ShownKind.TheVariants as kinds;
 ghost use Rattle.shown_files.specs.Shown.{IsShown};
 
+use crate::batches::{batch_text, batches_list_text};
 use crate::header::header_text;
 use crate::kind::ShownKind;
 use crate::lists::{files_list_text, loads_list_text};
 use crate::protocol::{lci_text, lcl_text, lcs_text, lui_text, lur_text, lus_text};
+use batch_lists::{Batch, BatchFault, BatchesFault, BatchesList};
 use load_base::{Bytes, NoMemory, Text};
 use load_header::{HeaderFault, LoadHeader};
 use load_protocol_files::{FileFault, Lci, Lcl, Lcs, Lui, Lur, Lus};
@@ -37,6 +39,8 @@ pub fn show(alloc: Global, kind: ShownKind, bytes: &[u8]) -> Result<Shown, NoMem
         ShownKind::Header => shown_header(alloc, bytes),
         ShownKind::LoadsList => shown_loads_list(alloc, bytes),
         ShownKind::FilesList => shown_files_list(alloc, bytes),
+        ShownKind::BatchesList => shown_batches_list(alloc, bytes),
+        ShownKind::Batch => shown_batch(alloc, bytes),
         ShownKind::Lci => shown_lci(alloc, bytes),
         ShownKind::Lcl => shown_lcl(alloc, bytes),
         ShownKind::Lcs => shown_lcs(alloc, bytes),
@@ -72,6 +76,26 @@ fn shown_files_list(alloc: Global, bytes: &[u8]) -> Result<Shown, NoMemory>
     match FilesList::decode(alloc, bytes) {
         Ok(list) => Ok(Shown::Fields(files_list_text(alloc, bytes, &list)?)),
         Err(ListFault::Memory) => Err(NoMemory),
+        Err(fault) => Ok(Shown::Fault(fault.text(alloc)?)),
+    }
+}
+
+fn shown_batches_list(alloc: Global, bytes: &[u8]) -> Result<Shown, NoMemory>
+    ensures { IfOk result (λ shown. IsShown kinds.BatchesList bytes.now shown) }
+{
+    match BatchesList::decode(alloc, bytes) {
+        Ok(list) => Ok(Shown::Fields(batches_list_text(alloc, bytes, &list)?)),
+        Err(BatchesFault::Memory) => Err(NoMemory),
+        Err(fault) => Ok(Shown::Fault(fault.text(alloc)?)),
+    }
+}
+
+fn shown_batch(alloc: Global, bytes: &[u8]) -> Result<Shown, NoMemory>
+    ensures { IfOk result (λ shown. IsShown kinds.Batch bytes.now shown) }
+{
+    match Batch::decode(alloc, bytes) {
+        Ok(batch) => Ok(Shown::Fields(batch_text(alloc, bytes, &batch)?)),
+        Err(BatchFault::Memory) => Err(NoMemory),
         Err(fault) => Ok(Shown::Fault(fault.text(alloc)?)),
     }
 }
