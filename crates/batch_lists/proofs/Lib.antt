@@ -5,3 +5,4 @@ pub mod BatchPieces
 pub mod BatchSizes
 pub mod BatchSpelled
 pub mod BatchWritten
+pub mod NeverMemory

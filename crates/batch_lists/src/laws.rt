@@ -1,10 +1,12 @@
 //! What holds of the formats of lists of batches and of batches.
 ghost use Rattle.std.specs.Prelude.{◌≡◌, ◌↔◌, ◌≤◌, ℕ, List, length, Ok};
-ghost use Rattle.field_grammar.specs.Grammar.{IsBytes, IsDecided, Spelled};
+ghost use Rattle.field_grammar.specs.Grammar.{Fault, IsBytes, IsDecided, Spelled};
 ghost use Rattle.field_grammar.specs.Answers.{answer};
 ghost use Rattle.batch_lists.specs.Batch.{batch, BatchView};
 ghost use Rattle.batch_lists.specs.BatchFields.{batch_size, IsBatch, BatchSpells};
 ghost use Rattle.batch_lists.specs.Batches.{batches_list, BatchesListView, BatchesSpells};
+ghost use Rattle.batch_lists.specs.declared.fault.BatchFault.TheVariants as faults;
+ghost use Rattle.batch_lists.specs.declared.fault.BatchesFault.TheVariants as lists;
 
 /// Laws of the format of lists of batches, for callers that compare lists and their bytes.
 pub fn batches_list_laws()
@@ -20,6 +22,8 @@ pub fn batches_list_laws()
         → BatchesSpells v others → bytes ≡ others }
     ensures read_again { (v : BatchesListView) (bytes : List ℕ) → BatchesSpells v bytes
         → answer batches_list bytes ≡ Ok v }
+    // No bytes fail with out of memory.
+    ensures never_memory { (bytes : List ℕ) → ¬ Fault batches_list bytes lists.Memory }
 {}
 
 /// The same laws of the format of batches, whose bytes depend on their fields alone.
@@ -33,6 +37,7 @@ pub fn batch_laws()
         → BatchSpells v others → bytes ≡ others }
     ensures read_again { (v : BatchView) (bytes : List ℕ) → BatchSpells v bytes
         → answer batch bytes ≡ Ok v }
+    ensures never_memory { (bytes : List ℕ) → ¬ Fault batch bytes faults.Memory }
 
     // How many bytes there are.
     ensures length { (v : BatchView) (bytes : List ℕ) → BatchSpells v bytes

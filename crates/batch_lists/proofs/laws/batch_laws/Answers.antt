@@ -5,6 +5,7 @@ use Rattle.batch_lists.specs.Batch.{batch}
 use Rattle.batch_lists.specs.BatchFields.{batch_fields, IsBatch}
 use Rattle.batch_lists.proofs.BatchSizes.{small_batch, size_batch}
 use Rattle.batch_lists.proofs.BatchSpelled.{spells-batch, ends-batch}
+use Rattle.batch_lists.proofs.NeverMemory.{batch_never_memory}
 use Rattle.batch_lists.proofs.laws.batch_laws.Goals as goal
 
 pub returns-clause-decided : goal.returns-clause-decided
@@ -28,3 +29,6 @@ returns-clause-length c = λ v bytes is. ap (λ (l : List ℕ). length l) is.1 �
 
 pub returns-clause-small : goal.returns-clause-small
 returns-clause-small c = λ v is. small_batch v is.contents
+
+pub returns-clause-never_memory : goal.returns-clause-never_memory
+returns-clause-never_memory c = batch_never_memory

@@ -4,6 +4,7 @@ use Rattle.field_grammar.specs.DecoderLaws.{spelling_is, spelled_by}
 use Rattle.media_lists.specs.ListFields.{list_fields}
 use Rattle.batch_lists.specs.Batches.{batches_list, batch_body_fields, IsBatchesList}
 use Rattle.batch_lists.proofs.BatchesSpelled.{spells-batches_list, ends-batches_list}
+use Rattle.batch_lists.proofs.NeverMemory.{batches_never_memory}
 use Rattle.batch_lists.proofs.laws.batches_list_laws.Goals as goal
 
 pub returns-clause-decided : goal.returns-clause-decided
@@ -26,3 +27,6 @@ returns-clause-one_spelling c = λ v bytes others one other. one.1 ∙ sym other
 pub returns-clause-read_again : goal.returns-clause-read_again
 returns-clause-read_again c = λ v bytes is.
     answer-spelled batches_list bytes v (spelled_at_start batches_list bytes v (spelled_by batches_list (list_fields 0xB004 batch_body_fields) IsBatchesList bytes v spells-batches_list is))
+
+pub returns-clause-never_memory : goal.returns-clause-never_memory
+returns-clause-never_memory c = batches_never_memory
