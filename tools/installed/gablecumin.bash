@@ -7,7 +7,7 @@ _gablecumin() {
         return
     fi
     case ${COMP_WORDS[1]} in
-        show) mapfile -t COMPREPLY < <(compgen -f -- "$word" | grep -E '\.(LUH|LUM|LC[ILS]|LU[IRS])$'; compgen -d -- "$word") ;;
+        show) mapfile -t COMPREPLY < <(compgen -f -- "$word" | grep -E '\.(LU[BHM]|LC[ILS]|LU[IRS])$'; compgen -d -- "$word") ;;
         check) mapfile -t COMPREPLY < <(compgen -d -- "$word") ;;
         build | replay | wire) mapfile -t COMPREPLY < <(compgen -f -- "$word") ;;
     esac
