@@ -1,3 +1,4 @@
+mod batches;
 mod headers;
 mod interlocks;
 mod list_vectors;

@@ -24,7 +24,7 @@ fn loads_outcome(alloc: Global, bytes: &[u8]) -> Result<Text, NoMemory> {
 }
 
 /// Puts a byte at an offset, and perhaps makes the check sum right again.
-fn change(bytes: &mut [u8], offset: usize, byte: u8, mended: bool) {
+pub(super) fn change(bytes: &mut [u8], offset: usize, byte: u8, mended: bool) {
     if offset < bytes.len() {
         bytes[offset] = byte;
     }

@@ -1,3 +1,4 @@
+use super::batches::ONE_BATCH;
 use super::list_vectors::DEEP_FILE;
 use load_base::{Bytes, Text};
 use shown_files::{Shown, ShownKind, show};
@@ -13,6 +14,10 @@ const LAST_LUS: &[u8] =
 // With two parts of one hardware.
 const LCL: &[u8] =
     b"\x00\x00\x00\x2C\x41\x33\x00\x01\x03HW1\x03SN1\x00\x02\x0FABC41-0000-0001\x01A\x00\x01B\x00\x03OPS";
+
+// With two targets of one part each.
+const LUB: &[u8] =
+    b"\x00\x00\x00-\xC0\x04\x00\x00\x00\x0FABC43-0000-0003\x00\x00\x02\x00\x03HW1\x00\x00\x01L\x00\x00\x01\x00\x0FABC41-0000-0001\x00\x00\x03HW1\x00\x00\x01R\x00\x00\x01\x00\x0FABC41-0000-0001\x00S\xEE";
 
 fn fields(text: Shown) -> Result<Bytes, Fail> {
     match text {
@@ -34,7 +39,7 @@ fn fault(text: Shown) -> Result<Text, Fail> {
     }
 }
 
-const FIELDS: [(ShownKind, &[u8], &[u8]); 9] = [
+const FIELDS: [(ShownKind, &[u8], &[u8]); 11] = [
     (
         ShownKind::FilesList,
         &DEEP_FILE,
@@ -49,6 +54,16 @@ const FIELDS: [(ShownKind, &[u8], &[u8]); 9] = [
         ShownKind::FilesList,
         &APP_FILES,
         b"files 43 A004\nset XYZ5A-0000-0001\nmember 1 of 1\nfile APP.LUH \\ 1 248A\nfile APP.BIN \\ 1 29B1\nuser -\ncrc 1569\n",
+    ),
+    (
+        ShownKind::BatchesList,
+        &ONE_BATCH,
+        b"batches 39 B004\nset XYZ5A-0000-0001\nmember 1 of 1\nbatch ABC43-0000-0003 TWO.LUB 1\nuser -\ncrc 32AB\n",
+    ),
+    (
+        ShownKind::Batch,
+        LUB,
+        b"lub 45 C004\npart ABC43-0000-0003\ntarget HW1 L\npart ABC41-0000-0001\ntarget HW1 R\npart ABC41-0000-0001\ncrc 53EE\n",
     ),
     (
         ShownKind::Lci,
@@ -92,9 +107,11 @@ fn each_kind_shows_its_fields(rt: HostRuntime) -> Result<(), Fail> {
     Ok(())
 }
 
-const FAULTS: [(ShownKind, &[u8], &[u8]); 8] = [
+const FAULTS: [(ShownKind, &[u8], &[u8]); 10] = [
     (ShownKind::LoadsList, &APP_FILES, b"L3 40964"),
     (ShownKind::Header, b"\x00\x00\x00", b"H1 0"),
+    (ShownKind::BatchesList, &APP_FILES, b"L3 40964"),
+    (ShownKind::Batch, b"\x00\x00\x00", b"J1 0"),
     (
         ShownKind::Lci,
         b"\x00\x00\x00\x20\x41\x33\x00\x01",
@@ -133,9 +150,11 @@ fn each_kind_shows_its_first_fault(rt: HostRuntime) -> Result<(), Fail> {
     Ok(())
 }
 
-const KINDS: [(&[u8], Option<ShownKind>); 16] = [
+const KINDS: [(&[u8], Option<ShownKind>); 18] = [
     (b"P/1/LOADS.LUM", Some(ShownKind::LoadsList)),
     (b"XFILES.LUM", Some(ShownKind::FilesList)),
+    (b"P/1/BATCHES.LUM", Some(ShownKind::BatchesList)),
+    (b".LUB", Some(ShownKind::Batch)),
     (b"OADS.LUM", None),
     (b"loads.lum", None),
     (b"P/1/APP.LUH", Some(ShownKind::Header)),
