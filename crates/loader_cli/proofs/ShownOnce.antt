@@ -2,6 +2,12 @@
 use Rattle.std.proofs.Common.{◌≡◌, ℕ, ◌+◌, ◌-◌, ◌≤◌, List, length, refl, sym, ap, ◌∙◌, arith}
 use Rattle.std.specs.Prelude.{codes, drop, if◌then◌else◌}
 use Rattle.std.proofs.lemmas.List.{drop-drop}
+use Rattle.batch_lists.specs.Batch.{batch}
+use Rattle.batch_lists.specs.BatchFields.{BatchSpells}
+use Rattle.batch_lists.specs.Batches.{BatchesSpells, batches_list}
+use Rattle.batch_lists.specs.FaultTexts.{batch_fault_text, batches_fault_text}
+use Rattle.batch_lists.specs.declared.fault.BatchFault.TheVariants as batches
+use Rattle.batch_lists.specs.declared.fault.BatchesFault.TheVariants as batches_lists
 use Rattle.load_base.specs.Bytes.{same_bytes}
 use Rattle.field_grammar.specs.ExactLaws.{not_both, one_fault, one_value, spelled_at_start}
 use Rattle.field_grammar.specs.Grammar.{Fault, Grammar, Spelled}
@@ -21,6 +27,7 @@ use Rattle.media_lists.specs.Files.{FilesSpells, files_list}
 use Rattle.media_lists.specs.ListFaultText.{list_fault_text}
 use Rattle.media_lists.specs.Loads.{LoadsSpells, loads_list}
 use Rattle.media_lists.specs.declared.fault.ListFault.TheVariants as lists
+use Rattle.shown_files.specs.BatchText.{shown_batch, shown_batches_list}
 use Rattle.shown_files.specs.HeaderText.{shown_header}
 use Rattle.shown_files.specs.Kinds.{IsNameOf}
 use Rattle.shown_files.specs.ListText.{shown_files_list, shown_loads_list}
@@ -39,6 +46,8 @@ pub record ShownLaws : Type 0 where
   pub of_header : TellsSpelled header HeaderSpells
   pub of_loads : TellsSpelled loads_list LoadsSpells
   pub of_files : TellsSpelled files_list FilesSpells
+  pub of_batches : TellsSpelled batches_list BatchesSpells
+  pub of_batch : TellsSpelled batch BatchSpells
   pub of_lci : TellsSpelled lci LciSpells
   pub of_lcl : TellsSpelled lcl LclSpells
   pub of_lcs : TellsSpelled lcs LcsSpells
@@ -67,6 +76,8 @@ pub shown_once : ShownLaws → (kind : ShownKind) (bytes : List ℕ) → IsOnce 
 shown_once laws kinds.Header bytes = once header HeaderSpells (shown_header bytes) headers.Memory header_fault_text laws.of_header bytes
 shown_once laws kinds.LoadsList bytes = once loads_list LoadsSpells (shown_loads_list bytes) lists.Memory list_fault_text laws.of_loads bytes
 shown_once laws kinds.FilesList bytes = once files_list FilesSpells (shown_files_list bytes) lists.Memory list_fault_text laws.of_files bytes
+shown_once laws kinds.BatchesList bytes = once batches_list BatchesSpells (shown_batches_list bytes) batches_lists.Memory batches_fault_text laws.of_batches bytes
+shown_once laws kinds.Batch bytes = once batch BatchSpells (shown_batch bytes) batches.Memory batch_fault_text laws.of_batch bytes
 shown_once laws kinds.Lci bytes = once lci LciSpells shown_lci files.Memory file_fault_text laws.of_lci bytes
 shown_once laws kinds.Lcl bytes = once lcl LclSpells shown_lcl files.Memory file_fault_text laws.of_lcl bytes
 shown_once laws kinds.Lcs bytes = once lcs LcsSpells shown_lcs files.Memory file_fault_text laws.of_lcs bytes
@@ -79,11 +90,19 @@ shown_once laws kinds.Lus bytes = once lus LusSpells shown_lus files.Memory file
 abbrev last_bytes : (n : ℕ) → List ℕ → List ℕ
 last_bytes n word = drop (length word - n) word
 
+-- the kind of a list whose name has these last nine bytes
+abbrev list_by : (nine : List ℕ) → ShownKind
+list_by nine =
+    if same_bytes nine (codes "LOADS.LUM") then kinds.LoadsList
+    else if same_bytes nine (codes "FILES.LUM") then kinds.FilesList
+    else kinds.BatchesList
+
 -- the kind of a name with these last four and last nine bytes
 abbrev kind_by : (four nine : List ℕ) → ShownKind
 kind_by four nine =
     if same_bytes four (codes ".LUH") then kinds.Header
-    else if same_bytes four (codes ".LUM") then (if same_bytes nine (codes "LOADS.LUM") then kinds.LoadsList else kinds.FilesList)
+    else if same_bytes four (codes ".LUM") then list_by nine
+    else if same_bytes four (codes ".LUB") then kinds.Batch
     else if same_bytes four (codes ".LCI") then kinds.Lci
     else if same_bytes four (codes ".LCL") then kinds.Lcl
     else if same_bytes four (codes ".LCS") then kinds.Lcs
@@ -92,22 +111,25 @@ kind_by four nine =
     else kinds.Lus
 
 -- the end of an end
-nearer : (word end : List ℕ) → 9 ≤ length word → last_bytes 9 word ≡ end → last_bytes 4 word ≡ drop 5 end
-nearer word end long is =
-    let same : (length word - 9) + 5 ≡ length word - 4 = omega (arith, long) in
-    ap (λ (n : ℕ). drop n word) (sym same) ∙ (sym (drop-drop 5 (length word - 9) word) ∙ ap (drop 5) is)
+nearer : (word end : List ℕ) (n less : ℕ) → less ≤ n → n ≤ length word → last_bytes n word ≡ end → last_bytes less word ≡ drop (n - less) end
+nearer word end n less within long is =
+    let same : (length word - n) + (n - less) ≡ length word - less = omega (arith, within, long) in
+    ap (λ (k : ℕ). drop k word) (sym same) ∙ (sym (drop-drop (n - less) (length word - n) word) ∙ ap (drop (n - less)) is)
 
 by_four : (word end : List ℕ) (kind : ShownKind) → ((nine : List ℕ) → kind ≡ kind_by end nine) → last_bytes 4 word ≡ end → kind ≡ kind_by (last_bytes 4 word) (last_bytes 9 word)
 by_four word end kind computes is = computes (last_bytes 9 word) ∙ ap (λ (four : List ℕ). kind_by four (last_bytes 9 word)) (sym is)
 
 by_both : (word end : List ℕ) (kind : ShownKind) → kind ≡ kind_by (drop 5 end) end → 9 ≤ length word → last_bytes 9 word ≡ end → kind ≡ kind_by (last_bytes 4 word) (last_bytes 9 word)
 by_both word end kind computes long is =
-    computes ∙ (ap (λ (four : List ℕ). kind_by four end) (sym (nearer word end long is)) ∙ ap (λ (nine : List ℕ). kind_by (last_bytes 4 word) nine) (sym is))
+    computes ∙ (ap (λ (four : List ℕ). kind_by four end) (sym (nearer word end 9 4 (omega arith) long is)) ∙ ap (λ (nine : List ℕ). kind_by (last_bytes 4 word) nine) (sym is))
 
 kind_is : (kind : ShownKind) (word : List ℕ) → IsNameOf kind word → kind ≡ kind_by (last_bytes 4 word) (last_bytes 9 word)
 kind_is kinds.Header word is = by_four word (codes ".LUH") kinds.Header (λ nine. refl) is.1
 kind_is kinds.LoadsList word is = by_both word (codes "LOADS.LUM") kinds.LoadsList refl is.0 is.1
 kind_is kinds.FilesList word is = by_both word (codes "FILES.LUM") kinds.FilesList refl is.0 is.1
+kind_is kinds.BatchesList word is =
+    by_both word (codes "TCHES.LUM") kinds.BatchesList refl (omega (arith, is.0)) (nearer word (codes "BATCHES.LUM") 11 9 (omega arith) is.0 is.1)
+kind_is kinds.Batch word is = by_four word (codes ".LUB") kinds.Batch (λ nine. refl) is.1
 kind_is kinds.Lci word is = by_four word (codes ".LCI") kinds.Lci (λ nine. refl) is.1
 kind_is kinds.Lcl word is = by_four word (codes ".LCL") kinds.Lcl (λ nine. refl) is.1
 kind_is kinds.Lcs word is = by_four word (codes ".LCS") kinds.Lcs (λ nine. refl) is.1

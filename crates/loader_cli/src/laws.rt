@@ -20,6 +20,7 @@ ghost use Rattle.loader_cli.specs.declared.replay.Telling.{Telling};
 ghost use Rattle.loader_cli.specs.declared.top_call.Ended.{Ended};
 
 use bank_store::a_power_loss_takes_only_work;
+use batch_lists::{batch_laws, batches_list_laws};
 use disk_layout::an_image_holds_one_configuration;
 use disk_model::Power;
 use fixed_runs::laws::a_run_is_fixed_by_its_script;
@@ -102,6 +103,8 @@ pub fn two_calls_put_the_same<H: Host, O: Sink, K: Power>()
     header_laws();
     loads_list_laws();
     files_list_laws();
+    batches_list_laws();
+    batch_laws();
     protocol_file_laws();
 }
 

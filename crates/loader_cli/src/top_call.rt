@@ -22,6 +22,7 @@ use crate::trial::trial;
 use bank_store::{
     StoreFault, a_power_loss_takes_only_work, an_unformatted_disk_is_as_it_was, format,
 };
+use batch_lists::{batch_laws, batches_list_laws};
 use disk_layout::{Identity, an_image_holds_one_configuration};
 use disk_model::{Disk, Power};
 use generated_uploads::laws::{a_generated_upload_completes, only_a_trial_happens};
@@ -125,6 +126,8 @@ pub fn run<H: Host, O: Sink, K: Power>(
     header_laws();
     loads_list_laws();
     files_list_laws();
+    batches_list_laws();
+    batch_laws();
     protocol_file_laws();
     let Ok(Answered { answer, drive }) = answer(alloc, words, host, disk) else {
         return out_of_memory();
