@@ -3,7 +3,14 @@ _gablecumin() {
     local word=${COMP_WORDS[COMP_CWORD]}
     COMPREPLY=()
     if [ "$COMP_CWORD" = 1 ]; then
-        mapfile -t COMPREPLY < <(compgen -W 'list format show check build make replay wire trial rollback' -- "$word")
+        mapfile -t COMPREPLY < <(compgen -W 'list format show check build make replay wire trial rollback on' -- "$word")
+        return
+    fi
+    if [ "${COMP_WORDS[1]}" = on ]; then
+        case $COMP_CWORD in
+            2) mapfile -t COMPREPLY < <(compgen -W '1 2 3 4 5 6 7 8' -- "$word") ;;
+            3) mapfile -t COMPREPLY < <(compgen -W 'list format rollback' -- "$word") ;;
+        esac
         return
     fi
     case ${COMP_WORDS[1]} in

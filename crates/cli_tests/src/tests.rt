@@ -1,9 +1,9 @@
 //! Commands over the system's files: what stands in the current folder, under the names that a run
 //! asks for. What commands do otherwise is shown over files in memory, by the program
 //! `command_rows`.
-ghost use Rattle.std.specs.Prelude.{◌≡◌, false};
+ghost use Rattle.std.specs.Prelude.{◌≡◌, All, false};
 
-use disk_model::{FileDisk, Fused, MemDisk};
+use disk_model::{FileDisk, Fused};
 use load_base::{Bytes, MemSink, StdHost, StdSink};
 use loader_cli::run;
 use own_unit::{Flash, FlashDisk};
@@ -123,29 +123,54 @@ fn words_of(alloc: Global, words: &[&str]) -> Result<Vec<String>, Fail> {
     Ok(all)
 }
 
-// The status of a run over the system's files, standard output and the disk in a file.
-fn status_over_the_system(rt: &HostRuntime, words: &[&str], disk: &str) -> Result<u8, Fail> {
+// The disks of eight units in files, of which the first is this one.
+fn units<'r>(rt: &'r HostRuntime, first: &'r str) -> [Fused<FileDisk<'r, HostRuntime>>; 8]
+    ensures { All (λ disk. disk.stopped ≡ false) result }
+{
+    [
+        Fused::new(FileDisk::new(rt, first)),
+        Fused::new(FileDisk::new(rt, "two.disk")),
+        Fused::new(FileDisk::new(rt, "three.disk")),
+        Fused::new(FileDisk::new(rt, "four.disk")),
+        Fused::new(FileDisk::new(rt, "five.disk")),
+        Fused::new(FileDisk::new(rt, "six.disk")),
+        Fused::new(FileDisk::new(rt, "seven.disk")),
+        Fused::new(FileDisk::new(rt, "eight.disk")),
+    ]
+}
+
+// The status of a run over the system's files, standard output and disks in files.
+fn status_over_the_system(rt: &HostRuntime, words: &[&str], first: &str) -> Result<u8, Fail> {
     let alloc = rt.alloc();
     let words = words_of(alloc, words)?;
     let (mut host, mut out) = (StdHost::new(rt), StdSink::new(rt));
-    let mut disk = Fused::new(FileDisk::new(rt, disk));
-    let ended = run(alloc, &words, &mut host, &mut out, &mut disk);
+    let mut disks = units(rt, first);
+    let ended = run(alloc, &words, &mut host, &mut out, &mut disks);
     let status = ended.status;
     drop(ended);
-    drop(disk);
+    drop(disks);
     Ok(status)
 }
 
-// A disk that was written by hand, one that is missing and stays so, and a folder in its place; a
-// header, one that is missing, and a folder in its place.
+// A disk that was written by hand, one that is missing and stays so, and a folder in its place; that
+// of a second unit, which is made as it is formatted, while that of a third isn't; a header, one that
+// is missing, and a folder in its place.
 #[test]
 fn the_real_host_sink_and_disk(rt: HostRuntime) -> Result<(), Fail> {
     fs::write(&rt, "listed.disk", formatted().as_slice())?;
     fs::create_dir(&rt, "folder.disk")?;
     fs::write(&rt, "SHOWN.LUH", &APP_HEADER)?;
     fs::create_dir(&rt, "FOLDER.LUH")?;
-    let rows: [(&[&str], &str, u8); 7] = [
+    let rows: [(&[&str], &str, u8); 11] = [
         (&["list"], "listed.disk", 0),
+        (&["on", "2", "list"], "listed.disk", 8),
+        (
+            &["on", "2", "format", "HW1", "R", "SN2", "4096"],
+            "listed.disk",
+            0,
+        ),
+        (&["on", "2", "list"], "listed.disk", 0),
+        (&["on", "1", "list"], "listed.disk", 0),
         (&["list"], "missing.disk", 8),
         (&["list"], "folder.disk", 5),
         (&["rollback"], "listed.disk", 9),
@@ -159,6 +184,8 @@ fn the_real_host_sink_and_disk(rt: HostRuntime) -> Result<(), Fail> {
     let kept = fs::read(&rt, "listed.disk")?;
     assert_eq!(rt; kept.as_slice(), formatted().as_slice());
     assert!(rt; fs::read(&rt, "missing.disk").is_err());
+    assert!(rt; fs::read(&rt, "two.disk").is_ok());
+    assert!(rt; fs::read(&rt, "three.disk").is_err());
     assert_eq!(rt;
         fs::read(&rt, "SHOWN.LUH")?.as_slice(),
         APP_HEADER.as_slice()
@@ -166,33 +193,21 @@ fn the_real_host_sink_and_disk(rt: HostRuntime) -> Result<(), Fail> {
     Ok(())
 }
 
-// What a run says over the system's files and this disk: its status as a digit, a space, and its
-// output.
-fn said_over(
-    rt: &HostRuntime,
-    words: &[&str],
-    disk: &mut Fused<MemDisk>,
-    said: &mut Bytes,
-) -> Result<(), Fail>
-    requires { disk.old.stopped ≡ false }
-{
+// What a run says over the system's files and a disk that was formatted: its status as a digit, a
+// space, and its output.
+fn said_over_the_system(rt: &HostRuntime, words: &[&str], said: &mut Bytes) -> Result<(), Fail> {
     let alloc = rt.alloc();
+    fs::write(rt, "formatted.disk", formatted().as_slice())?;
     let words = words_of(alloc, words)?;
     let (mut host, mut out) = (StdHost::new(rt), MemSink::new(alloc));
-    let ended = run(alloc, &words, &mut host, &mut out, disk);
+    let mut disks = units(rt, "formatted.disk");
+    let ended = run(alloc, &words, &mut host, &mut out, &mut disks);
     let status = ended.status;
     drop(ended);
+    drop(disks);
     said.extend(&[b'0' + status % 10, b' '])?;
     said.extend(out.as_slice())?;
     Ok(())
-}
-
-// The same over a disk that was formatted.
-fn said_over_the_system(rt: &HostRuntime, words: &[&str], said: &mut Bytes) -> Result<(), Fail> {
-    let mut disk = Fused::new(MemDisk::new(rt.alloc(), &formatted())?);
-    let ended = said_over(rt, words, &mut disk, said);
-    drop(disk);
-    ended
 }
 
 // The names that a run asks for are those of the system's files.
@@ -243,16 +258,31 @@ impl Flash for Ram {
     }
 }
 
-// What `list` says over a flash of one's own.
+fn flash() -> Fused<FlashDisk<Ram>>
+    ensures { result.stopped ≡ false }
+{
+    Fused::new(FlashDisk::new(Ram { bytes: formatted() }))
+}
+
+// What `list` says over flashes of one's own.
 fn said_over_a_flash(rt: &HostRuntime, said: &mut Bytes) -> Result<(), Fail> {
     let alloc = rt.alloc();
     let words = words_of(alloc, &["list"])?;
     let (mut host, mut out) = (StdHost::new(rt), MemSink::new(alloc));
-    let mut disk = Fused::new(FlashDisk::new(Ram { bytes: formatted() }));
-    let ended = run(alloc, &words, &mut host, &mut out, &mut disk);
+    let mut disks = [
+        flash(),
+        flash(),
+        flash(),
+        flash(),
+        flash(),
+        flash(),
+        flash(),
+        flash(),
+    ];
+    let ended = run(alloc, &words, &mut host, &mut out, &mut disks);
     let status = ended.status;
     drop(ended);
-    drop(disk);
+    drop(disks);
     said.extend(&[b'0' + status % 10, b' '])?;
     said.extend(out.as_slice())?;
     Ok(())

@@ -24,9 +24,11 @@ pub(crate) struct Known {
     pub(crate) text: Bytes,
 }
 
-/// Bytes of the disk that are told after the last run.
+/// Bytes of a unit's disk that are told after the last run.
 #[derive(Clone, Copy)]
 pub(crate) struct Range {
+    /// The place of the unit, from 0.
+    pub(crate) unit: usize,
     pub(crate) at: u32,
     pub(crate) count: u32,
 }
@@ -36,6 +38,8 @@ pub(crate) struct Range {
 /// names.
 #[derive(Clone, Copy)]
 pub(crate) struct Failing {
+    /// The place of the unit whose disk fails or loses power, from 0.
+    pub(crate) unit: usize,
     pub(crate) host: u32,
     pub(crate) sink: u32,
     pub(crate) disk: u32,
@@ -62,12 +66,17 @@ pub(crate) struct Turns {
     pub(crate) count: u32,
 }
 
+/// How many units there are.
+pub(crate) const UNITS: usize = 8;
+
 #[derive(Drop)]
 pub(crate) struct Case {
     pub(crate) name: String,
     pub(crate) files: Vec<HostFile>,
-    /// The disk from offset 0 on; it is zero after these bytes.
-    pub(crate) disk: Vec<u8>,
+    /// The disks of the units from offset 0 on; each is zero after these bytes.
+    pub(crate) disks: [Vec<u8>; UNITS],
+    /// The place of the unit of which the lines speak that come next, from 0.
+    pub(crate) unit: usize,
     pub(crate) commands: Vec<Command>,
     pub(crate) known: Vec<Known>,
     /// The files of the host that are told after the last run.
@@ -86,12 +95,23 @@ impl Case {
         Ok(Case {
             name,
             files: Vec::new(alloc),
-            disk: Vec::new(alloc),
+            disks: [
+                Vec::new(alloc),
+                Vec::new(alloc),
+                Vec::new(alloc),
+                Vec::new(alloc),
+                Vec::new(alloc),
+                Vec::new(alloc),
+                Vec::new(alloc),
+                Vec::new(alloc),
+            ],
+            unit: 0,
             commands: Vec::new(alloc),
             known: Vec::new(alloc),
             told: Vec::new(alloc),
             ranges: Vec::new(alloc),
             failing: Failing {
+                unit: 0,
                 host: 0,
                 sink: 0,
                 disk: 0,
@@ -113,9 +133,11 @@ impl Case {
             let (name, text) = (known.name.as_str(), known.text.as_slice());
             self.add_known(alloc, name, known.whole, text)?;
         }
-        if !other.disk.is_empty() {
-            self.disk.clear();
-            self.disk.extend_from_slice(&other.disk)?;
+        for (disk, bytes) in self.disks.iter_mut().zip(&other.disks) {
+            if !bytes.is_empty() {
+                disk.clear();
+                disk.extend_from_slice(bytes)?;
+            }
         }
         Ok(())
     }

@@ -1,5 +1,5 @@
 //! Runs rows of commands: reads cases from its data, runs the words of each over a host, a sink and
-//! a disk in memory, and prints what came. What it has to print, in `stdout`, comes from worked
+//! eight disks in memory, and prints what came. What it has to print, in `stdout`, comes from worked
 //! rows, never from a run. It ends with status 0; where a line of its data can't be read it prints
 //! the file, the line and why, and ends with status 1.
 //!
@@ -9,8 +9,9 @@
 //! | line | what it says |
 //! |---|---|
 //! | `case NAME` | a case begins; one without a `run` is only what others begin with |
-//! | `from NAME` | it has the files, the disk and the known outputs of this earlier case |
+//! | `from NAME` | it has the files, the disks and the known outputs of this earlier case |
 //! | `file NAME` | the host has this file, with the bytes that come next |
+//! | `unit N` | what the lines that come next say of a disk they say of that of unit N, and not of the first |
 //! | `disk OFFSET` | the bytes that come next stand on the disk from here on |
 //! | `is NAME` | a known output: a status, a space and a text, which come next |
 //! | `ends NAME` | a known output: one that ends with the bytes that come next |
@@ -28,8 +29,8 @@
 //! | `each power N PICK` | N times with a loss of power at the call 1, 2, .. N of the disk |
 //! | `each script N PICK FILE` | the same by a line `power CALL PICK` put first into this file |
 //!
-//! What a case doesn't say of its disk is zero. Calls count from the first run on, over all runs of
-//! a case. The disk is restarted before each run; of these calls that before the first isn't
+//! What a case doesn't say of its disks is zero. Calls count from the first run on, over all runs of
+//! a case. All disks are restarted before each run; of these calls that before the first isn't
 //! counted. Of each run its words and its status are printed, and its output line by line after
 //! `|`, or after `+` what has no line feed; of a known output its name. Where calls fail in turn,
 //! those that come to the same are printed once. The last line counts the cases, their runs, and

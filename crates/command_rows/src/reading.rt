@@ -1,5 +1,5 @@
 //! How cases are read, line by line.
-use crate::case::{Case, Command, Range, Side, Turns};
+use crate::case::{Case, Command, Range, Side, Turns, UNITS};
 use disk_model::SIZE;
 use load_base::{Bytes, NoMemory};
 use percent_encoding::percent_decode;
@@ -69,7 +69,8 @@ pub(crate) enum Place {
     Nowhere,
     File,
     Known,
-    Disk(usize),
+    /// The disk of the unit at this place, from this offset on.
+    Disk { unit: usize, at: usize },
 }
 
 // Bytes that are filled in at once.
@@ -126,7 +127,14 @@ fn take_word(
             *place = Place::File;
             case.add_file(alloc, rest, b"")?;
         }
-        b"disk" => *place = Place::Disk(number(rest)? as usize),
+        b"unit" => case.unit = unit_of(rest)?,
+        b"disk" => {
+            let at = number(rest)? as usize;
+            *place = Place::Disk {
+                unit: case.unit,
+                at,
+            };
+        }
         b"is" => {
             *place = Place::Known;
             case.add_known(alloc, rest, true, b"")?;
@@ -140,7 +148,14 @@ fn take_word(
             words: words_of(alloc, rest)?,
         })?,
         b"tell" => case.told.push(String::from_str(alloc, rest)?)?,
-        b"range" => case.ranges.push(range_of(rest)?)?,
+        b"range" => {
+            let (at, count) = two_numbers(rest)?;
+            case.ranges.push(Range {
+                unit: case.unit,
+                at,
+                count,
+            })?;
+        }
         b"fail" => return fail(case, rest),
         b"each" => return each(alloc, case, rest),
         _ => return Err(Refusal::Word),
@@ -177,10 +192,13 @@ fn add(cases: &mut Vec<Case>, place: &mut Place, bytes: &[u8]) -> Result<(), Ref
             Some(known) => extend(&mut known.text, bytes),
             None => Err(Refusal::NoPlace),
         },
-        Place::Disk(at) => {
+        Place::Disk { unit, at } => {
             let end = end_of(at, bytes.len())?;
-            paste(&mut case.disk, at, end, bytes)?;
-            *place = Place::Disk(end);
+            match case.disks.get_mut(unit) {
+                Some(disk) => paste(disk, at, end, bytes)?,
+                None => return Err(Refusal::NoPlace),
+            }
+            *place = Place::Disk { unit, at: end };
             Ok(())
         }
     }
@@ -251,14 +269,18 @@ fn repeat(cases: &mut Vec<Case>, place: &mut Place, text: &str) -> Result<(), Re
     Ok(())
 }
 
-fn range_of(text: &str) -> Result<Range, Refusal> {
-    let (at, count) = two_numbers(text)?;
-    Ok(Range { at, count })
+// The place of the unit of this number, from 0.
+fn unit_of(text: &str) -> Result<usize, Refusal> {
+    match number(text)? as usize {
+        number if 1 <= number && number <= UNITS => Ok(number - 1),
+        _ => Err(Refusal::Number),
+    }
 }
 
 // One call of the host, the sink or the disk fails, or loses power.
 fn fail(case: &mut Case, text: &str) -> Result<(), Refusal> {
     let (side, rest) = side_in(text)?;
+    case.failing.unit = case.unit;
     match side {
         Side::Host => case.failing.host = number(rest)?,
         Side::Sink => case.failing.sink = number(rest)?,
@@ -276,6 +298,7 @@ fn fail(case: &mut Case, text: &str) -> Result<(), Refusal> {
 // Each of the first calls fails in turn.
 fn each(alloc: Global, case: &mut Case, text: &str) -> Result<(), Refusal> {
     let (side, rest) = side_in(text)?;
+    case.failing.unit = case.unit;
     let count = match side {
         Side::Host | Side::Sink | Side::Disk => number(rest)?,
         Side::Power => {

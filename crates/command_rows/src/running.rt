@@ -1,8 +1,8 @@
 //! How a case is run.
-ghost use Rattle.std.specs.Prelude.{◌≡◌, ◌+◌, ◌≤◌, length, true, false};
+ghost use Rattle.std.specs.Prelude.{◌≡◌, ◌+◌, ◌≤◌, All, length, true, false};
 ghost use Rattle.disk_model.specs.declared.disk.TheConstants.{SIZE};
 
-use crate::case::{Case, Command, Failing, Known, Side, Turns};
+use crate::case::{Case, Command, Failing, Known, Side, Turns, UNITS};
 use crate::telling::{tell_bytes, tell_file, tell_output};
 use disk_model::{Disk, Fused, MemDisk, Power, SIZE};
 use load_base::{Bytes, Host, MemHost, MemSink, NoMemory, ReadFault};
@@ -23,7 +23,7 @@ pub(crate) struct Tally {
 struct Fixture {
     host: MemHost,
     sink: MemSink,
-    disk: Fused<MemDisk>,
+    disks: Vec<Fused<MemDisk>>,
 }
 
 /// Runs a case, and adds what is told of it.
@@ -106,7 +106,7 @@ fn with_turn(failing: Failing, side: Side, number: u32) -> Failing {
     failing
 }
 
-// Runs a case once over a host, a sink and a disk of its own.
+// Runs a case once over a host, a sink and disks of its own.
 fn run_once(
     alloc: Global,
     case: &Case,
@@ -114,24 +114,39 @@ fn run_once(
     tally: &mut Tally,
     told: &mut Bytes,
 ) -> Result<(), NoMemory> {
-    if case.disk.len() > SIZE as usize {
-        return told.extend(b"the disk is too long\n");
-    }
-    let Ok(mut inner) = MemDisk::new(alloc, &case.disk) else {
-        return Err(NoMemory);
-    };
-    let set = inner.fail_at(counted_after(failing.disk, RESTART));
     let mut fixture = Fixture {
         host: MemHost::new(alloc),
         sink: MemSink::new(alloc),
-        disk: Fused::new(inner),
+        disks: Vec::new(alloc),
     };
-    let ended = match set {
+    let ended = match add_disks(alloc, case, failing, &mut fixture.disks) {
         Ok(()) => run_over(alloc, case, failing, &mut fixture, tally, told),
         Err(fault) => Err(fault),
     };
     drop(fixture);
     ended
+}
+
+// Adds the disks of all units; one of them has a call that is set to fail, or to lose power.
+fn add_disks(
+    alloc: Global,
+    case: &Case,
+    failing: Failing,
+    disks: &mut Vec<Fused<MemDisk>>,
+) -> Result<(), NoMemory> {
+    for (unit, bytes) in case.disks.iter().enumerate() {
+        let bytes = &bytes[..bytes.len().min(SIZE as usize)];
+        let mut disk = MemDisk::new(alloc, bytes)?;
+        if unit == failing.unit {
+            disk.fail_at(counted_after(failing.disk, RESTART))?;
+        }
+        let mut disk = Fused::new(disk);
+        if unit == failing.unit && failing.power != 0 {
+            disk.arm(failing.power, failing.pick);
+        }
+        disks.push(disk)?;
+    }
+    Ok(())
 }
 
 // The call of the disk that comes before a run.
@@ -161,9 +176,6 @@ fn run_over(
     fixture.host.fail_at(counted_after(failing.host, before))?;
     fixture.sink.fail_at(failing.sink)?;
     write_files(alloc, case, failing, &mut fixture.host)?;
-    if failing.power != 0 {
-        fixture.disk.arm(failing.power, failing.pick);
-    }
     for command in &case.commands {
         tally.runs = tally.runs.saturating_add(1);
         run_command(alloc, case, command, fixture, tally, told)?;
@@ -172,7 +184,10 @@ fn run_over(
         tell_host_file(alloc, name.as_str(), &mut fixture.host, told)?;
     }
     for range in &case.ranges {
-        tell_range(alloc, range.at, range.count, &mut fixture.disk, told)?;
+        match fixture.disks.get_mut(range.unit) {
+            Some(disk) => tell_range(alloc, range.at, range.count, disk, told)?,
+            None => told.extend(b"no such unit\n")?,
+        }
     }
     Ok(())
 }
@@ -216,8 +231,8 @@ fn run_command(
     told: &mut Bytes,
 ) -> Result<(), NoMemory> {
     tell_command(command, told)?;
-    if !is_restarted(&mut fixture.disk) {
-        return told.extend(b"the disk doesn't restart\n");
+    if fixture.disks.len() != UNITS || !are_restarted(&mut fixture.disks) {
+        return told.extend(b"the disks don't restart\n");
     }
     let before = fixture.sink.as_slice().len();
     let ended = run(
@@ -225,7 +240,7 @@ fn run_command(
         &command.words,
         &mut fixture.host,
         &mut fixture.sink,
-        &mut fixture.disk,
+        &mut fixture.disks,
     );
     let status = ended.status;
     drop(ended);
@@ -245,6 +260,19 @@ fn run_command(
             tell_output(output, told)
         }
     }
+}
+
+// Restarts all disks.
+fn are_restarted(disks: &mut [Fused<MemDisk>]) -> bool
+    ensures many { length disks.new ≡ length disks.old }
+    ensures running { result ≡ true → All (λ disk. disk.stopped ≡ false) disks.new }
+{
+    for unit in 0..disks.len() {
+        if !is_restarted(&mut disks[unit]) {
+            return false;
+        }
+    }
+    true
 }
 
 // Restarts a disk. A call that is set to fail may be the first, but not the second.

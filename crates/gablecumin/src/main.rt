@@ -1,5 +1,6 @@
 //! The program: runs its arguments over standard output, the files of the current folder and the
-//! disk in the file `target.disk` of the current folder, and exits with the status of the run.
+//! eight disks of units, each in a file of the current folder, and exits with the status of the run.
+//! A file is opened at the first call of its disk: none but that of the disk that is used.
 #![tactic(auto)]
 
 ghost use Rattle.std.specs.Prelude.{◌≡◌};
@@ -23,8 +24,17 @@ fn main(rt: HostRuntime) -> ExitCode {
     };
     let mut host = StdHost::new(&rt);
     let mut out = StdSink::new(&rt);
-    let mut disk = Fused::new(FileDisk::new(&rt, "target.disk"));
-    exit_of(&run(alloc, &words, &mut host, &mut out, &mut disk))
+    let mut disks = [
+        Fused::new(FileDisk::new(&rt, "target.disk")),
+        Fused::new(FileDisk::new(&rt, "target2.disk")),
+        Fused::new(FileDisk::new(&rt, "target3.disk")),
+        Fused::new(FileDisk::new(&rt, "target4.disk")),
+        Fused::new(FileDisk::new(&rt, "target5.disk")),
+        Fused::new(FileDisk::new(&rt, "target6.disk")),
+        Fused::new(FileDisk::new(&rt, "target7.disk")),
+        Fused::new(FileDisk::new(&rt, "target8.disk")),
+    ];
+    exit_of(&run(alloc, &words, &mut host, &mut out, &mut disks))
 }
 
 // The status of the run.

@@ -1,5 +1,5 @@
 -- What arguments ask for, they ask for alone.
-use Rattle.std.proofs.Common.{◌≡◌, ◌⊎◌, inl, inr, ℕ, List, [], ◌∷◌, Bool, true, false, refl, sym, ap, subst, ◌∙◌, arith}
+use Rattle.std.proofs.Common.{◌≡◌, ◌⊎◌, inl, inr, ℕ, ◌+◌, List, [], ◌∷◌, Bool, true, false, refl, sym, ap, subst, ◌∙◌, arith}
 use Rattle.std.specs.Fmt.{decimal}
 use Rattle.std.specs.Prelude.{codes}
 use Rattle.std.specs.Bool.{Decides}
@@ -8,7 +8,8 @@ use Rattle.std.proofs.lemmas.Fmt.{decimal_injective}
 use Rattle.load_base.specs.Bytes.{same_bytes}
 use Rattle.load_base.specs.EqualityLaws.{equal_bytes}
 use Rattle.loader_cli.specs.Builds.{Builds, Makes}
-use Rattle.loader_cli.specs.Commands.{CommandView, FormatsOrRollsBack, IsCommand, IsNo}
+use Rattle.loader_cli.specs.Commands.{CommandView, FormatsOrRollsBack, IsCommand, IsNo, IsPlain, disk_named}
+use Rattle.loader_cli.specs.Commands.IsCommand.{on, plain}
 use Rattle.loader_cli.specs.Commands.CommandView.{list, format, show, check, build, make, replay, wire, trial, rollback}
 use Rattle.loader_cli.specs.Replays.{Replays, run_command}
 use Rattle.shown_files.specs.Kinds.{IsNameOf}
@@ -19,7 +20,9 @@ use Rattle.loader_cli.specs.Rollbacks.{RollsBackAs}
 use Rattle.loader_cli.specs.Trials.{Trials}
 use Rattle.loader_cli.specs.declared.replay.Telling.{Telling}
 use Rattle.loader_cli.specs.declared.replay.Telling.TheVariants.{Report, Trace}
+use Rattle.loader_cli.proofs.Named.{begins_with_no_on, named_below, names}
 use Rattle.loader_cli.proofs.ShownOnce.{one_kind}
+use Rattle.loader_cli.proofs.Targets.{one_plain_target}
 use Rattle.loader_cli.specs.Runs.Says.{refused, lists, formats, shows, checks, builds, makes, replays, traces, tries, rolls_back}
 
 -- ---- the first argument
@@ -40,7 +43,7 @@ first : List (List ℕ) → List ℕ
 first [] = []
 first (word ∷ words) = word
 
-begins : (words : List (List ℕ)) (command : CommandView) → IsCommand words command → first words ≡ verb command
+begins : (words : List (List ℕ)) (command : CommandView) → IsPlain words command → first words ≡ verb command
 unfolding verb first
 begins words list is = ap first is
 begins words (format id) is = ap first is.0
@@ -53,51 +56,63 @@ begins words (wire folder script) is = ap first is.0
 begins words (trial number) is = ap first is.0
 begins words rollback is = ap first is
 
--- arguments aren't two commands with other first arguments
+-- arguments that are two commands are both in the same words
+same_asked : (words : List (List ℕ)) (one other : CommandView) → IsCommand words one → IsCommand words other → (own : List (List ℕ)) × IsPlain own one × IsPlain own other
+same_asked words one other (plain first) (plain second) = (words, first, second)
+same_asked words one other (on n own _ _ is first _) (on m own_2 _ _ is_2 second _) =
+    let same : codes "on" ∷ decimal n ∷ own ≡ codes "on" ∷ decimal m ∷ own_2 = sym is ∙ is_2 in
+    let after : own_2 ≡ own = cc in
+    (own, first, subst (λ (w : List (List ℕ)). IsPlain w other) after second)
+same_asked words one other (plain first) (on n own _ _ is second _) = absurd (begins_with_no_on (decimal n) own one (subst (λ (w : List (List ℕ)). IsPlain w one) is first))
+same_asked words one other (on n own _ _ is first _) (plain second) = absurd (begins_with_no_on (decimal n) own other (subst (λ (w : List (List ℕ)). IsPlain w other) is second))
+
+-- arguments aren't two commands with other first words
 same_verb : (words : List (List ℕ)) (one other : CommandView) → IsCommand words one → IsCommand words other → verb one ≡ verb other
-same_verb words one other first second = sym (begins words one first) ∙ begins words other second
+same_verb words one other first second = let (own, one_is, other_is) = same_asked words one other first second in sym (begins own one one_is) ∙ begins own other other_is
+
+apart_verbs : {one other : List ℕ} → one ≡ other → same_bytes one other ≡ false → ⊥
+apart_verbs {one} {other} same apart = let both : true ≡ false = sym ((equal_bytes one other).1 same) ∙ apart in absurd cc
+
+-- and not two that format for other targets
+pub one_target : (words : List (List ℕ)) (id other : Identity) → IsCommand words (format id) → IsCommand words (format other) → id ≡ other
+one_target words id other one two = let (own, first, second) = same_asked words (format id) (format other) one two in one_plain_target own id other first second
 
 -- ---- the others
 
 one_folder : (words : List (List ℕ)) (folder other : List ℕ) → IsCommand words (check folder) → IsCommand words (check other) → other ≡ folder
-one_folder words folder other one two = let same : codes "check" ∷ other ∷ [] ≡ codes "check" ∷ folder ∷ [] = sym two.0 ∙ one.0 in cc
+one_folder words folder other one two =
+    let (own, first, second) = same_asked words (check folder) (check other) one two in
+    let same : codes "check" ∷ other ∷ [] ≡ codes "check" ∷ folder ∷ [] = sym second.0 ∙ first.0 in cc
 
 pub one_build : (words : List (List ℕ)) (recipe folder recipe_2 folder_2 : List ℕ) → IsCommand words (build recipe folder) → IsCommand words (build recipe_2 folder_2)
     → (recipe_2 ≡ recipe) × (folder_2 ≡ folder)
 one_build words recipe folder recipe_2 folder_2 one two =
-    let same : codes "build" ∷ recipe_2 ∷ folder_2 ∷ [] ≡ codes "build" ∷ recipe ∷ folder ∷ [] = sym two.0 ∙ one.0 in (cc, cc)
+    let (own, first, second) = same_asked words (build recipe folder) (build recipe_2 folder_2) one two in
+    let same : codes "build" ∷ recipe_2 ∷ folder_2 ∷ [] ≡ codes "build" ∷ recipe ∷ folder ∷ [] = sym second.0 ∙ first.0 in (cc, cc)
 
 pub one_make : (words : List (List ℕ)) (number number_2 : ℕ) (folder folder_2 : List ℕ) → IsCommand words (make number folder) → IsCommand words (make number_2 folder_2)
     → (number_2 ≡ number) × (folder_2 ≡ folder)
 one_make words number number_2 folder folder_2 one two =
-    let same : codes "make" ∷ decimal number_2 ∷ folder_2 ∷ [] ≡ codes "make" ∷ decimal number ∷ folder ∷ [] = sym two.0 ∙ one.0 in
+    let (own, first, second) = same_asked words (make number folder) (make number_2 folder_2) one two in
+    let same : codes "make" ∷ decimal number_2 ∷ folder_2 ∷ [] ≡ codes "make" ∷ decimal number ∷ folder ∷ [] = sym second.0 ∙ first.0 in
     let digits : decimal number_2 ≡ decimal number = cc in
-    (decimal_injective number_2 number (omega (arith, two.1)) (omega (arith, one.1)) digits, cc)
+    (decimal_injective number_2 number (omega (arith, second.1)) (omega (arith, first.1)) digits, cc)
 
 -- ---- what is said of a command
-
-same_head : (a b : ℕ) (first second : List ℕ) → a ∷ first ≡ b ∷ second → a ≡ b
-same_head a b first second same = cc
-
-not_wire : codes "make" ≡ codes "wire" → ⊥
-not_wire same = let head : 109 ≡ 119 = same_head 109 119 (codes "ake") (codes "ire") same in absurd (omega (arith, head))
-
-not_trial : codes "check" ≡ codes "trial" → ⊥
-not_trial same = let head : 99 ≡ 116 = same_head 99 116 (codes "heck") (codes "rial") same in absurd (omega (arith, head))
 
 pub says_of_check : (work : Work) (folder : List ℕ) (status : ℕ) (text : List ℕ) → IsCommand work.words (check folder) → Says work status text
     → Checks folder work.files work.host_faults work.host_faults_after status text
 unfolding verb
 says_of_check work folder status text asked (refused none _ _) = absurd (none (check folder) asked tt)
-says_of_check work folder status text asked (rolls_back is _) = let no = same_verb work.words (check folder) rollback asked is in absurd cc
-says_of_check work folder status text asked (replays other script is _) = let no = same_verb work.words (check folder) (replay other script) asked is in absurd cc
-says_of_check work folder status text asked (traces other script is _) = let no = same_verb work.words (check folder) (wire other script) asked is in absurd cc
-says_of_check work folder status text asked (tries number is _) = absurd (not_trial (same_verb work.words (check folder) (trial number) asked is))
-says_of_check work folder status text asked (lists is _) = let no = same_verb work.words (check folder) list asked is in absurd cc
-says_of_check work folder status text asked (formats id is _) = let no = same_verb work.words (check folder) (format id) asked is in absurd cc
-says_of_check work folder status text asked (shows kind file is _) = let no = same_verb work.words (check folder) (show kind file) asked is in absurd cc
-says_of_check work folder status text asked (builds recipe other is _) = let no = same_verb work.words (check folder) (build recipe other) asked is in absurd cc
-says_of_check work folder status text asked (makes number other is _) = let no = same_verb work.words (check folder) (make number other) asked is in absurd cc
+says_of_check work folder status text asked (rolls_back is _) = absurd (apart_verbs (same_verb work.words (check folder) rollback asked is) refl)
+says_of_check work folder status text asked (replays other script is _) = absurd (apart_verbs (same_verb work.words (check folder) (replay other script) asked is) refl)
+says_of_check work folder status text asked (traces other script is _) = absurd (apart_verbs (same_verb work.words (check folder) (wire other script) asked is) refl)
+says_of_check work folder status text asked (tries number is _) = absurd (apart_verbs (same_verb work.words (check folder) (trial number) asked is) refl)
+says_of_check work folder status text asked (lists is _) = absurd (apart_verbs (same_verb work.words (check folder) list asked is) refl)
+says_of_check work folder status text asked (formats id is _) = absurd (apart_verbs (same_verb work.words (check folder) (format id) asked is) refl)
+says_of_check work folder status text asked (shows kind file is _) = absurd (apart_verbs (same_verb work.words (check folder) (show kind file) asked is) refl)
+says_of_check work folder status text asked (builds recipe other is _) = absurd (apart_verbs (same_verb work.words (check folder) (build recipe other) asked is) refl)
+says_of_check work folder status text asked (makes number other is _) = absurd (apart_verbs (same_verb work.words (check folder) (make number other) asked is) refl)
 says_of_check work folder status text asked (checks other is found) =
     subst (λ (f : List ℕ). Checks f work.files work.host_faults work.host_faults_after status text) (one_folder work.words folder other asked is) found
 
@@ -105,15 +120,15 @@ pub says_of_build : (work : Work) (recipe folder : List ℕ) (status : ℕ) (tex
     → Builds recipe folder (host_work work) status text
 unfolding verb
 says_of_build work recipe folder status text asked (refused none _ _) = absurd (none (build recipe folder) asked tt)
-says_of_build work recipe folder status text asked (rolls_back is _) = let no = same_verb work.words (build recipe folder) rollback asked is in absurd cc
-says_of_build work recipe folder status text asked (replays other script is _) = let no = same_verb work.words (build recipe folder) (replay other script) asked is in absurd cc
-says_of_build work recipe folder status text asked (traces other script is _) = let no = same_verb work.words (build recipe folder) (wire other script) asked is in absurd cc
-says_of_build work recipe folder status text asked (tries number is _) = let no = same_verb work.words (build recipe folder) (trial number) asked is in absurd cc
-says_of_build work recipe folder status text asked (lists is _) = let no = same_verb work.words (build recipe folder) list asked is in absurd cc
-says_of_build work recipe folder status text asked (formats id is _) = let no = same_verb work.words (build recipe folder) (format id) asked is in absurd cc
-says_of_build work recipe folder status text asked (shows kind file is _) = let no = same_verb work.words (build recipe folder) (show kind file) asked is in absurd cc
-says_of_build work recipe folder status text asked (checks other is _) = let no = same_verb work.words (build recipe folder) (check other) asked is in absurd cc
-says_of_build work recipe folder status text asked (makes number other is _) = let no = same_verb work.words (build recipe folder) (make number other) asked is in absurd cc
+says_of_build work recipe folder status text asked (rolls_back is _) = absurd (apart_verbs (same_verb work.words (build recipe folder) rollback asked is) refl)
+says_of_build work recipe folder status text asked (replays other script is _) = absurd (apart_verbs (same_verb work.words (build recipe folder) (replay other script) asked is) refl)
+says_of_build work recipe folder status text asked (traces other script is _) = absurd (apart_verbs (same_verb work.words (build recipe folder) (wire other script) asked is) refl)
+says_of_build work recipe folder status text asked (tries number is _) = absurd (apart_verbs (same_verb work.words (build recipe folder) (trial number) asked is) refl)
+says_of_build work recipe folder status text asked (lists is _) = absurd (apart_verbs (same_verb work.words (build recipe folder) list asked is) refl)
+says_of_build work recipe folder status text asked (formats id is _) = absurd (apart_verbs (same_verb work.words (build recipe folder) (format id) asked is) refl)
+says_of_build work recipe folder status text asked (shows kind file is _) = absurd (apart_verbs (same_verb work.words (build recipe folder) (show kind file) asked is) refl)
+says_of_build work recipe folder status text asked (checks other is _) = absurd (apart_verbs (same_verb work.words (build recipe folder) (check other) asked is) refl)
+says_of_build work recipe folder status text asked (makes number other is _) = absurd (apart_verbs (same_verb work.words (build recipe folder) (make number other) asked is) refl)
 says_of_build work recipe folder status text asked (builds recipe_2 folder_2 is found) =
     let same = one_build work.words recipe folder recipe_2 folder_2 asked is in
     subst (λ (r : List ℕ). Builds r folder (host_work work) status text) same.0 (subst (λ (f : List ℕ). Builds recipe_2 f (host_work work) status text) same.1 found)
@@ -122,15 +137,15 @@ pub says_of_make : (work : Work) (number : ℕ) (folder : List ℕ) (status : �
     → Makes number folder (host_work work) status text
 unfolding verb
 says_of_make work number folder status text asked (refused none _ _) = absurd (none (make number folder) asked tt)
-says_of_make work number folder status text asked (rolls_back is _) = let no = same_verb work.words (make number folder) rollback asked is in absurd cc
-says_of_make work number folder status text asked (replays other script is _) = let no = same_verb work.words (make number folder) (replay other script) asked is in absurd cc
-says_of_make work number folder status text asked (traces other script is _) = absurd (not_wire (same_verb work.words (make number folder) (wire other script) asked is))
-says_of_make work number folder status text asked (tries other is _) = let no = same_verb work.words (make number folder) (trial other) asked is in absurd cc
-says_of_make work number folder status text asked (lists is _) = let no = same_verb work.words (make number folder) list asked is in absurd cc
-says_of_make work number folder status text asked (formats id is _) = let no = same_verb work.words (make number folder) (format id) asked is in absurd cc
-says_of_make work number folder status text asked (shows kind file is _) = let no = same_verb work.words (make number folder) (show kind file) asked is in absurd cc
-says_of_make work number folder status text asked (checks other is _) = let no = same_verb work.words (make number folder) (check other) asked is in absurd cc
-says_of_make work number folder status text asked (builds recipe other is _) = let no = same_verb work.words (make number folder) (build recipe other) asked is in absurd cc
+says_of_make work number folder status text asked (rolls_back is _) = absurd (apart_verbs (same_verb work.words (make number folder) rollback asked is) refl)
+says_of_make work number folder status text asked (replays other script is _) = absurd (apart_verbs (same_verb work.words (make number folder) (replay other script) asked is) refl)
+says_of_make work number folder status text asked (traces other script is _) = absurd (apart_verbs (same_verb work.words (make number folder) (wire other script) asked is) refl)
+says_of_make work number folder status text asked (tries other is _) = absurd (apart_verbs (same_verb work.words (make number folder) (trial other) asked is) refl)
+says_of_make work number folder status text asked (lists is _) = absurd (apart_verbs (same_verb work.words (make number folder) list asked is) refl)
+says_of_make work number folder status text asked (formats id is _) = absurd (apart_verbs (same_verb work.words (make number folder) (format id) asked is) refl)
+says_of_make work number folder status text asked (shows kind file is _) = absurd (apart_verbs (same_verb work.words (make number folder) (show kind file) asked is) refl)
+says_of_make work number folder status text asked (checks other is _) = absurd (apart_verbs (same_verb work.words (make number folder) (check other) asked is) refl)
+says_of_make work number folder status text asked (builds recipe other is _) = absurd (apart_verbs (same_verb work.words (make number folder) (build recipe other) asked is) refl)
 says_of_make work number folder status text asked (makes number_2 folder_2 is found) =
     let same = one_make work.words number number_2 folder folder_2 asked is in
     subst (λ (n : ℕ). Makes n folder (host_work work) status text) same.0 (subst (λ (f : List ℕ). Makes number_2 f (host_work work) status text) same.1 found)
@@ -138,31 +153,32 @@ says_of_make work number folder status text asked (makes number_2 folder_2 is fo
 -- what is said of a trial
 pub one_trial : (words : List (List ℕ)) (number number_2 : ℕ) → IsCommand words (trial number) → IsCommand words (trial number_2) → number_2 ≡ number
 one_trial words number number_2 one two =
-    let same : codes "trial" ∷ decimal number_2 ∷ [] ≡ codes "trial" ∷ decimal number ∷ [] = sym two.0 ∙ one.0 in
+    let (own, first, second) = same_asked words (trial number) (trial number_2) one two in
+    let same : codes "trial" ∷ decimal number_2 ∷ [] ≡ codes "trial" ∷ decimal number ∷ [] = sym second.0 ∙ first.0 in
     let digits : decimal number_2 ≡ decimal number = cc in
-    decimal_injective number_2 number (omega (arith, two.1)) (omega (arith, one.1)) digits
+    decimal_injective number_2 number (omega (arith, second.1)) (omega (arith, first.1)) digits
 
 pub says_of_trial : (work : Work) (number : ℕ) (status : ℕ) (text : List ℕ) → IsCommand work.words (trial number) → Says work status text
     → Trials number work.disk work.disk_after work.handed status text
 unfolding verb
 says_of_trial work number status text asked (refused none _ _) = absurd (none (trial number) asked tt)
-says_of_trial work number status text asked (rolls_back is _) = let no = same_verb work.words (trial number) rollback asked is in absurd cc
-says_of_trial work number status text asked (replays other script is _) = let no = same_verb work.words (trial number) (replay other script) asked is in absurd cc
-says_of_trial work number status text asked (traces other script is _) = let no = same_verb work.words (trial number) (wire other script) asked is in absurd cc
-says_of_trial work number status text asked (lists is _) = let no = same_verb work.words (trial number) list asked is in absurd cc
-says_of_trial work number status text asked (formats id is _) = let no = same_verb work.words (trial number) (format id) asked is in absurd cc
-says_of_trial work number status text asked (shows kind file is _) = let no = same_verb work.words (trial number) (show kind file) asked is in absurd cc
-says_of_trial work number status text asked (checks other is _) = absurd (not_trial (same_verb work.words (check other) (trial number) is asked))
-says_of_trial work number status text asked (builds recipe other is _) = let no = same_verb work.words (build recipe other) (trial number) is asked in absurd cc
-says_of_trial work number status text asked (makes other folder is _) = let no = same_verb work.words (trial number) (make other folder) asked is in absurd cc
+says_of_trial work number status text asked (rolls_back is _) = absurd (apart_verbs (same_verb work.words (trial number) rollback asked is) refl)
+says_of_trial work number status text asked (replays other script is _) = absurd (apart_verbs (same_verb work.words (trial number) (replay other script) asked is) refl)
+says_of_trial work number status text asked (traces other script is _) = absurd (apart_verbs (same_verb work.words (trial number) (wire other script) asked is) refl)
+says_of_trial work number status text asked (lists is _) = absurd (apart_verbs (same_verb work.words (trial number) list asked is) refl)
+says_of_trial work number status text asked (formats id is _) = absurd (apart_verbs (same_verb work.words (trial number) (format id) asked is) refl)
+says_of_trial work number status text asked (shows kind file is _) = absurd (apart_verbs (same_verb work.words (trial number) (show kind file) asked is) refl)
+says_of_trial work number status text asked (checks other is _) = absurd (apart_verbs (same_verb work.words (check other) (trial number) is asked) refl)
+says_of_trial work number status text asked (builds recipe other is _) = absurd (apart_verbs (same_verb work.words (build recipe other) (trial number) is asked) refl)
+says_of_trial work number status text asked (makes other folder is _) = absurd (apart_verbs (same_verb work.words (trial number) (make other folder) asked is) refl)
 says_of_trial work number status text asked (tries other is found) =
     subst (λ (n : ℕ). Trials n work.disk work.disk_after work.handed status text) (one_trial work.words number other asked is) found
 
 -- which formats no disk, and rolls none back
 pub trial_formats_none : (words : List (List ℕ)) (number : ℕ) → IsCommand words (trial number) → IsNo FormatsOrRollsBack words
 unfolding verb
-trial_formats_none words number asked (format id) is writes = let no = same_verb words (trial number) (format id) asked is in absurd cc
-trial_formats_none words number asked rollback is writes = let no = same_verb words (trial number) rollback asked is in absurd cc
+trial_formats_none words number asked (format id) is writes = absurd (apart_verbs (same_verb words (trial number) (format id) asked is) refl)
+trial_formats_none words number asked rollback is writes = absurd (apart_verbs (same_verb words (trial number) rollback asked is) refl)
 trial_formats_none words number asked list is writes = writes
 trial_formats_none words number asked (show kind file) is writes = writes
 trial_formats_none words number asked (check other) is writes = writes
@@ -175,23 +191,13 @@ trial_formats_none words number asked (trial other) is writes = writes
 -- what is said of a run of a script
 one_replay : (words : List (List ℕ)) (folder script folder_2 script_2 : List ℕ) → IsCommand words (replay folder script) → IsCommand words (replay folder_2 script_2) → (folder_2 ≡ folder) × (script_2 ≡ script)
 one_replay words folder script folder_2 script_2 one two =
-    let same : codes "replay" ∷ folder_2 ∷ script_2 ∷ [] ≡ codes "replay" ∷ folder ∷ script ∷ [] = sym two.0 ∙ one.0 in (cc, cc)
+    let (own, first, second) = same_asked words (replay folder script) (replay folder_2 script_2) one two in
+    let same : codes "replay" ∷ folder_2 ∷ script_2 ∷ [] ≡ codes "replay" ∷ folder ∷ script ∷ [] = sym second.0 ∙ first.0 in (cc, cc)
 
 one_wire : (words : List (List ℕ)) (folder script folder_2 script_2 : List ℕ) → IsCommand words (wire folder script) → IsCommand words (wire folder_2 script_2) → (folder_2 ≡ folder) × (script_2 ≡ script)
 one_wire words folder script folder_2 script_2 one two =
-    let same : codes "wire" ∷ folder_2 ∷ script_2 ∷ [] ≡ codes "wire" ∷ folder ∷ script ∷ [] = sym two.0 ∙ one.0 in (cc, cc)
-
-not_make : codes "wire" ≡ codes "make" → ⊥
-not_make same = let head : 119 ≡ 109 = same_head 119 109 (codes "ire") (codes "ake") same in absurd (omega (arith, head))
-
-not_list : codes "wire" ≡ codes "list" → ⊥
-not_list same = let head : 119 ≡ 108 = same_head 119 108 (codes "ire") (codes "ist") same in absurd (omega (arith, head))
-
-not_show : codes "wire" ≡ codes "show" → ⊥
-not_show same = let head : 119 ≡ 115 = same_head 119 115 (codes "ire") (codes "how") same in absurd (omega (arith, head))
-
-not_format : codes "replay" ≡ codes "format" → ⊥
-not_format same = let head : 114 ≡ 102 = same_head 114 102 (codes "eplay") (codes "ormat") same in absurd (omega (arith, head))
+    let (own, first, second) = same_asked words (wire folder script) (wire folder_2 script_2) one two in
+    let same : codes "wire" ∷ folder_2 ∷ script_2 ∷ [] ≡ codes "wire" ∷ folder ∷ script ∷ [] = sym second.0 ∙ first.0 in (cc, cc)
 
 abbrev ReplaysIt : Work → Telling → (folder script : List ℕ) (status : ℕ) (text : List ℕ) → Type 0
 ReplaysIt work telling folder script status text = Replays telling folder script work.files work.host_faults work.host_faults_after work.disk work.disk_after work.handed status text
@@ -199,15 +205,15 @@ ReplaysIt work telling folder script status text = Replays telling folder script
 says_of_replay : (work : Work) (folder script : List ℕ) (status : ℕ) (text : List ℕ) → IsCommand work.words (replay folder script) → Says work status text → ReplaysIt work Report folder script status text
 unfolding verb
 says_of_replay work folder script status text asked (refused none _ _) = absurd (none (replay folder script) asked tt)
-says_of_replay work folder script status text asked (rolls_back is _) = let no = same_verb work.words (replay folder script) rollback asked is in absurd cc
-says_of_replay work folder script status text asked (lists is _) = let no = same_verb work.words (replay folder script) list asked is in absurd cc
-says_of_replay work folder script status text asked (formats id is _) = absurd (not_format (same_verb work.words (replay folder script) (format id) asked is))
-says_of_replay work folder script status text asked (shows kind file is _) = let no = same_verb work.words (replay folder script) (show kind file) asked is in absurd cc
-says_of_replay work folder script status text asked (checks other is _) = let no = same_verb work.words (replay folder script) (check other) asked is in absurd cc
-says_of_replay work folder script status text asked (builds recipe other is _) = let no = same_verb work.words (replay folder script) (build recipe other) asked is in absurd cc
-says_of_replay work folder script status text asked (makes number other is _) = let no = same_verb work.words (replay folder script) (make number other) asked is in absurd cc
-says_of_replay work folder script status text asked (traces other script_2 is _) = let no = same_verb work.words (replay folder script) (wire other script_2) asked is in absurd cc
-says_of_replay work folder script status text asked (tries number is _) = let no = same_verb work.words (replay folder script) (trial number) asked is in absurd cc
+says_of_replay work folder script status text asked (rolls_back is _) = absurd (apart_verbs (same_verb work.words (replay folder script) rollback asked is) refl)
+says_of_replay work folder script status text asked (lists is _) = absurd (apart_verbs (same_verb work.words (replay folder script) list asked is) refl)
+says_of_replay work folder script status text asked (formats id is _) = absurd (apart_verbs (same_verb work.words (replay folder script) (format id) asked is) refl)
+says_of_replay work folder script status text asked (shows kind file is _) = absurd (apart_verbs (same_verb work.words (replay folder script) (show kind file) asked is) refl)
+says_of_replay work folder script status text asked (checks other is _) = absurd (apart_verbs (same_verb work.words (replay folder script) (check other) asked is) refl)
+says_of_replay work folder script status text asked (builds recipe other is _) = absurd (apart_verbs (same_verb work.words (replay folder script) (build recipe other) asked is) refl)
+says_of_replay work folder script status text asked (makes number other is _) = absurd (apart_verbs (same_verb work.words (replay folder script) (make number other) asked is) refl)
+says_of_replay work folder script status text asked (traces other script_2 is _) = absurd (apart_verbs (same_verb work.words (replay folder script) (wire other script_2) asked is) refl)
+says_of_replay work folder script status text asked (tries number is _) = absurd (apart_verbs (same_verb work.words (replay folder script) (trial number) asked is) refl)
 says_of_replay work folder script status text asked (replays folder_2 script_2 is found) =
     let same = one_replay work.words folder script folder_2 script_2 asked is in
     subst (λ (f : List ℕ). ReplaysIt work Report f script status text) same.0 (subst (λ (s : List ℕ). ReplaysIt work Report folder_2 s status text) same.1 found)
@@ -215,15 +221,15 @@ says_of_replay work folder script status text asked (replays folder_2 script_2 i
 says_of_wire : (work : Work) (folder script : List ℕ) (status : ℕ) (text : List ℕ) → IsCommand work.words (wire folder script) → Says work status text → ReplaysIt work Trace folder script status text
 unfolding verb
 says_of_wire work folder script status text asked (refused none _ _) = absurd (none (wire folder script) asked tt)
-says_of_wire work folder script status text asked (rolls_back is _) = let no = same_verb work.words (wire folder script) rollback asked is in absurd cc
-says_of_wire work folder script status text asked (lists is _) = absurd (not_list (same_verb work.words (wire folder script) list asked is))
-says_of_wire work folder script status text asked (formats id is _) = let no = same_verb work.words (wire folder script) (format id) asked is in absurd cc
-says_of_wire work folder script status text asked (shows kind file is _) = absurd (not_show (same_verb work.words (wire folder script) (show kind file) asked is))
-says_of_wire work folder script status text asked (checks other is _) = let no = same_verb work.words (wire folder script) (check other) asked is in absurd cc
-says_of_wire work folder script status text asked (builds recipe other is _) = let no = same_verb work.words (wire folder script) (build recipe other) asked is in absurd cc
-says_of_wire work folder script status text asked (makes number other is _) = absurd (not_make (same_verb work.words (wire folder script) (make number other) asked is))
-says_of_wire work folder script status text asked (replays other script_2 is _) = let no = same_verb work.words (wire folder script) (replay other script_2) asked is in absurd cc
-says_of_wire work folder script status text asked (tries number is _) = let no = same_verb work.words (wire folder script) (trial number) asked is in absurd cc
+says_of_wire work folder script status text asked (rolls_back is _) = absurd (apart_verbs (same_verb work.words (wire folder script) rollback asked is) refl)
+says_of_wire work folder script status text asked (lists is _) = absurd (apart_verbs (same_verb work.words (wire folder script) list asked is) refl)
+says_of_wire work folder script status text asked (formats id is _) = absurd (apart_verbs (same_verb work.words (wire folder script) (format id) asked is) refl)
+says_of_wire work folder script status text asked (shows kind file is _) = absurd (apart_verbs (same_verb work.words (wire folder script) (show kind file) asked is) refl)
+says_of_wire work folder script status text asked (checks other is _) = absurd (apart_verbs (same_verb work.words (wire folder script) (check other) asked is) refl)
+says_of_wire work folder script status text asked (builds recipe other is _) = absurd (apart_verbs (same_verb work.words (wire folder script) (build recipe other) asked is) refl)
+says_of_wire work folder script status text asked (makes number other is _) = absurd (apart_verbs (same_verb work.words (wire folder script) (make number other) asked is) refl)
+says_of_wire work folder script status text asked (replays other script_2 is _) = absurd (apart_verbs (same_verb work.words (wire folder script) (replay other script_2) asked is) refl)
+says_of_wire work folder script status text asked (tries number is _) = absurd (apart_verbs (same_verb work.words (wire folder script) (trial number) asked is) refl)
 says_of_wire work folder script status text asked (traces folder_2 script_2 is found) =
     let same = one_wire work.words folder script folder_2 script_2 asked is in
     subst (λ (f : List ℕ). ReplaysIt work Trace f script status text) same.0 (subst (λ (s : List ℕ). ReplaysIt work Trace folder_2 s status text) same.1 found)
@@ -236,10 +242,10 @@ says_of_run Trace work folder script status text asked says = says_of_wire work 
 -- and such a run formats no disk, and rolls none back
 pub formats_none : (telling : Telling) (words : List (List ℕ)) (folder script : List ℕ) → IsCommand words (run_command telling folder script) → IsNo FormatsOrRollsBack words
 unfolding verb
-formats_none Report words folder script asked (format id) is writes = not_format (same_verb words (replay folder script) (format id) asked is)
-formats_none Trace words folder script asked (format id) is writes = let no = same_verb words (wire folder script) (format id) asked is in absurd cc
-formats_none Report words folder script asked rollback is writes = let no = same_verb words (replay folder script) rollback asked is in absurd cc
-formats_none Trace words folder script asked rollback is writes = let no = same_verb words (wire folder script) rollback asked is in absurd cc
+formats_none Report words folder script asked (format id) is writes = apart_verbs (same_verb words (replay folder script) (format id) asked is) refl
+formats_none Trace words folder script asked (format id) is writes = absurd (apart_verbs (same_verb words (wire folder script) (format id) asked is) refl)
+formats_none Report words folder script asked rollback is writes = absurd (apart_verbs (same_verb words (replay folder script) rollback asked is) refl)
+formats_none Trace words folder script asked rollback is writes = absurd (apart_verbs (same_verb words (wire folder script) rollback asked is) refl)
 formats_none telling words folder script asked list is writes = writes
 formats_none telling words folder script asked (show kind file) is writes = writes
 formats_none telling words folder script asked (check other) is writes = writes
@@ -251,39 +257,18 @@ formats_none telling words folder script asked (trial number) is writes = writes
 
 -- ---- `list`, `format`, `show`
 
-apart_list_show : codes "list" ≡ codes "show" → ⊥
-apart_list_show same = let head : 108 ≡ 115 = same_head 108 115 (codes "ist") (codes "how") same in absurd (omega (arith, head))
-
-apart_list_make : codes "list" ≡ codes "make" → ⊥
-apart_list_make same = let head : 108 ≡ 109 = same_head 108 109 (codes "ist") (codes "ake") same in absurd (omega (arith, head))
-
-apart_list_wire : codes "list" ≡ codes "wire" → ⊥
-apart_list_wire same = let head : 108 ≡ 119 = same_head 108 119 (codes "ist") (codes "ire") same in absurd (omega (arith, head))
-
-apart_show_list : codes "show" ≡ codes "list" → ⊥
-apart_show_list same = let head : 115 ≡ 108 = same_head 115 108 (codes "how") (codes "ist") same in absurd (omega (arith, head))
-
-apart_show_make : codes "show" ≡ codes "make" → ⊥
-apart_show_make same = let head : 115 ≡ 109 = same_head 115 109 (codes "how") (codes "ake") same in absurd (omega (arith, head))
-
-apart_show_wire : codes "show" ≡ codes "wire" → ⊥
-apart_show_wire same = let head : 115 ≡ 119 = same_head 115 119 (codes "how") (codes "ire") same in absurd (omega (arith, head))
-
-apart_format_replay : codes "format" ≡ codes "replay" → ⊥
-apart_format_replay same = let head : 102 ≡ 114 = same_head 102 114 (codes "ormat") (codes "eplay") same in absurd (omega (arith, head))
-
 pub says_of_list : (work : Work) (status : ℕ) (text : List ℕ) → IsCommand work.words list → Says work status text → Lists work.disk work.disk_after status text
 unfolding verb
 says_of_list work status text asked (refused none _ _) = absurd (none list asked tt)
-says_of_list work status text asked (rolls_back is _) = let no = same_verb work.words list rollback asked is in absurd cc
-says_of_list work status text asked (formats id_2 is _) = let no = same_verb work.words list (format id_2) asked is in absurd cc
-says_of_list work status text asked (shows kind_2 file_2 is _) = absurd (apart_list_show (same_verb work.words list (show kind_2 file_2) asked is))
-says_of_list work status text asked (checks other is _) = let no = same_verb work.words list (check other) asked is in absurd cc
-says_of_list work status text asked (builds recipe other is _) = let no = same_verb work.words list (build recipe other) asked is in absurd cc
-says_of_list work status text asked (makes number other is _) = absurd (apart_list_make (same_verb work.words list (make number other) asked is))
-says_of_list work status text asked (replays other script is _) = let no = same_verb work.words list (replay other script) asked is in absurd cc
-says_of_list work status text asked (traces other script is _) = absurd (apart_list_wire (same_verb work.words list (wire other script) asked is))
-says_of_list work status text asked (tries number is _) = let no = same_verb work.words list (trial number) asked is in absurd cc
+says_of_list work status text asked (rolls_back is _) = absurd (apart_verbs (same_verb work.words list rollback asked is) refl)
+says_of_list work status text asked (formats id_2 is _) = absurd (apart_verbs (same_verb work.words list (format id_2) asked is) refl)
+says_of_list work status text asked (shows kind_2 file_2 is _) = absurd (apart_verbs (same_verb work.words list (show kind_2 file_2) asked is) refl)
+says_of_list work status text asked (checks other is _) = absurd (apart_verbs (same_verb work.words list (check other) asked is) refl)
+says_of_list work status text asked (builds recipe other is _) = absurd (apart_verbs (same_verb work.words list (build recipe other) asked is) refl)
+says_of_list work status text asked (makes number other is _) = absurd (apart_verbs (same_verb work.words list (make number other) asked is) refl)
+says_of_list work status text asked (replays other script is _) = absurd (apart_verbs (same_verb work.words list (replay other script) asked is) refl)
+says_of_list work status text asked (traces other script is _) = absurd (apart_verbs (same_verb work.words list (wire other script) asked is) refl)
+says_of_list work status text asked (tries number is _) = absurd (apart_verbs (same_verb work.words list (trial number) asked is) refl)
 says_of_list work status text asked (lists is found) = found
 
 -- of the same target, perhaps with other spare capacity of its names
@@ -291,34 +276,35 @@ pub says_of_format : (work : Work) (id : Identity) (status : ℕ) (text : List �
     → (other : Identity) × IsCommand work.words (format other) × Formats work.disk work.disk_after other status text
 unfolding verb
 says_of_format work id status text asked (refused none _ _) = absurd (none (format id) asked tt)
-says_of_format work id status text asked (rolls_back is _) = let no = same_verb work.words (format id) rollback asked is in absurd cc
-says_of_format work id status text asked (lists is _) = let no = same_verb work.words (format id) list asked is in absurd cc
-says_of_format work id status text asked (shows kind_2 file_2 is _) = let no = same_verb work.words (format id) (show kind_2 file_2) asked is in absurd cc
-says_of_format work id status text asked (checks other is _) = let no = same_verb work.words (format id) (check other) asked is in absurd cc
-says_of_format work id status text asked (builds recipe other is _) = let no = same_verb work.words (format id) (build recipe other) asked is in absurd cc
-says_of_format work id status text asked (makes number other is _) = let no = same_verb work.words (format id) (make number other) asked is in absurd cc
-says_of_format work id status text asked (replays other script is _) = absurd (apart_format_replay (same_verb work.words (format id) (replay other script) asked is))
-says_of_format work id status text asked (traces other script is _) = let no = same_verb work.words (format id) (wire other script) asked is in absurd cc
-says_of_format work id status text asked (tries number is _) = let no = same_verb work.words (format id) (trial number) asked is in absurd cc
+says_of_format work id status text asked (rolls_back is _) = absurd (apart_verbs (same_verb work.words (format id) rollback asked is) refl)
+says_of_format work id status text asked (lists is _) = absurd (apart_verbs (same_verb work.words (format id) list asked is) refl)
+says_of_format work id status text asked (shows kind_2 file_2 is _) = absurd (apart_verbs (same_verb work.words (format id) (show kind_2 file_2) asked is) refl)
+says_of_format work id status text asked (checks other is _) = absurd (apart_verbs (same_verb work.words (format id) (check other) asked is) refl)
+says_of_format work id status text asked (builds recipe other is _) = absurd (apart_verbs (same_verb work.words (format id) (build recipe other) asked is) refl)
+says_of_format work id status text asked (makes number other is _) = absurd (apart_verbs (same_verb work.words (format id) (make number other) asked is) refl)
+says_of_format work id status text asked (replays other script is _) = absurd (apart_verbs (same_verb work.words (format id) (replay other script) asked is) refl)
+says_of_format work id status text asked (traces other script is _) = absurd (apart_verbs (same_verb work.words (format id) (wire other script) asked is) refl)
+says_of_format work id status text asked (tries number is _) = absurd (apart_verbs (same_verb work.words (format id) (trial number) asked is) refl)
 says_of_format work id status text asked (formats other is found) = (other, is, found)
 
 pub says_of_show : (work : Work) (kind : ShownKind) (file : List ℕ) (status : ℕ) (text : List ℕ) → IsCommand work.words (show kind file) → Says work status text
     → Shows kind work.files work.host_faults work.host_faults_after file status text
 unfolding verb
 says_of_show work kind file status text asked (refused none _ _) = absurd (none (show kind file) asked tt)
-says_of_show work kind file status text asked (rolls_back is _) = let no = same_verb work.words (show kind file) rollback asked is in absurd cc
-says_of_show work kind file status text asked (lists is _) = absurd (apart_show_list (same_verb work.words (show kind file) list asked is))
-says_of_show work kind file status text asked (formats id_2 is _) = let no = same_verb work.words (show kind file) (format id_2) asked is in absurd cc
-says_of_show work kind file status text asked (checks other is _) = let no = same_verb work.words (show kind file) (check other) asked is in absurd cc
-says_of_show work kind file status text asked (builds recipe other is _) = let no = same_verb work.words (show kind file) (build recipe other) asked is in absurd cc
-says_of_show work kind file status text asked (makes number other is _) = absurd (apart_show_make (same_verb work.words (show kind file) (make number other) asked is))
-says_of_show work kind file status text asked (replays other script is _) = let no = same_verb work.words (show kind file) (replay other script) asked is in absurd cc
-says_of_show work kind file status text asked (traces other script is _) = absurd (apart_show_wire (same_verb work.words (show kind file) (wire other script) asked is))
-says_of_show work kind file status text asked (tries number is _) = let no = same_verb work.words (show kind file) (trial number) asked is in absurd cc
+says_of_show work kind file status text asked (rolls_back is _) = absurd (apart_verbs (same_verb work.words (show kind file) rollback asked is) refl)
+says_of_show work kind file status text asked (lists is _) = absurd (apart_verbs (same_verb work.words (show kind file) list asked is) refl)
+says_of_show work kind file status text asked (formats id_2 is _) = absurd (apart_verbs (same_verb work.words (show kind file) (format id_2) asked is) refl)
+says_of_show work kind file status text asked (checks other is _) = absurd (apart_verbs (same_verb work.words (show kind file) (check other) asked is) refl)
+says_of_show work kind file status text asked (builds recipe other is _) = absurd (apart_verbs (same_verb work.words (show kind file) (build recipe other) asked is) refl)
+says_of_show work kind file status text asked (makes number other is _) = absurd (apart_verbs (same_verb work.words (show kind file) (make number other) asked is) refl)
+says_of_show work kind file status text asked (replays other script is _) = absurd (apart_verbs (same_verb work.words (show kind file) (replay other script) asked is) refl)
+says_of_show work kind file status text asked (traces other script is _) = absurd (apart_verbs (same_verb work.words (show kind file) (wire other script) asked is) refl)
+says_of_show work kind file status text asked (tries number is _) = absurd (apart_verbs (same_verb work.words (show kind file) (trial number) asked is) refl)
 says_of_show work kind file status text asked (shows kind_2 file_2 is found) =
-    let same : codes "show" ∷ file_2 ∷ [] ≡ codes "show" ∷ file ∷ [] = sym is.0 ∙ asked.0 in
+    let (own, first, second) = same_asked work.words (show kind file) (show kind_2 file_2) asked is in
+    let same : codes "show" ∷ file_2 ∷ [] ≡ codes "show" ∷ file ∷ [] = sym second.0 ∙ first.0 in
     let name : file_2 ≡ file = cc in
-    let shown : kind_2 ≡ kind = one_kind kind kind_2 file asked.2 (subst (λ (f : List ℕ). IsNameOf kind_2 f) name is.2) in
+    let shown : kind_2 ≡ kind = one_kind kind kind_2 file first.2 (subst (λ (f : List ℕ). IsNameOf kind_2 f) name second.2) in
     subst (λ (k : ShownKind). Shows k work.files work.host_faults work.host_faults_after file status text) shown
     (subst (λ (f : List ℕ). Shows kind_2 work.files work.host_faults work.host_faults_after f status text) name found)
 
@@ -327,56 +313,72 @@ says_of_show work kind file status text asked (shows kind_2 file_2 is found) =
 -- another command formats nothing, and rolls nothing back
 pub formats_no : (words : List (List ℕ)) (command : CommandView) (id : Identity) → IsCommand words command → ¬ FormatsOrRollsBack command → IsCommand words (format id) → ⊥
 unfolding verb
-formats_no words list id asked other is = let no = same_verb words (format id) list is asked in absurd cc
+formats_no words list id asked other is = absurd (apart_verbs (same_verb words (format id) list is asked) refl)
 formats_no words (format target) id asked other is = other tt
-formats_no words (show kind file) id asked other is = let no = same_verb words (format id) (show kind file) is asked in absurd cc
-formats_no words (check folder) id asked other is = let no = same_verb words (format id) (check folder) is asked in absurd cc
-formats_no words (build recipe folder) id asked other is = let no = same_verb words (format id) (build recipe folder) is asked in absurd cc
-formats_no words (make number folder) id asked other is = let no = same_verb words (format id) (make number folder) is asked in absurd cc
-formats_no words (replay folder script) id asked other is = apart_format_replay (same_verb words (format id) (replay folder script) is asked)
-formats_no words (wire folder script) id asked other is = let no = same_verb words (format id) (wire folder script) is asked in absurd cc
-formats_no words (trial number) id asked other is = let no = same_verb words (format id) (trial number) is asked in absurd cc
+formats_no words (show kind file) id asked other is = absurd (apart_verbs (same_verb words (format id) (show kind file) is asked) refl)
+formats_no words (check folder) id asked other is = absurd (apart_verbs (same_verb words (format id) (check folder) is asked) refl)
+formats_no words (build recipe folder) id asked other is = absurd (apart_verbs (same_verb words (format id) (build recipe folder) is asked) refl)
+formats_no words (make number folder) id asked other is = absurd (apart_verbs (same_verb words (format id) (make number folder) is asked) refl)
+formats_no words (replay folder script) id asked other is = apart_verbs (same_verb words (format id) (replay folder script) is asked) refl
+formats_no words (wire folder script) id asked other is = absurd (apart_verbs (same_verb words (format id) (wire folder script) is asked) refl)
+formats_no words (trial number) id asked other is = absurd (apart_verbs (same_verb words (format id) (trial number) is asked) refl)
 formats_no words rollback id asked other is = other tt
 
 pub rolls_no : (words : List (List ℕ)) (command : CommandView) → IsCommand words command → ¬ FormatsOrRollsBack command → IsCommand words rollback → ⊥
 unfolding verb
-rolls_no words list asked other is = let no = same_verb words rollback list is asked in absurd cc
+rolls_no words list asked other is = absurd (apart_verbs (same_verb words rollback list is asked) refl)
 rolls_no words (format target) asked other is = other tt
-rolls_no words (show kind file) asked other is = let no = same_verb words rollback (show kind file) is asked in absurd cc
-rolls_no words (check folder) asked other is = let no = same_verb words rollback (check folder) is asked in absurd cc
-rolls_no words (build recipe folder) asked other is = let no = same_verb words rollback (build recipe folder) is asked in absurd cc
-rolls_no words (make number folder) asked other is = let no = same_verb words rollback (make number folder) is asked in absurd cc
-rolls_no words (replay folder script) asked other is = let no = same_verb words rollback (replay folder script) is asked in absurd cc
-rolls_no words (wire folder script) asked other is = let no = same_verb words rollback (wire folder script) is asked in absurd cc
-rolls_no words (trial number) asked other is = let no = same_verb words rollback (trial number) is asked in absurd cc
+rolls_no words (show kind file) asked other is = absurd (apart_verbs (same_verb words rollback (show kind file) is asked) refl)
+rolls_no words (check folder) asked other is = absurd (apart_verbs (same_verb words rollback (check folder) is asked) refl)
+rolls_no words (build recipe folder) asked other is = absurd (apart_verbs (same_verb words rollback (build recipe folder) is asked) refl)
+rolls_no words (make number folder) asked other is = absurd (apart_verbs (same_verb words rollback (make number folder) is asked) refl)
+rolls_no words (replay folder script) asked other is = absurd (apart_verbs (same_verb words rollback (replay folder script) is asked) refl)
+rolls_no words (wire folder script) asked other is = absurd (apart_verbs (same_verb words rollback (wire folder script) is asked) refl)
+rolls_no words (trial number) asked other is = absurd (apart_verbs (same_verb words rollback (trial number) is asked) refl)
 rolls_no words rollback asked other is = other tt
 
 -- arguments that format roll nothing back
 pub not_both_asked : (words : List (List ℕ)) (id : Identity) → IsCommand words (format id) → IsCommand words rollback → ⊥
 unfolding verb
-not_both_asked words id asked is = let no = same_verb words (format id) rollback asked is in absurd cc
+not_both_asked words id asked is = absurd (apart_verbs (same_verb words (format id) rollback asked is) refl)
 
 pub says_of_rollback : (work : Work) (status : ℕ) (text : List ℕ) → IsCommand work.words rollback → Says work status text → RollsBackAs work.disk work.disk_after status text
 unfolding verb
 says_of_rollback work status text asked (refused none _ _) = absurd (none rollback asked tt)
-says_of_rollback work status text asked (lists is _) = let no = same_verb work.words rollback list asked is in absurd cc
-says_of_rollback work status text asked (formats id is _) = let no = same_verb work.words rollback (format id) asked is in absurd cc
-says_of_rollback work status text asked (shows kind file is _) = let no = same_verb work.words rollback (show kind file) asked is in absurd cc
-says_of_rollback work status text asked (checks folder is _) = let no = same_verb work.words rollback (check folder) asked is in absurd cc
-says_of_rollback work status text asked (builds recipe folder is _) = let no = same_verb work.words rollback (build recipe folder) asked is in absurd cc
-says_of_rollback work status text asked (makes number folder is _) = let no = same_verb work.words rollback (make number folder) asked is in absurd cc
-says_of_rollback work status text asked (replays folder script is _) = let no = same_verb work.words rollback (replay folder script) asked is in absurd cc
-says_of_rollback work status text asked (traces folder script is _) = let no = same_verb work.words rollback (wire folder script) asked is in absurd cc
-says_of_rollback work status text asked (tries number is _) = let no = same_verb work.words rollback (trial number) asked is in absurd cc
+says_of_rollback work status text asked (lists is _) = absurd (apart_verbs (same_verb work.words rollback list asked is) refl)
+says_of_rollback work status text asked (formats id is _) = absurd (apart_verbs (same_verb work.words rollback (format id) asked is) refl)
+says_of_rollback work status text asked (shows kind file is _) = absurd (apart_verbs (same_verb work.words rollback (show kind file) asked is) refl)
+says_of_rollback work status text asked (checks folder is _) = absurd (apart_verbs (same_verb work.words rollback (check folder) asked is) refl)
+says_of_rollback work status text asked (builds recipe folder is _) = absurd (apart_verbs (same_verb work.words rollback (build recipe folder) asked is) refl)
+says_of_rollback work status text asked (makes number folder is _) = absurd (apart_verbs (same_verb work.words rollback (make number folder) asked is) refl)
+says_of_rollback work status text asked (replays folder script is _) = absurd (apart_verbs (same_verb work.words rollback (replay folder script) asked is) refl)
+says_of_rollback work status text asked (traces folder script is _) = absurd (apart_verbs (same_verb work.words rollback (wire folder script) asked is) refl)
+says_of_rollback work status text asked (tries number is _) = absurd (apart_verbs (same_verb work.words rollback (trial number) asked is) refl)
 says_of_rollback work status text asked (rolls_back is found) = found
+
+are_words : (words own : List (List ℕ)) → (words ≡ own) ⊎ (words ≡ own → ⊥)
+are_words words own = by (pointwise same_bytes words own) refl
+  where
+    decides : Decides (pointwise same_bytes words own) (words ≡ own)
+    decides = pointwise_decides equal_bytes words own
+
+    by : (is : Bool) → pointwise same_bytes words own ≡ is → (words ≡ own) ⊎ (words ≡ own → ⊥)
+    by true same = inl (decides.0 same)
+    by false other = inr (λ same. let both : true ≡ false = sym (decides.1 same) ∙ other in cc)
 
 -- arguments roll back, or they don't
 pub is_rollback : (words : List (List ℕ)) → IsCommand words rollback ⊎ (IsCommand words rollback → ⊥)
-is_rollback words = by (pointwise same_bytes words (codes "rollback" ∷ [])) refl
+is_rollback words = by (are_words words (codes "rollback" ∷ [])) (are_words words (on_it (disk_named words + 1)))
   where
-    decides : Decides (pointwise same_bytes words (codes "rollback" ∷ [])) (words ≡ codes "rollback" ∷ [])
-    decides = pointwise_decides equal_bytes words (codes "rollback" ∷ [])
+    on_it : ℕ → List (List ℕ)
+    on_it n = codes "on" ∷ decimal n ∷ codes "rollback" ∷ []
 
-    by : (is : Bool) → pointwise same_bytes words (codes "rollback" ∷ []) ≡ is → IsCommand words rollback ⊎ (IsCommand words rollback → ⊥)
-    by true same = inl (decides.0 same)
-    by false other = inr (λ same. let both : true ≡ false = sym (decides.1 same) ∙ other in cc)
+    never : (words ≡ codes "rollback" ∷ [] → ⊥) → (words ≡ on_it (disk_named words + 1) → ⊥) → IsCommand words rollback → ⊥
+    never other none (plain is) = other is
+    never other none (on n own low high is own_is looks) = none (is ∙ (ap (λ (w : List (List ℕ)). codes "on" ∷ decimal n ∷ w) own_is ∙ ap on_it (sym (names words own n low high is))))
+
+    by : (words ≡ codes "rollback" ∷ []) ⊎ (words ≡ codes "rollback" ∷ [] → ⊥) → (words ≡ on_it (disk_named words + 1)) ⊎ (words ≡ on_it (disk_named words + 1) → ⊥)
+        → IsCommand words rollback ⊎ (IsCommand words rollback → ⊥)
+    by (inl is) one = inl (plain is)
+    by (inr other) (inl is) = inl (on (disk_named words + 1) (codes "rollback" ∷ []) (omega arith) (omega (arith, named_below words)) is refl tt)
+    by (inr other) (inr none) = inr (never other none)

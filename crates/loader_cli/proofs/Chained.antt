@@ -1,6 +1,7 @@
--- Commands one after the other on one disk.
-use Rattle.std.proofs.Common.{◌≡◌, inl, inr, ℕ, List, [], ◌∷◌, Option, Some, None, true, refl, sym, ap, subst, ◌∙◌}
-use Rattle.std.specs.Prelude.{is_some}
+-- Commands one after the other on the disks of units.
+use Rattle.std.proofs.Common.{◌≡◌, ◌⊎◌, inl, inr, ℕ, List, [], ◌∷◌, Option, Some, None, true, refl, sym, ap, subst, ◌∙◌}
+use Rattle.std.specs.Prelude.{is_some, slice_get}
+use Rattle.std.proofs.lemmas.Bool.{cases_eq}
 use Rattle.std.specs.Option.{ForSome}
 use Rattle.load_base.specs.Host.{Files}
 use Rattle.bank_store.specs.Fits.{LosesOnlyWork}
@@ -15,9 +16,9 @@ use Rattle.exchange_trace.specs.Lines.{Line}
 use Rattle.bank_rollback.specs.Rollbacks.{IsActiveOrFormer}
 use Rattle.run_promises.specs.Promises.{HoldsFirstOrGood}
 use Rattle.loader_cli.specs.Calls.{Call, IsPromised, run_of}
-use Rattle.loader_cli.specs.Chains.{AreInTurn, EachKeeps, IsRestarted, LeavesAtRest, Took}
+use Rattle.loader_cli.specs.Chains.{AreInTurn, EachKeeps, IsRestarted, Keeps, LeavesAtRest, Took}
 use Rattle.loader_cli.specs.Chains.LeavesAtRest.{looks, rolls_back, stands, stays, was_formatted}
-use Rattle.loader_cli.specs.Commands.{CommandView, FormatsDisk, FormatsOrRollsBack, IsCommand, IsNo, UsesScript}
+use Rattle.loader_cli.specs.Commands.{CommandView, FormatsDisk, FormatsOrRollsBack, IsCommand, IsNo, UsesScript, disk_named}
 use Rattle.loader_cli.specs.Commands.CommandView.{build, check, format, list, make, replay, rollback, show, trial, wire}
 use Rattle.loader_cli.specs.Replays.{Replays, RunSeen, RunsTo, setting_of}
 use Rattle.loader_cli.specs.Replays.Replays.{ran, unread}
@@ -31,6 +32,7 @@ use Rattle.loader_cli.specs.declared.replay.Telling.{Telling}
 use Rattle.loader_cli.specs.declared.replay.Telling.TheVariants.{Report, Trace}
 use Rattle.loader_cli.specs.declared.top_call.Ended.{Ended}
 use Rattle.loader_cli.proofs.Asked.{is_rollback, says_of_format, says_of_run, says_of_trial}
+use Rattle.loader_cli.proofs.OneDisk.{one_disk}
 use Rattle.loader_cli.proofs.ReplayRuns.{read_of}
 use Rattle.loader_cli.proofs.SetRuns.{apart}
 
@@ -117,17 +119,29 @@ module _ {H O K : Type 0} (files : H → Option Files) (host_faults : H → ℕ)
   abbrev seen : Call H O K → Run
   seen = run_of files host_faults content sink_faults state
 
-  pub each_keeps : (disk : K) (calls : List (Took H O K)) → LosesOnlyWork (state disk) → AreInTurn seen disk calls → EachKeeps seen calls
-  each_keeps disk [] rests turn = tt
-  each_keeps disk (took ∷ later) rests (same, promised, turn) =
-      let here : LosesOnlyWork (state took.call.disk) = subst (λ (d : K). LosesOnlyWork (state d)) (sym same) rests in (
-        record {
-          rests = here;
-          leaves = λ other set start image is holds. promised.leaves.while_running other set start image is holds here;
-          leaves_rolled_back = λ asked active image is holds. (promised.leaves.while_rolling_back asked).either here image active is holds;
-        },
-        λ goes. each_keeps took.call.disk_after later (rests_after (seen took.call) took.ended (laws took.call) promised here goes) turn,
-      )
+  pub each_keeps : (place : ℕ) (disk : K) (disks : List K) (calls : List (Took H O K)) → slice_get disks place ≡ Some disk → LosesOnlyWork (state disk) → AreInTurn seen disks calls
+      → EachKeeps seen place calls
+  each_keeps place disk disks [] there rests turn = tt
+  each_keeps place disk disks (took ∷ later) there rests (same, kept, turn) = (λ named. keeps (here named), λ goes. on (λ next left there rests turn. each_keeps place next left later there rests turn) (cases_eq (disk_named took.call.words) place) goes)
+    where
+      here : disk_named took.call.words ≡ place → LosesOnlyWork (state took.call.disk)
+      here named =
+          let at : slice_get took.disks (disk_named took.call.words) ≡ Some disk = ap (λ (all : List K). slice_get all (disk_named took.call.words)) same ∙ (ap (slice_get disks) named ∙ there) in
+          subst (λ (d : K). LosesOnlyWork (state d)) (one_disk took.disks (disk_named took.call.words) disk took.call.disk at kept.named) rests
+
+      keeps : LosesOnlyWork (state took.call.disk) → Keeps (seen took.call)
+      keeps rests = record {
+        rests = rests;
+        leaves = λ other set start image is holds. kept.promised.leaves.while_running other set start image is holds rests;
+        leaves_rolled_back = λ asked active image is holds. (kept.promised.leaves.while_rolling_back asked).either rests image active is holds;
+      }
+
+      on : ((next : K) (left : List K) → slice_get left place ≡ Some next → LosesOnlyWork (state next) → AreInTurn seen left later → EachKeeps seen place later)
+          → (disk_named took.call.words ≡ place) ⊎ (disk_named took.call.words ≡ place → ⊥) → (disk_named took.call.words ≡ place → LeavesAtRest (seen took.call) took.ended) → EachKeeps seen place later
+      on again (inl named) goes =
+          again took.call.disk_after took.disks_after (ap (slice_get took.disks_after) (sym named) ∙ kept.named_after) (rests_after (seen took.call) took.ended (laws took.call) kept.promised (here named) (goes named)) turn
+      on again (inr other) goes =
+          again disk took.disks_after (kept.others.others place (λ is. other (sym is)) ∙ (ap (λ (all : List K). slice_get all place) same ∙ there)) rests turn
 
 -- ---- a restart
 

@@ -1,10 +1,9 @@
 -- Two runs on the same inputs, in which nothing fails, put the same.
-use Rattle.std.proofs.Common.{◌≡◌, ◌⊎◌, inl, inr, ℕ, ◌<◌, ◌≤◌, List, [], ◌∷◌, length, Option, Some, refl, sym, ap, subst, ◌∙◌, arith}
+use Rattle.std.proofs.Common.{◌≡◌, ◌⊎◌, inl, inr, ℕ, ◌<◌, ◌≤◌, List, length, Option, Some, refl, sym, ap, subst, ◌∙◌, arith}
 use Rattle.std.specs.Prelude.{codes}
 use Rattle.load_base.specs.Counts.{Rose}
 use Rattle.load_base.specs.Host.{Files, longest_file}
 use Rattle.load_base.specs.Sink.{IsExtended}
-use Rattle.printed_text.specs.Lines.{line}
 use Rattle.disk_model.specs.Image.{Image}
 use Rattle.disk_model.specs.State.{DiskState}
 use Rattle.disk_layout.specs.declared.identity.Identity.{Identity}
@@ -28,7 +27,7 @@ use Rattle.loader_cli.specs.Runs.ShowsBytes.{faulty, shown}
 use Rattle.loader_cli.specs.Texts.{formatted_line, no_configuration, refused_input}
 use Rattle.loader_cli.specs.declared.replay.Telling.TheVariants.{Report, Trace}
 use Rattle.loader_cli.specs.declared.top_call.Ended.{Ended}
-use Rattle.loader_cli.proofs.Asked.{says_of_build, says_of_check, says_of_format, says_of_list, says_of_make, says_of_rollback, says_of_show}
+use Rattle.loader_cli.proofs.Asked.{one_target, says_of_build, says_of_check, says_of_format, says_of_list, says_of_make, says_of_rollback, says_of_show}
 use Rattle.loader_cli.proofs.BuiltOnce.{one_build, one_make, some_none, some_same}
 use Rattle.loader_cli.proofs.OneOutput.{ImageLaws, one_output_given, one_trial, said_of_replay, said_of_trial}
 use Rattle.loader_cli.proofs.Refusals.{rest_is_large, rest_is_long, rest_passes, rest_refusal}
@@ -51,14 +50,6 @@ one_list laws image old new old_2 new_2 a b s t reads reads_2 answers answers_2 
 one_list laws image old new old_2 new_2 a b s t reads reads_2 answers answers_2 (failed rose stopped _ _) two = absurd (answers rose)
 one_list laws image old new old_2 new_2 a b s t reads reads_2 answers answers_2 (listed one holds size bank on _ _) (failed rose stopped _ _) = absurd (answers_2 rose)
 one_list laws image old new old_2 new_2 a b s t reads reads_2 answers answers_2 (no_listing fault has other on _ _) (failed rose stopped _ _) = absurd (answers_2 rose)
-
-after_verb : List (List ℕ) → List (List ℕ)
-after_verb [] = []
-after_verb (verb ∷ words) = words
-
-same_target : (words : List (List ℕ)) (id other : Identity) → IsCommand words (format id) → IsCommand words (format other) → formatted_line id ≡ formatted_line other
-unfolding after_verb
-same_target words id other one two = ap (λ (list : List (List ℕ)). line (codes "formatted" ∷ after_verb list)) (sym one.0 ∙ two.0)
 
 one_format : (id other : Identity) (old new old_2 new_2 : DiskState) (a b : ℕ) (s t : List ℕ) → formatted_line id ≡ formatted_line other → ¬ Rose old.faults new.faults → ¬ Rose old_2.faults new_2.faults
     → Formats old new id a s → Formats old_2 new_2 other b t → (a ≡ b) × (s ≡ t)
@@ -165,7 +156,7 @@ module _ (fixed : WholeRunsAreFixed) (active : ActiveIsFixed) (laws : ImageLaws)
       (says_of_list two.work b t (asked_too list asked) says)
   same_said a b s t (formats id asked found) says =
       let (other, asked_2, found_2) = says_of_format two.work id b t (asked_too (format id) asked) says in
-      one_format id other one.work.disk one.work.disk_after two.work.disk two.work.disk_after a b s t (same_target two.work.words id other (asked_too (format id) asked) asked_2)
+      one_format id other one.work.disk one.work.disk_after two.work.disk two.work.disk_after a b s t (ap formatted_line (one_target two.work.words id other (asked_too (format id) asked) asked_2))
       is.steady.disk_answers so.steady.disk_answers found found_2
   same_said a b s t (shows kind file asked found) says =
       one_show shows_laws kind known file one.work.host_faults one.work.host_faults_after two.work.host_faults two.work.host_faults_after is.steady.answers.host_answers so.steady.answers.host_answers a b s t

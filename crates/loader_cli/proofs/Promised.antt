@@ -23,7 +23,7 @@ use Rattle.loader_cli.specs.Runs.ShowsBytes.{shown}
 use Rattle.loader_cli.specs.Texts.{formatted_line}
 use Rattle.loader_cli.specs.declared.top_call.Ended.{Ended}
 use Rattle.loader_cli.specs.declared.replay.Telling.{Telling}
-use Rattle.loader_cli.proofs.Asked.{formats_none, says_of_format, says_of_list, says_of_rollback, says_of_show, trial_formats_none}
+use Rattle.loader_cli.proofs.Asked.{formats_none, one_target, says_of_format, says_of_list, says_of_rollback, says_of_show, trial_formats_none}
 use Rattle.loader_cli.proofs.Clean.{clean_said}
 use Rattle.loader_cli.proofs.OneAnswer.{one_show}
 use Rattle.loader_cli.proofs.OneOutput.{ImageLaws}
@@ -31,7 +31,6 @@ use Rattle.loader_cli.proofs.ReplayRuns.{EndLaws, was_told}
 use Rattle.loader_cli.proofs.RolledBack.{FormerLaws, brought_is, none_refused}
 use Rattle.loader_cli.proofs.SetRuns.{BuildingLaws, apart, build_said, make_said, run_leaves}
 use Rattle.loader_cli.proofs.ShownOnce.{ShownLaws}
-use Rattle.loader_cli.proofs.Targets.{one_target}
 use Rattle.loader_cli.proofs.Uploaded.{UploadLaws, was_uploaded}
 
 -- a run succeeds, in which nothing fails, if this is all that it can say

@@ -5,7 +5,7 @@ use Rattle.std.specs.Fmt.{decimal}
 use Rattle.std.proofs.lemmas.Fmt.{decimal_injective}
 use Rattle.std.specs.declared.alloc.Global.{Global}
 use Rattle.disk_layout.specs.declared.identity.Identity.{Identity}
-use Rattle.loader_cli.specs.Commands.{NamesTarget, IsCommand, texts_of}
+use Rattle.loader_cli.specs.Commands.{NamesTarget, IsPlain, texts_of}
 use Rattle.loader_cli.specs.Commands.CommandView.{format}
 
 abbrev five : {A : Type 0} → A → A → A → A → A → List A
@@ -27,7 +27,7 @@ same_five a b c d e f g h i j p q r s t = rw (p, q, r, s, t) refl
 -- five arguments that name a target are the command `format`
 pub asks_to_format : (words : List (String Global)) (word hw pos serial bank : String Global) (id : Identity) → length words ≡ 5
     → word ≡ get_or words 0 word → hw ≡ get_or words 1 hw → pos ≡ get_or words 2 pos → serial ≡ get_or words 3 serial → bank ≡ get_or words 4 bank
-    → string_bytes word ≡ codes "format" → NamesTarget (string_bytes hw) (string_bytes pos) (string_bytes serial) (string_bytes bank) id → IsCommand (texts_of words) (format id)
+    → string_bytes word ≡ codes "format" → NamesTarget (string_bytes hw) (string_bytes pos) (string_bytes serial) (string_bytes bank) id → IsPlain (texts_of words) (format id)
 asks_to_format words word hw pos serial bank id size p q r s t is names = (
   ap (map string_bytes) (are_five words word hw pos serial bank size p q r s t)
       ∙ same_five (string_bytes word) (string_bytes hw) (string_bytes pos) (string_bytes serial) (string_bytes bank) (codes "format") id.hw id.pos id.serial (decimal id.bank) is names.hw_is
@@ -38,10 +38,10 @@ asks_to_format words word hw pos serial bank id size p q r s t is names = (
 made : List ℕ → List ℕ → List ℕ → ℕ → Identity
 made hw pos serial bank = record { hw = hw; pos = pos; serial = serial; bank = bank }
 
--- the arguments name one target
-pub one_target : (words : List (List ℕ)) (id other : Identity) → IsCommand words (format id) → IsCommand words (format other) → id ≡ other
+-- the words name one target
+pub one_plain_target : (words : List (List ℕ)) (id other : Identity) → IsPlain words (format id) → IsPlain words (format other) → id ≡ other
 unfolding made
-one_target words id other one two =
+one_plain_target words id other one two =
     let same : five (codes "format") id.hw id.pos id.serial (decimal id.bank) ≡ five (codes "format") other.hw other.pos other.serial (decimal other.bank) = sym one.0 ∙ two.0 in
     let hw : id.hw ≡ other.hw = cc in
     let pos : id.pos ≡ other.pos = cc in

@@ -16,9 +16,8 @@ use Rattle.loader_cli.specs.Replays.{LeavesFirstOrGood}
 use Rattle.loader_cli.specs.Rollbacks.{LeavesRollback}
 use Rattle.loader_cli.specs.Runs.{IsWritten}
 use Rattle.loader_cli.specs.Touches.{LeavesByCommand, OnlyLooks, TouchesDisk, TouchesHost}
-use Rattle.loader_cli.proofs.Asked.{formats_no, not_both_asked, rolls_no}
+use Rattle.loader_cli.proofs.Asked.{formats_no, not_both_asked, one_target, rolls_no}
 use Rattle.loader_cli.proofs.OtherFiles.{nothing_set}
-use Rattle.loader_cli.proofs.Targets.{one_target}
 
 -- ---- the disk
 

@@ -15,7 +15,8 @@ pub record IsPromised (run : Run) (ended : Ended) : Type 0 where
   pub looks : IsNo WritesDisk run.work.words → OnlyLooks run.work.disk run.work.disk_after
   pub leaves : LeavesByCommand run.work.words run.work.disk run.work.disk_after
 
--- A call of `run`: its arguments, the run that it handed out, if one, and host, sink and disk before and after.
+-- A call of `run`: its arguments, the run that it handed out, if one, and host, sink and the disk that the arguments name,
+-- before and after.
 pub record Call (H O K : Type 0) : Type 0 where
   pub words : List (List ℕ)
   pub handed : Option RunSeen

@@ -1,7 +1,8 @@
 -- The commands (README.md).
-use Rattle.std.specs.Prelude.{◌≡◌, ℕ, ◌<◌, ◌≤◌, ◌^◌, List, [], ◌∷◌, length, codes, map, All, String, string_bytes}
+use Rattle.std.specs.Prelude.{◌≡◌, ℕ, ◌<◌, ◌≤◌, ◌^◌, ◌-◌, ◌&&◌, nat_le, if◌then◌else◌, List, [], ◌∷◌, length, codes, map, All, String, string_bytes}
 use Rattle.std.specs.declared.alloc.Global.{Global}
 use Rattle.std.specs.Fmt.{decimal}
+use Rattle.load_base.specs.Bytes.{same_bytes}
 use Rattle.disk_layout.specs.Identity.{IsIdentity}
 use Rattle.disk_layout.specs.declared.identity.Identity.{Identity}
 use Rattle.shown_files.specs.Kinds.{IsNameOf}
@@ -48,18 +49,41 @@ pub record NamesTarget (hw pos serial bank : List ℕ) (id : Identity) : Type 0 
   pub bank_is : bank ≡ decimal id.bank
   pub fits : IsIdentity id
 
+-- the words are this command, with no unit named before them
+abbrev pub IsPlain : List (List ℕ) → CommandView → Type 0
+IsPlain words list = words ≡ codes "list" ∷ []
+IsPlain words (format id) = (words ≡ codes "format" ∷ id.hw ∷ id.pos ∷ id.serial ∷ decimal id.bank ∷ []) × IsIdentity id
+IsPlain words (show kind file) = (words ≡ codes "show" ∷ file ∷ []) × IsWord file × IsNameOf kind file
+IsPlain words (check folder) = (words ≡ codes "check" ∷ folder ∷ []) × IsWord folder
+IsPlain words (build recipe folder) = (words ≡ codes "build" ∷ recipe ∷ folder ∷ []) × IsWord recipe × IsWord folder
+IsPlain words (make number folder) = (words ≡ codes "make" ∷ decimal number ∷ folder ∷ []) × (number < 2 ^ 32) × IsWord folder
+IsPlain words (replay folder script) = (words ≡ codes "replay" ∷ folder ∷ script ∷ []) × IsWord folder × IsWord script
+IsPlain words (wire folder script) = (words ≡ codes "wire" ∷ folder ∷ script ∷ []) × IsWord folder × IsWord script
+IsPlain words (trial number) = (words ≡ codes "trial" ∷ decimal number ∷ []) × (number < 2 ^ 32)
+IsPlain words rollback = words ≡ codes "rollback" ∷ []
+
+-- it looks after one unit, and can be asked for of each of them
+abbrev pub LooksAfterUnit : CommandView → Type 0
+LooksAfterUnit list = Unit {0}
+LooksAfterUnit (format id) = Unit {0}
+LooksAfterUnit rollback = Unit {0}
+LooksAfterUnit command = ⊥
+
 -- the arguments are this command
-abbrev pub IsCommand : List (List ℕ) → CommandView → Type 0
-IsCommand words list = words ≡ codes "list" ∷ []
-IsCommand words (format id) = (words ≡ codes "format" ∷ id.hw ∷ id.pos ∷ id.serial ∷ decimal id.bank ∷ []) × IsIdentity id
-IsCommand words (show kind file) = (words ≡ codes "show" ∷ file ∷ []) × IsWord file × IsNameOf kind file
-IsCommand words (check folder) = (words ≡ codes "check" ∷ folder ∷ []) × IsWord folder
-IsCommand words (build recipe folder) = (words ≡ codes "build" ∷ recipe ∷ folder ∷ []) × IsWord recipe × IsWord folder
-IsCommand words (make number folder) = (words ≡ codes "make" ∷ decimal number ∷ folder ∷ []) × (number < 2 ^ 32) × IsWord folder
-IsCommand words (replay folder script) = (words ≡ codes "replay" ∷ folder ∷ script ∷ []) × IsWord folder × IsWord script
-IsCommand words (wire folder script) = (words ≡ codes "wire" ∷ folder ∷ script ∷ []) × IsWord folder × IsWord script
-IsCommand words (trial number) = (words ≡ codes "trial" ∷ decimal number ∷ []) × (number < 2 ^ 32)
-IsCommand words rollback = words ≡ codes "rollback" ∷ []
+pub data IsCommand (words : List (List ℕ)) (command : CommandView) : Type 0 where
+  plain : IsPlain words command → IsCommand words command
+  -- `on N` and then its words, for unit N of eight
+  on : (n : ℕ) (own : List (List ℕ)) → 1 ≤ n → n ≤ 8 → words ≡ codes "on" ∷ decimal n ∷ own → IsPlain own command → LooksAfterUnit command → IsCommand words command
+
+-- the place, from 0, of the unit that a text from 1 to 8 names; of any other text the first
+unfoldable pub unit_place : List ℕ → ℕ
+unit_place (digit ∷ []) = if nat_le 0x31 digit && nat_le digit 0x38 then digit - 0x31 else 0
+unit_place text = 0
+
+-- the place, from 0, of the disk that the arguments use: that of unit N where they begin with `on N`, else the first
+unfoldable pub disk_named : List (List ℕ) → ℕ
+disk_named (word ∷ number ∷ own) = if same_bytes word (codes "on") then unit_place number else 0
+disk_named words = 0
 
 -- the arguments are no command of this sort
 abbrev pub IsNo : (CommandView → Type 0) → List (List ℕ) → Type 0

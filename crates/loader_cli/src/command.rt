@@ -1,13 +1,15 @@
 //! The commands.
-ghost use Rattle.std.specs.Prelude.{◌≡◌, ◌≢◌, ◌↔◌, ◌<◌, ◌^◌, ℕ, IsTrue, IfSome, IfNone};
+ghost use Rattle.std.specs.Prelude.{◌≡◌, ◌≢◌, ◌↔◌, ◌<◌, ◌≤◌, ◌+◌, ◌^◌, ℕ, ◌∷◌, codes, IsTrue, IfSome};
+ghost use Rattle.std.specs.Prelude.{IfNone};
 ghost use Rattle.std.specs.Fmt.{decimal};
 ghost use Rattle.disk_layout.specs.Offsets.{IsBankSize};
 ghost use Rattle.disk_layout.specs.declared.identity.Identity.{Identity};
 ghost use Rattle.shown_files.specs.Kinds.{IsNameOf};
 ghost use Rattle.loader_cli.specs.Commands.CommandView.{show, check, build, make, replay, wire};
 ghost use Rattle.loader_cli.specs.Commands.CommandView.{trial};
-ghost use Rattle.loader_cli.specs.Commands.{IsAny, IsCommand, IsNo, IsWord, NamesTarget};
-ghost use Rattle.loader_cli.specs.Commands.{command_view, texts_of};
+ghost use Rattle.loader_cli.specs.Commands.{CommandView, IsAny, IsCommand, IsNo, IsPlain, IsWord};
+ghost use Rattle.loader_cli.specs.Commands.{LooksAfterUnit, NamesTarget};
+ghost use Rattle.loader_cli.specs.Commands.{command_view, disk_named, texts_of};
 
 use disk_layout::Identity;
 use disk_layout::offsets::{LARGEST_BANK, SMALLEST_BANK};
@@ -15,7 +17,66 @@ use itoa::Buffer;
 use load_base::Ident;
 use shown_files::ShownKind;
 
-/// What the program's arguments ask for.
+// How many units there are.
+const UNITS: u32 = 8;
+
+/// What the program's arguments ask for, and of which unit.
+#[derive(Clone, Copy)]
+pub(crate) struct Asked<'w> {
+    pub(crate) command: Command<'w>,
+    /// The place of the disk that it uses, from 0.
+    pub(crate) disk: usize,
+}
+
+impl<'w> Asked<'w> {
+    /// The command, of the first unit or, after `on N`, of unit N; `None` where the arguments are
+    /// none.
+    pub(crate) fn read(words: &'w [String]) -> Option<Asked<'w>>
+        ensures some { IfSome result (λ asked.
+            IsCommand (texts_of words.now) (command_view asked.command)) }
+        ensures disk { IfSome result (λ asked. asked.disk ≡ disk_named (texts_of words.now)) }
+        ensures within { IfSome result (λ asked. asked.disk < 8) }
+        ensures none { IfNone result (IsNo IsAny (texts_of words.now)) }
+    {
+        match words.split_first() {
+            Some((word, after)) if is_text(word.as_str(), "on") => of_unit(after),
+            _ => match Command::read(words) {
+                Some(command) => Some(Asked { command, disk: 0 }),
+                None => None,
+            },
+        }
+    }
+}
+
+// What the words after `on` ask for: the number of a unit, and a command that looks after one.
+fn of_unit<'w>(words: &'w [String]) -> Option<Asked<'w>>
+    ensures some { IfSome result (λ asked.
+        IsCommand (codes "on" ∷ texts_of words.now) (command_view asked.command)) }
+    ensures disk { IfSome result (λ asked.
+        asked.disk ≡ disk_named (codes "on" ∷ texts_of words.now)) }
+    ensures within { IfSome result (λ asked. asked.disk < 8) }
+    ensures none { IfNone result (IsNo IsAny (codes "on" ∷ texts_of words.now)) }
+{
+    let (number, own) = words.split_first()?;
+    let disk = place_of(number.as_str())?;
+    match Command::read(own) {
+        Some(command) if command.looks_after_unit() => Some(Asked { command, disk }),
+        _ => None,
+    }
+}
+
+// The place of the unit of this number, from 0.
+fn place_of(word: &str) -> Option<usize>
+    ensures some { IfSome result (λ place. (word.now ≡ decimal (place + 1)) × (place < 8)) }
+    ensures none { IfNone result ((n : ℕ) → 1 ≤ n → n ≤ 8 → word.now ≢ decimal n) }
+{
+    match number(word) {
+        Some(number) if 1 <= number && number <= UNITS => Some(number as usize - 1),
+        _ => None,
+    }
+}
+
+/// What one unit can be asked for, without the words `on N`.
 #[derive(Clone, Copy)]
 pub(crate) enum Command<'w> {
     /// `list`: recover the disk and print the configuration that it holds.
@@ -41,11 +102,12 @@ pub(crate) enum Command<'w> {
 }
 
 impl<'w> Command<'w> {
-    /// The command; `None` where the arguments are none.
-    pub(crate) fn read(words: &'w [String]) -> Option<Command<'w>>
+    // The command; `None` where the words are none.
+    fn read(words: &'w [String]) -> Option<Command<'w>>
         ensures some { IfSome result (λ command.
-            IsCommand (texts_of words.now) (command_view command)) }
-        ensures none { IfNone result (IsNo IsAny (texts_of words.now)) }
+            IsPlain (texts_of words.now) (command_view command)) }
+        ensures none { IfNone result
+            ((command : CommandView) → ¬ IsPlain (texts_of words.now) command) }
     {
         match words {
             [word] if is_text(word.as_str(), "list") => Some(Command::List),
@@ -73,6 +135,13 @@ impl<'w> Command<'w> {
             [word] if is_text(word.as_str(), "rollback") => Some(Command::Rollback),
             _ => None,
         }
+    }
+
+    // Whether it looks after one unit, so that `on N` may stand before it.
+    fn looks_after_unit(&self) -> bool
+        ensures { IsTrue result ↔ LooksAfterUnit (command_view self.now) }
+    {
+        matches!(self, Command::List | Command::Format(_) | Command::Rollback)
     }
 }
 

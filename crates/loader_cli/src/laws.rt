@@ -1,6 +1,6 @@
 //! What holds of several calls of `run`. These functions do nothing; their clauses are the laws.
 ghost use Rattle.std.specs.Option.{ForSome};
-ghost use Rattle.std.specs.Prelude.{◌≡◌, ◌⊎◌, ℕ, List, Some, is_some, true};
+ghost use Rattle.std.specs.Prelude.{◌≡◌, ◌⊎◌, ℕ, List, Some, is_some, slice_get, true};
 ghost use Rattle.load_base.specs.Host.{Files};
 ghost use Rattle.bank_store.specs.Fits.{LosesOnlyWork};
 ghost use Rattle.disk_layout.specs.Holds.{HoldsConfig, StandingView};
@@ -10,8 +10,9 @@ ghost use Rattle.media_check.specs.Sets.{SetView};
 ghost use Rattle.run_promises.specs.Promises.{HoldsFirstOrGood};
 ghost use Rattle.bank_rollback.specs.Rollbacks.{IsActiveOrFormer};
 ghost use Rattle.loader_cli.specs.Calls.{Call, IsPromised, run_of};
-ghost use Rattle.loader_cli.specs.Chains.{AreInTurn, EachKeeps, IsRestarted, Took};
+ghost use Rattle.loader_cli.specs.Chains.{AreInTurn, EachKeeps, IsRestarted, KeptPromise, Took};
 ghost use Rattle.loader_cli.specs.Commands.{FormatsDisk, FormatsOrRollsBack, IsCommand, IsNo};
+ghost use Rattle.loader_cli.specs.Commands.{disk_named};
 ghost use Rattle.loader_cli.specs.Commands.CommandView.{format, rollback};
 ghost use Rattle.loader_cli.specs.FixedOutputs.{CallsSteadily, Gives, GivesTrial, PutTheSame};
 ghost use Rattle.loader_cli.specs.FixedOutputs.{PutsOnly, ReplaysSteadily, TriesSteadily};
@@ -31,7 +32,7 @@ use media_lists::{files_list_laws, loads_list_laws};
 use recovery::an_image_holds_one_former;
 
 /// What `replay` and `wire` put is a function of their arguments, of the host's files and of what
-/// the disk reads at the start, where neither host nor sink nor disk fails and the target doesn't go
+/// the disk that they use reads at the start, where neither host nor sink nor disk fails and the target doesn't go
 /// down; or they are out of memory.
 pub fn a_replay_is_fixed_by_its_inputs<H: Host, O: Sink, K: Power>()
     // What a call puts is given by its inputs,
@@ -84,7 +85,7 @@ pub fn a_trial_is_fixed_by_its_disk<H: Host, O: Sink, K: Power>()
 }
 
 /// So what any command puts is a function of the arguments, of the host's files and of what the disk
-/// reads at the start: two calls that have these alike put the same text and end with the same
+/// that they name reads at the start: two calls that have these alike put the same text and end with the same
 /// status, or one of them is out of memory. Where neither host nor sink nor disk fails, and the
 /// target doesn't go down in a run that is handed out.
 pub fn two_calls_put_the_same<H: Host, O: Sink, K: Power>()
@@ -108,23 +109,26 @@ pub fn two_calls_put_the_same<H: Host, O: Sink, K: Power>()
     protocol_file_laws();
 }
 
-/// Commands follow one another on one disk: each keeps what `run` promises on a disk at rest, as
-/// long as those before it left it at rest. So it is from a disk at rest on, and after `format` with
-/// status 0 on any disk that tells its content. After a call that didn't leave it so, since the disk
+/// Commands follow one another on each unit's disk, whatever commands of other units stand between
+/// them: each keeps what `run` promises on a disk at rest, as long as those of the same unit before
+/// it left it at rest. So it is from a disk at rest on, and after `format` with status 0 on any disk
+/// that tells its content. After a call that didn't leave it so, since the disk
 /// failed, power was lost or memory ran out, a restart of the disk does: it is at rest then, and
 /// what stands on it was active as the call began, or each of its loads was active then or is checked,
 /// and one is checked. After `rollback` it was active as the call began, or is what the rollback
 /// brings.
 pub fn commands_follow_one_another<H: Host, O: Sink, K: Power>()
-    ensures at_rest { (disk : K) (calls : List (Took H O K)) → LosesOnlyWork (K.state disk)
-        → AreInTurn (run_of H.files H.faults O.content O.faults K.state) disk calls
-        → EachKeeps (run_of H.files H.faults O.content O.faults K.state) calls }
+    ensures at_rest { (place : ℕ) (disk : K) (disks : List K) (calls : List (Took H O K))
+        → slice_get disks place ≡ Some disk → LosesOnlyWork (K.state disk)
+        → AreInTurn (run_of H.files H.faults O.content O.faults K.state) disks calls
+        → EachKeeps (run_of H.files H.faults O.content O.faults K.state) place calls }
     ensures after_format { (first : Took H O K) (id : Identity) (calls : List (Took H O K))
-        → IsPromised (run_of H.files H.faults O.content O.faults K.state first.call) first.ended
+        → KeptPromise (run_of H.files H.faults O.content O.faults K.state) first
         → IsCommand first.call.words (format id) → is_some (K.state first.call.disk).reads ≡ true
         → first.ended.status ≡ 0
-        → AreInTurn (run_of H.files H.faults O.content O.faults K.state) first.call.disk_after calls
-        → EachKeeps (run_of H.files H.faults O.content O.faults K.state) calls }
+        → AreInTurn (run_of H.files H.faults O.content O.faults K.state) first.disks_after calls
+        → EachKeeps (run_of H.files H.faults O.content O.faults K.state)
+        (disk_named first.call.words) calls }
     ensures after_restart { (last : Took H O K) (disk : K)
         → IsPromised (run_of H.files H.faults O.content O.faults K.state last.call) last.ended
         → IsNo FormatsDisk last.call.words → LosesOnlyWork (K.state last.call.disk)

@@ -1,19 +1,21 @@
 //! The top call.
-ghost use Rattle.std.specs.Prelude.{◌≡◌, None, false, option_map, IfErr, IfOk, OnErr};
+ghost use Rattle.std.specs.Prelude.{◌≡◌, ℕ, All, List, None, false, length, option_map};
+ghost use Rattle.std.specs.Prelude.{IfOk, OnErr};
 ghost use Rattle.disk_model.specs.State.{KeepsPower};
 ghost use Rattle.disk_layout.specs.Offsets.{IsBankSize};
 ghost use Rattle.bank_store.specs.Formatting.{LeavesOldOrFormatted};
 ghost use Rattle.loader_cli.specs.Answers.{answered_of, status_of, text_of};
-ghost use Rattle.loader_cli.specs.Commands.{texts_of, IsNo, UsesScript};
+ghost use Rattle.loader_cli.specs.Commands.{command_view, texts_of, IsCommand, IsNo, UsesScript};
 ghost use Rattle.loader_cli.specs.Replays.{run_seen};
 ghost use Rattle.loader_cli.specs.Runs.{EndsAsPromised, Formats, Lists, RunsOutInCommand, TellsAll};
-ghost use Rattle.loader_cli.specs.Touches.{LeavesByCommand, OnlyLooks, TouchesDisk, TouchesHost};
+ghost use Rattle.loader_cli.specs.Touches.{KeepsOthers, LeavesByCommand, OnNamed, OnlyLooks};
+ghost use Rattle.loader_cli.specs.Touches.{TouchesDisk, TouchesHost};
 ghost use Rattle.replay_turns.specs.Turns.{RunsOut};
 
 use crate::answer::{Answer, Answered};
 use crate::build::{build, make};
 use crate::check::check;
-use crate::command::Command;
+use crate::command::{Asked, Command};
 use crate::replay::{Telling, replay};
 use crate::rollback::rollback;
 use crate::show::show;
@@ -65,12 +67,16 @@ pub struct Ended {
 /// Runs the program on its arguments: `list`, `format HW POS SERIAL BANK`, `show FILE` with the
 /// name of a file of one of the kinds of [`shown_files::ShownKind`], `check FOLDER`,
 /// `build RECIPE FOLDER`, `make NUMBER FOLDER`, `replay FOLDER SCRIPT`, `wire FOLDER SCRIPT`,
-/// `trial NUMBER` or `rollback`. The output goes out in one piece at the end.
+/// `trial NUMBER` or `rollback`; or `on N` for N from 1 to 8, and then the words of `list`,
+/// `format` or `rollback`. The output goes out in one piece at the end.
+///
+/// Each of the eight disks is a unit's. `on N` names that of unit N; every other command uses the
+/// first. A disk that isn't named stays as it is.
 ///
 /// Only `build` and `make` write files of the host: those of the set, under their names. Where the
 /// host fails, those before it were written.
 ///
-/// Only `list`, `format`, `rollback`, `replay`, `wire` and `trial` use the disk, and `list` only
+/// Only `list`, `format`, `rollback`, `replay`, `wire` and `trial` use a disk, and `list` only
 /// reads it. While `format` writes, a power loss leaves the old configuration whole, or a disk that
 /// holds nothing, or the formatted one; while `rollback` does, the active configuration, or the
 /// former one with the next sequence number. `list`, `format`, `rollback` and `trial` don't use the
@@ -80,40 +86,44 @@ pub fn run<H: Host, O: Sink, K: Power>(
     words: &[String],
     host: &mut H,
     out: &mut O,
-    disk: &mut K,
+    disks: &mut [K],
 ) -> Ended
-    requires { (K.state disk.old).stopped ≡ false }
-    // The status with its cause, and exactly the text that goes out. Where neither host nor sink
-    // fails, `show` of a file that spells its fields, `check` of a set that can be read and has no
-    // finding, `build` of a recipe of which nothing is refused, and `make` succeed, but for out of
-    // memory; where neither sink nor disk fails, `list` of a disk that holds a configuration,
-    // `format`, `rollback` on a disk that holds a former configuration and has a sequence number
-    // left, and `trial` on a target that can take its set. After `build` and `make` with status
-    // 0 the folder has exactly their set, can be read and has no finding.
-    ensures ends { EndsAsPromised (record {
-      work = record {
-        words = texts_of words.now;
-        disk = K.state disk.old;
-        disk_after = K.state disk.new;
-        files = H.files host.old;
-        files_after = H.files host.new;
-        host_faults = H.faults host.old;
-        host_faults_after = H.faults host.new;
-        handed = option_map run_seen result.drive;
-      };
-      output = O.content out.old;
-      output_after = O.content out.new;
-      sink_faults = O.faults out.old;
-      sink_faults_after = O.faults out.new;
-    }) result }
+    requires eight { length disks.old ≡ 8 }
+    requires running { All (λ disk. (K.state disk).stopped ≡ false) disks.old }
+    // Of the disk that the arguments name: the status with its cause, and exactly the text that goes
+    // out. Where neither host nor sink fails, `show` of a file that spells its fields, `check` of a
+    // set that can be read and has no finding, `build` of a recipe of which nothing is refused, and
+    // `make` succeed, but for out of memory; where neither sink nor disk fails, `list` of a disk that
+    // holds a configuration, `format`, `rollback` on a disk that holds a former configuration and
+    // has a sequence number left, and `trial` on a target that can take its set. After `build` and
+    // `make` with status 0 the folder has exactly their set, can be read and has no finding.
+    ensures ends { OnNamed (texts_of words.now) disks.old disks.new
+        (λ before after. EndsAsPromised (record {
+          work = record {
+            words = texts_of words.now;
+            disk = K.state before;
+            disk_after = K.state after;
+            files = H.files host.old;
+            files_after = H.files host.new;
+            host_faults = H.faults host.old;
+            host_faults_after = H.faults host.new;
+            handed = option_map run_seen result.drive;
+          };
+          output = O.content out.old;
+          output_after = O.content out.new;
+          sink_faults = O.faults out.old;
+          sink_faults_after = O.faults out.new;
+        }) result) }
     // What is touched, in every ending.
-    ensures disk { TouchesDisk (texts_of words.now) disk.old disk.new (K.state disk.old)
-        (K.state disk.new) }
+    ensures disk { OnNamed (texts_of words.now) disks.old disks.new (λ before after.
+        TouchesDisk (texts_of words.now) before after (K.state before) (K.state after)) }
+    ensures others { KeepsOthers (texts_of words.now) disks.old disks.new }
     ensures host { TouchesHost (texts_of words.now) host.old host.new (H.files host.old)
         (H.files host.new) }
     ensures no_run { IsNo UsesScript (texts_of words.now) → result.drive ≡ None }
     // What a power loss leaves.
-    ensures leaves { LeavesByCommand (texts_of words.now) (K.state disk.old) (K.state disk.new) }
+    ensures leaves { OnNamed (texts_of words.now) disks.old disks.new (λ before after.
+        LeavesByCommand (texts_of words.now) (K.state before) (K.state after)) }
 {
     // For the proof: these do nothing.
     building_laws();
@@ -129,7 +139,7 @@ pub fn run<H: Host, O: Sink, K: Power>(
     batches_list_laws();
     batch_laws();
     protocol_file_laws();
-    let Ok(Answered { answer, drive }) = answer(alloc, words, host, disk) else {
+    let Ok(Answered { answer, drive }) = answer(alloc, words, host, disks) else {
         return out_of_memory();
     };
     let status = answer.status();
@@ -166,56 +176,109 @@ fn answer<'w, H: Host, K: Power>(
     alloc: Global,
     words: &'w [String],
     host: &mut H,
-    disk: &mut K,
+    disks: &mut [K],
 ) -> Result<Answered<'w>, NoMemory>
-    requires { (K.state disk.old).stopped ≡ false }
-    ensures tells { IfOk result (λ said. TellsAll (record {
-      words = texts_of words.now;
-      disk = K.state disk.old;
-      disk_after = K.state disk.new;
-      files = H.files host.old;
-      files_after = H.files host.new;
-      host_faults = H.faults host.old;
-      host_faults_after = H.faults host.new;
-      handed = option_map run_seen said.drive;
-    }) (status_of said.answer) (text_of said.answer)) }
-    ensures no_memory { OnErr result (RunsOutInCommand (record {
-      words = texts_of words.now;
-      disk = K.state disk.old;
-      disk_after = K.state disk.new;
-      files = H.files host.old;
-      files_after = H.files host.new;
-      host_faults = H.faults host.old;
-      host_faults_after = H.faults host.new;
-      handed = None;
-    })) }
-    ensures disk { TouchesDisk (texts_of words.now) disk.old disk.new (K.state disk.old)
-        (K.state disk.new) }
+    requires eight { length disks.old ≡ 8 }
+    requires running { All (λ disk. (K.state disk).stopped ≡ false) disks.old }
+    ensures tells { OnNamed (texts_of words.now) disks.old disks.new (λ before after.
+        IfOk result (λ said. TellsAll (record {
+          words = texts_of words.now;
+          disk = K.state before;
+          disk_after = K.state after;
+          files = H.files host.old;
+          files_after = H.files host.new;
+          host_faults = H.faults host.old;
+          host_faults_after = H.faults host.new;
+          handed = option_map run_seen said.drive;
+        }) (status_of said.answer) (text_of said.answer))) }
+    ensures no_memory { OnNamed (texts_of words.now) disks.old disks.new (λ before after.
+        OnErr result (RunsOutInCommand (record {
+          words = texts_of words.now;
+          disk = K.state before;
+          disk_after = K.state after;
+          files = H.files host.old;
+          files_after = H.files host.new;
+          host_faults = H.faults host.old;
+          host_faults_after = H.faults host.new;
+          handed = None;
+        }))) }
+    ensures disk { OnNamed (texts_of words.now) disks.old disks.new (λ before after.
+        TouchesDisk (texts_of words.now) before after (K.state before) (K.state after)) }
+    ensures others { KeepsOthers (texts_of words.now) disks.old disks.new }
     ensures host { TouchesHost (texts_of words.now) host.old host.new (H.files host.old)
         (H.files host.new) }
     ensures no_run { IsNo UsesScript (texts_of words.now)
         → IfOk result (λ said. said.drive ≡ None) }
-    ensures leaves { LeavesByCommand (texts_of words.now) (K.state disk.old) (K.state disk.new) }
+    ensures leaves { OnNamed (texts_of words.now) disks.old disks.new (λ before after.
+        LeavesByCommand (texts_of words.now) (K.state before) (K.state after)) }
+{
+    // For the proof: this does nothing.
+    a_power_loss_takes_only_work::<K>();
+    match Asked::read(words) {
+        None => Ok(Answered::of(Answer::RefusedWords)),
+        Some(asked) => answer_on(alloc, &asked.command, host, &mut disks[asked.disk]),
+    }
+}
+
+// Does what a command asks for, of this disk; its clauses are those of [`run`], for all arguments
+// that are the command.
+fn answer_on<'w, H: Host, K: Power>(
+    alloc: Global,
+    command: &Command<'w>,
+    host: &mut H,
+    disk: &mut K,
+) -> Result<Answered<'w>, NoMemory>
+    requires asked { (words : List (List ℕ)) × IsCommand words (command_view command.now) }
+    requires running { (K.state disk.old).stopped ≡ false }
+    ensures tells { (words : List (List ℕ)) → IsCommand words (command_view command.now)
+        → IfOk result (λ said. TellsAll (record {
+          words = words;
+          disk = K.state disk.old;
+          disk_after = K.state disk.new;
+          files = H.files host.old;
+          files_after = H.files host.new;
+          host_faults = H.faults host.old;
+          host_faults_after = H.faults host.new;
+          handed = option_map run_seen said.drive;
+        }) (status_of said.answer) (text_of said.answer)) }
+    ensures no_memory { (words : List (List ℕ)) → IsCommand words (command_view command.now)
+        → OnErr result (RunsOutInCommand (record {
+          words = words;
+          disk = K.state disk.old;
+          disk_after = K.state disk.new;
+          files = H.files host.old;
+          files_after = H.files host.new;
+          host_faults = H.faults host.old;
+          host_faults_after = H.faults host.new;
+          handed = None;
+        })) }
+    ensures disk { (words : List (List ℕ)) → IsCommand words (command_view command.now)
+        → TouchesDisk words disk.old disk.new (K.state disk.old) (K.state disk.new) }
+    ensures host { (words : List (List ℕ)) → IsCommand words (command_view command.now)
+        → TouchesHost words host.old host.new (H.files host.old) (H.files host.new) }
+    ensures no_run { ¬ UsesScript (command_view command.now)
+        → IfOk result (λ said. said.drive ≡ None) }
+    ensures leaves { (words : List (List ℕ)) → IsCommand words (command_view command.now)
+        → LeavesByCommand words (K.state disk.old) (K.state disk.new) }
 {
     // For the proof: these do nothing.
     a_power_loss_takes_only_work::<K>();
     an_image_holds_one_configuration();
-    match Command::read(words) {
-        None => Ok(Answered::of(Answer::RefusedWords)),
-        Some(Command::List) => alone(list(alloc, disk)),
-        Some(Command::Format(identity)) => alone(format_disk(alloc, disk, &identity)),
-        Some(Command::Show { kind, file }) => alone(show(alloc, host, kind, file)),
-        Some(Command::Check { folder }) => alone(check(alloc, host, folder)),
-        Some(Command::Build { recipe, folder }) => alone(build(alloc, host, recipe, folder)),
-        Some(Command::Make { number, folder }) => alone(make(alloc, host, number, folder)),
-        Some(Command::Replay { folder, script }) => {
+    match command {
+        Command::List => alone(list(alloc, disk)),
+        Command::Format(identity) => alone(format_disk(alloc, disk, identity)),
+        Command::Show { kind, file } => alone(show(alloc, host, *kind, file)),
+        Command::Check { folder } => alone(check(alloc, host, folder)),
+        Command::Build { recipe, folder } => alone(build(alloc, host, recipe, folder)),
+        Command::Make { number, folder } => alone(make(alloc, host, *number, folder)),
+        Command::Replay { folder, script } => {
             replay(alloc, host, disk, folder, script, Telling::Report)
         }
-        Some(Command::Wire { folder, script }) => {
+        Command::Wire { folder, script } => {
             replay(alloc, host, disk, folder, script, Telling::Trace)
         }
-        Some(Command::Trial { number }) => trial(alloc, disk, number),
-        Some(Command::Rollback) => alone(rollback(alloc, disk)),
+        Command::Trial { number } => trial(alloc, disk, *number),
+        Command::Rollback => alone(rollback(alloc, disk)),
     }
 }
 

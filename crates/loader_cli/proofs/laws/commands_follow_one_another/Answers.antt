@@ -1,20 +1,21 @@
 use Rattle.loader_cli.specs.Calls.{run_of}
+use Rattle.loader_cli.specs.Commands.{disk_named}
 use Rattle.loader_cli.proofs.Chained.{after_formatting, each_keeps, rests_again, rolled_back_then, stands_then}
 use Rattle.loader_cli.proofs.laws.commands_follow_one_another.Goals as goal
 
 pub returns-clause-at_rest : goal.returns-clause-at_rest
-returns-clause-at_rest g c = λ disk calls rests turn.
+returns-clause-at_rest g c = λ place disk disks calls there rests turn.
     each_keeps g.H.Host.files g.H.Host.faults g.O.Sink.content g.O.Sink.faults g.K.Disk.state
     (λ call. record {
       settled = λ image s read holds is. c.a_power_loss_takes_only_work.ensures.settled call.disk_after image s read holds is;
       still = λ same none rests. c.a_power_loss_takes_only_work.ensures.still call.disk call.disk_after same none rests;
-    }) disk calls rests turn
+    }) place disk disks calls there rests turn
 
 pub returns-clause-after_format : goal.returns-clause-after_format
-returns-clause-after_format g c = λ first id calls promised asked tells zero turn.
-    returns-clause-at_rest g c first.call.disk_after calls
+returns-clause-after_format g c = λ first id calls kept asked tells zero turn.
+    returns-clause-at_rest g c (disk_named first.call.words) first.call.disk_after first.disks_after calls kept.named_after
     (after_formatting (run_of g.H.Host.files g.H.Host.faults g.O.Sink.content g.O.Sink.faults g.K.Disk.state first.call) first.ended
-    (λ image s read holds is. c.a_power_loss_takes_only_work.ensures.settled first.call.disk_after image s read holds is) id asked tells zero promised.ends.ends) turn
+    (λ image s read holds is. c.a_power_loss_takes_only_work.ensures.settled first.call.disk_after image s read holds is) id asked tells zero kept.promised.ends.ends) turn
 
 pub returns-clause-after_restart : goal.returns-clause-after_restart
 returns-clause-after_restart g c = λ last disk promised other rests restarted.

@@ -17,6 +17,7 @@ use Rattle.loader_cli.proofs.top_call.run.Goals as goal
 
 pub returns-in-Ok-put-clause-ends : goal.returns-in-Ok-put-clause-ends
 returns-in-Ok-put-clause-ends g c =
+    λ before after there still.
     let was = g.O.Sink.content c.args.out.now in
     let now = g.O.Sink.content c.put.new.self in
     let text : c.as_slice.result.now ≡ text_of c.in-Ok.field-0.answer = c.as_slice.ensures ∙ c.in-Ok-into_text.ensures in
@@ -54,13 +55,15 @@ returns-in-Ok-put-clause-ends g c =
       of_lur = λ value bytes spells. (c.protocol_file_laws.ensures.lur.spelled bytes value).1 spells;
       of_lus = λ value bytes spells. (c.protocol_file_laws.ensures.lus.spelled bytes value).1 spells;
     } in
-    let at_end : EndLaws (g.K.Disk.state c.args.disk.now) (g.K.Disk.state c.answer.new.disk) = record { not_both = c.an_image_holds_one_configuration.ensures.not_both; reads_now = g.met.K.Disk.reads_now c.answer.new.disk } in
-    as_promised laws uploads images formers shows _ _ at_end c.answer.ensures.leaves.while_running
-    (told (text_of c.in-Ok.field-0.answer) (rw (← c.status-status.ensures) at c.in-Ok.ensures.tells) (subst (λ (bytes : List ℕ). IsExtended was now bytes) text c.in-Ok-put.ensures.content))
+    let at_end : EndLaws (g.K.Disk.state before) (g.K.Disk.state after) = record { not_both = c.an_image_holds_one_configuration.ensures.not_both; reads_now = g.met.K.Disk.reads_now after } in
+    let tells = rw c.in-Ok.is at c.answer.ensures.tells before after there still in
+    as_promised laws uploads images formers shows _ _ at_end (c.answer.ensures.leaves before after there still).while_running
+    (told (text_of c.in-Ok.field-0.answer) (rw (← c.status-status.ensures) at tells) (subst (λ (bytes : List ℕ). IsExtended was now bytes) text c.in-Ok-put.ensures.content))
     (λ not_seven. c.in-Ok-put.ensures.cause.ok)
 
 pub returns-in-Err-Failed-clause-ends : goal.returns-in-Err-Failed-clause-ends
 returns-in-Err-Failed-clause-ends g c =
+    λ before after there still.
     let was = g.O.Sink.content c.args.out.now in
     let now = g.O.Sink.content c.put.new.self in
     let text : c.as_slice.result.now ≡ text_of c.in-Ok.field-0.answer = c.as_slice.ensures ∙ c.in-Ok-into_text.ensures in
@@ -100,14 +103,16 @@ returns-in-Err-Failed-clause-ends g c =
       of_lur = λ value bytes spells. (c.protocol_file_laws.ensures.lur.spelled bytes value).1 spells;
       of_lus = λ value bytes spells. (c.protocol_file_laws.ensures.lus.spelled bytes value).1 spells;
     } in
-    let at_end : EndLaws (g.K.Disk.state c.args.disk.now) (g.K.Disk.state c.answer.new.disk) = record { not_both = c.an_image_holds_one_configuration.ensures.not_both; reads_now = g.met.K.Disk.reads_now c.answer.new.disk } in
-    as_promised laws uploads images formers shows _ _ at_end c.answer.ensures.leaves.while_running
-    (sink_failed c.status-status.result (text_of c.in-Ok.field-0.answer) part.0 (rw (← c.status-status.ensures) at c.in-Ok.ensures.tells)
+    let at_end : EndLaws (g.K.Disk.state before) (g.K.Disk.state after) = record { not_both = c.an_image_holds_one_configuration.ensures.not_both; reads_now = g.met.K.Disk.reads_now after } in
+    let tells = rw c.in-Ok.is at c.answer.ensures.tells before after there still in
+    as_promised laws uploads images formers shows _ _ at_end (c.answer.ensures.leaves before after there still).while_running
+    (sink_failed c.status-status.result (text_of c.in-Ok.field-0.answer) part.0 (rw (← c.status-status.ensures) at tells)
     (subst (λ (bytes : List ℕ). IsExtended was now (take part.0 bytes)) text part.1) (c.in-Err-Failed.ensures.cause.failed (cc)) refl)
     (λ not_seven. absurd (not_seven refl))
 
 pub returns-in_default-clause-ends : goal.returns-in_default-clause-ends
 returns-in_default-clause-ends g c =
+    λ before after there still.
     let laws : BuildingLaws = record {
       sizes = c.building_laws.ensures.sizes;
       sources = c.building_laws.ensures.sources;
@@ -142,12 +147,14 @@ returns-in_default-clause-ends g c =
       of_lur = λ value bytes spells. (c.protocol_file_laws.ensures.lur.spelled bytes value).1 spells;
       of_lus = λ value bytes spells. (c.protocol_file_laws.ensures.lus.spelled bytes value).1 spells;
     } in
-    let at_end : EndLaws (g.K.Disk.state c.args.disk.now) (g.K.Disk.state c.answer.new.disk) = record { not_both = c.an_image_holds_one_configuration.ensures.not_both; reads_now = g.met.K.Disk.reads_now c.answer.new.disk } in
+    let at_end : EndLaws (g.K.Disk.state before) (g.K.Disk.state after) = record { not_both = c.an_image_holds_one_configuration.ensures.not_both; reads_now = g.met.K.Disk.reads_now after } in
+    let out = rw c.in_default.is at c.answer.ensures.no_memory before after there still in
     rw (c.out_of_memory.ensures.status, c.out_of_memory.ensures.drive)
-    (as_promised laws uploads images formers shows _ _ at_end c.answer.ensures.leaves.while_running (no_memory refl refl (in_command c.in_default.ensures.no_memory)) (λ not_seven. refl))
+    (as_promised laws uploads images formers shows _ _ at_end (c.answer.ensures.leaves before after there still).while_running (no_memory refl refl (in_command out)) (λ not_seven. refl))
 
 pub returns-in_default-into_text-clause-ends : goal.returns-in_default-into_text-clause-ends
 returns-in_default-into_text-clause-ends g c =
+    λ before after there still.
     let laws : BuildingLaws = record {
       sizes = c.building_laws.ensures.sizes;
       sources = c.building_laws.ensures.sources;
@@ -182,13 +189,15 @@ returns-in_default-into_text-clause-ends g c =
       of_lur = λ value bytes spells. (c.protocol_file_laws.ensures.lur.spelled bytes value).1 spells;
       of_lus = λ value bytes spells. (c.protocol_file_laws.ensures.lus.spelled bytes value).1 spells;
     } in
-    let at_end : EndLaws (g.K.Disk.state c.args.disk.now) (g.K.Disk.state c.answer.new.disk) = record { not_both = c.an_image_holds_one_configuration.ensures.not_both; reads_now = g.met.K.Disk.reads_now c.answer.new.disk } in
+    let at_end : EndLaws (g.K.Disk.state before) (g.K.Disk.state after) = record { not_both = c.an_image_holds_one_configuration.ensures.not_both; reads_now = g.met.K.Disk.reads_now after } in
+    let tells = rw c.in-Ok.is at c.answer.ensures.tells before after there still in
     rw (c.out_of_memory-in_default-into_text.ensures.status, c.out_of_memory-in_default-into_text.ensures.drive)
-    (as_promised laws uploads images formers shows _ _ at_end c.answer.ensures.leaves.while_running
-    (no_memory refl refl (as_it_was_put (option_map run_seen c.in-Ok.field-0.drive) (status_of c.in-Ok.field-0.answer) (text_of c.in-Ok.field-0.answer) c.in-Ok.ensures.tells)) (λ not_seven. refl))
+    (as_promised laws uploads images formers shows _ _ at_end (c.answer.ensures.leaves before after there still).while_running
+    (no_memory refl refl (as_it_was_put (option_map run_seen c.in-Ok.field-0.drive) (status_of c.in-Ok.field-0.answer) (text_of c.in-Ok.field-0.answer) tells)) (λ not_seven. refl))
 
 pub returns-clause-ends : goal.returns-clause-ends
 returns-clause-ends g c =
+    λ before after there still.
     let laws : BuildingLaws = record {
       sizes = c.building_laws.ensures.sizes;
       sources = c.building_laws.ensures.sources;
@@ -223,9 +232,10 @@ returns-clause-ends g c =
       of_lur = λ value bytes spells. (c.protocol_file_laws.ensures.lur.spelled bytes value).1 spells;
       of_lus = λ value bytes spells. (c.protocol_file_laws.ensures.lus.spelled bytes value).1 spells;
     } in
-    let at_end : EndLaws (g.K.Disk.state c.args.disk.now) (g.K.Disk.state c.answer.new.disk) = record { not_both = c.an_image_holds_one_configuration.ensures.not_both; reads_now = g.met.K.Disk.reads_now c.answer.new.disk } in
+    let at_end : EndLaws (g.K.Disk.state before) (g.K.Disk.state after) = record { not_both = c.an_image_holds_one_configuration.ensures.not_both; reads_now = g.met.K.Disk.reads_now after } in
+    let tells = rw c.in-Ok.is at c.answer.ensures.tells before after there still in
     let memory : c.in-Err-Memory.field-0 ≡ Memory = c.in-Err-Memory.field-0-is in
     rw (c.out_of_memory-in-Err-Memory.ensures.status, c.out_of_memory-in-Err-Memory.ensures.drive)
-    (as_promised laws uploads images formers shows _ _ at_end c.answer.ensures.leaves.while_running
-    (no_memory refl refl (as_it_was_put (option_map run_seen c.in-Ok.field-0.drive) (status_of c.in-Ok.field-0.answer) (text_of c.in-Ok.field-0.answer) c.in-Ok.ensures.tells))
+    (as_promised laws uploads images formers shows _ _ at_end (c.answer.ensures.leaves before after there still).while_running
+    (no_memory refl refl (as_it_was_put (option_map run_seen c.in-Ok.field-0.drive) (status_of c.in-Ok.field-0.answer) (text_of c.in-Ok.field-0.answer) tells))
     (λ not_seven. c.in-Err-Memory.ensures.cause.memory (cc)))
