@@ -3,6 +3,7 @@ pub mod FleetTurns
 pub mod Indexed
 pub mod LeftBehind
 pub mod MergedSteps
+pub mod OwnBounds
 pub mod OwnFinish
 pub mod OwnLinks
 pub mod UnitEnds

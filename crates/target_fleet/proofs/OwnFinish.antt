@@ -21,7 +21,7 @@ use Rattle.target_fleet.specs.Finishes.{CompletesAtUnit}
 use Rattle.target_fleet.specs.Runs.{fleet_waiting}
 
 -- one of the fleet's units waits as its setting says
-waits_as : (units : ℕ) (sets : ℕ → Setting) (unit : ℕ) → 1 ≤ unit → unit ≤ units → fleet_waiting units sets unit ≡ waiting (sets unit)
+pub waits_as : (units : ℕ) (sets : ℕ → Setting) (unit : ℕ) → 1 ≤ unit → unit ≤ units → fleet_waiting units sets unit ≡ waiting (sets unit)
 waits_as units sets unit least most = fun_ext (λ side. fun_ext (λ own. rw (le-leb 1 unit least, le-leb unit units most) refl))
 
 pub unit_completes : (units : ℕ) (sets : ℕ → Setting) (script : List FleetLine) (steps : List StepOfFleet) (unit : ℕ) (sessions : List EndedSession) (standing : Option StandingView) → CompletesAtUnit units sets script steps unit sessions standing

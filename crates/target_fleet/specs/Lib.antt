@@ -1,4 +1,5 @@
 pub mod Boots
+pub mod Bounds
 pub mod Clocks
 pub mod Orders
 pub mod PartPosts

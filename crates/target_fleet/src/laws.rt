@@ -5,7 +5,10 @@ ghost use Rattle.fleet_trace.specs.FleetLines.{FleetLine};
 ghost use Rattle.fleet_trace.specs.FleetTraces.{StepOfFleet};
 ghost use Rattle.replay_rules.specs.BothEnds.{Setting};
 ghost use Rattle.session_rules.specs.Loader.{EndedSession};
+ghost use Rattle.target_fleet.specs.Bounds.{FinishEndsAtUnit};
 ghost use Rattle.target_fleet.specs.Finishes.{CompletesAtUnit};
+
+use finish_ends::laws::every_finish_ends;
 
 /// In a fleet that is left to the last `finish` of its script, each unit that is fault-free
 /// completes, whatever befell the others. Its premises are what [`fleet`](crate::fleet) promises of
@@ -16,3 +19,13 @@ pub fn a_fleets_last_finish_completes()
         (standing : Option StandingView)
         → CompletesAtUnit units sets script steps unit sessions standing }
 {}
+
+/// The last `finish` of a fleet's script ends: each unit has no more happenings in it than a
+/// `finish` of its own, 183,503,421,556 and two for each datagram that is undelivered at the unit as
+/// it begins, whatever befell the others.
+pub fn a_fleets_last_finish_ends()
+    ensures { (units : ℕ) (sets : ℕ → Setting) (script : List FleetLine)
+        (steps : List StepOfFleet) (unit : ℕ) → FinishEndsAtUnit units sets script steps unit }
+{
+    every_finish_ends();
+}
