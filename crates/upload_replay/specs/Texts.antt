@@ -85,8 +85,12 @@ abbrev pub datagrams_line : (count : ℕ) → List ℕ
 datagrams_line count = line (codes "datagrams" ∷ decimal count ∷ [])
 
 -- the sessions in the order of their starts, how many datagrams were posted, and the configuration at the end
+abbrev pub report_lines : List EndedSession → (posted : ℕ) → StandingView → List ℕ
+report_lines sessions posted standing = sessions_from 1 sessions ++ datagrams_line posted ++ listing standing
+
+-- the report of a run with this trace
 abbrev pub report : List EndedSession → List TraceStep → StandingView → List ℕ
-report sessions trace standing = sessions_from 1 sessions ++ datagrams_line (count_by is_post trace) ++ listing standing
+report sessions trace standing = report_lines sessions (count_by is_post trace) standing
 
 -- ---- the trace
 

@@ -8,9 +8,10 @@ ghost use Rattle.load_protocol_files.specs.Lcl.{hardware_view, lcl_view};
 ghost use Rattle.loader_machine.specs.Machine.{session_view};
 ghost use Rattle.upload_replay.specs.Texts.{datagrams_line, file_kind_text, hardware_lines, is_post};
 ghost use Rattle.upload_replay.specs.Texts.{kind_text, listed_lines, outcome_text, part_line, report};
-ghost use Rattle.upload_replay.specs.Texts.{session_line, session_lines, sessions_from};
+ghost use Rattle.upload_replay.specs.Texts.{report_lines, session_line, session_lines, sessions_from};
 
 use crate::outcome::Drive;
+use disk_layout::Standing;
 use exchange_trace::TraceStep;
 use listing::listing_text;
 use load_base::{Bytes, NoMemory};
@@ -30,27 +31,48 @@ pub fn report_text(alloc: Global, drive: &Drive) -> Result<Bytes, NoMemory>
         (standing_view standing))) }
 {
     let mut out = Bytes::new(alloc);
-    put_sessions(alloc, &mut out, drive.sessions.as_slice())?;
-    put_count(alloc, &mut out, drive.trace.as_slice())?;
+    let posted = count_posts(drive.trace.as_slice());
     match &drive.standing {
         Some(standing) => {
-            let listing = listing_text(alloc, standing)?;
-            out.extend(listing.as_slice())?;
+            put_report(alloc, &mut out, drive.sessions.as_slice(), posted, standing)?;
             Ok(out)
         }
         None => unreachable!(),
     }
 }
 
-/// The number of datagrams that were posted.
-fn put_count(alloc: Global, out: &mut Bytes, trace: &[TraceStep]) -> Result<(), NoMemory>
-    ensures { OnOk result
-        (out.new.items ≡ out.old.items ++ datagrams_line (count_by is_post trace.now)) }
+/// The report of a run with these sessions, in which so many datagrams were posted, and after which
+/// this configuration stands.
+pub fn put_report(
+    alloc: Global,
+    out: &mut Bytes,
+    sessions: &[Session],
+    posted: u64,
+    standing: &Standing,
+) -> Result<(), NoMemory>
+    ensures { OnOk result (out.new.items ≡ out.old.items
+        ++ report_lines (map session_view sessions.now) posted (standing_view standing.now)) }
 {
-    let count = trace.iter().filter(|step| is_posted(step)).count();
+    put_sessions(alloc, out, sessions)?;
+    put_count(alloc, out, posted)?;
+    let listing = listing_text(alloc, standing)?;
+    out.extend(listing.as_slice())
+}
+
+/// The number of datagrams that were posted.
+fn put_count(alloc: Global, out: &mut Bytes, posted: u64) -> Result<(), NoMemory>
+    ensures { OnOk result (out.new.items ≡ out.old.items ++ datagrams_line posted) }
+{
     out.extend(b"datagrams ")?;
-    put_number(alloc, out, count as u64)?;
+    put_number(alloc, out, posted)?;
     out.extend(b"\n")
+}
+
+/// How many datagrams were posted in this trace.
+fn count_posts(trace: &[TraceStep]) -> u64
+    ensures { result ≡ count_by is_post trace.now }
+{
+    trace.iter().filter(|step| is_posted(step)).count() as u64
 }
 
 fn is_posted(step: &TraceStep) -> bool
