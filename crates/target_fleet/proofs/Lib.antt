@@ -11,4 +11,5 @@ pub mod UnitSteps
 pub mod WholeFleet
 pub mod StepsInFleet
 pub mod TakenLines
+pub mod ToldInUnits
 pub mod TurnsLeave

@@ -5,6 +5,7 @@ pub mod Orders
 pub mod PartPosts
 pub mod Ends
 pub mod Finishes
+pub mod FleetTexts
 pub mod Fleets
 pub mod Leaves
 pub mod Merges

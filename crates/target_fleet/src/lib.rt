@@ -8,6 +8,7 @@ pub mod laws;
 mod merging;
 mod outcome;
 mod posting;
+mod report;
 mod running;
 mod stepping;
 mod waiting;
@@ -15,4 +16,5 @@ mod whole_run;
 
 pub use fleet_trace::FleetStep;
 pub use outcome::{FleetDrive, FleetFault, UnitEnd};
+pub use report::fleet_text;
 pub use whole_run::fleet;

@@ -1,0 +1,59 @@
+-- The report of a fleet as text (docs/FORMATS.md, "Printed text").
+use Rattle.std.specs.Prelude.{◌≡◌, ℕ, ◌+◌, ◌<◌, List, [], ◌∷◌, ◌++◌, codes, length, map, option_map, get_or, Bool, false, ◌==◌, if◌then◌else◌, Option, Some, None}
+use Rattle.std.specs.List.{count_by}
+use Rattle.std.specs.Fmt.{decimal}
+use Rattle.printed_text.specs.Lines.{line}
+use Rattle.disk_layout.specs.Holds.{StandingView, standing_view}
+use Rattle.fleet_trace.specs.declared.trace.FleetStep.{FleetStep}
+use Rattle.fleet_trace.specs.declared.trace.FleetStep.TheVariants as fleet_lines
+use Rattle.loader_machine.specs.Machine.{session_view}
+use Rattle.session_rules.specs.Loader.{EndedSession}
+use Rattle.upload_replay.specs.Texts.{is_post, report_lines}
+use Rattle.target_fleet.specs.declared.outcome.UnitEnd.{UnitEnd}
+
+-- ---- datagrams
+
+-- a line of the trace by which a datagram is posted at this unit
+abbrev pub is_post_at : (unit : ℕ) → FleetStep → Bool
+is_post_at unit (fleet_lines.At whose line) = if whose == unit then is_post line else false
+is_post_at unit fleet_lines.End = false
+
+-- how many datagrams both sides of this unit posted
+unfoldable pub posted_at : (unit : ℕ) → List FleetStep → ℕ
+posted_at unit trace = count_by (is_post_at unit) trace
+
+-- each is the number of datagrams of one unit, from unit 1 on
+abbrev pub CountPosts : List FleetStep → (counts : List ℕ) → Type 0
+CountPosts trace counts = (i : ℕ) → i < length counts → get_or counts i 0 ≡ posted_at (i + 1) trace
+
+-- ---- the report
+
+-- what a unit came to, as contracts see it
+pub record UnitSeen : Type 0 where
+  pub sessions : List EndedSession
+  pub standing : Option StandingView
+
+abbrev pub unit_seen : UnitEnd → UnitSeen
+unit_seen end = record { sessions = map session_view end.sessions.items; standing = option_map standing_view end.standing }
+
+-- `unit NUMBER`
+unfoldable pub unit_line : (number : ℕ) → List ℕ
+unit_line number = line (codes "unit" ∷ decimal number ∷ [])
+
+-- a unit's report, where it is known what stands on its disk
+abbrev pub own_report : List EndedSession → (posted : ℕ) → Option StandingView → List ℕ
+own_report sessions posted None = []
+own_report sessions posted (Some standing) = report_lines sessions posted standing
+
+-- its number, and then its report
+unfoldable pub unit_lines : (number posted : ℕ) → UnitSeen → List ℕ
+unit_lines number posted unit = unit_line number ++ own_report unit.sessions posted unit.standing
+
+-- those of units, of which the first has this number, each with the number of its own datagrams
+abbrev pub units_from : (number : ℕ) → List FleetStep → List UnitSeen → List ℕ
+units_from number trace [] = []
+units_from number trace (unit ∷ later) = unit_lines number (posted_at number trace) unit ++ units_from (number + 1) trace later
+
+-- The report of a fleet: that of each unit, from unit 1 on.
+abbrev pub fleet_report : List FleetStep → List UnitSeen → List ℕ
+fleet_report trace units = units_from 1 trace units
