@@ -11,7 +11,7 @@
 //! | `case NAME` | a case begins; one without a `run` is only what others begin with |
 //! | `from NAME` | it has the files, the disks and the known outputs of this earlier case |
 //! | `file NAME` | the host has this file, with the bytes that come next |
-//! | `unit N` | what the lines that come next say of a disk they say of that of unit N, and not of the first |
+//! | `unit N` | the disk that the lines from here on speak of is that of unit N, not the first |
 //! | `disk OFFSET` | the bytes that come next stand on the disk from here on |
 //! | `is NAME` | a known output: a status, a space and a text, which come next |
 //! | `ends NAME` | a known output: one that ends with the bytes that come next |

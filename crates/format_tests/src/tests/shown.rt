@@ -16,8 +16,9 @@ const LCL: &[u8] =
     b"\x00\x00\x00\x2C\x41\x33\x00\x01\x03HW1\x03SN1\x00\x02\x0FABC41-0000-0001\x01A\x00\x01B\x00\x03OPS";
 
 // With two targets of one part each.
-const LUB: &[u8] =
-    b"\x00\x00\x00\x2D\xC0\x04\x00\x00\x00\x0FABC43-0000-0003\x00\x00\x02\x00\x03HW1\x00\x00\x01L\x00\x00\x01\x00\x0FABC41-0000-0001\x00\x00\x03HW1\x00\x00\x01R\x00\x00\x01\x00\x0FABC41-0000-0001\x00\x53\xEE";
+const LUB: &[u8] = b"\x00\x00\x00\x2D\xC0\x04\x00\x00\x00\x0FABC43-0000-0003\x00\x00\x02\
+    \x00\x03HW1\x00\x00\x01L\x00\x00\x01\x00\x0FABC41-0000-0001\x00\
+    \x00\x03HW1\x00\x00\x01R\x00\x00\x01\x00\x0FABC41-0000-0001\x00\x53\xEE";
 
 fn fields(text: Shown) -> Result<Bytes, Fail> {
     match text {
@@ -58,12 +59,14 @@ const FIELDS: [(ShownKind, &[u8], &[u8]); 11] = [
     (
         ShownKind::BatchesList,
         &ONE_BATCH,
-        b"batches 39 B004\nset XYZ5A-0000-0001\nmember 1 of 1\nbatch ABC43-0000-0003 TWO.LUB 1\nuser -\ncrc 32AB\n",
+        b"batches 39 B004\nset XYZ5A-0000-0001\nmember 1 of 1\n\
+    batch ABC43-0000-0003 TWO.LUB 1\nuser -\ncrc 32AB\n",
     ),
     (
         ShownKind::Batch,
         LUB,
-        b"lub 45 C004\npart ABC43-0000-0003\ntarget HW1 L\npart ABC41-0000-0001\ntarget HW1 R\npart ABC41-0000-0001\ncrc 53EE\n",
+        b"lub 45 C004\npart ABC43-0000-0003\ntarget HW1 L\npart ABC41-0000-0001\n\
+    target HW1 R\npart ABC41-0000-0001\ncrc 53EE\n",
     ),
     (
         ShownKind::Lci,
