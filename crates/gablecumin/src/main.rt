@@ -1,6 +1,6 @@
 //! The program: runs its arguments over standard output, the files of the current folder and the
 //! eight disks of units, each in a file of the current folder, and exits with the status of the run.
-//! A file is opened at the first call of its disk: none but that of the disk that is used.
+//! A file is opened at the first call of its disk: none but those of the disks that are used.
 #![tactic(auto)]
 
 ghost use Rattle.std.specs.Prelude.{◌≡◌};

@@ -10,7 +10,7 @@ use Rattle.load_base.specs.EqualityLaws.{equal_bytes}
 use Rattle.loader_cli.specs.Builds.{Builds, Makes}
 use Rattle.loader_cli.specs.Commands.{CommandView, FormatsOrRollsBack, IsCommand, IsNo, IsPlain, disk_named}
 use Rattle.loader_cli.specs.Commands.IsCommand.{on, plain}
-use Rattle.loader_cli.specs.Commands.CommandView.{list, format, show, check, build, make, replay, wire, trial, rollback}
+use Rattle.loader_cli.specs.Commands.CommandView.{list, format, show, check, build, make, replay, wire, trial, rollback, fleet}
 use Rattle.loader_cli.specs.Replays.{Replays, run_command}
 use Rattle.shown_files.specs.Kinds.{IsNameOf}
 use Rattle.shown_files.specs.declared.kind.ShownKind.{ShownKind}
@@ -38,6 +38,7 @@ verb (replay folder script) = codes "replay"
 verb (wire folder script) = codes "wire"
 verb (trial number) = codes "trial"
 verb rollback = codes "rollback"
+verb (fleet count folder script) = codes "fleet"
 
 first : List (List ℕ) → List ℕ
 first [] = []
@@ -55,6 +56,7 @@ begins words (replay folder script) is = ap first is.0
 begins words (wire folder script) is = ap first is.0
 begins words (trial number) is = ap first is.0
 begins words rollback is = ap first is
+begins words (fleet count folder script) is = ap first is.0
 
 -- arguments that are two commands are both in the same words
 same_asked : (words : List (List ℕ)) (one other : CommandView) → IsCommand words one → IsCommand words other → (own : List (List ℕ)) × IsPlain own one × IsPlain own other
@@ -187,6 +189,7 @@ trial_formats_none words number asked (make other folder) is writes = writes
 trial_formats_none words number asked (replay other name) is writes = writes
 trial_formats_none words number asked (wire other name) is writes = writes
 trial_formats_none words number asked (trial other) is writes = writes
+trial_formats_none words number asked (fleet count folder script) is writes = writes
 
 -- what is said of a run of a script
 one_replay : (words : List (List ℕ)) (folder script folder_2 script_2 : List ℕ) → IsCommand words (replay folder script) → IsCommand words (replay folder_2 script_2) → (folder_2 ≡ folder) × (script_2 ≡ script)
@@ -245,7 +248,9 @@ unfolding verb
 formats_none Report words folder script asked (format id) is writes = apart_verbs (same_verb words (replay folder script) (format id) asked is) refl
 formats_none Trace words folder script asked (format id) is writes = absurd (apart_verbs (same_verb words (wire folder script) (format id) asked is) refl)
 formats_none Report words folder script asked rollback is writes = absurd (apart_verbs (same_verb words (replay folder script) rollback asked is) refl)
+formats_none Report words folder script asked (fleet count folder_2 script_2) is writes = writes
 formats_none Trace words folder script asked rollback is writes = absurd (apart_verbs (same_verb words (wire folder script) rollback asked is) refl)
+formats_none Trace words folder script asked (fleet count folder_2 script_2) is writes = writes
 formats_none telling words folder script asked list is writes = writes
 formats_none telling words folder script asked (show kind file) is writes = writes
 formats_none telling words folder script asked (check other) is writes = writes
@@ -323,6 +328,7 @@ formats_no words (replay folder script) id asked other is = apart_verbs (same_ve
 formats_no words (wire folder script) id asked other is = absurd (apart_verbs (same_verb words (format id) (wire folder script) is asked) refl)
 formats_no words (trial number) id asked other is = absurd (apart_verbs (same_verb words (format id) (trial number) is asked) refl)
 formats_no words rollback id asked other is = other tt
+formats_no words (fleet count folder script) id asked other is = absurd (apart_verbs (same_verb words (format id) (fleet count folder script) is asked) refl)
 
 pub rolls_no : (words : List (List ℕ)) (command : CommandView) → IsCommand words command → ¬ FormatsOrRollsBack command → IsCommand words rollback → ⊥
 unfolding verb
@@ -336,6 +342,7 @@ rolls_no words (replay folder script) asked other is = absurd (apart_verbs (same
 rolls_no words (wire folder script) asked other is = absurd (apart_verbs (same_verb words rollback (wire folder script) is asked) refl)
 rolls_no words (trial number) asked other is = absurd (apart_verbs (same_verb words rollback (trial number) is asked) refl)
 rolls_no words rollback asked other is = other tt
+rolls_no words (fleet count folder script) asked other is = absurd (apart_verbs (same_verb words rollback (fleet count folder script) is asked) refl)
 
 -- arguments that format roll nothing back
 pub not_both_asked : (words : List (List ℕ)) (id : Identity) → IsCommand words (format id) → IsCommand words rollback → ⊥
@@ -382,3 +389,20 @@ is_rollback words = by (are_words words (codes "rollback" ∷ [])) (are_words wo
     by (inl is) one = inl (plain is)
     by (inr other) (inl is) = inl (on (disk_named words + 1) (codes "rollback" ∷ []) (omega arith) (omega (arith, named_below words)) is refl tt)
     by (inr other) (inr none) = inr (never other none)
+
+-- ---- `fleet`
+
+-- what is said of one disk is said of no fleet
+pub says_of_no_fleet : (work : Work) (count : ℕ) (folder script : List ℕ) (status : ℕ) (text : List ℕ) → IsCommand work.words (fleet count folder script) → Says work status text → ⊥
+unfolding verb
+says_of_no_fleet work count folder script status text asked (refused none _ _) = absurd (none (fleet count folder script) asked tt)
+says_of_no_fleet work count folder script status text asked (lists is _) = absurd (apart_verbs (same_verb work.words (fleet count folder script) list asked is) refl)
+says_of_no_fleet work count folder script status text asked (formats id is _) = absurd (apart_verbs (same_verb work.words (fleet count folder script) (format id) asked is) refl)
+says_of_no_fleet work count folder script status text asked (shows kind file is _) = absurd (apart_verbs (same_verb work.words (fleet count folder script) (show kind file) asked is) refl)
+says_of_no_fleet work count folder script status text asked (checks other is _) = absurd (apart_verbs (same_verb work.words (fleet count folder script) (check other) asked is) refl)
+says_of_no_fleet work count folder script status text asked (builds recipe other is _) = absurd (apart_verbs (same_verb work.words (fleet count folder script) (build recipe other) asked is) refl)
+says_of_no_fleet work count folder script status text asked (makes number other is _) = absurd (apart_verbs (same_verb work.words (fleet count folder script) (make number other) asked is) refl)
+says_of_no_fleet work count folder script status text asked (replays other name is _) = absurd (apart_verbs (same_verb work.words (fleet count folder script) (replay other name) asked is) refl)
+says_of_no_fleet work count folder script status text asked (traces other name is _) = absurd (apart_verbs (same_verb work.words (fleet count folder script) (wire other name) asked is) refl)
+says_of_no_fleet work count folder script status text asked (tries number is _) = absurd (apart_verbs (same_verb work.words (fleet count folder script) (trial number) asked is) refl)
+says_of_no_fleet work count folder script status text asked (rolls_back is _) = absurd (apart_verbs (same_verb work.words (fleet count folder script) rollback asked is) refl)

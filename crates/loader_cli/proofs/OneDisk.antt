@@ -3,7 +3,7 @@ use Rattle.std.proofs.Common.{◌≡◌, ◌≢◌, ℕ, zero, suc, ◌<◌, Lis
 use Rattle.std.specs.Prelude.{slice_get, slice_set}
 use Rattle.std.proofs.lemmas.List.Elements.{All-get_or}
 use Rattle.std.proofs.lemmas.Option.{get_or_from_slice_get, slice_get_within}
-use Rattle.loader_cli.specs.Commands.{disk_named}
+use Rattle.loader_cli.specs.Commands.{IsNo, IsOfFleet, disk_named}
 use Rattle.loader_cli.specs.Touches.{KeepsOthers, OnNamed}
 use Rattle.loader_cli.proofs.Named.{named_below}
 
@@ -38,19 +38,19 @@ module _ {K : Type 0} where
     none_used = record { named = within; as_many = refl; others = λ place apart. refl }
 
     pub on_unused : (Holds : K → K → Type 0) → ((disk : K) → slice_get disks (disk_named words) ≡ Some disk → Holds disk disk) → OnNamed words disks disks Holds
-    on_unused Holds holds before after was is = subst (λ (k : K). Holds before k) (one_disk disks (disk_named words) before after was is) (holds before was)
+    on_unused Holds holds single before after was is = subst (λ (k : K). Holds before k) (one_disk disks (disk_named words) before after was is) (holds before was)
 
     -- the disk at this place is used, which the arguments name
     module _ (place : ℕ) (named : place ≡ disk_named words) (some now : K) where
-      pub others_unused : KeepsOthers words disks (slice_set disks place now)
-      others_unused = record {
+      pub others_unused : IsNo IsOfFleet words → KeepsOthers words disks (slice_set disks place now)
+      others_unused single = record {
         named = within;
         as_many = as_many disks place now;
-        others = λ other apart. others_stay disks place other now (λ same. apart (same ∙ named));
+        others = λ other unused. others_stay disks place other now (λ same. unused.unnamed single (same ∙ named));
       }
 
       pub on_used : (Holds : K → K → Type 0) → Holds (get_or disks place some) now → OnNamed words disks (slice_set disks place now) Holds
-      on_used Holds holds before after was is =
+      on_used Holds holds single before after was is =
           let at : slice_get disks place ≡ Some before = ap (slice_get disks) named ∙ was in
           let put : slice_get (slice_set disks place now) place ≡ Some after = ap (slice_get (slice_set disks place now)) named ∙ is in
           let old : get_or disks place some ≡ before = get_or_from_slice_get disks place before some at in

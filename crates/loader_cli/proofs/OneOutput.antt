@@ -17,6 +17,7 @@ use Rattle.disk_layout.specs.declared.identity.Identity.{Identity}
 use Rattle.disk_model.specs.Image.{range}
 use Rattle.field_grammar.specs.ExactLaws.{one_value}
 use Rattle.exchange_trace.specs.Lines.{Line}
+use Rattle.exchange_trace.specs.Scripts.{script_said}
 use Rattle.media_lists.specs.declared.lists.ListedFile.{ListedFile}
 use Rattle.media_build.specs.NoFindings.{body_view, built_view}
 use Rattle.media_build.specs.RecipeSets.{BodyView, BuiltView}
@@ -86,8 +87,8 @@ module _ (laws : ImageLaws) (telling : Telling) (image : Image) where
     one_output : (a b : ℕ) (s t : List ℕ) → Gives telling folder name files image a s → Gives telling folder name files image b t → (a ≡ b) × (s ≡ t)
     one_output a b s t (runs set script has gives) (runs other script_2 has_2 gives_2) =
         one_run set script a b s t gives
-        (subst (λ (x : SetView). GivesRun telling x script image b t) (same_set folder name files set other script script_2 has has_2)
-        (subst (λ (x : List Line). GivesRun telling other x image b t) (same_script folder name files set other script script_2 has has_2) gives_2))
+        (subst (λ (x : SetView). GivesRun telling x script image b t) (same_set script_said folder name files set other script script_2 has has_2)
+        (subst (λ (x : List Line). GivesRun telling other x image b t) (same_script script_said folder name files set other script script_2 has has_2) gives_2))
     one_output a b s t (runs set script has gives) (refuses before after answers refused) =
         absurd (some_none (sym (inputs_refused folder name files before after b t answers refused).1 ∙ inputs_pass folder name files set script has))
     one_output a b s t (refuses before after answers refused) (runs set script has gives) =

@@ -1,9 +1,9 @@
 -- What is read of the inputs of a run, from what the host told.
-use Rattle.std.proofs.Common.{◌≡◌, ◌≤◌, ℕ, List, [], length, Option, Some, None, Result, Ok, Err, refl, sym, subst, ◌∙◌}
+use Rattle.std.proofs.Common.{◌≡◌, ℕ, List, [], Option, Some, None, Result, Ok, Err, refl, sym, subst, ◌∙◌}
 use Rattle.std.specs.Prelude.{codes}
 use Rattle.std.specs.Option.{ForSome}
 use Rattle.std.proofs.lemmas.List.Elements.{All-head}
-use Rattle.load_base.specs.Host.{Files, longest_file}
+use Rattle.load_base.specs.Host.{Files}
 use Rattle.field_grammar.specs.Grammar.{Grammar}
 use Rattle.field_grammar.specs.Answers.{answer}
 use Rattle.media_lists.specs.Files.{FilesListView, files_list}
@@ -12,16 +12,15 @@ use Rattle.media_lists.specs.declared.fault.ListFault.{ListFault}
 use Rattle.media_lists.specs.ListFaultText.{list_fault_text}
 use Rattle.media_check.specs.HostNames.{files_name, further_reading, host_media, loads_name}
 use Rattle.media_check.specs.Openings.{CanRead, IsShort, IsTooLong, OpensRest, ReadsList}
-use Rattle.media_check.specs.Sets.{MemberView, SetView, found_as, found_in, lists_in, set_view, set_with}
+use Rattle.media_check.specs.Sets.{MemberView, found_as, found_in, lists_in, set_view, set_with}
 use Rattle.media_check.specs.declared.found.Found.{Found}
 use Rattle.media_check.specs.declared.found.Found.TheVariants.{Missing, Refused, Read}
 use Rattle.media_check.specs.declared.fault.OpenFault.TheVariants.{TooLong}
 use Rattle.media_check.specs.declared.set.MediaSet.{MediaSet}
 use Rattle.load_base.specs.Listed.{Listed}
-use Rattle.loader_cli.specs.HostFiles.{Has}
-use Rattle.loader_cli.specs.Inputs.{HasListed, HasLoads, IsRefusal, ReadsInputs, SaysScript, list_name}
-use Rattle.loader_cli.specs.Replays.{HasList, HasSet, IsRead, RefusesInputs, RefusesList, rest_of}
-use Rattle.loader_cli.specs.Replays.RefusesInputs.{loads_refused, files_refused, large_set, no_script}
+use Rattle.loader_cli.specs.Inputs.{HasListed, HasLoads, IsRefusal, ReadsInputs, list_name}
+use Rattle.loader_cli.specs.Replays.{HasList, HasSet, IsRead, RefusesList, RefusesText, rest_of}
+use Rattle.loader_cli.specs.Replays.RefusesText.{loads_refused, files_refused, large_set}
 use Rattle.loader_cli.specs.Replays.RefusesList.{list_absent, list_faulty}
 use Rattle.loader_cli.specs.Texts.{refused_input}
 use Rattle.loader_cli.specs.declared.inputs.Inputs.{Inputs}
@@ -62,18 +61,18 @@ has_list format files name list has = λ told is. ((has told is).0, is_read (fou
 
 pub refuses_loads : (folder name : List ℕ) (files : Option Files) (before after : ℕ) (fault : List ℕ) (read : Inputs) → RefusesList loads_list files (loads_name folder 1) fault
     → IsRefusal read (refused_input (list_name folder (codes "LOADS.LUM")) fault) → ReadsInputs folder name files before after read
-refuses_loads folder name files before after fault (inputs.Ready set script) refuses is = absurd is
+refuses_loads folder name files before after fault (inputs.Ready set text) refuses is = absurd is
 refuses_loads folder name files before after fault (inputs.Refused answer) refuses is = loads_refused fault refuses is.0 is.1
 
 pub refuses_files : (folder name : List ℕ) (files : Option Files) (before after : ℕ) (fault : List ℕ) (read : Inputs) → HasList loads_list files (loads_name folder 1)
     → RefusesList files_list files (files_name folder 1) fault → IsRefusal read (refused_input (list_name folder (codes "FILES.LUM")) fault)
     → ReadsInputs folder name files before after read
-refuses_files folder name files before after fault (inputs.Ready set script) has refuses is = absurd is
+refuses_files folder name files before after fault (inputs.Ready set text) has refuses is = absurd is
 refuses_files folder name files before after fault (inputs.Refused answer) has refuses is = files_refused fault has refuses is.0 is.1
 
 -- a list alone is never too large
 pub never_large : (folder name : List ℕ) (files : Option Files) (before after : ℕ) → ForSome files (λ told. ⊥)
-    → RefusesInputs folder name files before after 3 (refused_input folder (codes "toolarge"))
+    → RefusesText folder name files before after 3 (refused_input folder (codes "toolarge"))
 never_large folder name files before after never = large_set ((λ told is. absurd (never told is)), (λ told is. absurd (never told is))) (λ told is. absurd (never told is)) refl refl
 
 -- ---- the set
@@ -105,16 +104,3 @@ pub long_in_rest : (folder : List ℕ) (files : Option Files) (loads : LoadsList
 unfolding member
 long_in_rest folder files loads listed file has has_files opens = λ told is.
     subst (λ (m : MemberView). IsTooLong told (further_reading folder m) file.items) (first_is folder told loads listed (has told is).1 (has_files told is).1) (opens told is)
-
--- ---- the script
-
-pub script_read : (folder name bytes : List ℕ) (files : Option Files) (set : SetView) (before after : ℕ) (read : Inputs) → HasSet folder files set → Has files name (Some bytes)
-    → length bytes ≤ longest_file → SaysScript name bytes set read → ReadsInputs folder name files before after read
-script_read folder name bytes files set before after (inputs.Ready opened script) has there short says = record {
-  has_set = subst (λ (s : SetView). HasSet folder files s) (sym says.0) has;
-  text = bytes;
-  there = there;
-  short = short;
-  says = says.1;
-}
-script_read folder name bytes files set before after (inputs.Refused answer) has there short says = no_script set bytes says.0 has there short says.1 says.2 says.3

@@ -21,8 +21,9 @@ use Rattle.media_check.specs.Openings.{CanRead, IsFirstLong, IsShort, IsTooLarge
 use Rattle.media_check.specs.Sets.{SetView, found_in}
 use Rattle.media_check.specs.declared.found.Found.{Found}
 use Rattle.media_check.specs.declared.found.Found.TheVariants.{Missing, Read, Refused}
-use Rattle.loader_cli.specs.Replays.{HasInputs, HasList, HasSet, IsRead, RefusesInputs, RefusesList, rest_of}
-use Rattle.loader_cli.specs.Replays.RefusesInputs.{files_refused, files_too_long, host_failed, large_set, loads_refused, loads_too_long, long_file, no_script, script_absent, script_too_long}
+use Rattle.loader_cli.specs.Replays.{HasInputs, HasList, HasSet, IsRead, RefusesInputs, RefusesList, RefusesText, rest_of}
+use Rattle.loader_cli.specs.Replays.RefusesInputs.{no_script, no_text}
+use Rattle.loader_cli.specs.Replays.RefusesText.{files_refused, files_too_long, host_failed, large_set, loads_refused, loads_too_long, long_file, script_absent, script_too_long}
 use Rattle.loader_cli.specs.Replays.RefusesList.{list_absent, list_faulty}
 use Rattle.loader_cli.specs.Texts.{refused_input}
 
@@ -244,41 +245,45 @@ module _ (folder name : List ℕ) (told : Files) where
   at_set : (set : SetView) → HasSet folder (Some told) set → refusal folder name told ≡ of_script
   at_set set has = at_rest None (loads_pass has.lists.0) (files_pass has.lists.1) (rest_passes told folder (rest_of folder told) (has.rest told refl).0)
 
-  pub inputs_pass : (set : SetView) (script : List Line) → HasInputs folder name (Some told) set script → refusal folder name told ≡ None
+  pub inputs_pass : (set : SetView) (script : List Line) → HasInputs script_said folder name (Some told) set script → refusal folder name told ≡ None
   inputs_pass set script has =
-      at_set set has.has_set
-      ∙ (ap (script_refusal name) has.there
-      ∙ (is_short name (length has.text) (said_refusal name (script_said has.text)) has.short ∙ ap (said_refusal name) has.says))
+      at_set set has.has_text.has_set
+      ∙ (ap (script_refusal name) has.has_text.there
+      ∙ (is_short name (length has.text) (said_refusal name (script_said has.text)) has.has_text.short ∙ ap (said_refusal name) has.says))
 
   same_text : (text tells : List ℕ) → text ≡ tells → Some tells ≡ Some text
   same_text text tells is = ap (λ (t : List ℕ). Some t) (sym is)
 
-  pub inputs_refused : (before after status : ℕ) (text : List ℕ) → ¬ Rose before after → RefusesInputs folder name (Some told) before after status text
+  text_refused : (before after status : ℕ) (text : List ℕ) → ¬ Rose before after → RefusesText folder name (Some told) before after status text
       → (status ≡ 3) × (refusal folder name told ≡ Some text)
-  inputs_refused before after status text answers (loads_refused fault refuses is tells) =
+  text_refused before after status text answers (loads_refused fault refuses is tells) =
       (is, at_loads _ (list_refuses loads_list told (loads_name folder 1) fault refuses) ∙ same_text text _ tells)
-  inputs_refused before after status text answers (loads_too_long file long is tells) =
+  text_refused before after status text answers (loads_too_long file long is tells) =
       (is, at_loads _ (list_is_long loads_list told (loads_name folder 1) file (long told refl)) ∙ same_text text _ tells)
-  inputs_refused before after status text answers (files_refused fault has refuses is tells) =
+  text_refused before after status text answers (files_refused fault has refuses is tells) =
       (is, at_files _ (loads_pass has) (list_refuses files_list told (files_name folder 1) fault refuses) ∙ same_text text _ tells)
-  inputs_refused before after status text answers (files_too_long file has long is tells) =
+  text_refused before after status text answers (files_too_long file has long is tells) =
       (is, at_files _ (loads_pass has) (list_is_long files_list told (files_name folder 1) file (long told refl)) ∙ same_text text _ tells)
-  inputs_refused before after status text answers (long_file file has long is tells) =
+  text_refused before after status text answers (long_file file has long is tells) =
       (is, at_rest _ (loads_pass has.0) (files_pass has.1) (rest_is_long told folder (rest_of folder told) file (long told refl)) ∙ same_text text _ tells)
-  inputs_refused before after status text answers (large_set has large is tells) =
+  text_refused before after status text answers (large_set has large is tells) =
       (is, at_rest _ (loads_pass has.0) (files_pass has.1) (rest_is_large told folder (rest_of folder told) (large told refl)) ∙ same_text text _ tells)
-  inputs_refused before after status text answers (script_absent set has none is tells) =
+  text_refused before after status text answers (script_absent set has none is tells) =
       (is, at_set set has ∙ (ap (script_refusal name) none ∙ same_text text _ tells))
-  inputs_refused before after status text answers (script_too_long set has long is tells) = (
+  text_refused before after status text answers (script_too_long set has long is tells) = (
     is,
     at_set set has
         ∙ (ap (script_refusal name) long.1
         ∙ (is_long name (length long.0) (said_refusal name (script_said long.0)) long.2 ∙ same_text text _ tells)),
   )
-  inputs_refused before after status text answers (no_script set bytes fault has there short wrong is tells) = (
+  text_refused before after status text answers (host_failed rose _ _) = absurd (answers rose)
+
+  pub inputs_refused : (before after status : ℕ) (text : List ℕ) → ¬ Rose before after → RefusesInputs script_said folder name (Some told) before after status text
+      → (status ≡ 3) × (refusal folder name told ≡ Some text)
+  inputs_refused before after status text answers (no_text refuses) = text_refused before after status text answers refuses
+  inputs_refused before after status text answers (no_script set bytes fault has wrong is tells) = (
     is,
-    at_set set has
-        ∙ (ap (script_refusal name) there
-        ∙ (is_short name (length bytes) (said_refusal name (script_said bytes)) short ∙ (ap (said_refusal name) wrong ∙ same_text text _ tells))),
+    at_set set has.has_set
+        ∙ (ap (script_refusal name) has.there
+        ∙ (is_short name (length bytes) (said_refusal name (script_said bytes)) has.short ∙ (ap (said_refusal name) wrong ∙ same_text text _ tells))),
   )
-  inputs_refused before after status text answers (host_failed rose _ _) = absurd (answers rose)

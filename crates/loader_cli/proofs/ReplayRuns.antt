@@ -21,8 +21,9 @@ use Rattle.media_check.specs.Sets.{SetView, found_in}
 use Rattle.media_check.specs.declared.found.Found.{Found}
 use Rattle.upload_replay.specs.Endings.{HeldNone, HoldsNone, HoldsSome}
 use Rattle.replay_turns.specs.Powers.{RoseBy}
-use Rattle.loader_cli.specs.Replays.{HasInputs, HasList, IsRead, LeavesFirstOrGood, RefusesInputs, RefusesList, Replays, RunSeen, RunsScript, RunsTo, StatusOfRun, rest_of, stops_of, told_as}
-use Rattle.loader_cli.specs.Replays.RefusesInputs.{files_refused, files_too_long, host_failed, large_set, loads_refused, loads_too_long, long_file, no_script, script_absent, script_too_long}
+use Rattle.loader_cli.specs.Replays.{HasInputs, HasList, HasText, IsRead, LeavesFirstOrGood, RefusesInputs, RefusesList, RefusesText, Replays, RunSeen, RunsScript, RunsTo, StatusOfRun, rest_of, stops_of, told_as}
+use Rattle.loader_cli.specs.Replays.RefusesInputs.{no_script, no_text}
+use Rattle.loader_cli.specs.Replays.RefusesText.{files_refused, files_too_long, host_failed, large_set, loads_refused, loads_too_long, long_file, script_absent, script_too_long}
 use Rattle.loader_cli.specs.Replays.RefusesList.{list_absent, list_faulty}
 use Rattle.loader_cli.specs.Replays.Replays.{ran, unread}
 use Rattle.loader_cli.specs.Replays.RunsTo.{disk_failed, ended, no_config, unknown}
@@ -54,34 +55,41 @@ some_of same = cc
 not_none : {A : Type 0} {a : A} → Some a ≡ None → ⊥
 not_none same = absurd cc
 
-not_both : (r : Result (List Line) ScriptFault) (lines : List Line) (fault : ScriptFault) → r ≡ Ok lines → r ≡ Err fault → ⊥
-not_both r lines fault one two = let same = sym one ∙ two in absurd cc
+not_both : {S : Type 0} (r : Result S ScriptFault) (script : S) (fault : ScriptFault) → r ≡ Ok script → r ≡ Err fault → ⊥
+not_both r script fault one two = let same = sym one ∙ two in absurd cc
 
-ok_of : (r : Result (List Line) ScriptFault) (a b : List Line) → r ≡ Ok a → r ≡ Ok b → a ≡ b
+ok_of : {S : Type 0} (r : Result S ScriptFault) (a b : S) → r ≡ Ok a → r ≡ Ok b → a ≡ b
 ok_of r a b one two = let same = sym one ∙ two in cc
 
-none_refused : (folder name : List ℕ) (told : Files) (set : SetView) (script : List Line) (before after status : ℕ) (text : List ℕ) → HasInputs folder name (Some told) set script → ¬ Rose before after
-    → RefusesInputs folder name (Some told) before after status text → ⊥
-none_refused folder name told set script before after status text has answers (loads_refused fault refuses _ _) = list_refused loads_list told (loads_name folder 1) has.has_set.lists.0 fault refuses
-none_refused folder name told set script before after status text has answers (loads_too_long file long _ _) = list_long loads_list told (loads_name folder 1) has.has_set.lists.0 file (long told refl)
-none_refused folder name told set script before after status text has answers (files_refused fault _ refuses _ _) = list_refused files_list told (files_name folder 1) has.has_set.lists.1 fault refuses
-none_refused folder name told set script before after status text has answers (files_too_long file _ long _ _) = list_long files_list told (files_name folder 1) has.has_set.lists.1 file (long told refl)
-none_refused folder name told set script before after status text has answers (long_file file _ long _ _) = not_too_long told (rest_of folder told) file (has.has_set.rest told refl).0 (long told refl)
-none_refused folder name told set script before after status text has answers (large_set _ large _ _) = not_too_large told (rest_of folder told) (has.has_set.rest told refl).0 (large told refl)
-none_refused folder name told set script before after status text has answers (script_absent _ _ none _ _) = not_none (sym has.there ∙ none)
-none_refused folder name told set script before after status text has answers (script_too_long _ _ long _ _) =
-    let same : has.text ≡ long.0 = some_of (sym has.there ∙ long.1) in absurd (omega (arith, ap length same, has.short, long.2))
-none_refused folder name told set script before after status text has answers (no_script _ bytes fault _ there _ wrong _ _) =
-    let same : has.text ≡ bytes = some_of (sym has.there ∙ there) in not_both (script_said bytes) script fault (subst (λ (b : List ℕ). script_said b ≡ Ok script) same has.says) wrong
-none_refused folder name told set script before after status text has answers (host_failed rose _ _) = answers rose
+text_stands : (folder name : List ℕ) (told : Files) (set : SetView) (bytes : List ℕ) (before after status : ℕ) (text : List ℕ) → HasText folder name (Some told) set bytes → ¬ Rose before after
+    → RefusesText folder name (Some told) before after status text → ⊥
+text_stands folder name told set bytes before after status text has answers (loads_refused fault refuses _ _) = list_refused loads_list told (loads_name folder 1) has.has_set.lists.0 fault refuses
+text_stands folder name told set bytes before after status text has answers (loads_too_long file long _ _) = list_long loads_list told (loads_name folder 1) has.has_set.lists.0 file (long told refl)
+text_stands folder name told set bytes before after status text has answers (files_refused fault _ refuses _ _) = list_refused files_list told (files_name folder 1) has.has_set.lists.1 fault refuses
+text_stands folder name told set bytes before after status text has answers (files_too_long file _ long _ _) = list_long files_list told (files_name folder 1) has.has_set.lists.1 file (long told refl)
+text_stands folder name told set bytes before after status text has answers (long_file file _ long _ _) = not_too_long told (rest_of folder told) file (has.has_set.rest told refl).0 (long told refl)
+text_stands folder name told set bytes before after status text has answers (large_set _ large _ _) = not_too_large told (rest_of folder told) (has.has_set.rest told refl).0 (large told refl)
+text_stands folder name told set bytes before after status text has answers (script_absent _ _ none _ _) = not_none (sym has.there ∙ none)
+text_stands folder name told set bytes before after status text has answers (script_too_long _ _ long _ _) =
+    let same : bytes ≡ long.0 = some_of (sym has.there ∙ long.1) in absurd (omega (arith, ap length same, has.short, long.2))
+text_stands folder name told set bytes before after status text has answers (host_failed rose _ _) = answers rose
 
-pub same_set : (folder name : List ℕ) (told : Files) (set other : SetView) (script script_2 : List Line) → HasInputs folder name (Some told) set script → HasInputs folder name (Some told) other script_2 → other ≡ set
-same_set folder name told set other script script_2 one two = (two.has_set.rest told refl).1 ∙ sym (one.has_set.rest told refl).1
+-- however a text is read
+module _ {S : Type 0} (said : List ℕ → Result S ScriptFault) where
+  pub none_refused : (folder name : List ℕ) (told : Files) (set : SetView) (script : S) (before after status : ℕ) (text : List ℕ) → HasInputs said folder name (Some told) set script
+      → ¬ Rose before after → RefusesInputs said folder name (Some told) before after status text → ⊥
+  none_refused folder name told set script before after status text has answers (no_text refuses) = text_stands folder name told set has.text before after status text has.has_text answers refuses
+  none_refused folder name told set script before after status text has answers (no_script _ bytes fault other wrong _ _) =
+      let same : has.text ≡ bytes = some_of (sym has.has_text.there ∙ other.there) in
+      not_both (said bytes) script fault (subst (λ (b : List ℕ). said b ≡ Ok script) same has.says) wrong
 
-pub same_script : (folder name : List ℕ) (told : Files) (set other : SetView) (script script_2 : List Line) → HasInputs folder name (Some told) set script → HasInputs folder name (Some told) other script_2 → script_2 ≡ script
-same_script folder name told set other script script_2 one two =
-    let same : two.text ≡ one.text = some_of (sym two.there ∙ one.there) in
-    ok_of (script_said one.text) script_2 script (subst (λ (b : List ℕ). script_said b ≡ Ok script_2) same two.says) one.says
+  pub same_set : (folder name : List ℕ) (told : Files) (set other : SetView) (script script_2 : S) → HasInputs said folder name (Some told) set script → HasInputs said folder name (Some told) other script_2 → other ≡ set
+  same_set folder name told set other script script_2 one two = (two.has_text.has_set.rest told refl).1 ∙ sym (one.has_text.has_set.rest told refl).1
+
+  pub same_script : (folder name : List ℕ) (told : Files) (set other : SetView) (script script_2 : S) → HasInputs said folder name (Some told) set script → HasInputs said folder name (Some told) other script_2 → script_2 ≡ script
+  same_script folder name told set other script script_2 one two =
+      let same : two.text ≡ one.text = some_of (sym two.has_text.there ∙ one.has_text.there) in
+      ok_of (said one.text) script_2 script (subst (λ (b : List ℕ). said b ≡ Ok script_2) same two.says) one.says
 
 -- ---- the run comes to its end
 
@@ -133,6 +141,6 @@ module _ (run : Run) (telling : Telling) (folder name : List ℕ) (told : Files)
           → WasTold telling set script run.work.disk run.work.disk_after run.work.handed status text
       by (ran other script_2 inputs runs) =
           came_to_end status text
-          (subst (λ (s : SetView). RunsTo telling s script run.work.disk run.work.disk_after run.work.handed status text) (same_set folder name told set other script script_2 is.inputs inputs)
-          (subst (λ (l : List Line). RunsTo telling other l run.work.disk run.work.disk_after run.work.handed status text) (same_script folder name told set other script script_2 is.inputs inputs) runs))
-      by (unread refuses kept handed) = absurd (none_refused folder name told set script run.work.host_faults run.work.host_faults_after status text is.inputs is.answers.host_answers refuses)
+          (subst (λ (s : SetView). RunsTo telling s script run.work.disk run.work.disk_after run.work.handed status text) (same_set script_said folder name told set other script script_2 is.inputs inputs)
+          (subst (λ (l : List Line). RunsTo telling other l run.work.disk run.work.disk_after run.work.handed status text) (same_script script_said folder name told set other script script_2 is.inputs inputs) runs))
+      by (unread refuses kept handed) = absurd (none_refused script_said folder name told set script run.work.host_faults run.work.host_faults_after status text is.inputs is.answers.host_answers refuses)

@@ -111,7 +111,7 @@ each_of_map P f xs all k d small =
 
 -- what holds of an answer holds where no run is handed out beside it
 pub alone_so : (r : Result Answer NoMemory) (s : Result Answered NoMemory) (P : Answer → Type 0) (Q : Answered → Type 0) → s ≡ answered_of r
-    → ((answer : Answer) → P answer → Q (record { answer = answer; drive = None })) → IfOk r P → IfOk s Q
+    → ((answer : Answer) → P answer → Q (record { answer = answer; drive = None; fleet = None })) → IfOk r P → IfOk s Q
 alone_so r s P Q is so holds = subst (λ (t : Result Answered NoMemory). IfOk t Q) (sym is) (by r holds)
   where
     by : (r : Result Answer NoMemory) → IfOk r P → IfOk (answered_of r) Q

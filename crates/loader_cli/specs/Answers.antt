@@ -45,7 +45,7 @@ text_of (NoFormer fault) = no_former fault
 
 -- the answer of a command that hands out no run
 abbrev pub answered_of : Result Answer NoMemory → Result Answered NoMemory
-answered_of (Ok answer) = Ok (record { answer = answer; drive = None })
+answered_of (Ok answer) = Ok (record { answer = answer; drive = None; fleet = None })
 answered_of (Err fault) = Err fault
 
 -- what is answered where a rollback is refused

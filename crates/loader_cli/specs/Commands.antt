@@ -7,6 +7,8 @@ use Rattle.disk_layout.specs.Identity.{IsIdentity}
 use Rattle.disk_layout.specs.declared.identity.Identity.{Identity}
 use Rattle.shown_files.specs.Kinds.{IsNameOf}
 use Rattle.shown_files.specs.declared.kind.ShownKind.{ShownKind}
+use Rattle.loader_cli.specs.declared.command.Asked.{Asked}
+use Rattle.loader_cli.specs.declared.command.Asked.TheVariants as asks
 use Rattle.loader_cli.specs.declared.command.Command.{Command}
 use Rattle.loader_cli.specs.declared.command.Command.TheVariants as commands
 
@@ -36,6 +38,8 @@ pub data CommandView : Type 0 where
   trial : (number : ℕ) → CommandView
   -- `rollback`
   rollback : CommandView
+  -- `fleet COUNT FOLDER SCRIPT`, for so many units
+  fleet : (count : ℕ) (folder script : List ℕ) → CommandView
 
 -- 1 to 150 bytes 0x21 to 0x7E
 abbrev pub IsWord : List ℕ → Type 0
@@ -61,6 +65,7 @@ IsPlain words (replay folder script) = (words ≡ codes "replay" ∷ folder ∷ 
 IsPlain words (wire folder script) = (words ≡ codes "wire" ∷ folder ∷ script ∷ []) × IsWord folder × IsWord script
 IsPlain words (trial number) = (words ≡ codes "trial" ∷ decimal number ∷ []) × (number < 2 ^ 32)
 IsPlain words rollback = words ≡ codes "rollback" ∷ []
+IsPlain words (fleet count folder script) = (words ≡ codes "fleet" ∷ decimal count ∷ folder ∷ script ∷ []) × (2 ≤ count) × (count ≤ 8) × IsWord folder × IsWord script
 
 -- it looks after one unit, and can be asked for of each of them
 abbrev pub LooksAfterUnit : CommandView → Type 0
@@ -68,6 +73,11 @@ LooksAfterUnit list = Unit {0}
 LooksAfterUnit (format id) = Unit {0}
 LooksAfterUnit rollback = Unit {0}
 LooksAfterUnit command = ⊥
+
+-- it runs a fleet, which has several disks
+abbrev pub IsOfFleet : CommandView → Type 0
+IsOfFleet (fleet count folder script) = Unit {0}
+IsOfFleet command = ⊥
 
 -- the arguments are this command
 pub data IsCommand (words : List (List ℕ)) (command : CommandView) : Type 0 where
@@ -104,6 +114,7 @@ UsesDisk (replay folder script) = Unit {0}
 UsesDisk (wire folder script) = Unit {0}
 UsesDisk (trial number) = Unit {0}
 UsesDisk rollback = Unit {0}
+UsesDisk (fleet count folder script) = Unit {0}
 
 -- it writes to the disk
 abbrev pub WritesDisk : CommandView → Type 0
@@ -117,6 +128,7 @@ WritesDisk (replay folder script) = Unit {0}
 WritesDisk (wire folder script) = Unit {0}
 WritesDisk (trial number) = Unit {0}
 WritesDisk rollback = Unit {0}
+WritesDisk (fleet count folder script) = Unit {0}
 
 -- it formats the disk
 abbrev pub FormatsDisk : CommandView → Type 0
@@ -141,6 +153,7 @@ UsesHost (replay folder script) = Unit {0}
 UsesHost (wire folder script) = Unit {0}
 UsesHost (trial number) = ⊥
 UsesHost rollback = ⊥
+UsesHost (fleet count folder script) = Unit {0}
 
 -- it writes files of the host
 abbrev pub WritesHost : CommandView → Type 0
@@ -154,12 +167,14 @@ WritesHost (replay folder script) = ⊥
 WritesHost (wire folder script) = ⊥
 WritesHost (trial number) = ⊥
 WritesHost rollback = ⊥
+WritesHost (fleet count folder script) = ⊥
 
 -- it runs a script
 abbrev pub UsesScript : CommandView → Type 0
 UsesScript (replay folder script) = Unit {0}
 UsesScript (wire folder script) = Unit {0}
 UsesScript (trial number) = Unit {0}
+UsesScript (fleet count folder script) = Unit {0}
 UsesScript command = ⊥
 
 abbrev pub command_view : Command → CommandView
@@ -173,3 +188,18 @@ command_view (commands.Replay folder script) = replay folder.now script.now
 command_view (commands.Wire folder script) = wire folder.now script.now
 command_view (commands.Trial number) = trial number
 command_view commands.Rollback = rollback
+
+abbrev pub asked_view : Asked → CommandView
+asked_view (asks.OfUnit command disk) = command_view command
+asked_view (asks.OfFleet count folder script) = fleet count folder.now script.now
+
+-- the disk that is asked for is the one that the arguments name, and a fleet has two to eight
+abbrev pub UsesDisks : List (List ℕ) → Asked → Type 0
+UsesDisks words (asks.OfUnit command disk) = (disk ≡ disk_named words) × (disk < 8)
+UsesDisks words (asks.OfFleet count folder script) = (2 ≤ count) × (count ≤ 8)
+
+-- these words after `fleet` ask for this
+abbrev pub IsFleetOf : (count folder script : List ℕ) → Asked → Type 0
+IsFleetOf count folder script (asks.OfUnit command disk) = ⊥
+IsFleetOf count folder script (asks.OfFleet units own_folder own_script) =
+    (count ≡ decimal units) × (2 ≤ units) × (units ≤ 8) × (own_folder.now ≡ folder) × (own_script.now ≡ script) × IsWord folder × IsWord script

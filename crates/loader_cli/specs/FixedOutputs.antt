@@ -29,6 +29,7 @@ use Rattle.upload_replay.specs.Texts.{datagrams_line, sessions_from}
 use Rattle.loader_cli.specs.Calls.{IsPromised}
 use Rattle.loader_cli.specs.Commands.{IsCommand}
 use Rattle.loader_cli.specs.Commands.CommandView.{trial}
+use Rattle.exchange_trace.specs.Scripts.{script_said}
 use Rattle.loader_cli.specs.Replays.{HasInputs, RefusesInputs, StatusOfRun, run_command, setting_of}
 use Rattle.loader_cli.specs.Runs.{NothingFails, Run}
 use Rattle.loader_cli.specs.Texts.{no_configuration}
@@ -59,9 +60,9 @@ pub data GivesRun (told : Telling) (set : SetView) (script : List Line) (image :
 
 -- The same for a folder and a script among these files of the host.
 pub data Gives (told : Telling) (folder name : List ℕ) (files : Files) (image : Image) (status : ℕ) (text : List ℕ) : Type 0 where
-  runs : (set : SetView) (script : List Line) → HasInputs folder name (Some files) set script → GivesRun told set script image status text → Gives told folder name files image status text
+  runs : (set : SetView) (script : List Line) → HasInputs script_said folder name (Some files) set script → GivesRun told set script image status text → Gives told folder name files image status text
   -- 3: an input is refused, and the host doesn't fail
-  refuses : (before after : ℕ) → ¬ Rose before after → RefusesInputs folder name (Some files) before after status text → Gives told folder name files image status text
+  refuses : (before after : ℕ) → ¬ Rose before after → RefusesInputs script_said folder name (Some files) before after status text → Gives told folder name files image status text
 
 -- The same for the generated set of this number, and the script for the target that the image names.
 pub data GivesTrial (number : ℕ) (image : Image) (status : ℕ) (text : List ℕ) : Type 0 where

@@ -4,11 +4,14 @@ pub mod Calls
 pub mod Chains
 pub mod Commands
 pub mod FixedOutputs
+pub mod FleetReplays
+pub mod FleetRuns
 pub mod HostFiles
 pub mod Inputs
 pub mod Replays
 pub mod Rollbacks
 pub mod Runs
 pub mod Texts
+pub mod Told
 pub mod Touches
 pub mod Trials

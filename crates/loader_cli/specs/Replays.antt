@@ -1,5 +1,5 @@
 -- What `replay` and `wire` print, their status, and the cause of each (docs/PROMISES.md).
-use Rattle.std.specs.Prelude.{◌≡◌, ℕ, ◌+◌, ◌≤◌, ◌⊎◌, List, [], ◌∷◌, All, length, map, codes, Option, Some, None, option_map, is_some, Ok, Err, true, ⊤}
+use Rattle.std.specs.Prelude.{◌≡◌, ℕ, ◌+◌, ◌≤◌, ◌⊎◌, List, [], ◌∷◌, All, length, map, codes, Option, Some, None, option_map, is_some, Result, Ok, Err, true, ⊤}
 use Rattle.std.specs.Option.{ForSome}
 use Rattle.load_base.specs.Counts.{Rose}
 use Rattle.load_base.specs.Host.{Files, longest_file}
@@ -203,50 +203,66 @@ pub record HasSet (folder : List ℕ) (files : Option Files) (set : SetView) : T
   pub lists : HasLists folder files
   pub rest : ForSome files (λ told. CanRead told (rest_of folder told) × (set ≡ set_in (host_media told folder)))
 
--- The folder has this set, and the file of this name says this script.
-pub record HasInputs (folder name : List ℕ) (files : Option Files) (set : SetView) (script : List Line) : Type 0 where
+-- The folder has this set, and the file of this name, which isn't too long, this text.
+pub record HasText (folder name : List ℕ) (files : Option Files) (set : SetView) (text : List ℕ) : Type 0 where
   pub has_set : HasSet folder files set
-  pub text : List ℕ
   pub there : Has files name (Some text)
   pub short : length text ≤ longest_file
-  pub says : script_said text ≡ Ok script
 
--- The first input that is refused, with the status and the text, and the host's faults before and after.
-pub data RefusesInputs (folder name : List ℕ) (files : Option Files) (before after : ℕ) (status : ℕ) (text : List ℕ) : Type 0 where
+-- The folder has this set, and the file of this name says this script, as such texts are read.
+pub record HasInputs {S : Type 0} (said : List ℕ → Result S ScriptFault) (folder name : List ℕ) (files : Option Files) (set : SetView) (script : S) : Type 0 where
+  pub text : List ℕ
+  pub has_text : HasText folder name files set text
+  pub says : said text ≡ Ok script
+
+-- The first input that is refused before the script is read, with the status and the text, and the host's faults before and
+-- after.
+pub data RefusesText (folder name : List ℕ) (files : Option Files) (before after : ℕ) (status : ℕ) (text : List ℕ) : Type 0 where
   -- 3: member 1's LOADS.LUM
   loads_refused : (fault : List ℕ) → RefusesList loads_list files (loads_name folder 1) fault
-      → status ≡ 3 → text ≡ refused_input (loads_name folder 1) fault → RefusesInputs folder name files before after status text
+      → status ≡ 3 → text ≡ refused_input (loads_name folder 1) fault → RefusesText folder name files before after status text
   loads_too_long : (file : List ℕ) → ForSome files (λ told. IsFirstLong told (loads_name folder 1 ∷ []) file)
-      → status ≡ 3 → text ≡ refused_input file (codes "toolong") → RefusesInputs folder name files before after status text
+      → status ≡ 3 → text ≡ refused_input file (codes "toolong") → RefusesText folder name files before after status text
   -- 3: its FILES.LUM
   files_refused : (fault : List ℕ) → HasList loads_list files (loads_name folder 1) → RefusesList files_list files (files_name folder 1) fault
-      → status ≡ 3 → text ≡ refused_input (files_name folder 1) fault → RefusesInputs folder name files before after status text
+      → status ≡ 3 → text ≡ refused_input (files_name folder 1) fault → RefusesText folder name files before after status text
   files_too_long : (file : List ℕ) → HasList loads_list files (loads_name folder 1) → ForSome files (λ told. IsFirstLong told (files_name folder 1 ∷ []) file)
-      → status ≡ 3 → text ≡ refused_input file (codes "toolong") → RefusesInputs folder name files before after status text
+      → status ≡ 3 → text ≡ refused_input file (codes "toolong") → RefusesText folder name files before after status text
   -- 3: a further list or a listed file is too long
   long_file : (file : List ℕ) → HasLists folder files → ForSome files (λ told. IsTooLong told (rest_of folder told) file)
-      → status ≡ 3 → text ≡ refused_input file (codes "toolong") → RefusesInputs folder name files before after status text
+      → status ≡ 3 → text ≡ refused_input file (codes "toolong") → RefusesText folder name files before after status text
   -- 3: the listed files are too large together, before one is too long
   large_set : HasLists folder files → ForSome files (λ told. IsTooLarge told (rest_of folder told))
-      → status ≡ 3 → text ≡ refused_input folder (codes "toolarge") → RefusesInputs folder name files before after status text
+      → status ≡ 3 → text ≡ refused_input folder (codes "toolarge") → RefusesText folder name files before after status text
   -- 3: the folder has a set, and there is no script of this name
   script_absent : (set : SetView) → HasSet folder files set → Has files name None
-      → status ≡ 3 → text ≡ refused_input name (codes "absent") → RefusesInputs folder name files before after status text
+      → status ≡ 3 → text ≡ refused_input name (codes "absent") → RefusesText folder name files before after status text
   -- 3: it has more than 16,777,215 bytes
   script_too_long : (set : SetView) → HasSet folder files set → HasTooMany files name
-      → status ≡ 3 → text ≡ refused_input name (codes "toolong") → RefusesInputs folder name files before after status text
-  -- 3: it is no script, for this first fault
-  no_script : (set : SetView) (bytes : List ℕ) (fault : ScriptFault) → HasSet folder files set → Has files name (Some bytes) → length bytes ≤ longest_file → script_said bytes ≡ Err fault
-      → status ≡ 3 → text ≡ refused_input name (script_fault_text fault) → RefusesInputs folder name files before after status text
+      → status ≡ 3 → text ≡ refused_input name (codes "toolong") → RefusesText folder name files before after status text
   -- 4: the host failed in this call
-  host_failed : Rose before after → status ≡ 4 → text ≡ host_fault → RefusesInputs folder name files before after status text
+  host_failed : Rose before after → status ≡ 4 → text ≡ host_fault → RefusesText folder name files before after status text
+
+-- The first input that is refused, where texts are read so.
+pub data RefusesInputs {S : Type 0} (said : List ℕ → Result S ScriptFault) (folder name : List ℕ) (files : Option Files) (before after : ℕ) (status : ℕ) (text : List ℕ) : Type 0 where
+  no_text : RefusesText folder name files before after status text → RefusesInputs said folder name files before after status text
+  -- 3: the text is no script, for this first fault
+  no_script : (set : SetView) (bytes : List ℕ) (fault : ScriptFault) → HasText folder name files set bytes → said bytes ≡ Err fault
+      → status ≡ 3 → text ≡ refused_input name (script_fault_text fault) → RefusesInputs said folder name files before after status text
 
 -- ---- `replay FOLDER SCRIPT` and `wire FOLDER SCRIPT`
+
+-- The same for this media set and the text of a script of this name.
+pub data RunsText (told : Telling) (name bytes : List ℕ) (set : SetView) (old new : DiskState) (handed : Option RunSeen) (status : ℕ) (text : List ℕ) : Type 0 where
+  says : (script : List Line) → script_said bytes ≡ Ok script → RunsTo told set script old new handed status text → RunsText told name bytes set old new handed status text
+  -- 3: it is no script, for this first fault, and the disk isn't touched
+  says_none : (fault : ScriptFault) → script_said bytes ≡ Err fault → StaysAsItWas old new → handed ≡ None → status ≡ 3 → text ≡ refused_input name (script_fault_text fault)
+      → RunsText told name bytes set old new handed status text
 
 -- The status, the text, the run that is handed out, and what they say of the host and of the disk.
 pub data Replays (told : Telling) (folder name : List ℕ) (files : Option Files) (before after : ℕ) (old new : DiskState) (handed : Option RunSeen) (status : ℕ) (text : List ℕ) : Type 0 where
   -- the script is run on the set
-  ran : (set : SetView) (script : List Line) → HasInputs folder name files set script → RunsTo told set script old new handed status text
+  ran : (set : SetView) (script : List Line) → HasInputs script_said folder name files set script → RunsTo told set script old new handed status text
       → Replays told folder name files before after old new handed status text
   -- 3 or 4: an input is refused, and the disk isn't touched
-  unread : RefusesInputs folder name files before after status text → StaysAsItWas old new → handed ≡ None → Replays told folder name files before after old new handed status text
+  unread : RefusesInputs script_said folder name files before after status text → StaysAsItWas old new → handed ≡ None → Replays told folder name files before after old new handed status text

@@ -29,6 +29,7 @@ use Rattle.disk_layout.specs.declared.fault.RecoverFault.{RecoverFault}
 use Rattle.recovery.specs.Formers.{HoldsFormer}
 use Rattle.listing.specs.Listing.{listing}
 use Rattle.exchange_trace.specs.Lines.{Line}
+use Rattle.exchange_trace.specs.Scripts.{script_said}
 use Rattle.generated_uploads.specs.GeneratedMedia.{uploaded_load}
 use Rattle.generated_uploads.specs.GeneratedUploads.{CanTakeGeneratedSet, IsOneUpload}
 use Rattle.replay_turns.specs.Powers.{RoseBy}
@@ -289,7 +290,7 @@ pub record MakesSet (run : Run) (number : ℕ) (folder : List ℕ) : Type 0 wher
 pub record ReplaysSound (run : Run) (telling : Telling) (folder name : List ℕ) (told : Files) (set : SetView) (script : List Line) : Type 0 where
   pub asked : IsCommand run.work.words (run_command telling folder name)
   pub files : run.work.files ≡ Some told
-  pub inputs : HasInputs folder name (Some told) set script
+  pub inputs : HasInputs script_said folder name (Some told) set script
   pub start : StandingView
   pub image : Image
   pub reads : run.work.disk.reads ≡ Some image

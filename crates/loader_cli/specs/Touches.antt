@@ -1,5 +1,5 @@
 -- What a command touches, and what a power loss leaves of the disk, whatever it answers (docs/PROMISES.md).
-use Rattle.std.specs.Prelude.{◌≡◌, ◌≢◌, ℕ, ◌<◌, List, length, slice_get, Option, Some, false}
+use Rattle.std.specs.Prelude.{◌≡◌, ◌≢◌, ℕ, ◌<◌, ◌≤◌, List, length, slice_get, Option, Some, false}
 use Rattle.std.specs.Option.{ForSome}
 use Rattle.load_base.specs.Host.{Files}
 use Rattle.disk_model.specs.Image.{Image}
@@ -9,21 +9,26 @@ use Rattle.disk_layout.specs.declared.fault.RecoverFault.{RecoverFault}
 use Rattle.disk_layout.specs.declared.identity.Identity.{Identity}
 use Rattle.bank_store.specs.Formatting.{LeavesOldOrFormatted}
 use Rattle.media_build.specs.WrittenFolders.{KeepsAllBut}
-use Rattle.loader_cli.specs.Commands.{FormatsDisk, FormatsOrRollsBack, IsCommand, IsNo, UsesDisk, UsesHost, UsesScript, WritesDisk, WritesHost, disk_named}
-use Rattle.loader_cli.specs.Commands.CommandView.{format, rollback}
+use Rattle.loader_cli.specs.Commands.{FormatsDisk, FormatsOrRollsBack, IsCommand, IsNo, UsesDisk, UsesHost, UsesScript, WritesDisk, WritesHost, IsOfFleet, disk_named}
+use Rattle.loader_cli.specs.Commands.CommandView.{fleet, format, rollback}
 use Rattle.loader_cli.specs.Replays.{LeavesFirstOrGood}
 use Rattle.loader_cli.specs.Rollbacks.{LeavesRollback}
 use Rattle.loader_cli.specs.Runs.{IsWritten}
 
--- this holds of the disk that the arguments name, as it was and as it is
+-- this holds of the disk that the arguments name, as it was and as it is, where they run no fleet
 abbrev pub OnNamed : {K : Type 0} → List (List ℕ) → (old new : List K) → (Holds : (before after : K) → Type 0) → Type 0
-OnNamed {K} words old new Holds = (before after : K) → slice_get old (disk_named words) ≡ Some before → slice_get new (disk_named words) ≡ Some after → Holds before after
+OnNamed {K} words old new Holds = IsNo IsOfFleet words → (before after : K) → slice_get old (disk_named words) ≡ Some before → slice_get new (disk_named words) ≡ Some after → Holds before after
 
--- The arguments name one of the disks, there are as many as there were, and each other is as it was.
+-- the arguments don't use the disk at this place: neither do they name it, nor is it one of a fleet's, which has the first ones
+pub record IsUnused (words : List (List ℕ)) (place : ℕ) : Type 0 where
+  pub unnamed : IsNo IsOfFleet words → place ≢ disk_named words
+  pub beyond : (count : ℕ) (folder script : List ℕ) → IsCommand words (fleet count folder script) → count ≤ place
+
+-- The disk that the arguments name is there, there are as many as there were, and each that they don't use is as it was.
 pub record KeepsOthers {K : Type 0} (words : List (List ℕ)) (old new : List K) : Type 0 where
   pub named : disk_named words < length old
   pub as_many : length new ≡ length old
-  pub others : (place : ℕ) → place ≢ disk_named words → slice_get new place ≡ slice_get old place
+  pub others : (place : ℕ) → IsUnused words place → slice_get new place ≡ slice_get old place
 
 -- Nothing is written; and where the disk runs, it reads what it read.
 pub record OnlyLooks (old new : DiskState) : Type 0 where

@@ -7,6 +7,7 @@ use bank_rollback::RollbackFault;
 use load_base::{Bytes, NoMemory, Text};
 use recovery::RecoverFault;
 use std::alloc::Global;
+use target_fleet::FleetDrive;
 use upload_replay::Drive;
 
 /// What a run answers where its output goes through.
@@ -42,11 +43,13 @@ pub(crate) enum Answer<'w> {
     NoFormer(RollbackFault),
 }
 
-/// What a run answers, and what a script came to, where it ran one to its end.
+/// What a run answers, and what a script came to, where it ran one to its end: one of a single
+/// target, or one of a fleet.
 #[derive(Drop)]
 pub(crate) struct Answered<'w> {
     pub(crate) answer: Answer<'w>,
     pub(crate) drive: Option<Drive>,
+    pub(crate) fleet: Option<FleetDrive>,
 }
 
 impl<'w> Answered<'w> {
@@ -54,10 +57,12 @@ impl<'w> Answered<'w> {
     pub(crate) fn of(answer: Answer<'w>) -> Answered<'w>
         ensures answer { result.answer ≡ answer.entry }
         ensures drive { result.drive ≡ None }
+        ensures fleet { result.fleet ≡ None }
     {
         Answered {
             answer,
             drive: None,
+            fleet: None,
         }
     }
 }

@@ -8,8 +8,9 @@ ghost use Rattle.shown_files.specs.Kinds.{IsNameOf};
 ghost use Rattle.loader_cli.specs.Commands.CommandView.{show, check, build, make, replay, wire};
 ghost use Rattle.loader_cli.specs.Commands.CommandView.{trial};
 ghost use Rattle.loader_cli.specs.Commands.{CommandView, IsAny, IsCommand, IsNo, IsPlain, IsWord};
-ghost use Rattle.loader_cli.specs.Commands.{LooksAfterUnit, NamesTarget};
-ghost use Rattle.loader_cli.specs.Commands.{command_view, disk_named, texts_of};
+ghost use Rattle.loader_cli.specs.Commands.{IsFleetOf, LooksAfterUnit, NamesTarget};
+ghost use Rattle.loader_cli.specs.Commands.{IsOfFleet, UsesDisks, asked_view, command_view};
+ghost use Rattle.loader_cli.specs.Commands.{texts_of};
 
 use disk_layout::Identity;
 use disk_layout::offsets::{LARGEST_BANK, SMALLEST_BANK};
@@ -20,28 +21,40 @@ use shown_files::ShownKind;
 // How many units there are.
 const UNITS: u32 = 8;
 
-/// What the program's arguments ask for, and of which unit.
+// A fleet has two units at least.
+const FEWEST_OF_FLEET: u32 = 2;
+
+/// What the program's arguments ask for, and of which units.
 #[derive(Clone, Copy)]
-pub(crate) struct Asked<'w> {
-    pub(crate) command: Command<'w>,
-    /// The place of the disk that it uses, from 0.
-    pub(crate) disk: usize,
+pub(crate) enum Asked<'w> {
+    /// Something of one unit, whose disk has this place, from 0.
+    OfUnit {
+        command: Command<'w>,
+        disk: usize,
+    },
+    /// `fleet COUNT FOLDER SCRIPT`: run the sessions of a script with the first COUNT units, and
+    /// print the report.
+    OfFleet {
+        count: usize,
+        folder: &'w str,
+        script: &'w str,
+    },
 }
 
 impl<'w> Asked<'w> {
-    /// The command, of the first unit or, after `on N`, of unit N; `None` where the arguments are
-    /// none.
+    /// The command, of the first unit or, after `on N`, of unit N, or of a fleet; `None` where the
+    /// arguments are none.
     pub(crate) fn read(words: &'w [String]) -> Option<Asked<'w>>
         ensures some { IfSome result (λ asked.
-            IsCommand (texts_of words.now) (command_view asked.command)) }
-        ensures disk { IfSome result (λ asked. asked.disk ≡ disk_named (texts_of words.now)) }
-        ensures within { IfSome result (λ asked. asked.disk < 8) }
+            IsCommand (texts_of words.now) (asked_view asked)) }
+        ensures disks { IfSome result (UsesDisks (texts_of words.now)) }
         ensures none { IfNone result (IsNo IsAny (texts_of words.now)) }
     {
         match words.split_first() {
             Some((word, after)) if is_text(word.as_str(), "on") => of_unit(after),
+            Some((word, after)) if is_text(word.as_str(), "fleet") => of_fleet(after),
             _ => match Command::read(words) {
-                Some(command) => Some(Asked { command, disk: 0 }),
+                Some(command) => Some(Asked::OfUnit { command, disk: 0 }),
                 None => None,
             },
         }
@@ -51,16 +64,56 @@ impl<'w> Asked<'w> {
 // What the words after `on` ask for: the number of a unit, and a command that looks after one.
 fn of_unit<'w>(words: &'w [String]) -> Option<Asked<'w>>
     ensures some { IfSome result (λ asked.
-        IsCommand (codes "on" ∷ texts_of words.now) (command_view asked.command)) }
-    ensures disk { IfSome result (λ asked.
-        asked.disk ≡ disk_named (codes "on" ∷ texts_of words.now)) }
-    ensures within { IfSome result (λ asked. asked.disk < 8) }
+        IsCommand (codes "on" ∷ texts_of words.now) (asked_view asked)) }
+    ensures disks { IfSome result (UsesDisks (codes "on" ∷ texts_of words.now)) }
     ensures none { IfNone result (IsNo IsAny (codes "on" ∷ texts_of words.now)) }
 {
     let (number, own) = words.split_first()?;
     let disk = place_of(number.as_str())?;
     match Command::read(own) {
-        Some(command) if command.looks_after_unit() => Some(Asked { command, disk }),
+        Some(command) if command.looks_after_unit() => Some(Asked::OfUnit { command, disk }),
+        _ => None,
+    }
+}
+
+// What the words after `fleet` ask for: how many units, a folder and a script.
+fn of_fleet<'w>(words: &'w [String]) -> Option<Asked<'w>>
+    ensures some { IfSome result (λ asked.
+        IsCommand (codes "fleet" ∷ texts_of words.now) (asked_view asked)) }
+    ensures disks { IfSome result (UsesDisks (codes "fleet" ∷ texts_of words.now)) }
+    ensures none { IfNone result (IsNo IsAny (codes "fleet" ∷ texts_of words.now)) }
+{
+    match words {
+        [count, folder, script] => fleet_of(count.as_str(), folder.as_str(), script.as_str()),
+        _ => None,
+    }
+}
+
+// The command `fleet` for these words.
+fn fleet_of<'w>(count: &str, folder: &'w str, script: &'w str) -> Option<Asked<'w>>
+    ensures some { IfSome result (IsFleetOf count.now folder.now script.now) }
+    ensures none { IfNone result ((n : ℕ) → count.now ≡ decimal n → 2 ≤ n → n ≤ 8
+        → ¬ (IsWord folder.now × IsWord script.now)) }
+{
+    if !is_word(folder.as_bytes()) || !is_word(script.as_bytes()) {
+        return None;
+    }
+    let count = count_of(count)?;
+    Some(Asked::OfFleet {
+        count,
+        folder,
+        script,
+    })
+}
+
+// How many units a fleet has: 2 to 8.
+fn count_of(word: &str) -> Option<usize>
+    ensures some { IfSome result (λ count. (word.now ≡ decimal count) × (2 ≤ count)
+        × (count ≤ 8)) }
+    ensures none { IfNone result ((n : ℕ) → 2 ≤ n → n ≤ 8 → word.now ≢ decimal n) }
+{
+    match number(word) {
+        Some(count) if FEWEST_OF_FLEET <= count && count <= UNITS => Some(count as usize),
         _ => None,
     }
 }
@@ -106,8 +159,8 @@ impl<'w> Command<'w> {
     fn read(words: &'w [String]) -> Option<Command<'w>>
         ensures some { IfSome result (λ command.
             IsPlain (texts_of words.now) (command_view command)) }
-        ensures none { IfNone result
-            ((command : CommandView) → ¬ IsPlain (texts_of words.now) command) }
+        ensures none { IfNone result ((command : CommandView) → ¬ IsOfFleet command
+            → ¬ IsPlain (texts_of words.now) command) }
     {
         match words {
             [word] if is_text(word.as_str(), "list") => Some(Command::List),

@@ -1,4 +1,4 @@
-//! What the commands `replay` and `wire` read before a run.
+//! What the commands `replay`, `wire` and `fleet` read before a run.
 ghost use Rattle.std.specs.Prelude.{◌≡◌, ℕ, ◌≤◌, IfOk};
 ghost use Rattle.media_check.specs.Sets.{IsFoundFiles, set_view};
 ghost use Rattle.media_check.specs.declared.found.Found.TheVariants.{Read};
@@ -9,12 +9,12 @@ ghost use Rattle.loader_cli.specs.Replays.{HasSet};
 ghost use Rattle.std.specs.Prelude.{codes};
 ghost use Rattle.media_lists.specs.ListFaultText.{list_fault_text};
 ghost use Rattle.loader_cli.specs.Answers.{HidesNoFault};
-ghost use Rattle.loader_cli.specs.Inputs.{IsRefusal, SaysScript, inputs_status, list_name};
+ghost use Rattle.loader_cli.specs.Inputs.{IsRefusal, TellsScriptFault, inputs_status, list_name};
 ghost use Rattle.loader_cli.specs.Texts.{refused_input};
 
 use crate::answer::Answer;
-use link_net::{Script, ScriptFault};
-use load_base::{Host, NoMemory, ReadFault};
+use link_net::ScriptFault;
+use load_base::{Bytes, Host, NoMemory, ReadFault};
 use media_check::{
     Found, MediaSet, OpenFault, host_name, open_rest, read_files_list, read_loads_list,
 };
@@ -25,12 +25,13 @@ use std::alloc::Global;
 /// The inputs of a run, or the answer of one that has none.
 #[derive(Drop)]
 pub(crate) enum Inputs<'w> {
-    Ready { set: MediaSet, script: Script },
+    /// The media set, and the text of the script.
+    Ready { set: MediaSet, text: Bytes },
     Refused(Answer<'w>),
 }
 
-/// Reads the media set of a folder, its lists first, and then the script of this name. It stops at
-/// the first input that is refused.
+/// Reads the media set of a folder, its lists first, and then the text of the script of this name.
+/// It stops at the first input that is refused.
 pub(crate) fn read_inputs<'w, H: Host>(
     alloc: Global,
     host: &mut H,
@@ -96,7 +97,7 @@ fn read_rest<'w, H: Host>(
     ensures kept { H.files host.new ≡ H.files host.old }
 {
     match open_rest(alloc, host, folder, Found::Read(loads), Found::Read(files)) {
-        Ok(set) => read_script(alloc, host, folder, name, set),
+        Ok(set) => read_text(alloc, host, folder, name, set),
         Err(OpenFault::TooLong(file)) => Ok(Inputs::Refused(Answer::TooLongFile(file))),
         Err(OpenFault::TooLarge) => Ok(Inputs::Refused(Answer::TooLarge(folder))),
         Err(OpenFault::Failed) => Ok(Inputs::Refused(Answer::HostFault)),
@@ -105,7 +106,7 @@ fn read_rest<'w, H: Host>(
 }
 
 // The same once the set was read.
-fn read_script<'w, H: Host>(
+fn read_text<'w, H: Host>(
     alloc: Global,
     host: &mut H,
     folder: &'w [u8],
@@ -119,7 +120,7 @@ fn read_script<'w, H: Host>(
     ensures kept { H.files host.new ≡ H.files host.old }
 {
     match host.read(alloc, name) {
-        Ok(bytes) => script_of(alloc, name, set, bytes.as_slice()),
+        Ok(text) => Ok(Inputs::Ready { set, text }),
         Err(fault) => {
             // For the proof: dropped by a call, not by scope.
             drop(set);
@@ -133,28 +134,20 @@ fn read_script<'w, H: Host>(
     }
 }
 
-// The same once the text of the script was read.
-fn script_of<'w>(
+/// That the text of this name says no script.
+pub(crate) fn refused_script<'w>(
     alloc: Global,
     name: &'w [u8],
-    set: MediaSet,
-    text: &[u8],
-) -> Result<Inputs<'w>, NoMemory>
-    ensures { IfOk result (λ inputs. SaysScript name.now text.now (set_view set) inputs) }
+    fault: ScriptFault,
+) -> Result<Answer<'w>, NoMemory>
+    ensures { IfOk result (TellsScriptFault name.now fault) }
 {
-    match Script::read(alloc, text) {
-        Ok(script) => Ok(Inputs::Ready { set, script }),
-        Err(fault) => {
-            // For the proof: dropped by a call, not by scope.
-            drop(set);
-            match fault {
-                ScriptFault::Memory => Err(NoMemory),
-                fault => Ok(Inputs::Refused(Answer::RefusedInput {
-                    name,
-                    fault: fault.text(alloc)?,
-                })),
-            }
-        }
+    match fault {
+        ScriptFault::Memory => Err(NoMemory),
+        fault => Ok(Answer::RefusedInput {
+            name,
+            fault: fault.text(alloc)?,
+        }),
     }
 }
 

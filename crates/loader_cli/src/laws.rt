@@ -1,6 +1,6 @@
 //! What holds of several calls of `run`. These functions do nothing; their clauses are the laws.
 ghost use Rattle.std.specs.Option.{ForSome};
-ghost use Rattle.std.specs.Prelude.{◌≡◌, ◌⊎◌, ℕ, List, Some, is_some, slice_get, true};
+ghost use Rattle.std.specs.Prelude.{◌≡◌, ◌<◌, ◌⊎◌, ℕ, List, Some, is_some, slice_get, true};
 ghost use Rattle.load_base.specs.Host.{Files};
 ghost use Rattle.bank_store.specs.Fits.{LosesOnlyWork};
 ghost use Rattle.disk_layout.specs.Holds.{HoldsConfig, StandingView};
@@ -10,7 +10,9 @@ ghost use Rattle.media_check.specs.Sets.{SetView};
 ghost use Rattle.run_promises.specs.Promises.{HoldsFirstOrGood};
 ghost use Rattle.bank_rollback.specs.Rollbacks.{IsActiveOrFormer};
 ghost use Rattle.loader_cli.specs.Calls.{Call, IsPromised, run_of};
-ghost use Rattle.loader_cli.specs.Chains.{AreInTurn, EachKeeps, IsRestarted, KeptPromise, Took};
+ghost use Rattle.loader_cli.specs.Chains.{AreInTurn, EachKeeps, IsRestarted, KeptFleetPromise};
+ghost use Rattle.loader_cli.specs.Chains.{KeptPromise, StandsAgain, Taken, Took, TookFleet};
+ghost use Rattle.loader_cli.specs.Chains.{fleet_call_of};
 ghost use Rattle.loader_cli.specs.Commands.{FormatsDisk, FormatsOrRollsBack, IsCommand, IsNo};
 ghost use Rattle.loader_cli.specs.Commands.{disk_named};
 ghost use Rattle.loader_cli.specs.Commands.CommandView.{format, rollback};
@@ -32,8 +34,8 @@ use media_lists::{files_list_laws, loads_list_laws};
 use recovery::an_image_holds_one_former;
 
 /// What `replay` and `wire` put is a function of their arguments, of the host's files and of what
-/// the disk that they use reads at the start, where neither host nor sink nor disk fails and the target doesn't go
-/// down; or they are out of memory.
+/// the disk that they use reads at the start, where neither host nor sink nor disk fails and the
+/// target doesn't go down; or they are out of memory.
 pub fn a_replay_is_fixed_by_its_inputs<H: Host, O: Sink, K: Power>()
     // What a call puts is given by its inputs,
     ensures puts { (call : Call H O K) (ended : Ended) (told : Telling) (folder name : List ℕ)
@@ -84,10 +86,10 @@ pub fn a_trial_is_fixed_by_its_disk<H: Host, O: Sink, K: Power>()
     a_run_is_fixed_by_its_script();
 }
 
-/// So what any command puts is a function of the arguments, of the host's files and of what the disk
-/// that they name reads at the start: two calls that have these alike put the same text and end with the same
-/// status, or one of them is out of memory. Where neither host nor sink nor disk fails, and the
-/// target doesn't go down in a run that is handed out.
+/// So what any command but `fleet` puts is a function of the arguments, of the host's files and of
+/// what the disk that they name reads at the start: two calls that have these alike put the same
+/// text and end with the same status, or one of them is out of memory. Where neither host nor sink
+/// nor disk fails, and the target doesn't go down in a run that is handed out.
 pub fn two_calls_put_the_same<H: Host, O: Sink, K: Power>()
     ensures { (one two : Call H O K) (first second : Ended) (words : List (List ℕ))
         (files : Files) (image : Image)
@@ -109,25 +111,27 @@ pub fn two_calls_put_the_same<H: Host, O: Sink, K: Power>()
     protocol_file_laws();
 }
 
-/// Commands follow one another on each unit's disk, whatever commands of other units stand between
-/// them: each keeps what `run` promises on a disk at rest, as long as those of the same unit before
-/// it left it at rest. So it is from a disk at rest on, and after `format` with status 0 on any disk
-/// that tells its content. After a call that didn't leave it so, since the disk
-/// failed, power was lost or memory ran out, a restart of the disk does: it is at rest then, and
-/// what stands on it was active as the call began, or each of its loads was active then or is checked,
-/// and one is checked. After `rollback` it was active as the call began, or is what the rollback
-/// brings.
+/// Commands follow one another on each unit's disk, whatever commands of other units and whatever
+/// fleets stand between them: each keeps what `run` promises on a disk at rest, as long as those
+/// before it that use this disk left it at rest. So it is from a disk at rest on, and after `format`
+/// with status 0 on any disk that tells its content. After a call that didn't leave it so, since the
+/// disk failed, power was lost or memory ran out, a restart of the disk does: it is at rest then,
+/// and what stands on it was active as the call began, or each of its loads was active then or is
+/// checked, and one is checked; so it is of each unit of a fleet. After `rollback` it was active as
+/// the call began, or is what the rollback brings.
 pub fn commands_follow_one_another<H: Host, O: Sink, K: Power>()
-    ensures at_rest { (place : ℕ) (disk : K) (disks : List K) (calls : List (Took H O K))
+    ensures at_rest { (place : ℕ) (disk : K) (disks : List K) (calls : List (Taken H O K))
         → slice_get disks place ≡ Some disk → LosesOnlyWork (K.state disk)
-        → AreInTurn (run_of H.files H.faults O.content O.faults K.state) disks calls
-        → EachKeeps (run_of H.files H.faults O.content O.faults K.state) place calls }
-    ensures after_format { (first : Took H O K) (id : Identity) (calls : List (Took H O K))
+        → AreInTurn K.state (run_of H.files H.faults O.content O.faults K.state)
+        (fleet_call_of H.files H.faults O.content O.faults) disks calls
+        → EachKeeps K.state (run_of H.files H.faults O.content O.faults K.state) place calls }
+    ensures after_format { (first : Took H O K) (id : Identity) (calls : List (Taken H O K))
         → KeptPromise (run_of H.files H.faults O.content O.faults K.state) first
         → IsCommand first.call.words (format id) → is_some (K.state first.call.disk).reads ≡ true
         → first.ended.status ≡ 0
-        → AreInTurn (run_of H.files H.faults O.content O.faults K.state) first.disks_after calls
-        → EachKeeps (run_of H.files H.faults O.content O.faults K.state)
+        → AreInTurn K.state (run_of H.files H.faults O.content O.faults K.state)
+        (fleet_call_of H.files H.faults O.content O.faults) first.disks_after calls
+        → EachKeeps K.state (run_of H.files H.faults O.content O.faults K.state)
         (disk_named first.call.words) calls }
     ensures after_restart { (last : Took H O K) (disk : K)
         → IsPromised (run_of H.files H.faults O.content O.faults K.state last.call) last.ended
@@ -147,6 +151,12 @@ pub fn commands_follow_one_another<H: Host, O: Sink, K: Power>()
         → (K.state last.call.disk).reads ≡ Some image → HoldsConfig image active
         → IsRestarted (K.state last.call.disk_after) (K.state disk)
         → ForSome (K.state disk).reads (IsActiveOrFormer image active) }
+    ensures after_fleet { (last : TookFleet H O K) (place : ℕ) (before after disk : K)
+        → KeptFleetPromise K.state (fleet_call_of H.files H.faults O.content O.faults) last
+        → place < last.count → slice_get last.disks place ≡ Some before
+        → slice_get last.disks_after place ≡ Some after → LosesOnlyWork (K.state before)
+        → IsRestarted (K.state after) (K.state disk)
+        → StandsAgain (K.state before) (K.state disk) }
 {
     // For the proof: these do nothing.
     an_image_holds_one_configuration();

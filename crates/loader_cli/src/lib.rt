@@ -9,6 +9,7 @@ mod answer;
 mod build;
 mod check;
 mod command;
+mod fleet_replay;
 mod inputs;
 pub mod laws;
 mod replay;

@@ -1,6 +1,6 @@
 //! The commands `replay` and `wire`.
 ghost use Rattle.std.specs.Prelude.{◌≡◌, ◌⊎◌, All, IsSome, IsTrue, ◌↔◌, IfOk, OnErr, map};
-ghost use Rattle.std.specs.Prelude.{option_map, false};
+ghost use Rattle.std.specs.Prelude.{None, option_map, false};
 ghost use Rattle.std.specs.Option.{ForSome};
 ghost use Rattle.disk_model.specs.State.{OnlyReads};
 ghost use Rattle.disk_layout.specs.Holds.{standing_view};
@@ -9,11 +9,11 @@ ghost use Rattle.media_check.specs.Sets.{set_view};
 ghost use Rattle.replay_turns.specs.Turns.{RunsOut};
 ghost use Rattle.upload_replay.specs.Endings.{HoldsSome};
 ghost use Rattle.loader_cli.specs.Answers.{HidesNoFault, answered_status, status_of, text_of};
-ghost use Rattle.loader_cli.specs.Replays.{IsCompleted, Replays, RunsTo, Tells, run_seen};
-ghost use Rattle.loader_cli.specs.Replays.{LeavesFirstOrGood, told_as};
+ghost use Rattle.loader_cli.specs.Replays.{IsCompleted, Replays, RunsText, RunsTo, Tells};
+ghost use Rattle.loader_cli.specs.Replays.{LeavesFirstOrGood, run_seen, told_as};
 
 use crate::answer::{Answer, Answered};
-use crate::inputs::{Inputs, read_inputs};
+use crate::inputs::{Inputs, read_inputs, refused_script};
 use accept_rules::{Interlock, PermitsAll};
 use bank_store::a_power_loss_takes_only_work;
 use disk_model::Power;
@@ -57,17 +57,52 @@ pub(crate) fn replay<'w, H: Host, K: Power>(
     ensures held { OnlyReads (K.state disk.old) (K.state disk.new) ⊎ HoldsSome (K.state disk.old) }
     ensures memory { OnErr result (RunsOut (K.state disk.old) (K.state disk.new)
         ⊎ HoldsSome (K.state disk.old)) }
+    ensures no_fleet { IfOk result (λ said. said.fleet ≡ None) }
 {
     // For the proof: does nothing.
     a_power_loss_takes_only_work::<K>();
     match read_inputs(alloc, host, folder.as_bytes(), script.as_bytes())? {
-        Inputs::Ready { set, script } => {
-            let said = run_script(alloc, disk, &set, script, telling);
+        Inputs::Ready { set, text } => {
+            let said = run_text(
+                alloc,
+                disk,
+                &set,
+                script.as_bytes(),
+                text.as_slice(),
+                telling,
+            );
             // For the proof: dropped by a call, not by scope.
-            drop(set);
+            drop((set, text));
             said
         }
         Inputs::Refused(answer) => Ok(Answered::of(answer)),
+    }
+}
+
+// Runs the script of this name and text.
+fn run_text<'w, K: Power>(
+    alloc: Global,
+    disk: &mut K,
+    set: &MediaSet,
+    name: &'w [u8],
+    text: &[u8],
+    telling: Telling,
+) -> Result<Answered<'w>, NoMemory>
+    requires { (K.state disk.old).stopped ≡ false }
+    ensures runs { IfOk result (λ said. RunsText telling name.now text.now (set_view set.now)
+        (K.state disk.old) (K.state disk.new) (option_map run_seen said.drive)
+        (status_of said.answer) (text_of said.answer)) }
+    ensures leaves { LeavesFirstOrGood (K.state disk.old) (K.state disk.new) }
+    ensures held { OnlyReads (K.state disk.old) (K.state disk.new) ⊎ HoldsSome (K.state disk.old) }
+    ensures memory { OnErr result (RunsOut (K.state disk.old) (K.state disk.new)
+        ⊎ HoldsSome (K.state disk.old)) }
+    ensures no_fleet { IfOk result (λ said. said.fleet ≡ None) }
+{
+    // For the proof: does nothing.
+    a_power_loss_takes_only_work::<K>();
+    match Script::read(alloc, text) {
+        Ok(script) => run_script(alloc, disk, set, script, telling),
+        Err(fault) => Ok(Answered::of(refused_script(alloc, name, fault)?)),
     }
 }
 
@@ -87,6 +122,7 @@ pub(crate) fn run_script<'w, K: Power>(
     ensures held { OnlyReads (K.state disk.old) (K.state disk.new) ⊎ HoldsSome (K.state disk.old) }
     ensures memory { OnErr result (RunsOut (K.state disk.old) (K.state disk.new)
         ⊎ HoldsSome (K.state disk.old)) }
+    ensures no_fleet { IfOk result (λ said. said.fleet ≡ None) }
 {
     // For the proof: these change nothing.
     what_a_disk_holds_can_be_listed();
@@ -100,6 +136,7 @@ pub(crate) fn run_script<'w, K: Power>(
             Ok(Answered {
                 answer,
                 drive: Some(run),
+                fleet: None,
             })
         }
         Err(DriveFault::Disk) => Ok(Answered::of(Answer::DiskFault)),
@@ -138,7 +175,7 @@ fn text_of_run(alloc: Global, telling: Telling, run: &Drive) -> Result<Bytes, No
     }
 }
 
-fn are_completed(sessions: &[Session]) -> bool
+pub(crate) fn are_completed(sessions: &[Session]) -> bool
     ensures { IsTrue result ↔ All IsCompleted (map session_view sessions.now) }
 {
     is_each_completed(sessions)

@@ -1,5 +1,5 @@
 //! The command `trial`.
-ghost use Rattle.std.specs.Prelude.{◌≡◌, ◌⊎◌, codes, false, option_map, IfOk, OnErr};
+ghost use Rattle.std.specs.Prelude.{◌≡◌, ◌⊎◌, None, codes, false, option_map, IfOk, OnErr};
 ghost use Rattle.disk_model.specs.State.{OnlyReads};
 ghost use Rattle.media_check.specs.Sets.{set_view};
 ghost use Rattle.replay_turns.specs.Turns.{RunsOut};
@@ -35,6 +35,7 @@ pub(crate) fn trial<'w, K: Power>(
     ensures held { OnlyReads (K.state disk.old) (K.state disk.new) ⊎ HoldsSome (K.state disk.old) }
     ensures memory { OnErr result (RunsOut (K.state disk.old) (K.state disk.new)
         ⊎ HoldsSome (K.state disk.old)) }
+    ensures no_fleet { IfOk result (λ said. said.fleet ≡ None) }
 {
     // For the proof: does nothing.
     a_power_loss_takes_only_work::<K>();

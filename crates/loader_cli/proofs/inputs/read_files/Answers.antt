@@ -8,7 +8,7 @@ use Rattle.media_lists.specs.ListFaultText.{list_fault_text}
 use Rattle.media_lists.specs.Files.{files_list, files_list_view}
 use Rattle.media_lists.specs.Loads.{loads_list, loads_list_view}
 use Rattle.loader_cli.specs.Inputs.{ReadsInputs}
-use Rattle.loader_cli.specs.Replays.RefusesInputs.{files_too_long}
+use Rattle.loader_cli.specs.Replays.RefusesText.{files_too_long}
 use Rattle.loader_cli.specs.Texts.{refused_input}
 use Rattle.loader_cli.proofs.ReadInputs.{has_list, list_is_absent, list_is_faulty, list_read, never_large, refuses_files}
 use Rattle.loader_cli.proofs.Replayed.{hides_after, none_failed}

@@ -7,7 +7,7 @@ use Rattle.media_check.specs.HostNames.{loads_name}
 use Rattle.media_lists.specs.ListFaultText.{list_fault_text}
 use Rattle.media_lists.specs.Loads.{loads_list, loads_list_view}
 use Rattle.loader_cli.specs.Inputs.{ReadsInputs}
-use Rattle.loader_cli.specs.Replays.RefusesInputs.{loads_too_long}
+use Rattle.loader_cli.specs.Replays.RefusesText.{loads_too_long}
 use Rattle.loader_cli.specs.Texts.{refused_input}
 use Rattle.loader_cli.proofs.ReadInputs.{list_is_absent, list_is_faulty, list_read, never_large, refuses_loads}
 use Rattle.loader_cli.proofs.Replayed.{hides_after, none_failed}

@@ -6,7 +6,7 @@ use Rattle.media_check.specs.HostNames.{files_name, loads_name}
 use Rattle.media_lists.specs.Files.{files_list, files_list_view}
 use Rattle.media_lists.specs.Loads.{loads_list, loads_list_view}
 use Rattle.loader_cli.specs.Inputs.{ReadsInputs}
-use Rattle.loader_cli.specs.Replays.RefusesInputs.{long_file}
+use Rattle.loader_cli.specs.Replays.RefusesText.{long_file}
 use Rattle.loader_cli.specs.Texts.{refused_input}
 use Rattle.loader_cli.proofs.ReadInputs.{has_list, long_in_rest}
 use Rattle.loader_cli.proofs.Replayed.{hides_after}
@@ -15,8 +15,8 @@ use Rattle.loader_cli.proofs.inputs.read_rest.Goals as goal
 pub returns-in-Ok-clause-reads : goal.returns-in-Ok-clause-reads
 returns-in-Ok-clause-reads g c =
     λ before least.
-    subst (λ (files : Option Files). IfOk c.read_script.result (λ read. ReadsInputs c.args.folder.now c.args.name.now files before (g.H.Host.faults c.read_script.new.host) read))
-    c.open_rest.ensures.kept (c.read_script.ensures.reads before (omega (arith, least, c.open_rest.ensures.cause.later)))
+    subst (λ (files : Option Files). IfOk c.read_text.result (λ read. ReadsInputs c.args.folder.now c.args.name.now files before (g.H.Host.faults c.read_text.new.host) read))
+    c.open_rest.ensures.kept (c.read_text.ensures.reads before (omega (arith, least, c.open_rest.ensures.cause.later)))
 
 pub returns-in-Err-TooLong-clause-reads : goal.returns-in-Err-TooLong-clause-reads
 returns-in-Err-TooLong-clause-reads g c =
@@ -30,4 +30,4 @@ returns-in-Err-TooLong-clause-reads g c =
     refl (ap (λ (f : Listed ℕ). refused_input f.items (codes "toolong")) c.in-Err-TooLong.file-is)
 
 pub returns-in-Ok-clause-faults : goal.returns-in-Ok-clause-faults
-returns-in-Ok-clause-faults g c = hides_after _ _ _ _ c.read_script.result c.in-Ok.ensures.cause.ok c.read_script.ensures.faults
+returns-in-Ok-clause-faults g c = hides_after _ _ _ _ c.read_text.result c.in-Ok.ensures.cause.ok c.read_text.ensures.faults

@@ -1,0 +1,77 @@
+use Rattle.std.proofs.Common.{◌≤◌, ◌∙◌, inr, [], ℕ, None, length, sym, ap, subst}
+use Rattle.accept_rules.specs.Permissions.{permits}
+use Rattle.disk_layout.specs.declared.fault.RecoverFault.{RecoverFault}
+use Rattle.fleet_link.specs.FleetLinks.{FleetLinkState}
+use Rattle.fleet_link.specs.declared.fleet_turn.FleetRest.TheVariants.{Nothing}
+use Rattle.media_check.specs.Sets.{set_view}
+use Rattle.loader_cli.specs.FleetReplays.{RunsFleet, fleet_seen}
+use Rattle.loader_cli.specs.Texts.{no_configuration}
+use Rattle.loader_cli.proofs.FleetRan.{all_stood, fleet_disk_failed, fleet_holds_none, fleet_leaves, fleet_ran, refused_held, told_of_run}
+use Rattle.loader_cli.proofs.fleet_replay.run_fleet.Goals as goal
+
+pub new-link-requires : goal.new-link-requires
+new-link-requires g c = subst (λ (n : ℕ). n ≤ 8) (sym c.requires.units) c.requires.few
+
+pub returns-in-Ok-clause-runs : goal.returns-in-Ok-clause-runs
+returns-in-Ok-clause-runs g c =
+    let set = set_view c.args.set.now in
+    let run = c.in-Ok.run' in
+    let old = c.args.disks.now in
+    let new = c.fleet.new.disks in
+    let begins = c.new-link.ensures ∙ ap (λ (units : ℕ). record { units = units; posted = []; given = []; rest = Nothing; lines = c.args.script.lines }) c.requires.units in
+    told_of_run g.K.Disk.state set c.args.script.lines old new (fleet_seen run) _ _
+    (fleet_ran g.K.Disk.state _ _ set (λ fields kept answer said. said.says ∙ ap (λ h. permits h kept) said.same) c.args.script.lines c.fleet.new.link run old new
+    c.can_be_told.ensures c.what_a_disk_holds_can_be_listed.ensures.fits c.a_last_finish_is_left.ensures.power
+    (λ sets unit sessions standing. c.a_fleets_last_finish_completes.ensures (length old) sets c.args.script.lines _ unit sessions standing)
+    _ begins c.in-Ok.ensures.ended c.in-Ok.ensures.units c.fleet.ensures.leaves c.in-Ok.ensures.follows)
+    c.in_ok-answer-in-Ok.ensures
+
+pub returns-in-Err-Disk-clause-runs : goal.returns-in-Err-Disk-clause-runs
+returns-in-Err-Disk-clause-runs g c =
+    rw (c.of.ensures.answer, c.of.ensures.fleet)
+    (fleet_disk_failed g.K.Disk.state c.args.disks.now c.fleet.new.disks (set_view c.args.set.now) c.args.script.lines c.in-Err-Disk.field-0-is c.in-Err-Disk.ensures.refused)
+
+pub returns-in-Err-NoConfig-clause-runs : goal.returns-in-Err-NoConfig-clause-runs
+returns-in-Err-NoConfig-clause-runs g c =
+    rw (c.of-in-Err-NoConfig.ensures.answer, c.of-in-Err-NoConfig.ensures.fleet)
+    (subst (λ (reason : RecoverFault). RunsFleet g.K.Disk.state (set_view c.args.set.now) c.args.script.lines c.args.disks.now c.fleet.new.disks None 8 (no_configuration reason)) (sym c.in-Err-NoConfig.fault-is)
+    (fleet_holds_none g.K.Disk.state c.args.disks.now c.fleet.new.disks (set_view c.args.set.now) c.args.script.lines c.in-Err-NoConfig.field-0-is c.in-Err-NoConfig.ensures.refused))
+
+pub returns-in-Ok-clause-leaves : goal.returns-in-Ok-clause-leaves
+returns-in-Ok-clause-leaves g c =
+    fleet_leaves g.K.Disk.state _ _ (set_view c.args.set.now) (λ fields kept answer said. said.says ∙ ap (λ h. permits h kept) said.same) c.args.disks.now c.fleet.new.disks c.fleet.ensures.good
+
+pub returns-in_err-answer-in-Ok-clause-leaves : goal.returns-in_err-answer-in-Ok-clause-leaves
+returns-in_err-answer-in-Ok-clause-leaves g c =
+    fleet_leaves g.K.Disk.state _ _ (set_view c.args.set.now) (λ fields kept answer said. said.says ∙ ap (λ h. permits h kept) said.same) c.args.disks.now c.fleet.new.disks c.fleet.ensures.good
+
+pub returns-in-Err-Disk-clause-leaves : goal.returns-in-Err-Disk-clause-leaves
+returns-in-Err-Disk-clause-leaves g c =
+    fleet_leaves g.K.Disk.state _ _ (set_view c.args.set.now) (λ fields kept answer said. said.says ∙ ap (λ h. permits h kept) said.same) c.args.disks.now c.fleet.new.disks c.fleet.ensures.good
+
+pub returns-in-Err-NoConfig-clause-leaves : goal.returns-in-Err-NoConfig-clause-leaves
+returns-in-Err-NoConfig-clause-leaves g c =
+    fleet_leaves g.K.Disk.state _ _ (set_view c.args.set.now) (λ fields kept answer said. said.says ∙ ap (λ h. permits h kept) said.same) c.args.disks.now c.fleet.new.disks c.fleet.ensures.good
+
+pub returns-clause-leaves : goal.returns-clause-leaves
+returns-clause-leaves g c =
+    fleet_leaves g.K.Disk.state _ _ (set_view c.args.set.now) (λ fields kept answer said. said.says ∙ ap (λ h. permits h kept) said.same) c.args.disks.now c.fleet.new.disks c.fleet.ensures.good
+
+pub returns-in-Ok-clause-held : goal.returns-in-Ok-clause-held
+returns-in-Ok-clause-held g c =
+    inr (all_stood g.K.Disk.state _ _ (set_view c.args.set.now) (λ fields kept answer said. said.says ∙ ap (λ h. permits h kept) said.same) c.in-Ok.run' c.args.disks.now c.fleet.new.disks
+    (c.in-Ok.ensures.ended.units ∙ (ap (λ (link : FleetLinkState). link.units) c.new-link.ensures ∙ c.requires.units)) c.fleet.ensures.same c.in-Ok.ensures.units)
+
+pub returns-in_err-answer-in-Ok-clause-held : goal.returns-in_err-answer-in-Ok-clause-held
+returns-in_err-answer-in-Ok-clause-held g c =
+    inr (all_stood g.K.Disk.state _ _ (set_view c.args.set.now) (λ fields kept answer said. said.says ∙ ap (λ h. permits h kept) said.same) c.in-Ok.run' c.args.disks.now c.fleet.new.disks
+    (c.in-Ok.ensures.ended.units ∙ (ap (λ (link : FleetLinkState). link.units) c.new-link.ensures ∙ c.requires.units)) c.fleet.ensures.same c.in-Ok.ensures.units)
+
+pub returns-in-Err-Disk-clause-held : goal.returns-in-Err-Disk-clause-held
+returns-in-Err-Disk-clause-held g c = refused_held g.K.Disk.state c.args.disks.now c.fleet.new.disks c.in-Err-Disk.field-0 c.in-Err-Disk.ensures.refused
+
+pub returns-in-Err-NoConfig-clause-held : goal.returns-in-Err-NoConfig-clause-held
+returns-in-Err-NoConfig-clause-held g c = refused_held g.K.Disk.state c.args.disks.now c.fleet.new.disks c.in-Err-NoConfig.field-0 c.in-Err-NoConfig.ensures.refused
+
+pub returns-clause-held : goal.returns-clause-held
+returns-clause-held g c = refused_held g.K.Disk.state c.args.disks.now c.fleet.new.disks c.in-Err-Memory.field-0 c.in-Err-Memory.ensures.refused
