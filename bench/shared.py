@@ -84,17 +84,21 @@ def resident_kib(command, folder, statuses=(0,)):
     return int(run.stderr.strip())
 
 
-def replay_beside(name, programs, folder, words, runs, begins, statuses=(0,)):
-    """Runs two programs in turn, each on a copy of the disk `formatted`, and prints the medians of their times, on the
+def copy_formatted(folder, disks):
+    for disk in disks:
+        shutil.copy(os.path.join(folder, "formatted"), os.path.join(folder, disk))
+
+
+def replay_beside(name, programs, folder, words, runs, begins, statuses=(0,), disks=("target.disk",)):
+    """Runs two programs in turn, each on copies of the disk `formatted`, and prints the medians of their times, on the
     processor and by the clock, and the most memory of each. Both have to print the same, which begins with `begins`.
     Gives the median time of the first by the clock, in seconds.
     """
-    disk, formatted = os.path.join(folder, "target.disk"), os.path.join(folder, "formatted")
     processor, clock, memory = [[], []], [[], []], []
     for _ in range(runs):
         texts = []
         for at, program in enumerate(programs):
-            shutil.copy(formatted, disk)
+            copy_formatted(folder, disks)
             begin = time.perf_counter()
             child = subprocess.Popen([program, *words], cwd=folder, stdout=subprocess.PIPE)
             texts.append(child.stdout.read())
@@ -106,7 +110,7 @@ def replay_beside(name, programs, folder, words, runs, begins, statuses=(0,)):
         if texts[0] != texts[1] or not texts[0].startswith(begins):
             sys.exit(f"{name}: {texts[0][:200]!r}, the other {texts[1][:200]!r}")
     for program in programs:
-        shutil.copy(formatted, disk)
+        copy_formatted(folder, disks)
         memory.append(resident_kib([program, *words], folder, statuses) * 1024)
     (ours, other), (clocked, other_clocked) = ([statistics.median(each) for each in times] for times in (processor, clock))
     print(f"{name}: {ours * 1000:.0f} ms on the processor, {ours / other:.2f} times the other's {other * 1000:.0f} ms; "
