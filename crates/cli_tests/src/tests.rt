@@ -40,6 +40,12 @@ hardware HW1
 data APP.BIN 1 app.bin APP1
 ";
 
+// Loads two units with that set.
+static FLEET_SCRIPT: &[u8] = b"at 1 upload HW1 L ABC41-0000-0001
+at 2 upload HW1 R ABC41-0000-0001
+finish
+";
+
 static APP_TEXT: &[u8] = b"0 header 61 8004 0000
 part ABC41-0000-0001
 type 7 APP
@@ -48,6 +54,35 @@ data APP.BIN 9 29B1 APP1
 user -
 headercrc 7042
 loadcrc ADC08C7F
+";
+
+static FLEET_REPORT: &[u8] = b"0 unit 1
+session 1 upload completed
+datagrams 21
+target HW1 L SN1
+bank 1 sequence 2
+loads 1
+load ABC41-0000-0001 APP.LUH 2
+file APP.LUH 122 248A
+file APP.BIN 9 29B1
+unit 2
+session 1 upload completed
+datagrams 21
+target HW1 R SN2
+bank 1 sequence 2
+loads 1
+load ABC41-0000-0001 APP.LUH 2
+file APP.LUH 122 248A
+file APP.BIN 9 29B1
+";
+
+// What is listed of unit 2 then.
+static SECOND_UNIT: &[u8] = b"0 target HW1 R SN2
+bank 1 sequence 2
+loads 1
+load ABC41-0000-0001 APP.LUH 2
+file APP.LUH 122 248A
+file APP.BIN 9 29B1
 ";
 
 static UPLOAD_REPORT: &[u8] = b"0 session 1 upload completed
@@ -123,13 +158,17 @@ fn words_of(alloc: Global, words: &[&str]) -> Result<Vec<String>, Fail> {
     Ok(all)
 }
 
-// The disks of eight units in files, of which the first is this one.
-fn units<'r>(rt: &'r HostRuntime, first: &'r str) -> [Fused<FileDisk<'r, HostRuntime>>; 8]
+// The disks of eight units in files, of which the first two are these.
+fn units<'r>(
+    rt: &'r HostRuntime,
+    first: &'r str,
+    second: &'r str,
+) -> [Fused<FileDisk<'r, HostRuntime>>; 8]
     ensures { All (λ disk. disk.stopped ≡ false) result }
 {
     [
         Fused::new(FileDisk::new(rt, first)),
-        Fused::new(FileDisk::new(rt, "two.disk")),
+        Fused::new(FileDisk::new(rt, second)),
         Fused::new(FileDisk::new(rt, "three.disk")),
         Fused::new(FileDisk::new(rt, "four.disk")),
         Fused::new(FileDisk::new(rt, "five.disk")),
@@ -144,7 +183,7 @@ fn status_over_the_system(rt: &HostRuntime, words: &[&str], first: &str) -> Resu
     let alloc = rt.alloc();
     let words = words_of(alloc, words)?;
     let (mut host, mut out) = (StdHost::new(rt), StdSink::new(rt));
-    let mut disks = units(rt, first);
+    let mut disks = units(rt, first, "two.disk");
     let ended = run(alloc, &words, &mut host, &mut out, &mut disks);
     let status = ended.status;
     drop(ended);
@@ -200,7 +239,7 @@ fn said_over_the_system(rt: &HostRuntime, words: &[&str], said: &mut Bytes) -> R
     fs::write(rt, "formatted.disk", formatted().as_slice())?;
     let words = words_of(alloc, words)?;
     let (mut host, mut out) = (StdHost::new(rt), MemSink::new(alloc));
-    let mut disks = units(rt, "formatted.disk");
+    let mut disks = units(rt, "formatted.disk", "loaded.disk");
     let ended = run(alloc, &words, &mut host, &mut out, &mut disks);
     let status = ended.status;
     drop(ended);
@@ -216,7 +255,8 @@ fn sets_over_the_real_host(rt: HostRuntime) -> Result<(), Fail> {
     fs::write(&rt, "R", APP)?;
     fs::write(&rt, "app.bin", b"123456789")?;
     fs::write(&rt, "S", b"upload HW1 L ABC41-0000-0001\nfinish\n")?;
-    let rows: [(&[&str], &[u8]); 7] = [
+    fs::write(&rt, "F", FLEET_SCRIPT)?;
+    let rows: [(&[&str], &[u8]); 10] = [
         (&["build", "R", "P"], b"0 built 1 loads 2 files\n"),
         (&["check", "P"], b"0 findings 0\n"),
         (&["show", "P/1/APP.LUH"], APP_TEXT),
@@ -224,6 +264,12 @@ fn sets_over_the_real_host(rt: HostRuntime) -> Result<(), Fail> {
         (&["check", "M"], b"0 findings 0\n"),
         (&["replay", "P", "S"], UPLOAD_REPORT),
         (&["wire", "P", "S"], UPLOAD_TRACE),
+        (
+            &["on", "2", "format", "HW1", "R", "SN2", "4096"],
+            b"0 formatted HW1 R SN2 4096\n",
+        ),
+        (&["fleet", "2", "P", "F"], FLEET_REPORT),
+        (&["on", "2", "list"], SECOND_UNIT),
     ];
     for (words, wanted) in rows {
         let mut said = Bytes::new(rt.alloc());
