@@ -3,7 +3,7 @@
 //! `command_rows`.
 ghost use Rattle.std.specs.Prelude.{◌≡◌, All, false};
 
-use disk_model::{FileDisk, Fused};
+use disk_model::{FileDisk, Fused, OpenedFiles};
 use load_base::{Bytes, MemSink, StdHost, StdSink};
 use loader_cli::run;
 use own_unit::{Flash, FlashDisk};
@@ -40,7 +40,15 @@ hardware HW1
 data APP.BIN 1 app.bin APP1
 ";
 
-// Loads two units with that set.
+// The same, of a file that no other test writes.
+static OWN_APP: &[u8] = b"set XYZ5A-0000-0001
+members 1
+load ABC41-0000-0001 APP.LUH 1 7 APP
+hardware HW1
+data APP.BIN 1 own.bin APP1
+";
+
+// Loads two units with either set.
 static FLEET_SCRIPT: &[u8] = b"at 1 upload HW1 L ABC41-0000-0001
 at 2 upload HW1 R ABC41-0000-0001
 finish
@@ -161,29 +169,36 @@ fn words_of(alloc: Global, words: &[&str]) -> Result<Vec<String>, Fail> {
 // The disks of eight units in files, of which the first two are these.
 fn units<'r>(
     rt: &'r HostRuntime,
+    opened: &'r OpenedFiles,
     first: &'r str,
     second: &'r str,
 ) -> [Fused<FileDisk<'r, HostRuntime>>; 8]
     ensures { All (λ disk. disk.stopped ≡ false) result }
 {
     [
-        Fused::new(FileDisk::new(rt, first)),
-        Fused::new(FileDisk::new(rt, second)),
-        Fused::new(FileDisk::new(rt, "three.disk")),
-        Fused::new(FileDisk::new(rt, "four.disk")),
-        Fused::new(FileDisk::new(rt, "five.disk")),
-        Fused::new(FileDisk::new(rt, "six.disk")),
-        Fused::new(FileDisk::new(rt, "seven.disk")),
-        Fused::new(FileDisk::new(rt, "eight.disk")),
+        Fused::new(FileDisk::new(rt, opened, first)),
+        Fused::new(FileDisk::new(rt, opened, second)),
+        Fused::new(FileDisk::new(rt, opened, "three.disk")),
+        Fused::new(FileDisk::new(rt, opened, "four.disk")),
+        Fused::new(FileDisk::new(rt, opened, "five.disk")),
+        Fused::new(FileDisk::new(rt, opened, "six.disk")),
+        Fused::new(FileDisk::new(rt, opened, "seven.disk")),
+        Fused::new(FileDisk::new(rt, opened, "eight.disk")),
     ]
 }
 
 // The status of a run over the system's files, standard output and disks in files.
-fn status_over_the_system(rt: &HostRuntime, words: &[&str], first: &str) -> Result<u8, Fail> {
+fn status_over_the_system(
+    rt: &HostRuntime,
+    words: &[&str],
+    first: &str,
+    second: &str,
+) -> Result<u8, Fail> {
     let alloc = rt.alloc();
     let words = words_of(alloc, words)?;
     let (mut host, mut out) = (StdHost::new(rt), StdSink::new(rt));
-    let mut disks = units(rt, first, "two.disk");
+    let opened = OpenedFiles::new();
+    let mut disks = units(rt, &opened, first, second);
     let ended = run(alloc, &words, &mut host, &mut out, &mut disks);
     let status = ended.status;
     drop(ended);
@@ -218,7 +233,10 @@ fn the_real_host_sink_and_disk(rt: HostRuntime) -> Result<(), Fail> {
         (&["show", "FOLDER.LUH"], "missing.disk", 4),
     ];
     for (words, disk, status) in rows {
-        assert_eq!(rt; status_over_the_system(&rt, words, disk)?, status);
+        assert_eq!(rt;
+            status_over_the_system(&rt, words, disk, "two.disk")?,
+            status
+        );
     }
     let kept = fs::read(&rt, "listed.disk")?;
     assert_eq!(rt; kept.as_slice(), formatted().as_slice());
@@ -239,7 +257,8 @@ fn said_over_the_system(rt: &HostRuntime, words: &[&str], said: &mut Bytes) -> R
     fs::write(rt, "formatted.disk", formatted().as_slice())?;
     let words = words_of(alloc, words)?;
     let (mut host, mut out) = (StdHost::new(rt), MemSink::new(alloc));
-    let mut disks = units(rt, "formatted.disk", "loaded.disk");
+    let opened = OpenedFiles::new();
+    let mut disks = units(rt, &opened, "formatted.disk", "loaded.disk");
     let ended = run(alloc, &words, &mut host, &mut out, &mut disks);
     let status = ended.status;
     drop(ended);
@@ -276,6 +295,32 @@ fn sets_over_the_real_host(rt: HostRuntime) -> Result<(), Fail> {
         said_over_the_system(&rt, words, &mut said)?;
         assert_eq!(rt; said.as_slice(), wanted);
     }
+    Ok(())
+}
+
+// Two units whose disks are one file by a link: a command that uses both meets a disk fault and
+// doesn't wait, and one that uses the second alone has its file.
+#[test]
+fn units_have_no_file_in_common(rt: HostRuntime) -> Result<(), Fail> {
+    fs::write(&rt, "R2", OWN_APP)?;
+    fs::write(&rt, "own.bin", b"123456789")?;
+    fs::write(&rt, "F2", FLEET_SCRIPT)?;
+    fs::write(&rt, "own.disk", formatted().as_slice())?;
+    fs::hard_link(&rt, "own.disk", "linked.disk")?;
+    let rows: [(&[&str], &str, u8); 4] = [
+        (&["build", "R2", "P2"], "linked.disk", 0),
+        (&["fleet", "2", "P2", "F2"], "linked.disk", 5),
+        (&["on", "2", "list"], "linked.disk", 0),
+        (&["on", "2", "list"], "own.disk", 0),
+    ];
+    for (words, second, status) in rows {
+        assert_eq!(rt;
+            status_over_the_system(&rt, words, "own.disk", second)?,
+            status
+        );
+    }
+    let kept = fs::read(&rt, "own.disk")?;
+    assert_eq!(rt; kept.as_slice(), formatted().as_slice());
     Ok(())
 }
 

@@ -7,16 +7,16 @@ ghost use Rattle.disk_model.specs.State.{untold_reads};
 
 use crate::disk::refuse;
 use crate::held_file::{HeldFile, LockedFile};
-use crate::{Disk, DiskFault};
+use crate::{Disk, DiskFault, OpenedFiles};
 use load_base::FaultCount;
 use std::fs::File;
 use std::io::{self, ErrorKind};
 use std::rt::Files;
 
 /// A disk in a file; bytes past its end read as zero. The file is opened, locked and synced at the
-/// first call, and stays so until this object goes: another one of the same file waits for that, in
-/// this process for ever. A missing file reads as zeros until the first write, which makes it. An
-/// error of the system is a fault of the disk. `restart` writes out what the file holds.
+/// first call, and stays so until this object goes: another program waits for that, and another disk
+/// of the same `OpenedFiles` fails. A missing file reads as zeros until the first write, which makes
+/// it. An error of the system is a fault of the disk. `restart` writes out what the file holds.
 ///
 /// Once the system couldn't write out what it holds, it may have lost it while it still reads it:
 /// from then on each call fails, of this disk and also after a restart. So it is where another run
@@ -32,8 +32,10 @@ pub struct FileDisk<'r, R: Files<File = File>> {
 impl<'r, R: Files<File = File>> FileDisk<'r, R> {
     ghost use Rattle.disk_model.specs.FileDisk.{name_of, state_of};
 
-    /// The disk in the file of this name, which is not opened yet.
-    pub fn new(rt: &'r R, name: &'r str) -> FileDisk<'r, R>
+    /// The disk in the file of this name, which is not opened yet, beside those of a program that
+    /// opened these. All disks of a program take one `OpenedFiles`: one of another would wait for the
+    /// lock of its own program for ever, where the file is the same.
+    pub fn new(rt: &'r R, opened: &'r OpenedFiles, name: &'r str) -> FileDisk<'r, R>
         ensures name { name_of result ≡ name.now }
         ensures running { (state_of result).stopped ≡ false }
         ensures steady { (state_of result).steady ≡ true }
@@ -42,6 +44,7 @@ impl<'r, R: Files<File = File>> FileDisk<'r, R> {
         FileDisk {
             file: DiskFile {
                 rt,
+                opened,
                 name,
                 found: Found::NotYet,
                 is_lost: false,
@@ -140,6 +143,7 @@ fn answer(
 #[derive(Drop)]
 struct DiskFile<'r, R: Files<File = File>> {
     rt: &'r R,
+    opened: &'r OpenedFiles,
     name: &'r str,
     found: Found,
     // Whether what was written, or read as missing, may not hold any more.
@@ -193,7 +197,7 @@ impl<R: Files<File = File>> DiskFile<'_, R> {
         if !matches!(self.found, Found::NotYet) {
             return Ok(());
         }
-        match LockedFile::open(self.rt, self.name)? {
+        match LockedFile::open(self.rt, self.opened, self.name)? {
             Some(locked) => self.hold(locked),
             None => {
                 self.found = Found::Nothing;
@@ -207,7 +211,7 @@ impl<R: Files<File = File>> DiskFile<'_, R> {
         if !matches!(self.found, Found::Nothing) {
             return Ok(());
         }
-        match LockedFile::create(self.rt, self.name) {
+        match LockedFile::create(self.rt, self.opened, self.name) {
             Ok(locked) => self.hold(locked),
             Err(fault) => {
                 self.is_lost = fault.kind() == ErrorKind::AlreadyExists;

@@ -3,10 +3,12 @@
 ghost use Rattle.std.specs.Prelude.{◌≤◌, length, IfOk, IfSome, OnOk};
 ghost use Rattle.disk_model.specs.FilledReads.{IsFilled, ReadsUpTo};
 
+use crate::OpenedFiles;
+use crate::opened_files::FileId;
 use load_base::{folder_of, read_some, sync_folder, sync_for_reading};
 use std::fs::{File, OpenOptions};
 use std::io::{self, ErrorKind, Read, Write};
-use std::os::unix::fs::{FileExt, FileTypeExt, MetadataExt};
+use std::os::unix::fs::{FileExt, FileTypeExt};
 use std::rt::Files;
 
 /// The locked file of a disk, which isn't synced yet. No other run has the lock until this one
@@ -45,12 +47,14 @@ enum Access {
 impl LockedFile {
     /// Opens the file of this name and locks it, waiting while another run has the lock; None where
     /// there is none of this name. What is neither a file nor a block device, as a FIFO, is refused
-    /// before it is opened, and so is a file that lost its name to another meanwhile.
+    /// before it is opened; a file that another disk of this run has opened, before it is waited for;
+    /// and so is a file that lost its name to another meanwhile.
     pub(crate) fn open<R: Files<File = File>>(
         rt: &R,
+        opened: &OpenedFiles,
         name: &str,
     ) -> io::Result<Option<LockedFile>> {
-        match open_locked(rt, name) {
+        match open_locked(rt, opened, name) {
             Ok(locked) => Ok(Some(locked)),
             Err(fault) if fault.kind() == ErrorKind::NotFound => Ok(None),
             Err(fault) => Err(fault),
@@ -59,14 +63,19 @@ impl LockedFile {
 
     /// Makes the file of this name, where there was none, and locks it. `AlreadyExists` where
     /// another run made it first, or wrote it before it was locked.
-    pub(crate) fn create<R: Files<File = File>>(rt: &R, name: &str) -> io::Result<LockedFile> {
+    pub(crate) fn create<R: Files<File = File>>(
+        rt: &R,
+        opened: &OpenedFiles,
+        name: &str,
+    ) -> io::Result<LockedFile> {
         let mut how = OpenOptions::new();
         how.read(true).write(true).create_new(true);
-        let file = opened(rt, &how, name)?;
+        let file = open_above_standard(rt, &how, name)?;
         file.lock()?;
         if !is_empty(&file)? {
             return Err(io::Error::from(ErrorKind::AlreadyExists));
         }
+        opened.add(FileId::of_opened(&file)?)?;
         Ok(LockedFile {
             file,
             access: Access::New,
@@ -127,52 +136,66 @@ impl Write for FileFrom<'_> {
 
 // A file that may be written is opened for both at once, so that one descriptor has the lock, and
 // is synced, read and written.
-fn open_locked<R: Files<File = File>>(rt: &R, name: &str) -> io::Result<LockedFile> {
+fn open_locked<R: Files<File = File>>(
+    rt: &R,
+    opened: &OpenedFiles,
+    name: &str,
+) -> io::Result<LockedFile> {
     if !may_be_disk(rt, name)? {
         return Err(io::Error::from(ErrorKind::Other));
     }
     let mut how = OpenOptions::new();
     how.read(true).write(true);
-    match opened(rt, &how, name) {
-        Ok(file) => locked(rt, name, file, Access::ReadingAndWriting),
-        Err(fault) if may_not_be_written(fault.kind()) => locked_for_reading(rt, name),
+    match open_above_standard(rt, &how, name) {
+        Ok(file) => locked(rt, opened, name, file, Access::ReadingAndWriting),
+        Err(fault) if may_not_be_written(fault.kind()) => locked_for_reading(rt, opened, name),
         Err(fault) => Err(fault),
     }
 }
 
-fn locked_for_reading<R: Files<File = File>>(rt: &R, name: &str) -> io::Result<LockedFile> {
+fn locked_for_reading<R: Files<File = File>>(
+    rt: &R,
+    opened: &OpenedFiles,
+    name: &str,
+) -> io::Result<LockedFile> {
     let mut how = OpenOptions::new();
     how.read(true);
-    locked(rt, name, opened(rt, &how, name)?, Access::Reading)
+    let file = open_above_standard(rt, &how, name)?;
+    locked(rt, opened, name, file, Access::Reading)
 }
 
-// Of a file that may not be written the lock is shared: some network file systems grant no other
-// for reading alone.
+// The file may have lost its name to another one while it was opened or waited for.
 fn locked<R: Files<File = File>>(
     rt: &R,
+    opened: &OpenedFiles,
     name: &str,
     file: File,
     access: Access,
 ) -> io::Result<LockedFile> {
-    match access {
-        Access::Reading => file.lock_shared()?,
-        _ => file.lock()?,
-    }
-    if !has_name(rt, &file, name)? {
+    let held = FileId::of_opened(&file)?;
+    if opened.has(held) {
         return Err(io::Error::from(ErrorKind::Other));
     }
+    lock(&file, access)?;
+    if FileId::of(&rt.metadata(name)?) != held {
+        return Err(io::Error::from(ErrorKind::Other));
+    }
+    opened.add(held)?;
     Ok(LockedFile { file, access })
+}
+
+// Of a file that may not be written the lock is shared: some network file systems grant no other
+// for reading alone.
+fn lock(file: &File, access: Access) -> io::Result<()> {
+    match access {
+        Access::Reading => file.lock_shared(),
+        _ => file.lock(),
+    }
 }
 
 fn may_be_disk<R: Files<File = File>>(rt: &R, name: &str) -> io::Result<bool> {
     let found = rt.metadata(name)?;
     Ok(found.is_file() || found.file_type().is_block_device())
-}
-
-// Whether the file still has this name, which others may have given to another one.
-fn has_name<R: Files<File = File>>(rt: &R, file: &File, name: &str) -> io::Result<bool> {
-    let (held, named) = (file.metadata()?, rt.metadata(name)?);
-    Ok(held.dev() == named.dev() && held.ino() == named.ino())
 }
 
 fn is_empty(file: &File) -> io::Result<bool> {
@@ -188,7 +211,11 @@ fn may_not_be_written(kind: ErrorKind) -> bool {
 
 // Where standard output is closed the system gives its descriptor to the next file that is opened,
 // and output would go into the disk. A clone's descriptor is 3 at least, and has the same lock.
-fn opened<R: Files<File = File>>(rt: &R, how: &OpenOptions, name: &str) -> io::Result<File> {
+fn open_above_standard<R: Files<File = File>>(
+    rt: &R,
+    how: &OpenOptions,
+    name: &str,
+) -> io::Result<File> {
     rt.open_file(how, name)?.try_clone()
 }
 

@@ -8,6 +8,7 @@ mod fused;
 mod held_file;
 mod mem;
 mod note;
+mod opened_files;
 mod power;
 
 pub use disk::{Disk, DiskFault, SIZE};
@@ -15,4 +16,5 @@ pub use file::FileDisk;
 pub use fused::Fused;
 pub use mem::MemDisk;
 pub use note::{Call, Note};
+pub use opened_files::OpenedFiles;
 pub use power::Power;

@@ -1,12 +1,13 @@
 //! The program: runs its arguments over standard output, the files of the current folder and the
 //! eight disks of units, each in a file of the current folder, and exits with the status of the run.
-//! A file is opened at the first call of its disk: none but those of the disks that are used.
+//! A file is opened at the first call of its disk: none but those of the disks that are used, and
+//! none for two of them.
 #![tactic(auto)]
 
 ghost use Rattle.std.specs.Prelude.{◌≡◌};
 ghost use Rattle.std.specs.Process.{exit_status};
 
-use disk_model::{FileDisk, Fused};
+use disk_model::{FileDisk, Fused, OpenedFiles};
 use load_base::{StdHost, StdSink};
 use loader_cli::{Ended, run};
 use std::alloc::{AllocError, Global};
@@ -24,15 +25,16 @@ fn main(rt: HostRuntime) -> ExitCode {
     };
     let mut host = StdHost::new(&rt);
     let mut out = StdSink::new(&rt);
+    let opened = OpenedFiles::new();
     let mut disks = [
-        Fused::new(FileDisk::new(&rt, "target.disk")),
-        Fused::new(FileDisk::new(&rt, "target2.disk")),
-        Fused::new(FileDisk::new(&rt, "target3.disk")),
-        Fused::new(FileDisk::new(&rt, "target4.disk")),
-        Fused::new(FileDisk::new(&rt, "target5.disk")),
-        Fused::new(FileDisk::new(&rt, "target6.disk")),
-        Fused::new(FileDisk::new(&rt, "target7.disk")),
-        Fused::new(FileDisk::new(&rt, "target8.disk")),
+        Fused::new(FileDisk::new(&rt, &opened, "target.disk")),
+        Fused::new(FileDisk::new(&rt, &opened, "target2.disk")),
+        Fused::new(FileDisk::new(&rt, &opened, "target3.disk")),
+        Fused::new(FileDisk::new(&rt, &opened, "target4.disk")),
+        Fused::new(FileDisk::new(&rt, &opened, "target5.disk")),
+        Fused::new(FileDisk::new(&rt, &opened, "target6.disk")),
+        Fused::new(FileDisk::new(&rt, &opened, "target7.disk")),
+        Fused::new(FileDisk::new(&rt, &opened, "target8.disk")),
     ];
     exit_of(&run(alloc, &words, &mut host, &mut out, &mut disks))
 }

@@ -5,10 +5,11 @@ ghost use Rattle.disk_model.specs.Fused.{state_of};
 ghost use Rattle.disk_model.specs.MemDisk as Mem;
 ghost use Rattle.disk_model.specs.FileDisk as File;
 
-use disk_model::{Call, Disk, DiskFault, FileDisk, Fused, MemDisk, Note, Power, SIZE};
+use disk_model::{Call, Disk, DiskFault, FileDisk, Fused, MemDisk, Note, OpenedFiles, Power, SIZE};
 use load_base::{Bytes, NoMemory};
 use std::alloc::Global;
 use std::fs;
+use std::os::unix::fs::symlink;
 use std::test::Fail;
 
 // The first eight bytes of a disk.
@@ -242,7 +243,7 @@ fn an_arming_outlasts_a_restart(rt: HostRuntime) -> Result<(), Fail> {
 
 // Writes over two openings of a file, the first of which makes it.
 fn write_file(rt: &HostRuntime, name: &str) -> Result<[u8; 8], DiskFault> {
-    write_twice(&mut FileDisk::new(rt, name))
+    write_twice(&mut FileDisk::new(rt, &OpenedFiles::new(), name))
 }
 
 fn write_twice<K: Disk>(disk: &mut K) -> Result<[u8; 8], DiskFault>
@@ -257,7 +258,7 @@ fn write_twice<K: Disk>(disk: &mut K) -> Result<[u8; 8], DiskFault>
 
 // The last bytes of a disk in a file, and those from its end on.
 fn ends(rt: &HostRuntime, name: &str) -> Result<[u8; 6], DiskFault> {
-    six(&mut FileDisk::new(rt, name))
+    six(&mut FileDisk::new(rt, &OpenedFiles::new(), name))
 }
 
 fn six<K: Disk>(disk: &mut K) -> Result<[u8; 6], DiskFault>
@@ -282,7 +283,7 @@ fn two<K: Disk>(disk: &mut K, at: u32) -> Result<[u8; 2], DiskFault>
 
 // Writes and reads of which most begin where the call before them ended.
 fn back_to_back(rt: &HostRuntime, name: &str) -> Result<[[u8; 2]; 5], DiskFault> {
-    write_on(&mut FileDisk::new(rt, name))
+    write_on(&mut FileDisk::new(rt, &OpenedFiles::new(), name))
 }
 
 fn write_on<K: Disk>(disk: &mut K) -> Result<[[u8; 2]; 5], DiskFault>
@@ -298,11 +299,11 @@ fn write_on<K: Disk>(disk: &mut K) -> Result<[[u8; 2]; 5], DiskFault>
 }
 
 fn read_first(rt: &HostRuntime, name: &str) -> Result<[u8; 8], DiskFault> {
-    prefix(&mut FileDisk::new(rt, name))
+    prefix(&mut FileDisk::new(rt, &OpenedFiles::new(), name))
 }
 
 fn sync_file(rt: &HostRuntime, name: &str) -> Result<(), DiskFault> {
-    FileDisk::new(rt, name).sync()
+    FileDisk::new(rt, &OpenedFiles::new(), name).sync()
 }
 
 // What a disk in a file that isn't there reads; whether the file is there after a sync; and what it
@@ -335,18 +336,23 @@ fn a_disk_in_a_file_goes_on_where_it_ended(rt: HostRuntime) -> Result<(), Fail> 
 }
 
 // A disk whose power can be lost, over one in a file.
-fn fused_file<'r>(rt: &'r HostRuntime, name: &'r str) -> Fused<FileDisk<'r, HostRuntime>>
+fn fused_file<'r>(
+    rt: &'r HostRuntime,
+    opened: &'r OpenedFiles,
+    name: &'r str,
+) -> Fused<FileDisk<'r, HostRuntime>>
     ensures running { (state_of File.state_of result).stopped ≡ false }
     ensures counts { ((state_of File.state_of result).faults ≡ 0)
         × ((state_of File.state_of result).refusals ≡ 0)
         × ((state_of File.state_of result).armings ≡ 0) }
 {
-    Fused::new(FileDisk::new(rt, name))
+    Fused::new(FileDisk::new(rt, opened, name))
 }
 
 // Whether a write fails at which power is lost over a file, and the first bytes after another one.
 fn lost_over_a_file(rt: &HostRuntime, name: &str) -> Result<(bool, [u8; 8]), Fail> {
-    let mut disk = fused_file(rt, name);
+    let opened = OpenedFiles::new();
+    let mut disk = fused_file(rt, &opened, name);
     disk.arm(1, 1);
     let found = write_at_a_loss(&mut disk);
     drop(disk);
@@ -367,6 +373,47 @@ fn power_is_lost_over_a_file(rt: HostRuntime) -> Result<(), Fail> {
     let name = "power_is_lost.disk";
     assert!(rt; lost_over_a_file(&rt, name)? == (true, [0, 0, 0, 0, 5, 0, 0, 0]));
     fs::remove_file(&rt, name)?;
+    Ok(())
+}
+
+// Whether the second of two disks of a program fails, while the first has the file.
+fn second_fails<'r>(
+    rt: &'r HostRuntime,
+    first: &'r str,
+    second: &'r str,
+) -> Result<bool, DiskFault> {
+    let opened = OpenedFiles::new();
+    let mut disk = fused_file(rt, &opened, first);
+    let answer = read_beside(&mut disk, &mut fused_file(rt, &opened, second));
+    drop(disk);
+    answer
+}
+
+fn read_beside<K: Disk>(first: &mut K, second: &mut K) -> Result<bool, DiskFault>
+    requires running { (K.state first.old).stopped ≡ false }
+    requires beside { (K.state second.old).stopped ≡ false }
+{
+    first.write(0, &[1])?;
+    let failed = second.read(0, &mut [0]) == Err(DiskFault::Failed);
+    first.sync()?;
+    Ok(failed)
+}
+
+// A link in the file system, by a name of its own or by the other's, and one name for both.
+#[test]
+fn two_disks_have_no_file_in_common(rt: HostRuntime) -> Result<(), Fail> {
+    let (name, other) = ("one_of_two.disk", "other_of_two.disk");
+    fs::write(&rt, name, [7].as_slice())?;
+    fs::write(&rt, other, [7].as_slice())?;
+    fs::hard_link(&rt, name, "hard_link.disk")?;
+    symlink(&rt, name, "symbolic_link.disk")?;
+    assert!(rt; second_fails(&rt, name, "hard_link.disk")?);
+    assert!(rt; second_fails(&rt, "symbolic_link.disk", name)?);
+    assert!(rt; second_fails(&rt, name, name)?);
+    assert!(rt; !second_fails(&rt, name, other)?);
+    for made in [name, other, "hard_link.disk", "symbolic_link.disk"] {
+        fs::remove_file(&rt, made)?;
+    }
     Ok(())
 }
 

@@ -6,7 +6,7 @@ use crate::tests::images::{
     Installation, SEVEN_WRITES, WHOLE, Wanted, failing, is_active, is_load, moments, put, put_file,
 };
 use bank_store::StoreFault;
-use disk_model::{Call, FileDisk, MemDisk, Note};
+use disk_model::{Call, FileDisk, MemDisk, Note, OpenedFiles};
 use load_base::{Name, PartText};
 use recovery::{RecoverFault, Standing, Store, recover, survey};
 use std::alloc::Global;
@@ -132,12 +132,12 @@ fn the_contents_come_with_a_recovery(rt: HostRuntime) -> Result<(), Fail> {
 
 // Why a survey of a disk in a file is refused, if it is.
 fn survey_refusal(rt: &HostRuntime, alloc: Global, name: &str) -> Option<RecoverFault> {
-    survey(alloc, &mut FileDisk::new(rt, name)).err()
+    survey(alloc, &mut FileDisk::new(rt, &OpenedFiles::new(), name)).err()
 }
 
 // Why its recovery is refused, if it is.
 fn recover_refusal(rt: &HostRuntime, alloc: Global, name: &str) -> Option<RecoverFault> {
-    recover(alloc, &mut FileDisk::new(rt, name)).err()
+    recover(alloc, &mut FileDisk::new(rt, &OpenedFiles::new(), name)).err()
 }
 
 #[test]

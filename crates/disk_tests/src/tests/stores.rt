@@ -4,7 +4,7 @@ ghost use Rattle.bank_store.specs.Store.{IsIdle};
 
 use bank_store::{Identity, Store, StoreFault, format};
 use disk_layout::{Active, Bank, ManifestRange, Slot};
-use disk_model::{Call, Disk, FileDisk, MemDisk, Note};
+use disk_model::{Call, Disk, FileDisk, MemDisk, Note, OpenedFiles};
 use load_base::{Bytes, Ident, Name, PartText};
 use printed_text::Printed;
 use std::alloc::Global;
@@ -123,7 +123,7 @@ fn each_failing_call_stops_formatting(rt: HostRuntime) -> Result<(), Fail> {
 // What formatting a disk in a file answers.
 fn format_file(rt: &HostRuntime, name: &str) -> Result<Result<(), StoreFault>, Fail> {
     let identity = target(4096)?;
-    Ok(format(&mut FileDisk::new(rt, name), &identity))
+    Ok(format(&mut FileDisk::new(rt, &OpenedFiles::new(), name), &identity))
 }
 
 // How many bytes a formatted file has, whether it begins as it should, and its first gate.
