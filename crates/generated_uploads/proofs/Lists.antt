@@ -1,5 +1,5 @@
 -- Both lists of the generated set are read as they were written.
-use Rattle.std.proofs.Common.{◌≡◌, ℕ, ◌≤◌, List, [], Option, Some, Ok, refl, sym, ap, ◌∙◌, arith}
+use Rattle.std.proofs.Common.{◌≡◌, ℕ, ◌≤◌, List, [], Option, Some, None, Ok, refl, sym, ap, ◌∙◌, arith}
 use Rattle.std.specs.Prelude.{codes, map, slice_get}
 use Rattle.std.proofs.lemmas.Option.{slice_get-map}
 use Rattle.crc_fields.specs.WidthLaws.{crc16_fits}
@@ -15,11 +15,14 @@ use Rattle.media_lists.specs.Files.{FilesListView, FilesSpells, IsFilesList, fil
 use Rattle.media_lists.specs.ListFields.{head_fields, identity_fields, list_size}
 use Rattle.media_lists.specs.Loads.{IsLoadsList, LoadsListView, LoadsSpells, load_body_fields, loads_list}
 use Rattle.media_lists.specs.Paths.{IsPath}
+use Rattle.media_lists.specs.declared.fault.ListFault.{ListFault}
+use Rattle.batch_lists.specs.Batches.{BatchesListView, batches_list}
+use Rattle.batch_lists.specs.declared.fault.BatchesFault.{BatchesFault}
 use Rattle.media_check.specs.BuiltSets.{built_media, member_list}
 use Rattle.media_check.specs.Sets.{MemberView, found_as, found_in, lists_in}
 use Rattle.media_check.specs.declared.built.Built.{Built}
 use Rattle.media_check.specs.declared.found.Found.{Found}
-use Rattle.media_check.specs.declared.found.Found.TheVariants.{Read}
+use Rattle.media_check.specs.declared.found.Found.TheVariants.{Missing, Read}
 use Rattle.media_build.specs.GeneratedSet.{always, generated_lines}
 use Rattle.media_build.specs.Lines.{members_of}
 use Rattle.media_build.specs.NoFindings.{built_view}
@@ -113,10 +116,11 @@ module _ (laws : ListLaws) (file : List ℕ) where
   files_found = ap (λ (r : _). found_as r) (answer_is files_list (files_list_bytes (always file) generated_lines 1) (recipe_files (always file) generated_lines 1) files_spelled)
 
   abbrev pub lists_read : MemberView
-  lists_read = record { loads = Read (recipe_loads generated_lines 1); files = Read (recipe_files (always file) generated_lines 1) }
+  lists_read = record { loads = Read (recipe_loads generated_lines 1); files = Read (recipe_files (always file) generated_lines 1); batches = Missing }
 
-  same_lists : (a b : Found LoadsListView) (c d : Found FilesListView) → a ≡ b → c ≡ d → (let one : MemberView = record { loads = a; files = c } in one) ≡ record { loads = b; files = d }
-  same_lists a b c d e f = rw (e, f) refl
+  same_lists : (a b : Found LoadsListView ListFault) (c d : Found FilesListView ListFault) (e f : Found BatchesListView BatchesFault) → a ≡ b → c ≡ d → e ≡ f
+      → (let one : MemberView = record { loads = a; files = c; batches = e } in one) ≡ record { loads = b; files = d; batches = f }
+  same_lists a b c d e f p q r = rw (p, q, r) refl
 
   -- ---- as they are built
 
@@ -132,5 +136,12 @@ module _ (laws : ListLaws) (file : List ℕ) where
     unfolding recipe_set members_of
     files_there = lists_are built.files.items ∙ ap (λ (set : BuiltView). slice_get set.files 0) made
 
+    -- it has no batches
+    pub no_batches_there : member_list built.batches.items 1 ≡ None
+    unfolding recipe_set members_of
+    no_batches_there = lists_are built.batches.items ∙ ap (λ (set : BuiltView). slice_get set.batches 0) made
+
     pub both_found : lists_in (built_media built) 1 ≡ lists_read
-    both_found = same_lists _ _ _ _ (ap (λ (bytes : Option (List ℕ)). found_in loads_list bytes) loads_there ∙ loads_found) (ap (λ (bytes : Option (List ℕ)). found_in files_list bytes) files_there ∙ files_found)
+    both_found =
+        same_lists _ _ _ _ _ _ (ap (λ (bytes : Option (List ℕ)). found_in loads_list bytes) loads_there ∙ loads_found) (ap (λ (bytes : Option (List ℕ)). found_in files_list bytes) files_there ∙ files_found)
+        (ap (λ (bytes : Option (List ℕ)). found_in batches_list bytes) no_batches_there)

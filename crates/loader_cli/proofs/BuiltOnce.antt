@@ -7,7 +7,7 @@ use Rattle.std.proofs.lemmas.List.Elements.{All-head, All-tail}
 use Rattle.load_base.specs.Counts.{Rose}
 use Rattle.load_base.specs.Host.{Files, longest_file}
 use Rattle.printed_text.specs.FaultTexts.{coded}
-use Rattle.media_build.specs.Building.{AnswersSizes, Builds as BuildsOf, CanTake, HasShortHeader, HaveLists, HaveShortHeaders, HaveSizes, IsFirstLongHeader, IsFirstRefused, IsSourceFault, IsThere, header_length, headers_length, source_names}
+use Rattle.media_build.specs.Building.{AnswersSizes, Builds as BuildsOf, CanTake, HasShortHeader, HaveLists, HaveShortHeaders, HaveSizes, IsFirstLongHeader, IsFirstRefused, IsSourceFault, IsThere, header_length, fixed_length, source_names}
 use Rattle.media_build.specs.FaultTexts.{recipe_fault_text}
 use Rattle.media_build.specs.NoFindings.{body_view, built_view}
 use Rattle.media_build.specs.RecipeSets.{BuiltView, RecipeLoadView, loads_of}
@@ -166,16 +166,16 @@ module _ (recipe : List ℕ) (told : Files) where
 data Refusal (recipe : List ℕ) (told : Files) (lines : List RecipeLine) (text : List ℕ) : Type 0 where
   by_header : header_refusal recipe (loads_of lines) ≡ Some text → Refusal recipe told lines text
   by_list : HaveShortHeaders lines → ¬ HaveLists lines → text ≡ refused_input recipe (coded (codes "listtoolong") []) → Refusal recipe told lines text
-  by_source : HaveSizes lines → source_refusal recipe told (headers_length (loads_of lines)) (source_names lines) ≡ Some text → Refusal recipe told lines text
+  by_source : HaveSizes lines → source_refusal recipe told (fixed_length lines) (source_names lines) ≡ Some text → Refusal recipe told lines text
 
 module _ (recipe : List ℕ) (told : Files) (lines : List RecipeLine) where
   by_fault : (fault : BuildFault) → AnswersSizes lines (Err fault) → BuildsOf lines (Err fault) told → IsOfInput fault → Refusal recipe told lines (refused_build recipe fault)
   by_fault (Absent name) (inl size) builds input = absurd size
-  by_fault (Absent name) (inr sizes) builds input = by_source sizes.0 (first_source recipe told (headers_length (loads_of lines)) (source_names lines) (Absent name) builds)
+  by_fault (Absent name) (inr sizes) builds input = by_source sizes.0 (first_source recipe told (fixed_length lines) (source_names lines) (Absent name) builds)
   by_fault (TooLong name) (inl size) builds input = absurd size
-  by_fault (TooLong name) (inr sizes) builds input = by_source sizes.0 (first_source recipe told (headers_length (loads_of lines)) (source_names lines) (TooLong name) builds)
+  by_fault (TooLong name) (inr sizes) builds input = by_source sizes.0 (first_source recipe told (fixed_length lines) (source_names lines) (TooLong name) builds)
   by_fault TooLarge (inl size) builds input = absurd size
-  by_fault TooLarge (inr sizes) builds input = by_source sizes.0 (first_source recipe told (headers_length (loads_of lines)) (source_names lines) TooLarge builds)
+  by_fault TooLarge (inr sizes) builds input = by_source sizes.0 (first_source recipe told (fixed_length lines) (source_names lines) TooLarge builds)
   by_fault (HeaderTooLong line) (inl size) builds input = by_header (first_header recipe lines line size)
   by_fault (HeaderTooLong line) (inr sizes) builds input = absurd sizes.1
   by_fault ListTooLong (inl size) builds input = by_list size.0 size.1 refl
@@ -194,10 +194,10 @@ module _ (recipe : List ℕ) (told : Files) (lines : List RecipeLine) where
   one_refusal s t (by_source sizes is) (by_list short no_lists so) = absurd (no_lists sizes.lists)
   one_refusal s t (by_source sizes is) (by_source sizes_2 so) = some_same (sym is ∙ so)
 
-  none_refused : (s : List ℕ) → HaveSizes lines → CanTake told (headers_length (loads_of lines)) (source_names lines) → Refusal recipe told lines s → ⊥
+  none_refused : (s : List ℕ) → HaveSizes lines → CanTake told (fixed_length lines) (source_names lines) → Refusal recipe told lines s → ⊥
   none_refused s sizes can (by_header is) = some_none (sym is ∙ headers_pass recipe (loads_of lines) sizes.headers)
   none_refused s sizes can (by_list short no_lists is) = no_lists sizes.lists
-  none_refused s sizes can (by_source sizes_2 is) = some_none (sym is ∙ sources_pass recipe told (headers_length (loads_of lines)) (source_names lines) can)
+  none_refused s sizes can (by_source sizes_2 is) = some_none (sym is ∙ sources_pass recipe told (fixed_length lines) (source_names lines) can)
 
 -- ---- `build`
 

@@ -145,8 +145,9 @@ put_the_same Says single one two first second (inr (text, says, put)) (inr (text
 -- ---- `trial`
 
 -- media that tell the same are the same
-same_media : (m n : Media) → ((k : ℕ) → m.loads_list k ≡ n.loads_list k) → ((k : ℕ) → m.files_list k ≡ n.files_list k) → ((e : ListedFile) → m.listed e ≡ n.listed e) → m ≡ n
-same_media m n loads files listed = λ i. record { loads_list = λ k. loads k i; files_list = λ k. files k i; listed = λ e. listed e i }
+same_media : (m n : Media) → ((k : ℕ) → m.loads_list k ≡ n.loads_list k) → ((k : ℕ) → m.files_list k ≡ n.files_list k) → ((k : ℕ) → m.batches_list k ≡ n.batches_list k)
+    → ((e : ListedFile) → m.listed e ≡ n.listed e) → m ≡ n
+same_media m n loads files batches listed = λ i. record { loads_list = λ k. loads k i; files_list = λ k. files k i; batches_list = λ k. batches k i; listed = λ e. listed e i }
 
 same_member : (one two : List (Listed ℕ)) (k : ℕ) → map (λ (list : Listed ℕ). list.items) one ≡ map (λ (list : Listed ℕ). list.items) two → member_list one k ≡ member_list two k
 same_member one two k same =
@@ -165,6 +166,7 @@ one_built one two same =
     ap set_in (same_media (built_media one) (built_media two)
     (λ k. same_member one.loads.items two.loads.items k (ap (λ (b : BuiltView). b.loads) same))
     (λ k. same_member one.files.items two.files.items k (ap (λ (b : BuiltView). b.files) same))
+    (λ k. same_member one.batches.items two.batches.items k (ap (λ (b : BuiltView). b.batches) same))
     (λ e. same_body one.bodies.items two.bodies.items e.name (ap (λ (b : BuiltView). b.bodies) same)))
 
 one_set : (number : ℕ) (one two : SetView) → IsGeneratedSet number one → IsGeneratedSet number two → two ≡ one

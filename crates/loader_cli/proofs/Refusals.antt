@@ -49,7 +49,7 @@ else_so false x y is = refl
 abbrev pub long_or : (name : List ℕ) (size : ℕ) → Option (List ℕ) → Option (List ℕ)
 long_or name size later = if nat_lt longest_file size then Some (refused_input name (codes "toolong")) else later
 
-abbrev found_refusal : {V : Type 0} → (name : List ℕ) → Found V → Option (List ℕ)
+abbrev found_refusal : {V : Type 0} → (name : List ℕ) → Found V ListFault → Option (List ℕ)
 found_refusal name Missing = Some (refused_input name (codes "absent"))
 found_refusal name (Refused fault) = Some (refused_input name (list_fault_text fault))
 found_refusal name (Read list) = None
@@ -106,7 +106,7 @@ is_large folder total later large = then_so (nat_lt largest_set total) (Some (re
 pub is_small : (folder : List ℕ) (total : ℕ) (later : Option (List ℕ)) → total ≤ largest_set → large_or folder total later ≡ later
 is_small folder total later small = else_so (nat_lt largest_set total) (Some (refused_input folder (codes "toolarge"))) later (not_lower largest_set total small)
 
-read_is : {V : Type 0} (name : List ℕ) (found : Found V) → IsRead found → found_refusal name found ≡ None
+read_is : {V : Type 0} (name : List ℕ) (found : Found V ListFault) → IsRead found → found_refusal name found ≡ None
 read_is name Missing is = absurd is
 read_is name (Refused fault) is = absurd is
 read_is name (Read list) is = refl

@@ -43,8 +43,8 @@ not_longer told name file short long = by long.before long.stands
 
 module _ {V : Type 0} (format : Grammar ListFault V) (told : Files) (name : List ℕ) (has : HasList format (Some told) name) where
   list_refused : (fault : List ℕ) → RefusesList format (Some told) name fault → ⊥
-  list_refused fault (list_absent none is) = subst (λ (f : Found V). IsRead f) (ap (found_in format) (none told refl)) (has told refl).1
-  list_refused fault (list_faulty wrong refuses is) = subst (λ (f : Found V). IsRead f) (refuses told refl).1 (has told refl).1
+  list_refused fault (list_absent none is) = subst (λ (f : Found V ListFault). IsRead f) (ap (found_in format) (none told refl)) (has told refl).1
+  list_refused fault (list_faulty wrong refuses is) = subst (λ (f : Found V ListFault). IsRead f) (refuses told refl).1 (has told refl).1
 
   list_long : (file : List ℕ) → IsFirstLong told (name ∷ []) file → ⊥
   list_long file long = not_longer told name file (has told refl).0 long

@@ -6,13 +6,13 @@ use Rattle.std.proofs.lemmas.List.{length-map}
 use Rattle.load_base.specs.Counts.{Rose}
 use Rattle.load_base.specs.Host.{Files}
 use Rattle.media_check.specs.declared.built.Built.{Built}
-use Rattle.media_build.specs.Building.{AnswersSizes, Builds as BuildsOf, CanTake, HaveSizes, IsFirstRefused, IsSizeFault, IsSmall, headers_length, source_names, sources_in}
+use Rattle.media_build.specs.Building.{AnswersSizes, Builds as BuildsOf, CanTake, HaveSizes, IsFirstRefused, IsSizeFault, IsSmall, fixed_length, source_names, sources_in}
 use Rattle.media_build.specs.GeneratedSet.{generated_lines, generated_sources}
 use Rattle.media_build.specs.HostWrites.{WritesFiles, WritesTold, written_files}
 use Rattle.media_build.specs.NoFindings.{body_view, built_view}
 use Rattle.media_build.specs.RecipeSets.{BuiltView, Sources, loads_of, load_bodies, recipe_bodies, recipe_set}
 use Rattle.media_build.specs.Recipes.{recipe_said}
-use Rattle.media_build.specs.WrittenFolders.{HoldsSet}
+use Rattle.media_build.specs.WrittenFolders.{HasNoOtherBatches, HoldsSet}
 use Rattle.media_build.specs.declared.building_fault.BuildFault.{BuildFault}
 use Rattle.media_build.specs.declared.building_fault.BuildFault.TheVariants.{Absent, TooLong, TooLarge, HeaderTooLong, ListTooLong, Failed, Memory}
 use Rattle.media_build.specs.declared.fault.RecipeFault.{RecipeFault}
@@ -38,9 +38,9 @@ pub record BuildingLaws : Type 0 where
   pub sizes : (lines : List RecipeLine) (fault : BuildFault) → HaveSizes lines → IsSizeFault lines fault → fault ≡ Memory
   pub sources : (files : Files) (others : ℕ) (names : List (List ℕ)) (fault : BuildFault) → CanTake files others names → ¬ IsFirstRefused files others names fault
   pub built : (folder text : List ℕ) (lines : List RecipeLine) (built : Built) (files old new : Files) → recipe_said text ≡ Ok lines → AnswersSizes lines (Ok built)
-      → BuildsOf lines (Ok built) files → IsSmall built → WritesFiles (written_files folder built) old new (Ok tt) → HoldsSet folder new (sources_in files) lines
+      → BuildsOf lines (Ok built) files → IsSmall built → HasNoOtherBatches folder old lines → WritesFiles (written_files folder built) old new (Ok tt) → HoldsSet folder new (sources_in files) lines
   pub made : (folder : List ℕ) (number : ℕ) (built : Built) (old new : Files) → built_view built ≡ recipe_set (generated_sources number) generated_lines → IsSmall built
-      → WritesFiles (written_files folder built) old new (Ok tt) → HoldsSet folder new (generated_sources number) generated_lines
+      → HasNoOtherBatches folder old generated_lines → WritesFiles (written_files folder built) old new (Ok tt) → HoldsSet folder new (generated_sources number) generated_lines
 
 -- ---- what the host has
 
@@ -83,7 +83,7 @@ not_too_many (Some other) told name text lines is there says long =
 
 -- ---- nothing is refused
 
-not_refused : (laws : BuildingLaws) (told : Files) (lines : List RecipeLine) (fault : BuildFault) → HaveSizes lines → CanTake told (headers_length (loads_of lines)) (source_names lines)
+not_refused : (laws : BuildingLaws) (told : Files) (lines : List RecipeLine) (fault : BuildFault) → HaveSizes lines → CanTake told (fixed_length lines) (source_names lines)
     → AnswersSizes lines (Err fault) → BuildsOf lines (Err fault) told → ¬ IsOfInput fault
 not_refused laws told lines fault sizes sources (inl wrong) builds input = let memory = laws.sizes lines fault sizes wrong in subst IsOfInput memory input
 not_refused laws told lines (Absent name) sizes sources (inr right) builds input = laws.sources told _ _ _ sources builds
@@ -110,7 +110,7 @@ unfolding recipe_set
 count_files set sources lines same = sym (length-map set.bodies.items body_view) ∙ ap (λ (v : BuiltView). length v.bodies) same
 
 lines_right : (laws : BuildingLaws) (told : Files) (recipe folder : List ℕ) (lines : List RecipeLine) (host : HostWork) (status : ℕ) (text : List ℕ) → host.files ≡ Some told → HaveSizes lines
-    → CanTake told (headers_length (loads_of lines)) (source_names lines) → ¬ Rose host.faults host.faults_after → BuildsLines recipe folder lines host status text
+    → CanTake told (fixed_length lines) (source_names lines) → ¬ Rose host.faults host.faults_after → BuildsLines recipe folder lines host status text
     → IsDone status text (built_line (length (loads_of lines)) (length (recipe_bodies (sources_in told) lines)))
 lines_right laws told recipe folder lines host status text files sizes sources answers (set_built set is writes) =
     writes_right folder set (length (loads_of lines)) (length (recipe_bodies (sources_in told) lines)) host status text (count_files set (sources_in told) lines (is.builds told files).1) answers writes
@@ -119,7 +119,7 @@ lines_right laws told recipe folder lines host status text files sizes sources a
 lines_right laws told recipe folder lines host status text files sizes sources answers (sources_unread rose _ _ _) = absurd (answers rose)
 
 bytes_right : (laws : BuildingLaws) (told : Files) (recipe folder bytes : List ℕ) (lines : List RecipeLine) (host : HostWork) (status : ℕ) (text : List ℕ) → host.files ≡ Some told
-    → recipe_said bytes ≡ Ok lines → HaveSizes lines → CanTake told (headers_length (loads_of lines)) (source_names lines) → ¬ Rose host.faults host.faults_after
+    → recipe_said bytes ≡ Ok lines → HaveSizes lines → CanTake told (fixed_length lines) (source_names lines) → ¬ Rose host.faults host.faults_after
     → BuildsBytes recipe folder bytes host status text → IsDone status text (built_line (length (loads_of lines)) (length (recipe_bodies (sources_in told) lines)))
 bytes_right laws told recipe folder bytes lines host status text files says sizes sources answers (said other is builds) =
     let same : other ≡ lines = ok_of (recipe_said bytes) other lines is says in
@@ -127,7 +127,7 @@ bytes_right laws told recipe folder bytes lines host status text files says size
 bytes_right laws told recipe folder bytes lines host status text files says sizes sources answers (no_recipe fault wrong _ _ _) = absurd (not_both (recipe_said bytes) lines fault says wrong)
 
 build_right : (laws : BuildingLaws) (told : Files) (recipe folder contents : List ℕ) (lines : List RecipeLine) (host : HostWork) (status : ℕ) (text : List ℕ) → host.files ≡ Some told
-    → told recipe ≡ Some contents → recipe_said contents ≡ Ok lines → HaveSizes lines → CanTake told (headers_length (loads_of lines)) (source_names lines)
+    → told recipe ≡ Some contents → recipe_said contents ≡ Ok lines → HaveSizes lines → CanTake told (fixed_length lines) (source_names lines)
     → ¬ Rose host.faults host.faults_after → Builds recipe folder host status text
     → IsDone status text (built_line (length (loads_of lines)) (length (recipe_bodies (sources_in told) lines)))
 build_right laws told recipe folder contents lines host status text files there says sizes sources answers (recipe_read bytes has short builds) =
@@ -161,25 +161,25 @@ make_said run number folder status text premise says =
 
 -- a host that tells its files has the files of the set, and goes on telling them
 leaves : (folder : List ℕ) (set : Built) (old new : Option Files) (told : Files) (sources : Sources) (lines : List RecipeLine) → old ≡ Some told
-    → ((after : Files) → WritesFiles (written_files folder set) told after (Ok tt) → HoldsSet folder after sources lines) → WritesTold (written_files folder set) old new (Ok tt)
-    → LeavesFolder folder new sources lines
+    → ((after : Files) → HasNoOtherBatches folder told lines → WritesFiles (written_files folder set) told after (Ok tt) → HoldsSet folder after sources lines) → WritesTold (written_files folder set) old new (Ok tt)
+    → LeavesFolder folder told new sources lines
 leaves folder set None new told sources lines is holds wrote = absurd cc
 leaves folder set (Some was) new told sources lines is holds wrote =
     let same : was ≡ told = some_of is in
     let here = subst (λ (f : Files). WritesFiles (written_files folder set) f wrote.0 (Ok tt)) same wrote.2 in
-    record { files = wrote.0; told = wrote.1; holds = holds wrote.0 here }
+    record { files = wrote.0; told = wrote.1; holds = λ none. holds wrote.0 none here }
 
 set_leaves : (folder : List ℕ) (set : Built) (loads : ℕ) (host : HostWork) (status : ℕ) (text : List ℕ) (told : Files) (sources : Sources) (lines : List RecipeLine) → host.files ≡ Some told → status ≡ 0
-    → ((after : Files) → WritesFiles (written_files folder set) told after (Ok tt) → HoldsSet folder after sources lines) → WritesSet folder set loads host status text
-    → LeavesFolder folder host.files_after sources lines
+    → ((after : Files) → HasNoOtherBatches folder told lines → WritesFiles (written_files folder set) told after (Ok tt) → HoldsSet folder after sources lines) → WritesSet folder set loads host status text
+    → LeavesFolder folder told host.files_after sources lines
 set_leaves folder set loads host status text told sources lines files zero holds (written wrote _ _) = leaves folder set host.files host.files_after told sources lines files holds wrote.told
 set_leaves folder set loads host status text told sources lines files zero holds (unwritten _ _ is _) = absurd (apart status 3 zero is)
 
 lines_leave : (laws : BuildingLaws) (recipe folder bytes : List ℕ) (lines : List RecipeLine) (host : HostWork) (status : ℕ) (text : List ℕ) (told : Files) → host.files ≡ Some told → status ≡ 0
-    → recipe_said bytes ≡ Ok lines → BuildsLines recipe folder lines host status text → LeavesFolder folder host.files_after (sources_in told) lines
+    → recipe_said bytes ≡ Ok lines → BuildsLines recipe folder lines host status text → LeavesFolder folder told host.files_after (sources_in told) lines
 lines_leave laws recipe folder bytes lines host status text told files zero says (set_built set is writes) =
     set_leaves folder set (length (loads_of lines)) host status text told (sources_in told) lines files zero
-    (λ after wrote. laws.built folder bytes lines set told told after says is.sizes (is.builds told files) is.small wrote) writes
+    (λ after none wrote. laws.built folder bytes lines set told told after says is.sizes (is.builds told files) is.small none wrote) writes
 lines_leave laws recipe folder bytes lines host status text told files zero says (set_refused _ _ _ _ is _) = absurd (apart status 2 zero is)
 lines_leave laws recipe folder bytes lines host status text told files zero says (sources_unread _ _ is _) = absurd (apart status 3 zero is)
 
@@ -201,7 +201,7 @@ make_leaves : (laws : BuildingLaws) (words : List (List ℕ)) (number : ℕ) (fo
     → IsCommand words (make number folder) → Makes number folder host status text → LeavesSet words told folder host.files_after
 make_leaves laws words number folder host status text told files zero asked (set_made set is small writes) =
     has_made number asked
-    (set_leaves folder set 1 host status text told (generated_sources number) generated_lines files zero (λ after wrote. laws.made folder number set told after is small wrote) writes)
+    (set_leaves folder set 1 host status text told (generated_sources number) generated_lines files zero (λ after none wrote. laws.made folder number set told after is small none wrote) writes)
 
 pub run_leaves : (laws : BuildingLaws) (run : Run) (folder : List ℕ) (told : Files) (status : ℕ) (text : List ℕ) → WritesInto run.work.words folder → run.work.files ≡ Some told → status ≡ 0
     → Says run.work status text → LeavesSet run.work.words told folder run.work.files_after

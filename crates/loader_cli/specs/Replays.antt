@@ -14,7 +14,7 @@ use Rattle.media_lists.specs.Files.{files_list}
 use Rattle.media_lists.specs.Loads.{loads_list}
 use Rattle.media_lists.specs.ListFaultText.{list_fault_text}
 use Rattle.media_lists.specs.declared.fault.ListFault.{ListFault}
-use Rattle.media_check.specs.HostNames.{Reading, files_name, further_reading, host_media, loads_name}
+use Rattle.media_check.specs.HostNames.{Reading, batches_name, files_name, further_reading, host_media, loads_name}
 use Rattle.media_check.specs.Openings.{CanRead, IsShort, IsTooLarge, IsTooLong, IsFirstLong}
 use Rattle.media_check.specs.Sets.{SetView, found_in, lists_in, set_in}
 use Rattle.media_check.specs.declared.found.Found.{Found}
@@ -175,7 +175,7 @@ pub data RunsTo (told : Telling) (set : SetView) (script : List Line) (old new :
 -- ---- the inputs, in reading order
 
 -- the list was found
-abbrev pub IsRead : {V : Type 0} → Found V → Type 0
+abbrev pub IsRead : {V F : Type 0} → Found V F → Type 0
 IsRead (Read list) = ⊤
 IsRead Missing = ⊥
 IsRead (Refused fault) = ⊥
@@ -194,9 +194,13 @@ pub data RefusesList {V : Type 0} (format : Grammar ListFault V) (files : Option
   list_faulty : (fault : ListFault) → ForSome files (λ told. IsShort told name × (found_in format (told name) ≡ Refused fault))
       → told_fault ≡ list_fault_text fault → RefusesList format files name told_fault
 
--- what is read of a set once both lists of member 1 were
+-- member 1's BATCHES.LUM, and what is read after it
+abbrev pub from_batches : (folder : List ℕ) → Reading → Reading
+from_batches folder further = record { lists = batches_name folder 1 ∷ further.lists; files = further.files }
+
+-- what is read of a set once LOADS.LUM and FILES.LUM of member 1 were
 abbrev pub rest_of : (folder : List ℕ) → Files → Reading
-rest_of folder files = further_reading folder (lists_in (host_media files folder) 1)
+rest_of folder files = from_batches folder (further_reading folder (lists_in (host_media files folder) 1))
 
 -- The folder has this set, and all of it can be read.
 pub record HasSet (folder : List ℕ) (files : Option Files) (set : SetView) : Type 0 where

@@ -8,11 +8,11 @@ use Rattle.media_check.specs.Findings.{findings_of}
 use Rattle.media_check.specs.HostNames.{host_media, Reading, whole_reading}
 use Rattle.media_check.specs.Openings.{CanRead, IsTooLong, IsTooLarge}
 use Rattle.media_check.specs.Sets.{SetView, lists_in, set_in}
-use Rattle.media_build.specs.Building.{CanTake, HaveSizes, headers_length, source_names, sources_in}
+use Rattle.media_build.specs.Building.{CanTake, HaveSizes, fixed_length, source_names, sources_in}
 use Rattle.media_build.specs.GeneratedSet.{generated_lines, generated_sources}
 use Rattle.media_build.specs.RecipeSets.{Sources, loads_of, recipe_bodies}
 use Rattle.media_build.specs.Recipes.{recipe_said}
-use Rattle.media_build.specs.WrittenFolders.{HoldsSet, IsCleanFolder}
+use Rattle.media_build.specs.WrittenFolders.{HasNoOtherBatches, HoldsSet, IsCleanFolder}
 use Rattle.media_build.specs.declared.statements.RecipeLine.{RecipeLine}
 use Rattle.shown_files.specs.Shown.{HasFields, HasFault}
 use Rattle.shown_files.specs.declared.kind.ShownKind.{ShownKind}
@@ -276,7 +276,7 @@ pub record BuildsRightSet (run : Run) (recipe folder : List ℕ) (told : Files) 
   pub there : told recipe ≡ Some text
   pub said : recipe_said text ≡ Ok lines
   pub sizes : HaveSizes lines
-  pub sources : CanTake told (headers_length (loads_of lines)) (source_names lines)
+  pub sources : CanTake told (fixed_length lines) (source_names lines)
   pub answers : NothingFails run
 
 -- The arguments make the generated set of this number.
@@ -340,17 +340,18 @@ pub data WritesInto (words : List (List ℕ)) (folder : List ℕ) : Type 0 where
   of_recipe : (recipe : List ℕ) → IsCommand words (build recipe folder) → WritesInto words folder
   of_number : (number : ℕ) → IsCommand words (make number folder) → WritesInto words folder
 
--- The host tells its files after the run, and has the set of a recipe in this folder, in which nothing is wrong.
-pub record LeavesFolder (folder : List ℕ) (after : Option Files) (sources : Sources) (lines : List RecipeLine) : Type 0 where
+-- The host tells its files after the run, and has the set of a recipe in this folder, in which nothing is wrong; but where the
+-- recipe has no batches, another set's list of batches may have stood there.
+pub record LeavesFolder (folder : List ℕ) (before : Files) (after : Option Files) (sources : Sources) (lines : List RecipeLine) : Type 0 where
   pub files : Files
   pub told : after ≡ Some files
-  pub holds : HoldsSet folder files sources lines
+  pub holds : HasNoOtherBatches folder before lines → HoldsSet folder files sources lines
 
 -- After the run the host has in this folder the set that the arguments name, of the recipe and the sources that it had.
 pub data LeavesSet (words : List (List ℕ)) (told : Files) (folder : List ℕ) (after : Option Files) : Type 0 where
   has_built : (recipe text : List ℕ) (lines : List RecipeLine) → IsCommand words (build recipe folder) → told recipe ≡ Some text → recipe_said text ≡ Ok lines
-      → LeavesFolder folder after (sources_in told) lines → LeavesSet words told folder after
-  has_made : (number : ℕ) → IsCommand words (make number folder) → LeavesFolder folder after (generated_sources number) generated_lines
+      → LeavesFolder folder told after (sources_in told) lines → LeavesSet words told folder after
+  has_made : (number : ℕ) → IsCommand words (make number folder) → LeavesFolder folder told after (generated_sources number) generated_lines
       → LeavesSet words told folder after
 
 -- A name under which the arguments write: the set that they build or make has a list or a file there.

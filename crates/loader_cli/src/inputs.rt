@@ -1,10 +1,11 @@
 //! What the commands `replay`, `wire` and `fleet` read before a run.
 ghost use Rattle.std.specs.Prelude.{◌≡◌, ℕ, ◌≤◌, IfOk};
-ghost use Rattle.media_check.specs.Sets.{IsFoundFiles, set_view};
+ghost use Rattle.batch_lists.specs.Batches.{batches_list_view};
+ghost use Rattle.media_check.specs.Sets.{IsFoundFiles, found_view, set_view};
 ghost use Rattle.media_check.specs.declared.found.Found.TheVariants.{Read};
 ghost use Rattle.media_lists.specs.Files.{files_list_view};
 ghost use Rattle.media_lists.specs.Loads.{loads_list_view};
-ghost use Rattle.loader_cli.specs.Inputs.{HasListed, HasLoads, ReadsInputs};
+ghost use Rattle.loader_cli.specs.Inputs.{HasBatches, HasListed, HasLoads, ReadsInputs};
 ghost use Rattle.loader_cli.specs.Replays.{HasSet};
 ghost use Rattle.std.specs.Prelude.{codes};
 ghost use Rattle.media_lists.specs.ListFaultText.{list_fault_text};
@@ -13,10 +14,12 @@ ghost use Rattle.loader_cli.specs.Inputs.{IsRefusal, TellsScriptFault, inputs_st
 ghost use Rattle.loader_cli.specs.Texts.{refused_input};
 
 use crate::answer::Answer;
+use batch_lists::{BatchesFault, BatchesList};
 use link_net::ScriptFault;
 use load_base::{Bytes, Host, NoMemory, ReadFault};
 use media_check::{
-    Found, MediaSet, OpenFault, host_name, open_rest, read_files_list, read_loads_list,
+    Found, MediaSet, OpenFault, host_name, open_rest, read_batches_list, read_files_list,
+    read_loads_list,
 };
 use media_lists::{FilesList, ListFault, LoadsList};
 use printed_text::Printed;
@@ -69,7 +72,7 @@ fn read_files<'w, H: Host>(
     ensures kept { H.files host.new ≡ H.files host.old }
 {
     match read_files_list(alloc, host, folder, 1) {
-        Ok(Found::Read(files)) => read_rest(alloc, host, folder, name, loads, files),
+        Ok(Found::Read(files)) => read_batches(alloc, host, folder, name, loads, files),
         Ok(Found::Missing) => absent_list(alloc, folder, b"FILES.LUM"),
         Ok(Found::Refused(fault)) => refused_list(alloc, folder, b"FILES.LUM", fault),
         Err(OpenFault::TooLong(file)) => Ok(Inputs::Refused(Answer::TooLongFile(file))),
@@ -79,8 +82,8 @@ fn read_files<'w, H: Host>(
     }
 }
 
-// The same once both lists were read.
-fn read_rest<'w, H: Host>(
+// The same once both lists were read. A list of batches that is absent or refused stops nothing.
+fn read_batches<'w, H: Host>(
     alloc: Global,
     host: &mut H,
     folder: &'w [u8],
@@ -96,7 +99,37 @@ fn read_rest<'w, H: Host>(
     ensures faults { HidesNoFault inputs_status (H.faults host.old) (H.faults host.new) result }
     ensures kept { H.files host.new ≡ H.files host.old }
 {
-    match open_rest(alloc, host, folder, Found::Read(loads), Found::Read(files)) {
+    match read_batches_list(alloc, host, folder, 1) {
+        Ok(batches) => read_rest(alloc, host, folder, name, loads, files, batches),
+        Err(OpenFault::TooLong(file)) => Ok(Inputs::Refused(Answer::TooLongFile(file))),
+        Err(OpenFault::TooLarge) => Ok(Inputs::Refused(Answer::TooLarge(folder))),
+        Err(OpenFault::Failed) => Ok(Inputs::Refused(Answer::HostFault)),
+        Err(OpenFault::Memory) => Err(NoMemory),
+    }
+}
+
+// The same once all lists of member 1 were read.
+fn read_rest<'w, H: Host>(
+    alloc: Global,
+    host: &mut H,
+    folder: &'w [u8],
+    name: &'w [u8],
+    loads: LoadsList,
+    files: FilesList,
+    batches: Found<BatchesList, BatchesFault>,
+) -> Result<Inputs<'w>, NoMemory>
+    requires loads { HasLoads folder.now (loads_list_view loads) (H.files host.old) }
+    requires files { HasListed folder.now (files_list_view files) (H.files host.old) }
+    requires batches { HasBatches folder.now (found_view batches_list_view batches)
+        (H.files host.old) }
+    requires spelled { IsFoundFiles (Read (files_list_view files)) }
+    ensures reads { (before : ℕ) → before ≤ H.faults host.old → IfOk result (λ inputs.
+        ReadsInputs folder.now name.now (H.files host.old) before (H.faults host.new) inputs) }
+    ensures faults { HidesNoFault inputs_status (H.faults host.old) (H.faults host.new) result }
+    ensures kept { H.files host.new ≡ H.files host.old }
+{
+    let (loads, files) = (Found::Read(loads), Found::Read(files));
+    match open_rest(alloc, host, folder, loads, files, batches) {
         Ok(set) => read_text(alloc, host, folder, name, set),
         Err(OpenFault::TooLong(file)) => Ok(Inputs::Refused(Answer::TooLongFile(file))),
         Err(OpenFault::TooLarge) => Ok(Inputs::Refused(Answer::TooLarge(folder))),

@@ -1,33 +1,36 @@
 -- What a line says that is accepted after others.
 use Rattle.std.proofs.Common.{◌≡◌, ℕ, ◌*◌, ◌%◌, ◌<◌, ◌≤◌, ◌&&◌, Bool, true, false, cond, not, nat_lt, nat_le, List, [], ◌∷◌, length, Option, Some, None, Result, Ok, Err, refl, ap, subst, ◌∙◌, arith}
 use Rattle.std.specs.Prelude.{◌==◌, ⊤}
-use Rattle.std.specs.List.{list_all}
+use Rattle.std.specs.List.{list_all, AllByRecursion}
 use Rattle.std.specs.Str.Parse.{digits_value}
 use Rattle.std.proofs.lemmas.Bool.{leb-true, ltb-true, eqb-true}
 use Rattle.hex.specs.Hex.{decode_of}
 use Rattle.hex.specs.declared.error.FromHexError.{FromHexError}
 use Rattle.hex.proofs.HexLemmas.{decode_of-ok}
+use Rattle.load_base.specs.Ident.{IsIdent}
 use Rattle.load_base.specs.Name.{IsName}
 use Rattle.load_base.specs.PartText.{is_graphic}
-use Rattle.load_base.specs.Verdicts.{name_fault_of}
-use Rattle.load_base.specs.VerdictLaws.{accepted, name_faults}
+use Rattle.load_base.specs.Verdicts.{name_fault_of, ident_fault_of}
+use Rattle.load_base.specs.VerdictLaws.{accepted, name_faults, ident_faults}
 use Rattle.part_number.specs.PartNumber.{IsPartNumberText}
 use Rattle.part_number.specs.Verdicts.{part_fault_of}
 use Rattle.part_number.specs.VerdictLaws.{part_faults}
 use Rattle.field_grammar.specs.StepLaws.{then_ok}
 use Rattle.exchange_trace.specs.Scripts.{decimal_between, is_decimal}
-use Rattle.media_build.specs.Accepted.{IsWord, IsMemberOf, IsLoadLine, IsFileLine, IsUserLine, IsSound}
-use Rattle.media_build.specs.Lines.{one_of, two_of, four_of, five_of, names_of, members_of, files_of_load, has_user, is_used, may_stand, keyword_of}
-use Rattle.media_build.specs.Recipes.{required, passed, number_word, part_word, is_graphic_word, text_word, is_header_name, is_body_name, name_word, member_word, user_word, new_place, placed_words, has_room, load_has_room, type_words, set_line, members_line, load_said, load_line, hardware_line, position_line, source_words, file_said, file_line, user_line, statement_said, keyword_said, words_said}
+use Rattle.media_build.specs.Accepted.{IsWord, IsMemberOf, IsLoadLine, IsFileLine, IsUserLine, IsBatchLine, IsTargetLine, IsSound}
+use Rattle.media_build.specs.Lines.{one_of, two_of, three_of, four_of, five_of, target_of, names_of, members_of, files_of_load, has_user, is_used, is_loaded, target_count, may_follow, keyword_of}
+use Rattle.media_build.specs.Recipes.{required, passed, number_word, part_word, is_graphic_word, text_word, is_header_name, is_body_name, name_word, member_word, user_word, new_place, placed_words, has_room, load_has_room, type_words, set_line, members_line, load_said, load_line, hardware_line, position_line, source_words, file_said, file_line, user_line, is_batch_name, ident_word, batch_said, batch_line, load_part_word, load_part_words, place_words, batch_has_room, target_said, target_line, statement_said, keyword_said, words_said}
 use Rattle.media_build.specs.declared.fault.RecipeFault.{RecipeFault}
 use Rattle.media_build.specs.declared.fault.RecipeFault.TheVariants as faults
 use Rattle.media_build.specs.declared.keywords.Keyword.{Keyword}
 use Rattle.media_build.specs.declared.keywords.Keyword.TheVariants as keywords
+use Rattle.media_build.specs.declared.statements.BatchLine.{BatchLine}
 use Rattle.media_build.specs.declared.statements.FileLine.{FileLine}
 use Rattle.media_build.specs.declared.statements.LoadLine.{LoadLine}
 use Rattle.media_build.specs.declared.statements.RecipeLine.{RecipeLine}
 use Rattle.media_build.specs.declared.statements.Statement.{Statement}
-use Rattle.media_build.specs.declared.statements.Statement.TheVariants.{Set, Members, Load, Hardware, Position, Data, Support, User}
+use Rattle.media_build.specs.declared.statements.Statement.TheVariants.{Set, Members, Load, Hardware, Position, Data, Support, User, Batch, Target}
+use Rattle.media_build.specs.declared.statements.TargetLine.{TargetLine}
 use Rattle.media_build.proofs.Texts.{first_test, second_test, each_graphic}
 
 -- ---- one step
@@ -150,12 +153,14 @@ placed_ok line before may name member place e =
 
 -- ---- what a line adds
 
--- there is room for the files of a line, whose names are new
+-- there is room for the files of a line, whose names are new, and for a target, whose loads are those of the recipe
 abbrev pub HasRoom : List RecipeLine → Statement → Type 0
 HasRoom before (Load load) = (is_used before load.name ≡ false) × (length (names_of before) < 1024)
 HasRoom before (Data file) = (is_used before file.name ≡ false) × (length (names_of before) < 1024) × (files_of_load before < 255)
 HasRoom before (Support file) = (is_used before file.name ≡ false) × (length (names_of before) < 1024) × (files_of_load before < 255)
 HasRoom before (User bytes) = has_user before ≡ false
+HasRoom before (Batch batch) = (is_used before batch.name ≡ false) × (length (names_of before) < 1024)
+HasRoom before (Target target) = (target_count before < 64) × AllByRecursion (λ part. is_loaded before part ≡ true) target.parts
 HasRoom before statement = ⊤
 
 -- the keyword of a line
@@ -168,10 +173,12 @@ keyword_for (Position hardware position) = keywords.Position
 keyword_for (Data file) = keywords.Data
 keyword_for (Support file) = keywords.Support
 keyword_for (User bytes) = keywords.User
+keyword_for (Batch batch) = keywords.Batch
+keyword_for (Target target) = keywords.Target
 
 -- what holds of a line that is accepted after others
 pub record IsAccepted (before : List RecipeLine) (statement : Statement) : Type 0 where
-  pub stands : may_stand (length before) (keyword_for statement) ≡ true
+  pub stands : may_follow before (keyword_for statement) ≡ true
   pub sound : IsSound (members_of before) statement
   pub room : HasRoom before statement
 
@@ -281,6 +288,101 @@ position_ok line words at e =
     let both : IsWord 64 hardware.0 × IsWord 64 position.0 = (text_ok line 64 w.0.0 hardware.0 hardware.1, text_ok line 64 w.0.1 position.0 position.1) in
     subst (λ (o : List ℕ × List ℕ). IsWord 64 o.0 × IsWord 64 o.1) same both
 
+-- ---- batches
+
+ident_ok : (line : ℕ) (word value : List ℕ) → ident_word line word ≡ Ok value → IsIdent value
+unfolding ident_word
+ident_ok line word value e =
+    let a = accepted (λ _. faults.Name line) (ident_fault_of word) word value e in
+    subst IsIdent a.1 ((ident_faults.right word).1 a.0)
+
+batch_ok : (line : ℕ) (before : List RecipeLine) (words : List (List ℕ)) (batch : BatchLine) → batch_line line before words ≡ Ok batch
+    → IsBatchLine (members_of before) batch × HasRoom before (Batch batch)
+unfolding batch_line batch_said
+batch_ok line before words batch e =
+    let w = then_ok (required (faults.Word line) (three_of words)) _ batch e in
+    let number = then_ok (part_word line w.0.0) _ batch w.2 in
+    let file = then_ok (placed_words line before is_batch_name w.0.1 w.0.2) _ batch number.2 in
+    let this : BatchLine = record { part = number.0; name = file.0.0; member = file.0.1 } in
+    let p = passed_ok (has_room before) (faults.Limit line) this batch file.2 in
+    let place = placed_ok line before is_batch_name w.0.1 w.0.2 file.0 file.1 in
+    let sound : IsBatchLine (members_of before) this = record {
+      part = part_ok line w.0.0 number.0 number.1;
+      name = place.name;
+      file = place.kind;
+      member = place.member;
+    } in
+    let room : HasRoom before (Batch this) = (place.new, room_ok before p.0) in
+    subst (λ (b : BatchLine). IsBatchLine (members_of before) b × HasRoom before (Batch b)) p.1 (sound, room)
+
+place_ok : (line : ℕ) (hw pos : List ℕ) (place : List ℕ × List ℕ) → place_words line hw pos ≡ Ok place → IsIdent place.0 × IsIdent place.1
+unfolding place_words
+place_ok line hw pos place e =
+    let hardware = then_ok (ident_word line hw) _ place e in
+    let position = then_ok (ident_word line pos) _ place hardware.2 in
+    let same = same_ok (hardware.0, position.0) place position.2 in
+    let both : IsIdent hardware.0 × IsIdent position.0 = (ident_ok line hw hardware.0 hardware.1, ident_ok line pos position.0 position.1) in
+    subst (λ (p : List ℕ × List ℕ). IsIdent p.0 × IsIdent p.1) same both
+
+-- as many part numbers as words, each that of a load
+record ArePartsOf (before : List RecipeLine) (words parts : List (List ℕ)) : Type 0 where
+  count : length parts ≡ length words
+  each : AllByRecursion IsPartNumberText parts
+  loads : AllByRecursion (λ part. is_loaded before part ≡ true) parts
+
+load_part_ok : (line : ℕ) (before : List RecipeLine) (word part : List ℕ) → load_part_word line before word ≡ Ok part → IsPartNumberText part × (is_loaded before part ≡ true)
+unfolding load_part_word
+load_part_ok line before word part e =
+    let number = then_ok (part_word line word) _ part e in
+    let p = passed_ok (is_loaded before number.0) (faults.NotInRecipe line) number.0 part number.2 in
+    let both : IsPartNumberText number.0 × (is_loaded before number.0 ≡ true) = (part_ok line word number.0 number.1, p.0) in
+    subst (λ (n : List ℕ). IsPartNumberText n × (is_loaded before n ≡ true)) p.1 both
+
+load_parts_ok : (line : ℕ) (before : List RecipeLine) (words parts : List (List ℕ)) → load_part_words line before words ≡ Ok parts → ArePartsOf before words parts
+load_parts_ok line before [] parts e = subst (ArePartsOf before []) (same_ok [] parts e) (record { count = refl; each = tt; loads = tt })
+load_parts_ok line before (word ∷ words) parts e =
+    let first = then_ok (load_part_word line before word) _ parts e in
+    let rest = then_ok (load_part_words line before words) _ parts first.2 in
+    let this = load_part_ok line before word first.0 first.1 in
+    let others = load_parts_ok line before words rest.0 rest.1 in
+    let all : ArePartsOf before (word ∷ words) (first.0 ∷ rest.0) = record { count = omega (arith, others.count); each = (this.0, others.each); loads = (this.1, others.loads) } in
+    subst (ArePartsOf before (word ∷ words)) (same_ok (first.0 ∷ rest.0) parts rest.2) all
+
+few_words : (words : List (List ℕ)) (w : List ℕ × List ℕ × List (List ℕ)) → target_of words ≡ Some w → (1 ≤ length w.2) × (length w.2 ≤ 32)
+few_words [] w e = absurd cc
+few_words (a ∷ []) w e = absurd cc
+few_words (a ∷ b ∷ others) w e = by (nat_le 1 (length others)) (nat_le (length others) 32) refl refl e
+  where
+    by : (some few : Bool) → nat_le 1 (length others) ≡ some → nat_le (length others) 32 ≡ few → cond (some && few) (Some (a, b, others)) None ≡ Some w → (1 ≤ length w.2) × (length w.2 ≤ 32)
+    by true true s f is =
+        let same : (a, b, others) ≡ w = cc in
+        let both : (1 ≤ length others) × (length others ≤ 32) = (leb-true _ _ s, leb-true _ _ f) in
+        subst (λ (t : List ℕ × List ℕ × List (List ℕ)). (1 ≤ length t.2) × (length t.2 ≤ 32)) same both
+    by true false s f is = absurd cc
+    by false few s f is = absurd cc
+
+target_ok : (line : ℕ) (before : List RecipeLine) (words : List (List ℕ)) (target : TargetLine) → target_line line before words ≡ Ok target
+    → IsTargetLine target × HasRoom before (Target target)
+unfolding target_line target_said
+target_ok line before words target e =
+    let w = then_ok (required (faults.Word line) (target_of words)) _ target e in
+    let place = then_ok (place_words line w.0.0 w.0.1) _ target w.2 in
+    let loads = then_ok (load_part_words line before w.0.2) _ target place.2 in
+    let this : TargetLine = record { hw = place.0.0; pos = place.0.1; parts = loads.0 } in
+    let p = passed_ok (batch_has_room before) (faults.Limit line) this target loads.2 in
+    let few = few_words words w.0 (required_ok (faults.Word line) (target_of words) w.0 w.1) in
+    let at = place_ok line w.0.0 w.0.1 place.0 place.1 in
+    let parts = load_parts_ok line before w.0.2 loads.0 loads.1 in
+    let sound : IsTargetLine this = record {
+      hw = at.0;
+      pos = at.1;
+      some = omega (arith, few.0, parts.count);
+      few = omega (arith, few.1, parts.count);
+      parts = parts.each;
+    } in
+    let room : HasRoom before (Target this) = (ltb-true _ _ p.0, parts.loads) in
+    subst (λ (t : TargetLine). IsTargetLine t × HasRoom before (Target t)) p.1 (sound, room)
+
 -- ---- a whole line
 
 abbrev AcceptedAs : List RecipeLine → Keyword → Statement → Type 0
@@ -323,13 +425,23 @@ statement_ok line before keywords.User words s e =
     let ok = data_line_ok line before words x.0 x.1 in
     let this : AcceptedAs before keywords.User (User x.0) = (refl, ok.0, ok.1) in
     subst (AcceptedAs before keywords.User) (same_ok (User x.0) s x.2) this
+statement_ok line before keywords.Batch words s e =
+    let x = then_ok (batch_line line before words) _ s e in
+    let ok = batch_ok line before words x.0 x.1 in
+    let this : AcceptedAs before keywords.Batch (Batch x.0) = (refl, ok.0, ok.1) in
+    subst (AcceptedAs before keywords.Batch) (same_ok (Batch x.0) s x.2) this
+statement_ok line before keywords.Target words s e =
+    let x = then_ok (target_line line before words) _ s e in
+    let ok = target_ok line before words x.0 x.1 in
+    let this : AcceptedAs before keywords.Target (Target x.0) = (refl, ok.0, ok.1) in
+    subst (AcceptedAs before keywords.Target) (same_ok (Target x.0) s x.2) this
 
 pub line_is_accepted : (line : ℕ) (before : List RecipeLine) (words : List (List ℕ)) (s : Statement) → words_said line before words ≡ Ok s → IsAccepted before s
 unfolding words_said keyword_said
 line_is_accepted line before [] s e = absurd cc
 line_is_accepted line before (word ∷ words) s e =
-    let k = then_ok (keyword_said line (length before) word) _ s e in
+    let k = then_ok (keyword_said line before word) _ s e in
     let which = then_ok (required (faults.Word line) (keyword_of word)) _ k.0 k.1 in
-    let p = passed_ok (may_stand (length before) which.0) (faults.Order line) which.0 k.0 which.2 in
+    let p = passed_ok (may_follow before which.0) (faults.Order line) which.0 k.0 which.2 in
     let ok = statement_ok line before k.0 words s k.2 in
     record { stands = rw (ok.0, ← p.1) p.0; sound = ok.1; room = ok.2 }

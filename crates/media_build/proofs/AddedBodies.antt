@@ -13,9 +13,9 @@ use Rattle.load_header.specs.HeaderFields.{IsHeader}
 use Rattle.media_check.specs.declared.built.Placed.{Placed}
 use Rattle.media_check.specs.Openings.{total_of, largest_set}
 use Rattle.media_build.specs.Accepted.{IsRecipe}
-use Rattle.media_build.specs.Building.{AddsLoad, AreBodies, CanTake, HasShortHeader, HaveShortHeaders, IsHeaderIfShort, IsShortView, TakesLoad, TakesSources, body_place, bodies_length, header_length, headers_length, source_names, sources_in, sources_of, unread}
+use Rattle.media_build.specs.Building.{AddsLoad, AreLoadBodies, CanTake, HasShortHeader, HaveShortHeaders, IsHeaderIfShort, IsShortView, TakesLoad, TakesSources, body_place, bodies_length, header_length, headers_length, source_names, sources_in, sources_of, unread}
 use Rattle.media_build.specs.NoFindings.{body_view}
-use Rattle.media_build.specs.RecipeSets.{BodyView, RecipeLoadView, Sources, header_start, load_bodies, loads_of, recipe_bodies}
+use Rattle.media_build.specs.RecipeSets.{BodyView, RecipeLoadView, Sources, header_start, load_bodies, loads_of}
 use Rattle.media_build.specs.declared.building_fault.BuildFault.{BuildFault}
 use Rattle.media_build.specs.declared.statements.RecipeLine.{RecipeLine}
 use Rattle.media_build.proofs.BuiltHeaders.{second_part}
@@ -102,7 +102,7 @@ bodies_more o lines left rest load headers total sum old new so_far is adds take
 -- ---- the whole
 
 abbrev NamesBodies : List RecipeLine → Files → Listed Placed → Type 0
-NamesBodies lines files bodies = map body_view bodies.items ≡ recipe_bodies (sources_in files) lines
+NamesBodies lines files bodies = map body_view bodies.items ≡ bodies_of (sources_in files) (loads_of lines)
 
 pub bodies_stop : {T : Type 0} (o : Option Files) (lines : List RecipeLine) (left rest : List RecipeLoadView) (load : RecipeLoadView) (headers total : ℕ) (old : List BodyView) (P : Files → T → Type 0) (fault : BuildFault)
     → BodiesSoFar o lines left headers total old → left ≡ load ∷ rest → ForSome o (TakesSources total (sources_of load) (TakesLoad load total old) (Err fault))
@@ -121,7 +121,6 @@ all_before o lines left headers total bodies so_far none = sym (so_far.stands �
 
 pub bodies_taken : (o : Option Files) (lines : List RecipeLine) (left : List RecipeLoadView) (headers total : ℕ) (bodies : Listed Placed) → BodiesSoFar o lines left headers total (map body_view bodies.items)
     → left ≡ [] → ForSome o (TakesSources headers (source_names lines) (NamesBodies lines) (Ok bodies))
-unfolding recipe_bodies
 bodies_taken o lines left headers total bodies so_far none =
     let all = all_before o lines left headers total (map body_view bodies.items) so_far none in
     told_also o _ _ so_far.told (λ told first. (
@@ -130,14 +129,13 @@ bodies_taken o lines left headers total bodies so_far none =
     ))
 
 pub bodies_are : (o : Option Files) (lines : List RecipeLine) (left : List RecipeLoadView) (headers total : ℕ) (bodies : List BodyView) → BodiesSoFar o lines left headers total bodies → left ≡ []
-    → headers ≡ headers_length (loads_of lines) → AreBodies lines bodies
-unfolding recipe_bodies
-bodies_are o lines left headers total bodies so_far none size =
+    → AreLoadBodies lines headers bodies
+bodies_are o lines left headers total bodies so_far none =
     let all = all_before o lines left headers total bodies so_far none in
     record {
       places = so_far.places ∙ ap (λ (l : List RecipeLoadView). map body_place (bodies_of unread l)) all;
       short = so_far.short;
-      together = omega (arith, so_far.together, so_far.small, ap (λ (l : List RecipeLoadView). headers_length l) all, size);
+      together = omega (arith, so_far.together, so_far.small, ap (λ (l : List RecipeLoadView). headers_length l) all);
     }
 
 -- the header of the next load meets the limits of its format

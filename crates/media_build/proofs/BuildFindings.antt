@@ -13,7 +13,7 @@ use Rattle.media_build.specs.NoFindings.{SizesFit}
 use Rattle.media_build.specs.RecipeSets.{RecipeLoadView, loads_of}
 use Rattle.media_build.specs.declared.statements.RecipeLine.{RecipeLine}
 use Rattle.media_build.specs.declared.statements.Statement.{Statement}
-use Rattle.media_build.specs.declared.statements.Statement.TheVariants.{Set, Members, Load, Hardware, Position, Data, Support, User}
+use Rattle.media_build.specs.declared.statements.Statement.TheVariants.{Set, Members, Load, Hardware, Position, Data, Support, User, Batch, Target}
 use Rattle.media_build.proofs.BuiltSizes.{source_named, sources_named, short_sources, sizes_fit_with}
 
 same_source : (s : Statement) → source_in s ≡ source_named s
@@ -25,6 +25,8 @@ same_source (Position id place) = refl
 same_source (Data file) = refl
 same_source (Support file) = refl
 same_source (User bytes) = refl
+same_source (Batch batch) = refl
+same_source (Target target) = refl
 
 same_sources : (own : List Statement) → flat_map source_in own ≡ flat_map source_named own
 same_sources [] = refl
@@ -43,5 +45,5 @@ pub built_sizes_fit : (lines : List RecipeLine) (built : Built) (files : Files) 
     → SizesFit (sources_in files) lines
 built_sizes_fit lines built files same sizes builds =
     let there = each_of (IsThere files) _ (λ name is. is.short) (source_names lines) builds.0.there in
-    sizes_fit_with (sources_in files) unread lines same sizes.headers sizes.lists.0
+    sizes_fit_with (sources_in files) unread lines same sizes.headers sizes.lists.loads
     (short_sources (sources_in files) (loads_of lines) (subst (AllByRecursion _) (same_names (loads_of lines)) there))

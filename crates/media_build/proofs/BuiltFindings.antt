@@ -1,33 +1,44 @@
 -- The set of a recipe has no finding.
-use Rattle.std.proofs.Common.{◌≡◌, ℕ, zero, suc, ◌+◌, ◌-◌, ◌&&◌, ◌||◌, Bool, true, false, not, List, [], ◌∷◌, ◌++◌, length, Some, refl, sym, ap, subst, ◌∙◌}
-use Rattle.std.specs.Prelude.{map, codes, ◌==◌}
+use Rattle.std.proofs.Common.{◌≡◌, ℕ, zero, suc, ◌+◌, ◌-◌, ◌&&◌, ◌||◌, Bool, true, false, not, cond, List, [], ◌∷◌, ◌++◌, length, Some, refl, sym, ap, subst, ◌∙◌}
+use Rattle.std.specs.Prelude.{map, codes, drop, ◌==◌}
 use Rattle.std.specs.Cmp.Lexicographic.{pointwise}
-use Rattle.std.specs.List.{AllByRecursion, flat_map, range_with_len}
+use Rattle.std.specs.List.{AllByRecursion, flat_map, list_any, range_with_len}
+use Rattle.std.proofs.lemmas.Cmp.{nat_list_eq_equiv}
+use Rattle.batch_lists.specs.Batch.{BatchTargetView}
+use Rattle.batch_lists.specs.BatchFields.{IsBatch, batch_fields}
+use Rattle.batch_lists.specs.declared.batches.BatchEntry.{BatchEntry}
+use Rattle.batch_lists.specs.declared.fault.BatchesFault.{BatchesFault}
+use Rattle.std.specs.List.{concat}
 use Rattle.std.proofs.lemmas.Bool.{eq-eqb}
 use Rattle.std.proofs.lemmas.List.{map-append}
 use Rattle.crc_fields.specs.CheckSums.{crc16_of}
 use Rattle.load_base.specs.Bytes.{same_bytes}
+use Rattle.load_base.specs.EqualityLaws.{equal_bytes}
 use Rattle.load_header.specs.Header.{header}
 use Rattle.load_header.specs.declared.header.FileEntry.{FileEntry}
 use Rattle.media_lists.specs.Entries.{is_listed}
 use Rattle.media_lists.specs.Loads.{LoadEntryView, load_name}
+use Rattle.media_lists.specs.declared.fault.ListFault.{ListFault}
 use Rattle.media_lists.specs.declared.lists.ListedFile.{ListedFile}
-use Rattle.media_check.specs.Findings.{plain, where_it_holds, same_load, same_file, same_but_member, is_members_list, list_findings, member_findings, members_findings, body_findings, entry_findings, is_file, file_findings, load_findings, header_findings, has_other_crc, findings_of}
+use Rattle.media_check.specs.Findings.{plain, detailed, where_it_holds, same_load, same_file, same_batch, batches_sort, same_but_member, is_members_list, list_findings, member_findings, of_members, body_findings, entry_findings, is_file, file_findings, load_findings, header_findings, has_other_crc, batches_list_findings, parts_of, part_findings, read_batch_findings, batch_findings, load_part, is_part_of, has_batches, all_batches_findings, batches_findings, contents_findings, findings_of}
 use Rattle.media_check.specs.Findings as findings
 use Rattle.media_check.specs.Sets as sets
-use Rattle.media_check.specs.Kept.{contents}
-use Rattle.media_check.specs.Sets.{SetView, Media, find, set_in}
+use Rattle.media_check.specs.Kept.{contents, entries_of}
+use Rattle.media_check.specs.Sets.{SetView, MemberView, Media, find, set_in}
 use Rattle.media_check.specs.declared.finding.Finding.{Finding}
 use Rattle.media_check.specs.declared.found.Found.TheVariants.{Read}
-use Rattle.media_build.specs.Accepted.{IsFileLine, IsRecipe}
-use Rattle.media_build.specs.Lines.{members_of}
+use Rattle.media_build.specs.Accepted.{IsFileLine, HasItsLoads, IsRecipe}
+use Rattle.media_build.specs.Lines.{members_of, parts_in, is_loaded}
 use Rattle.media_build.specs.NoFindings.{SizesFit, HaveSet}
 use Rattle.media_build.specs.Recipes.{ends_with, is_body_name}
-use Rattle.media_build.specs.RecipeSets.{Sources, RecipeLoadView, BodyView, set_of, loads_of, hardware_of, data_of, support_of, files_of, bytes_of, file_entry, header_start, header_bytes, load_crc_of, header_of, file_body, load_bodies, recipe_bodies, load_entry, recipe_loads, listed_body, recipe_files}
+use Rattle.media_build.specs.RecipeSets.{Sources, RecipeLoadView, RecipeBatchView, BodyView, load_at, batches_of, batch_of, batch_target, batch_body, batch_entry, targets_in, recipe_batches, set_of, loads_of, hardware_of, data_of, support_of, files_of, bytes_of, file_entry, header_start, header_bytes, load_crc_of, header_of, file_body, load_bodies, recipe_bodies, load_entry, recipe_loads, listed_body, recipe_files}
 use Rattle.media_build.specs.declared.statements.FileLine.{FileLine}
 use Rattle.media_build.specs.declared.statements.RecipeLine.{RecipeLine}
+use Rattle.media_build.specs.declared.statements.Statement.{Statement}
+use Rattle.media_build.specs.declared.statements.Statement.TheVariants.{Set, Members, Load, Hardware, Position, Data, Support, User, Batch, Target}
+use Rattle.media_build.specs.declared.statements.TargetLine.{TargetLine}
 use Rattle.media_build.proofs.BuiltHeaders.{first_part, second_part, IsGoodLoad, start_spells, header_spells, good_loads}
-use Rattle.media_build.proofs.BuiltLists.{all_append, all_map, all_same, all_both, data_files, support_files}
+use Rattle.media_build.proofs.BuiltLists.{all_append, all_map, all_same, all_both, data_files, support_files, IsSoundBatch, sound_batches, targets_are, each_batch}
 use Rattle.media_build.proofs.BuiltNames.{body_name, itself, bodies_are_distinct, each_is_found}
 use Rattle.media_build.proofs.BuiltSet.{FormatLaws, answer_is, lists_of_member, file_there, read_set, set_is_read}
 
@@ -68,12 +79,12 @@ file_itself file = rw (itself file.name, itself file.path, number_itself file.me
 
 -- ---- the lists
 
-loads_agree : (lines : List RecipeLine) (first member : ℕ) → is_members_list same_load member (Read (recipe_loads lines first)) (recipe_loads lines member) ≡ true
+loads_agree : (lines : List RecipeLine) (first member : ℕ) → is_members_list {F = ListFault} same_load member (Read (recipe_loads lines first)) (recipe_loads lines member) ≡ true
 unfolding is_members_list same_but_member recipe_loads
 loads_agree lines first member = rw (number_itself member, itself (set_of lines), number_itself (members_of lines), alike same_load (map load_entry (loads_of lines)) load_itself) refl
 
 files_agree : (sources : Sources) (lines : List RecipeLine) (first member : ℕ)
-    → is_members_list same_file member (Read (recipe_files sources lines first)) (recipe_files sources lines member) ≡ true
+    → is_members_list {F = ListFault} same_file member (Read (recipe_files sources lines first)) (recipe_files sources lines member) ≡ true
 unfolding is_members_list same_but_member recipe_files
 files_agree sources lines first member =
     rw (number_itself member, itself (set_of lines), number_itself (members_of lines), alike same_file (map listed_body (recipe_bodies sources lines)) file_itself) refl
@@ -84,12 +95,12 @@ unfolding member_findings list_findings
 no_member_finding sources lines first member =
     none_both _ _ (none_where _ (plain 3 member (codes "LOADS.LUM")) (loads_agree lines first member)) (none_where _ (plain 3 member (codes "FILES.LUM")) (files_agree sources lines first member))
 
-no_members_findings : (sources : Sources) (lines : List RecipeLine) (first from count : ℕ)
-    → members_findings (lists_of_member sources lines first) from (map (lists_of_member sources lines) (range_with_len from count)) ≡ []
-unfolding members_findings
-no_members_findings sources lines first from zero = refl
-no_members_findings sources lines first from (suc count) =
-    none_both (member_findings (lists_of_member sources lines first) from (lists_of_member sources lines from)) _ (no_member_finding sources lines first from) (no_members_findings sources lines first (from + 1) count)
+-- what isn't found of one member isn't of any
+no_findings_of : (sources : Sources) (lines : List RecipeLine) (what : ℕ → MemberView → List Finding) (from count : ℕ) → ((member : ℕ) → what member (lists_of_member sources lines member) ≡ [])
+    → of_members what from (map (lists_of_member sources lines) (range_with_len from count)) ≡ []
+unfolding of_members
+no_findings_of sources lines what from zero none = refl
+no_findings_of sources lines what from (suc count) none = none_both (what from (lists_of_member sources lines from)) _ (none from) (no_findings_of sources lines what (from + 1) count none)
 
 -- ---- files
 
@@ -152,6 +163,16 @@ bodies_are_named sources members entries load is listed =
     let files = all_append (IsFileLine members) (data_of load) (support_of load) (data_files members load is.sound) (support_files members load is.sound) in
     let head : BodyView = record { name = load.load.name; member = load.load.member; bytes = header_bytes (header_of sources load) } in
     (header_is_named entries head listed, all_map (IsFileLine members) (IsNamed entries) (file_body sources) (file_is_named sources members entries) (files_of load) files)
+
+-- the name of a batch's file is that of no header
+batch_is_named : (members : ℕ) (loads : List LoadEntryView) (batch : RecipeBatchView) → IsSoundBatch members batch → IsNamed loads (batch_body batch)
+unfolding findings.is_header_name ends_with
+batch_is_named members loads batch is =
+    let end : List ℕ = drop (length batch.batch.name - 4) batch.batch.name in
+    rw (other_end end is.line.file) refl
+  where
+    other_end : (end : List ℕ) → same_bytes end (codes ".LUB") ≡ true → same_bytes end (codes ".LUH") ≡ false
+    other_end end e = let same : end ≡ codes ".LUB" = (equal_bytes end (codes ".LUB")).0 e in rw same refl
 
 all_named : (sources : Sources) (members : ℕ) (entries : List LoadEntryView) (loads : List RecipeLoadView) → AllByRecursion (IsGoodLoad sources members) loads → AreListed entries loads
     → AllByRecursion (IsNamed entries) (flat_map (load_bodies sources) loads)
@@ -250,6 +271,87 @@ no_load_finding sources members set load laws good there =
     let read = answer_is header bytes (header_of sources load) (laws.headers (header_of sources load) bytes (header_spells sources members load good)) in
     rw (there.header, read) (no_header_finding sources members set load laws good there.files)
 
+-- ---- batches
+
+batches_agree : (lines : List RecipeLine) (first member : ℕ) → is_members_list {F = BatchesFault} same_batch member (Read (recipe_batches lines first)) (recipe_batches lines member) ≡ true
+unfolding is_members_list same_but_member recipe_batches
+batches_agree lines first member = rw (number_itself member, itself (set_of lines), number_itself (members_of lines), alike same_batch (map batch_entry (batches_of lines)) batch_itself) refl
+  where
+    batch_itself : (batch : BatchEntry) → same_batch batch batch ≡ true
+    batch_itself batch = rw (itself batch.part, itself batch.file, number_itself batch.member) refl
+
+-- each list of batches is that of member 1
+no_batches_list_finding : (sources : Sources) (lines : List RecipeLine) (member : ℕ) (first : RecipeBatchView) (others : List RecipeBatchView) → batches_of lines ≡ first ∷ others
+    → batches_list_findings (lists_of_member sources lines 1) member (lists_of_member sources lines member) ≡ []
+unfolding list_findings
+no_batches_list_finding sources lines member first others some =
+    rw some (none_where _ (plain 15 member (codes "BATCHES.LUM")) (batches_agree lines 1 member))
+
+-- a part number of a load is that of an entry of LOADS.LUM
+is_listed_part : (part : List ℕ) (lines : List RecipeLine) → list_any (same_bytes part) (flat_map (λ line. parts_in line.statement) lines) ≡ is_part_of (map load_entry (loads_of lines)) part
+unfolding is_listed
+is_listed_part part [] = refl
+is_listed_part part (line ∷ later) = by line.statement (is_listed_part part later)
+  where
+    by : (s : Statement) → list_any (same_bytes part) (flat_map (λ (l : RecipeLine). parts_in l.statement) later) ≡ is_part_of (map load_entry (loads_of later)) part
+        → list_any (same_bytes part) (parts_in s ++ flat_map (λ (l : RecipeLine). parts_in l.statement) later) ≡ is_part_of (map load_entry (load_at line.number s later ++ loads_of later)) part
+    by (Set number) e = e
+    by (Members count) e = e
+    by (Load load) e = rw (nat_list_eq_equiv.symm part load.part, e) refl
+    by (Hardware id) e = e
+    by (Position id place) e = e
+    by (Data file) e = e
+    by (Support file) e = e
+    by (User bytes) e = e
+    by (Batch batch) e = e
+    by (Target target) e = e
+
+-- each load that a target gets is in the list
+abbrev HasListedLoads : List RecipeLine → TargetLine → Type 0
+HasListedLoads lines target = AllByRecursion (λ part. is_part_of (map load_entry (loads_of lines)) part ≡ true) target.parts
+
+listed_loads : (lines : List RecipeLine) (s : Statement) → HasItsLoads lines s → AllByRecursion (HasListedLoads lines) (targets_in s)
+unfolding is_loaded
+listed_loads lines (Set part) have = tt
+listed_loads lines (Members count) have = tt
+listed_loads lines (Load load) have = tt
+listed_loads lines (Hardware id) have = tt
+listed_loads lines (Position id place) have = tt
+listed_loads lines (Data file) have = tt
+listed_loads lines (Support file) have = tt
+listed_loads lines (User bytes) have = tt
+listed_loads lines (Batch batch) have = tt
+listed_loads lines (Target target) have = (all_same _ _ (λ part loaded. sym (is_listed_part part lines) ∙ loaded) target.parts have, tt)
+
+each_has_loads : (lines : List RecipeLine) → IsRecipe lines → AllByRecursion (λ batch. AllByRecursion (HasListedLoads lines) batch.targets) (batches_of lines)
+each_has_loads lines is = targets_are (HasListedLoads lines) lines (all_same _ _ (λ line have. listed_loads lines line.statement have) lines is.targets)
+
+parts_listed : (is_loads : List ℕ → Bool) (targets : List TargetLine) → AllByRecursion (λ target. AllByRecursion (λ part. is_loads part ≡ true) target.parts) targets
+    → AllByRecursion (λ part. is_loads part ≡ true) (flat_map (λ (target : BatchTargetView). target.parts) (map batch_target targets))
+parts_listed is_loads [] all = tt
+parts_listed is_loads (target ∷ targets) all =
+    all_append (λ part. is_loads part ≡ true) target.parts (flat_map (λ (t : BatchTargetView). t.parts) (map batch_target targets)) all.0 (parts_listed is_loads targets all.1)
+
+no_part_finding : (is_loads : List ℕ → Bool) (member : ℕ) (file part : List ℕ) → is_loads part ≡ true → part_findings is_loads member file part ≡ []
+unfolding part_findings
+no_part_finding is_loads member file part e = none_where (is_loads part) (detailed 19 member file part) e
+
+no_read_batch_finding : (is_loads : List ℕ → Bool) (batch : RecipeBatchView) → AllByRecursion (λ target. AllByRecursion (λ part. is_loads part ≡ true) target.parts) batch.targets
+    → read_batch_findings is_loads (batch_entry batch) batch.batch.member (batch_of batch) ≡ []
+unfolding read_batch_findings
+no_read_batch_finding is_loads batch all =
+    none_both _ _ (none_where (same_bytes batch.batch.part batch.batch.part) (plain 18 batch.batch.member batch.batch.name) (itself batch.batch.part))
+    (none_of (part_findings is_loads batch.batch.member batch.batch.name) (parts_of (batch_of batch))
+    (all_same _ _ (λ part e. no_part_finding is_loads batch.batch.member batch.batch.name part e) (parts_of (batch_of batch)) (parts_listed is_loads batch.targets all)))
+
+no_batch_finding : (set : SetView) (is_loads : List ℕ → Bool) (batch : RecipeBatchView) → FormatLaws → IsBatch (batch_of batch) → IsFound set (batch_body batch)
+    → AllByRecursion (λ target. AllByRecursion (λ part. is_loads part ≡ true) target.parts) batch.targets → batch_findings set is_loads (batch_entry batch) ≡ []
+unfolding batch_findings
+no_batch_finding set is_loads batch laws is found all =
+    let bytes : List ℕ = concat (batch_fields (batch_of batch)) in
+    let read = laws.batch (batch_of batch) bytes (is, refl) in
+    rw (found, read) (no_read_batch_finding is_loads batch all)
+
 -- ---- the whole
 
 each_load_is_there : (sources : Sources) (set : SetView) (loads : List RecipeLoadView) → AllByRecursion (IsFound set) (flat_map (load_bodies sources) loads) → AllByRecursion (IsThere sources set) loads
@@ -267,6 +369,12 @@ module _ (sources : Sources) (lines : List RecipeLine) (is : IsRecipe lines) (fi
   abbrev entries : List LoadEntryView
   entries = map load_entry (loads_of lines)
 
+  abbrev of_loads : List BodyView
+  of_loads = flat_map (load_bodies sources) (loads_of lines)
+
+  abbrev of_batches : List BodyView
+  of_batches = map batch_body (batches_of lines)
+
   good : AllByRecursion (IsGoodLoad sources (members_of lines)) (loads_of lines)
   good = good_loads sources lines is fits
 
@@ -275,7 +383,9 @@ module _ (sources : Sources) (lines : List RecipeLine) (is : IsRecipe lines) (fi
 
   named_bodies : AllByRecursion (IsNamed entries) (recipe_bodies sources lines)
   unfolding recipe_bodies
-  named_bodies = all_named sources (members_of lines) entries (loads_of lines) good (all_listed (loads_of lines))
+  named_bodies =
+      all_append (IsNamed entries) of_loads of_batches (all_named sources (members_of lines) entries (loads_of lines) good (all_listed (loads_of lines)))
+      (all_map _ (IsNamed entries) batch_body (batch_is_named (members_of lines) entries) (batches_of lines) (sound_batches lines is))
 
   no_entry_findings : flat_map (entry_findings set entries) (map listed_body (recipe_bodies sources lines)) ≡ []
   no_entry_findings =
@@ -284,7 +394,11 @@ module _ (sources : Sources) (lines : List RecipeLine) (is : IsRecipe lines) (fi
 
   loads_there : AllByRecursion (IsThere sources set) (loads_of lines)
   unfolding recipe_bodies
-  loads_there = each_load_is_there sources set (loads_of lines) found
+  loads_there = each_load_is_there sources set (loads_of lines) (first_part (IsFound set) of_loads of_batches found)
+
+  batches_there : AllByRecursion (λ batch. IsFound set (batch_body batch)) (batches_of lines)
+  unfolding recipe_bodies
+  batches_there = all_of_map (IsFound set) batch_body (batches_of lines) (second_part (IsFound set) of_loads of_batches found)
 
   no_load_findings : flat_map (load_findings set) entries ≡ []
   no_load_findings =
@@ -292,12 +406,51 @@ module _ (sources : Sources) (lines : List RecipeLine) (is : IsRecipe lines) (fi
       (all_map _ (λ entry. load_findings set entry ≡ []) load_entry (λ load both. no_load_finding sources (members_of lines) set load laws both.0 both.1) (loads_of lines)
       (all_both _ _ (loads_of lines) good loads_there))
 
-  no_list_findings : members_findings set.first 1 (set.first ∷ set.further) ≡ []
-  no_list_findings = no_members_findings sources lines 1 1 (suc (members_of lines - 1))
+  no_list_findings : of_members (member_findings set.first) 1 (set.first ∷ set.further) ≡ []
+  no_list_findings = no_findings_of sources lines (member_findings set.first) 1 (suc (members_of lines - 1)) (no_member_finding sources lines 1)
+
+  no_batch_findings : flat_map (batch_findings set (is_part_of entries)) (map batch_entry (batches_of lines)) ≡ []
+  no_batch_findings =
+      none_of (batch_findings set (is_part_of entries)) (map batch_entry (batches_of lines))
+      (all_map _ (λ entry. batch_findings set (is_part_of entries) entry ≡ []) batch_entry (λ batch all. no_batch_finding set (is_part_of entries) batch laws all.0.0 all.0.1 all.1) (batches_of lines)
+      (all_both _ _ (batches_of lines) (all_both _ _ (batches_of lines) (each_batch lines is) batches_there) (each_has_loads lines is)))
+
+  either_has : (a b : Bool) → a ≡ false → b ≡ false → (a || b) ≡ false
+  either_has true b e f = absurd cc
+  either_has false b e f = f
+
+  -- no member has a list of batches where there are none
+  none_has : (from count : ℕ) → batches_of lines ≡ [] → list_any has_batches (map (lists_of_member sources lines) (range_with_len from count)) ≡ false
+  none_has from zero none = refl
+  none_has from (suc count) none =
+      either_has (has_batches (lists_of_member sources lines from)) _ (rw none refl) (none_has (from + 1) count none)
+
+  entries_found : (first : RecipeBatchView) (others : List RecipeBatchView) → batches_of lines ≡ first ∷ others → entries_of set.first.batches ≡ map batch_entry (batches_of lines)
+  unfolding recipe_batches
+  entries_found first others some = rw some refl
+
+  no_batches_findings : batches_findings set set.first.loads set.first.files ≡ []
+  unfolding recipe_loads recipe_files all_batches_findings
+  no_batches_findings = by (batches_of lines) refl
+    where
+      none_then : (has : Bool) (all : List Finding) → all ≡ [] → cond has all [] ≡ []
+      none_then true all e = e
+      none_then false all e = refl
+
+      not_then : (has : Bool) (all : List Finding) → has ≡ false → cond has all [] ≡ []
+      not_then true all e = absurd cc
+      not_then false all e = refl
+
+      by : (batches : List RecipeBatchView) → batches_of lines ≡ batches → cond (list_any has_batches (set.first ∷ set.further)) (all_batches_findings set entries) [] ≡ []
+      by [] none = not_then _ _ (none_has 1 (suc (members_of lines - 1)) none)
+      by (first ∷ others) some =
+          none_then _ _ (none_both _ _
+          (no_findings_of sources lines (batches_list_findings set.first) 1 (suc (members_of lines - 1)) (λ member. no_batches_list_finding sources lines member first others some))
+          (ap (flat_map (batch_findings set (is_part_of entries))) (entries_found first others some) ∙ no_batch_findings))
 
   no_finding_in_set : findings_of set ≡ []
   unfolding findings_of recipe_loads recipe_files
-  no_finding_in_set = none_both _ _ no_list_findings (none_both _ _ no_entry_findings no_load_findings)
+  no_finding_in_set = none_both _ _ no_list_findings (none_both _ _ (none_both _ _ no_entry_findings no_load_findings) no_batches_findings)
 
   -- media that have the set of a recipe whose sizes fit have no finding
   pub nothing_is_found : (media : Media) → HaveSet media sources lines → findings_of (set_in media) ≡ []

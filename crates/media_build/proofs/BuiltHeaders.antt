@@ -22,7 +22,7 @@ use Rattle.media_build.specs.RecipeSets.{Sources, RecipeLoadView, position_in, u
 use Rattle.media_build.specs.declared.statements.FileLine.{FileLine}
 use Rattle.media_build.specs.declared.statements.RecipeLine.{RecipeLine}
 use Rattle.media_build.specs.declared.statements.Statement.{Statement}
-use Rattle.media_build.specs.declared.statements.Statement.TheVariants.{Set, Members, Load, Hardware, Position, Data, Support, User}
+use Rattle.media_build.specs.declared.statements.Statement.TheVariants.{Set, Members, Load, Hardware, Position, Data, Support, User, Batch, Target}
 use Rattle.media_build.proofs.BuiltLists.{all_flat, all_map, all_same, all_both, word_is_text, words_are_texts, IsSoundLoad, sound_loads, hardware_words, data_files, support_files}
 
 -- ---- positions
@@ -42,6 +42,8 @@ pair_in members (Position id place) is = (is, tt)
 pair_in members (Data file) is = tt
 pair_in members (Support file) is = tt
 pair_in members (User bytes) is = tt
+pair_in members (Batch batch) is = tt
+pair_in members (Target target) is = tt
 
 pub all_filter : {A : Type 0} (P : A → Type 0) (p : A → Bool) (xs : List A) → AllByRecursion P xs → AllByRecursion P (filter p xs)
 all_filter P p [] all = tt
@@ -152,6 +154,8 @@ user_line members (Position id place) is = no_user
 user_line members (Data file) is = no_user
 user_line members (Support file) is = no_user
 user_line members (User bytes) is = record { each = is.each; even = is.even }
+user_line members (Batch batch) is = no_user
+user_line members (Target target) is = no_user
 
 user_of : (members : ℕ) (own : List Statement) → AllByRecursion (IsSound members) own → IsUser (flat_map user_in own)
 user_of members [] all = no_user

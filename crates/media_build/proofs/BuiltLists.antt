@@ -1,7 +1,8 @@
 -- The lists of a recipe's set meet the limits of their formats.
 use Rattle.std.proofs.Common.{◌≡◌, ℕ, ◌+◌, ◌*◌, ◌%◌, ◌≤◌, Bool, true, false, cond, not, List, [], ◌∷◌, ◌++◌, length, refl, sym, ap, subst, ◌∙◌, arith, length-append}
 use Rattle.std.specs.Prelude.{map, codes, slice_index}
-use Rattle.std.specs.List.{AllByRecursion, flat_map, concat, IsDistinct}
+use Rattle.std.specs.List.{All, AllByRecursion, flat_map, concat, IsDistinct}
+use Rattle.std.proofs.lemmas.List.Elements.{All-nil, All-cons}
 use Rattle.std.proofs.lemmas.List.{append-nil, length-map}
 use Rattle.crc_fields.specs.WidthLaws.{crc16_fits}
 use Rattle.load_base.specs.Name.{IsName}
@@ -16,22 +17,28 @@ use Rattle.field_grammar.specs.Spelling.{spelled_length}
 use Rattle.header_sections.specs.SectionFields.{texts_fields, user_fields, entry_size, entries_fields, HaveDistances}
 use Rattle.header_sections.specs.SizeLaws.{size_texts, size_user, size_entries, total_of}
 use Rattle.load_base.specs.Bytes.{same_bytes}
+use Rattle.batch_lists.specs.BatchFields.{IsBatchTarget, AreContents, IsBatch}
+use Rattle.batch_lists.specs.Batches.{batch_body_fields, batch_file, IsListedBatch, IsBatchesList}
+use Rattle.batch_lists.proofs.BatchSizes.{small_batch}
+use Rattle.batch_lists.proofs.BatchesFit.{batches_short}
+use Rattle.batch_lists.proofs.BatchesSizes.{size_batch_parts}
 use Rattle.media_lists.specs.Files.{FilesListView, file_body_fields, file_name, IsListedFile, IsFilesList}
 use Rattle.media_lists.specs.Lists.{ListView}
 use Rattle.media_lists.specs.ListFields.{IsMember, identity_fields, list_size}
 use Rattle.media_lists.specs.Loads.{LoadEntryView, load_body_fields, load_name, IsListedLoad, IsLoadsList}
 use Rattle.media_lists.specs.Paths.{IsPath}
 use Rattle.media_lists.specs.declared.lists.ListedFile.{ListedFile}
-use Rattle.media_build.specs.Accepted.{IsWord, IsMemberOf, IsLoadLine, IsFileLine, IsSound, IsRecipe, is_of_loads}
-use Rattle.media_build.specs.Lines.{is_load, members_of}
+use Rattle.media_build.specs.Accepted.{IsWord, IsMemberOf, IsLoadLine, IsFileLine, IsBatchLine, IsTargetLine, IsSound, IsSmallBatch, IsRecipe, is_of_loads, is_of_batches}
+use Rattle.media_build.specs.Lines.{ends_load, is_target, members_of}
 use Rattle.media_build.specs.NoFindings.{IsShortLoad, SizesFit}
-use Rattle.media_build.specs.RecipeSets.{Sources, RecipeLoadView, BodyView, set_in, set_of, hardware_in, data_in, support_in, load_at, loads_of, hardware_of, data_of, support_of, files_of, file_body, load_bodies, recipe_bodies, load_entry, recipe_loads, listed_body, recipe_files}
+use Rattle.media_build.specs.RecipeSets.{Sources, RecipeLoadView, RecipeBatchView, BodyView, set_in, set_of, hardware_in, data_in, support_in, targets_in, load_at, loads_of, batch_at, batches_of, batch_target, batch_of, batch_body, batch_entry, recipe_batches, hardware_of, data_of, support_of, files_of, file_body, load_bodies, recipe_bodies, load_entry, recipe_loads, listed_body, recipe_files}
 use Rattle.media_build.specs.declared.statements.FileLine.{FileLine}
 use Rattle.media_build.specs.declared.statements.RecipeLine.{RecipeLine}
 use Rattle.media_build.specs.declared.statements.Statement.{Statement}
-use Rattle.media_build.specs.declared.statements.Statement.TheVariants.{Set, Members, Load, Hardware, Position, Data, Support, User}
-use Rattle.media_build.proofs.AcceptedRecipes.{own, own_more, members_stay}
-use Rattle.media_build.proofs.BuiltNames.{body_name, header_name_of, few_bodies, bodies_are_distinct, few_loads, headers_are_distinct, names_are_new}
+use Rattle.media_build.specs.declared.statements.Statement.TheVariants.{Set, Members, Load, Hardware, Position, Data, Support, User, Batch, Target}
+use Rattle.media_build.specs.declared.statements.TargetLine.{TargetLine}
+use Rattle.media_build.proofs.AcceptedRecipes.{own, own_more, own_targets, own_targets_more, is_further, members_stay}
+use Rattle.media_build.proofs.BuiltNames.{body_name, header_name_of, batch_name_of, few_bodies, bodies_are_distinct, few_loads, headers_are_distinct, few_batches, batches_are_distinct, names_are_new}
 use Rattle.media_build.proofs.Texts.{graphic_is_printable}
 
 -- ---- what holds of each of joined lists
@@ -82,7 +89,7 @@ AreSound members lines = AllByRecursion (λ line. IsSound members line.statement
 own_are_sound : (members : ℕ) (lines : List RecipeLine) → AreSound members lines → AllByRecursion (IsSound members) (own lines)
 own_are_sound members [] all = tt
 own_are_sound members (line ∷ later) all =
-    subst (AllByRecursion (IsSound members)) (sym (own_more line later)) (by (is_load line.statement) (own_are_sound members later all.1))
+    subst (AllByRecursion (IsSound members)) (sym (own_more line later)) (by (ends_load line.statement) (own_are_sound members later all.1))
   where
     by : (b : Bool) → AllByRecursion (IsSound members) (own later) → AllByRecursion (IsSound members) (cond (not b) (line.statement ∷ own later) [])
     by true rest = tt
@@ -102,6 +109,8 @@ loads_are_sound members (line ∷ later) all = by line.statement all.0 (own_are_
     by (Data file) this mine rest = rest
     by (Support file) this mine rest = rest
     by (User bytes) this mine rest = rest
+    by (Batch batch) this mine rest = rest
+    by (Target target) this mine rest = rest
 
 pub sound_loads : (lines : List RecipeLine) → IsRecipe lines → AllByRecursion (IsSoundLoad (members_of lines)) (loads_of lines)
 sound_loads lines is = loads_are_sound (members_of lines) lines is.each
@@ -115,6 +124,8 @@ hardware_word members (Position id place) is = tt
 hardware_word members (Data file) is = tt
 hardware_word members (Support file) is = tt
 hardware_word members (User bytes) is = tt
+hardware_word members (Batch batch) is = tt
+hardware_word members (Target target) is = tt
 
 data_file : (members : ℕ) (s : Statement) → IsSound members s → AllByRecursion (IsFileLine members) (data_in s)
 data_file members (Set part) is = tt
@@ -125,6 +136,8 @@ data_file members (Position id place) is = tt
 data_file members (Data file) is = (is, tt)
 data_file members (Support file) is = tt
 data_file members (User bytes) is = tt
+data_file members (Batch batch) is = tt
+data_file members (Target target) is = tt
 
 support_file : (members : ℕ) (s : Statement) → IsSound members s → AllByRecursion (IsFileLine members) (support_in s)
 support_file members (Set part) is = tt
@@ -135,6 +148,8 @@ support_file members (Position id place) is = tt
 support_file members (Data file) is = tt
 support_file members (Support file) is = (is, tt)
 support_file members (User bytes) is = tt
+support_file members (Batch batch) is = tt
+support_file members (Target target) is = tt
 
 pub hardware_words : (members : ℕ) (load : RecipeLoadView) → IsSoundLoad members load → AllByRecursion (IsWord 64) (hardware_of load)
 hardware_words members load is = all_flat (IsSound members) (IsWord 64) hardware_in (hardware_word members) load.own is.own
@@ -151,11 +166,11 @@ pub record HasStart (lines : List RecipeLine) : Type 0 where
   pub set : IsPartNumberText (set_of lines)
   pub members : IsMemberOf 255 (members_of lines)
 
-no_sets : (lines : List RecipeLine) → AllByRecursion (λ line. is_of_loads line.statement ≡ true) lines → flat_map (λ line. set_in line.statement) lines ≡ []
+no_sets : (lines : List RecipeLine) → AllByRecursion (λ line. is_further line.statement ≡ true) lines → flat_map (λ line. set_in line.statement) lines ≡ []
 no_sets [] all = refl
 no_sets (line ∷ lines) all = by line.statement all.0 (no_sets lines all.1)
   where
-    by : (s : Statement) → is_of_loads s ≡ true → flat_map (λ (l : RecipeLine). set_in l.statement) lines ≡ [] → set_in s ++ flat_map (λ (l : RecipeLine). set_in l.statement) lines ≡ []
+    by : (s : Statement) → is_further s ≡ true → flat_map (λ (l : RecipeLine). set_in l.statement) lines ≡ [] → set_in s ++ flat_map (λ (l : RecipeLine). set_in l.statement) lines ≡ []
     by (Set part) e rest = absurd cc
     by (Members count) e rest = absurd cc
     by (Load load) e rest = rest
@@ -164,6 +179,32 @@ no_sets (line ∷ lines) all = by line.statement all.0 (no_sets lines all.1)
     by (Data file) e rest = rest
     by (Support file) e rest = rest
     by (User bytes) e rest = rest
+    by (Batch batch) e rest = rest
+    by (Target target) e rest = rest
+
+further_load : (s : Statement) → is_of_loads s ≡ true → is_further s ≡ true
+further_load (Set part) e = absurd cc
+further_load (Members count) e = absurd cc
+further_load (Load load) e = refl
+further_load (Hardware id) e = refl
+further_load (Position id place) e = refl
+further_load (Data file) e = refl
+further_load (Support file) e = refl
+further_load (User bytes) e = refl
+further_load (Batch batch) e = refl
+further_load (Target target) e = refl
+
+further_batch : (s : Statement) → is_of_batches s ≡ true → is_further s ≡ true
+further_batch (Set part) e = absurd cc
+further_batch (Members count) e = absurd cc
+further_batch (Load load) e = refl
+further_batch (Hardware id) e = refl
+further_batch (Position id place) e = refl
+further_batch (Data file) e = refl
+further_batch (Support file) e = refl
+further_batch (User bytes) e = refl
+further_batch (Batch batch) e = refl
+further_batch (Target target) e = refl
 
 module _ (lines : List RecipeLine) (is : IsRecipe lines) where
   abbrev a : RecipeLine
@@ -175,18 +216,26 @@ module _ (lines : List RecipeLine) (is : IsRecipe lines) where
   abbrev c : RecipeLine
   c = record { number = is.order.numbers.2; statement = Load is.order.load }
 
+  abbrev rest : List RecipeLine
+  rest = is.order.later ++ is.order.batches
+
   abbrev whole : List RecipeLine
-  whole = a ∷ b ∷ c ∷ is.order.later
+  whole = a ∷ b ∷ c ∷ rest
+
+  all_further : AllByRecursion (λ line. is_further line.statement ≡ true) rest
+  all_further =
+      all_append _ is.order.later is.order.batches (all_same _ _ (λ line. further_load line.statement) is.order.later is.order.others)
+      (all_same _ _ (λ line. further_batch line.statement) is.order.batches is.order.last.each)
 
   set_is : set_of whole ≡ is.order.set
-  set_is = ap (λ (l : List (List ℕ)). concat (is.order.set ∷ l)) (no_sets is.order.later is.order.others) ∙ append-nil is.order.set
+  set_is = ap (λ (l : List (List ℕ)). concat (is.order.set ∷ l)) (no_sets rest all_further) ∙ append-nil is.order.set
 
   two_members : members_of (a ∷ b ∷ []) ≡ is.order.members
   unfolding members_of
   two_members = refl
 
   members_are : members_of whole ≡ is.order.members
-  members_are = members_stay (a ∷ b ∷ []) (c ∷ is.order.later) (refl, is.order.others) ∙ two_members
+  members_are = members_stay (a ∷ b ∷ []) (c ∷ rest) (refl, all_further) ∙ two_members
 
   pub set_of_is : set_of lines ≡ is.order.set
   set_of_is = ap set_of is.order.stands ∙ set_is
@@ -202,6 +251,97 @@ module _ (lines : List RecipeLine) (is : IsRecipe lines) where
         set = rw (ap set_of same ∙ set_is) sound.0;
         members = rw (ap members_of same ∙ members_are) sound.1.0;
       }
+
+-- ---- batches of which each line is sound
+
+pub record IsSoundBatch (members : ℕ) (batch : RecipeBatchView) : Type 0 where
+  pub line : IsBatchLine members batch.batch
+  pub targets : AllByRecursion IsTargetLine batch.targets
+
+-- what holds of the target of each line holds of those of the batch before these lines
+own_targets_are : (P : TargetLine → Type 0) (lines : List RecipeLine) → AllByRecursion (λ line. AllByRecursion P (targets_in line.statement)) lines → AllByRecursion P (own_targets lines)
+own_targets_are P [] all = tt
+own_targets_are P (line ∷ later) all =
+    subst (AllByRecursion P) (sym (own_targets_more line later)) (by (is_target line.statement) (all_append P (targets_in line.statement) (own_targets later) all.0 (own_targets_are P later all.1)))
+  where
+    by : (b : Bool) → AllByRecursion P (targets_in line.statement ++ own_targets later) → AllByRecursion P (cond b (targets_in line.statement ++ own_targets later) [])
+    by true some = some
+    by false some = tt
+
+pub targets_are : (P : TargetLine → Type 0) (lines : List RecipeLine) → AllByRecursion (λ line. AllByRecursion P (targets_in line.statement)) lines
+    → AllByRecursion (λ batch. AllByRecursion P batch.targets) (batches_of lines)
+targets_are P [] all = tt
+targets_are P (line ∷ later) all = by line.statement (own_targets_are P later all.1) (targets_are P later all.1)
+  where
+    by : (s : Statement) → AllByRecursion P (own_targets later) → AllByRecursion (λ batch. AllByRecursion P batch.targets) (batches_of later)
+        → AllByRecursion (λ batch. AllByRecursion P batch.targets) (batch_at s later ++ batches_of later)
+    by (Set part) mine rest = rest
+    by (Members count) mine rest = rest
+    by (Load load) mine rest = rest
+    by (Hardware id) mine rest = rest
+    by (Position id place) mine rest = rest
+    by (Data file) mine rest = rest
+    by (Support file) mine rest = rest
+    by (User bytes) mine rest = rest
+    by (Batch batch) mine rest = (mine, rest)
+    by (Target target) mine rest = rest
+
+batch_lines : (members : ℕ) (lines : List RecipeLine) → AreSound members lines → AllByRecursion (λ batch. IsBatchLine members batch.batch) (batches_of lines)
+batch_lines members [] all = tt
+batch_lines members (line ∷ later) all = by line.statement all.0 (batch_lines members later all.1)
+  where
+    by : (s : Statement) → IsSound members s → AllByRecursion (λ batch. IsBatchLine members batch.batch) (batches_of later)
+        → AllByRecursion (λ batch. IsBatchLine members batch.batch) (batch_at s later ++ batches_of later)
+    by (Set part) this rest = rest
+    by (Members count) this rest = rest
+    by (Load load) this rest = rest
+    by (Hardware id) this rest = rest
+    by (Position id place) this rest = rest
+    by (Data file) this rest = rest
+    by (Support file) this rest = rest
+    by (User bytes) this rest = rest
+    by (Batch batch) this rest = (this, rest)
+    by (Target target) this rest = rest
+
+target_lines : (members : ℕ) (s : Statement) → IsSound members s → AllByRecursion IsTargetLine (targets_in s)
+target_lines members (Set part) is = tt
+target_lines members (Members count) is = tt
+target_lines members (Load load) is = tt
+target_lines members (Hardware id) is = tt
+target_lines members (Position id place) is = tt
+target_lines members (Data file) is = tt
+target_lines members (Support file) is = tt
+target_lines members (User bytes) is = tt
+target_lines members (Batch batch) is = tt
+target_lines members (Target target) is = (is, tt)
+
+pub sound_batches : (lines : List RecipeLine) → IsRecipe lines → AllByRecursion (IsSoundBatch (members_of lines)) (batches_of lines)
+sound_batches lines is =
+    let targets = targets_are IsTargetLine lines (all_same _ _ (λ line sound. target_lines (members_of lines) line.statement sound) lines is.each) in
+    all_same _ _ (λ batch both. record { line = both.0; targets = both.1 }) (batches_of lines) (all_both _ _ (batches_of lines) (batch_lines (members_of lines) lines is.each) targets)
+
+-- ---- batches as their files have them
+
+by_index : {A : Type 0} (P : A → Type 0) (xs : List A) → AllByRecursion P xs → All P xs
+by_index P [] all = All-nil P
+by_index P (x ∷ xs) all = All-cons P x xs all.0 (by_index P xs all.1)
+
+is_batch_target : (target : TargetLine) → IsTargetLine target → IsBatchTarget (batch_target target)
+is_batch_target target is = record { hw = is.hw; pos = is.pos; count = (is.some, is.few); parts = by_index IsPartNumberText target.parts is.parts }
+
+pub is_batch_of : (members : ℕ) (batch : RecipeBatchView) → IsSoundBatch members batch → IsSmallBatch batch → IsBatch (batch_of batch)
+is_batch_of members batch sound small =
+    let count = length-map batch.targets batch_target in
+    let are : AreContents (batch_of batch) = record {
+      part = sound.line.part;
+      count = (omega (arith, small.some, count), omega (arith, small.few, count));
+      targets = by_index IsBatchTarget (map batch_target batch.targets) (all_map IsTargetLine IsBatchTarget batch_target is_batch_target batch.targets sound.targets);
+    } in
+    record { contents = are; size = omega (arith, small_batch (batch_of batch) are) }
+
+pub each_batch : (lines : List RecipeLine) → IsRecipe lines → AllByRecursion (λ batch. IsBatch (batch_of batch)) (batches_of lines)
+each_batch lines is =
+    all_same _ _ (λ batch both. is_batch_of (members_of lines) batch both.0 both.1) (batches_of lines) (all_both _ _ (batches_of lines) (sound_batches lines is) is.batches)
 
 -- ---- LOADS.LUM
 
@@ -311,7 +451,9 @@ bodies_of_load sources members load is =
 pub sound_bodies : (sources : Sources) (lines : List RecipeLine) → IsRecipe lines → AllByRecursion (IsSoundBody (members_of lines)) (recipe_bodies sources lines)
 unfolding recipe_bodies
 sound_bodies sources lines is =
-    all_flat (IsSoundLoad (members_of lines)) (IsSoundBody (members_of lines)) (load_bodies sources) (bodies_of_load sources (members_of lines)) (loads_of lines) (sound_loads lines is)
+    all_append (IsSoundBody (members_of lines)) (flat_map (load_bodies sources) (loads_of lines)) (map batch_body (batches_of lines))
+    (all_flat (IsSoundLoad (members_of lines)) (IsSoundBody (members_of lines)) (load_bodies sources) (bodies_of_load sources (members_of lines)) (loads_of lines) (sound_loads lines is))
+    (all_map (IsSoundBatch (members_of lines)) (IsSoundBody (members_of lines)) batch_body (λ batch sound. record { name = sound.line.name; member = sound.line.member }) (batches_of lines) (sound_batches lines is))
 
 listed_file : (members : ℕ) (body : BodyView) → members ≤ 255 → IsSoundBody members body → IsListedFile members (listed_body body)
 listed_file members body few is = record { name = is.name; path = root; member = member_is members body.member few is.member; sum = crc16_fits body.bytes }
@@ -320,15 +462,15 @@ size_file : (f : ListedFile) → spelled_length (file_body_fields f) ≡ (2 + le
 unfolding file_body_fields
 size_file f = simp (length-append, length_number_bytes, length_pad_bytes) (omega arith)
 
-short_file : (members : ℕ) (body : BodyView) → IsSoundBody members body → entry_size file_body_fields (listed_body body) ≤ 76
+short_file : (members : ℕ) (body : BodyView) → IsSoundBody members body → entry_size file_body_fields (listed_body body) ≤ 88
 short_file members body is = omega (arith, size_file (listed_body body), is.name.size.1)
 
-short_enough : {A : Type 0} (size : A → ℕ) (xs : List A) → AllByRecursion (λ x. size x ≤ 76) xs → AllByRecursion (λ x. size x ≤ 131070) xs
+short_enough : {A : Type 0} (size : A → ℕ) (xs : List A) → AllByRecursion (λ x. size x ≤ 88) xs → AllByRecursion (λ x. size x ≤ 131070) xs
 short_enough size [] all = tt
 short_enough size (x ∷ xs) all = (omega (arith, all.0), short_enough size xs all.1)
 
 -- entries of at most this many bytes
-total_bound : {E X : Type 0} (f : E → List (List ℕ)) (view : X → E) (xs : List X) → AllByRecursion (λ x. entry_size f (view x) ≤ 76) xs → total_of f (map view xs) ≤ 76 * length xs
+total_bound : {E X : Type 0} (f : E → List (List ℕ)) (view : X → E) (xs : List X) → AllByRecursion (λ x. entry_size f (view x) ≤ 88) xs → total_of f (map view xs) ≤ 88 * length xs
 total_bound f view [] all = omega arith
 total_bound f view (x ∷ xs) all = omega (arith, all.0, total_bound f view xs all.1)
 
@@ -343,7 +485,7 @@ bodies_fit lines bodies member is in_set each new count =
     let start = has_start lines is in
     let few : members_of lines ≤ 255 = start.members.last in
     let names = map_map file_name listed_body bodies in
-    let sizes = all_same _ (λ body. entry_size file_body_fields (listed_body body) ≤ 76) (short_file (members_of lines)) bodies each in
+    let sizes = all_same _ (λ body. entry_size file_body_fields (listed_body body) ≤ 88) (short_file (members_of lines)) bodies each in
     record {
       set = start.set;
       member = member_is (members_of lines) member few in_set;
@@ -374,3 +516,45 @@ unfolding recipe_files
 files_fit sources lines member is in_set =
     bodies_fit lines (recipe_bodies sources lines) member is in_set (sound_bodies sources lines is) (bodies_are_distinct sources lines is)
     (omega (arith, few_bodies sources lines is, length-map (recipe_bodies sources lines) body_name))
+
+-- ---- BATCHES.LUM
+
+listed_batch : (members : ℕ) (batch : RecipeBatchView) → members ≤ 255 → IsSoundBatch members batch → IsListedBatch members (batch_entry batch)
+listed_batch members batch few is = record { part = is.line.part; file = is.line.name; member = member_is members batch.batch.member few is.line.member }
+
+short_batch : (members : ℕ) (batch : RecipeBatchView) → IsSoundBatch members batch → entry_size batch_body_fields (batch_entry batch) ≤ 88
+short_batch members batch is =
+    omega (arith, size_batch_parts (batch_entry batch), size_padded batch.batch.part, size_padded batch.batch.name, part_size batch.batch.part is.line.part, is.line.name.size.1)
+
+pub batches_fit : (lines : List RecipeLine) (member : ℕ) → IsRecipe lines → IsMemberOf (members_of lines) member → IsBatchesList (recipe_batches lines member)
+unfolding recipe_batches
+batches_fit lines member is in_set =
+    let start = has_start lines is in
+    let few : members_of lines ≤ 255 = start.members.last in
+    let names = map_map batch_file batch_entry (batches_of lines) in
+    let listed = all_map _ (IsListedBatch (members_of lines)) batch_entry (λ batch. listed_batch (members_of lines) batch few) (batches_of lines) (sound_batches lines is) in
+    let sizes = all_same _ _ (λ batch. short_batch (members_of lines) batch) (batches_of lines) (sound_batches lines is) in
+    let count : length (batches_of lines) ≤ 1024 = omega (arith, few_batches lines is, length-map (batches_of lines) batch_name_of) in
+    record {
+      set = start.set;
+      member = member_is (members_of lines) member few in_set;
+      members = omega (arith, few);
+      entries = record {
+        count = omega (arith, count, length-map (batches_of lines) batch_entry);
+        each = listed;
+        distances = batches_short (members_of lines) (map batch_entry (batches_of lines)) listed;
+        names = names_are_new batch_file (map batch_entry (batches_of lines)) (rw names (batches_are_distinct lines is));
+      };
+      user = λ i. omega arith;
+      user_even = refl;
+      user_size = omega arith;
+      size = omega (
+        arith,
+        whole_size batch_body_fields (recipe_batches lines member),
+        part_size (set_of lines) start.set,
+        size_entries batch_body_fields (map batch_entry (batches_of lines)),
+        total_bound batch_body_fields batch_entry (batches_of lines) sizes,
+        count,
+        size_user [],
+      );
+    }

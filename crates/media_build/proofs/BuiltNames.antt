@@ -1,6 +1,6 @@
 -- The names of the files of a recipe's set: each stands there once.
 use Rattle.std.proofs.Common.{◌≡◌, ℕ, ◌+◌, ◌≤◌, ◌||◌, Bool, true, false, cond, List, [], ◌∷◌, ◌++◌, length, Some, refl, sym, ap, subst, ◌∙◌, arith}
-use Rattle.std.specs.Prelude.{map}
+use Rattle.std.specs.Prelude.{map, ⊤}
 use Rattle.std.specs.Map.{lookup}
 use Rattle.std.specs.List.{AllByRecursion, IsDistinct, flat_map}
 use Rattle.std.proofs.lemmas.Cmp.{nat_list_eq_equiv}
@@ -9,13 +9,13 @@ use Rattle.load_base.specs.Bytes.{same_bytes}
 use Rattle.load_base.specs.EqualityLaws.{equal_bytes}
 use Rattle.media_lists.specs.Entries.{is_listed}
 use Rattle.media_lists.specs.ListFields.{AreNew}
-use Rattle.media_build.specs.Accepted.{IsRecipe}
-use Rattle.media_build.specs.Lines.{names_in, names_of}
-use Rattle.media_build.specs.RecipeSets.{Sources, RecipeLoadView, BodyView, load_at, loads_of, data_in, support_in, data_of, support_of, files_of, file_body, load_bodies, recipe_bodies}
+use Rattle.media_build.specs.Accepted.{is_of_loads, is_of_batches, IsRecipe}
+use Rattle.media_build.specs.Lines.{is_batch, names_in, names_of}
+use Rattle.media_build.specs.RecipeSets.{Sources, RecipeLoadView, RecipeBatchView, BodyView, load_at, loads_of, batch_at, batches_of, batch_body, data_in, support_in, data_of, support_of, files_of, file_body, load_bodies, recipe_bodies}
 use Rattle.media_build.specs.declared.statements.FileLine.{FileLine}
 use Rattle.media_build.specs.declared.statements.RecipeLine.{RecipeLine}
 use Rattle.media_build.specs.declared.statements.Statement.{Statement}
-use Rattle.media_build.specs.declared.statements.Statement.TheVariants.{Set, Members, Load, Hardware, Position, Data, Support, User}
+use Rattle.media_build.specs.declared.statements.Statement.TheVariants.{Set, Members, Load, Hardware, Position, Data, Support, User, Batch, Target}
 use Rattle.media_build.proofs.AcceptedRecipes.{flips, neither, own, own_with, own_more}
 
 -- ---- how many of some names pass a test
@@ -44,30 +44,62 @@ load_names load = load.load.name ∷ (file_names (data_of load) ++ file_names (s
 abbrev own_names : (List ℕ → Bool) → List Statement → ℕ
 own_names p statements = occurs p (file_names (flat_map data_in statements)) + occurs p (file_names (flat_map support_in statements))
 
--- each name of the lines is one of a load, or of the lines before the first load
-names_split : (p : List ℕ → Bool) (lines : List RecipeLine) → occurs p (names_of lines) ≡ own_names p (own lines) + occurs p (flat_map load_names (loads_of lines))
+-- the name of the file of a batch
+abbrev pub batch_name_of : RecipeBatchView → List ℕ
+batch_name_of batch = batch.batch.name
+
+-- after a batch there are lines of batches alone
+abbrev AreInTurn : List RecipeLine → Type 0
+AreInTurn [] = ⊤
+AreInTurn (line ∷ later) = (is_batch line.statement ≡ true → AllByRecursion (λ other. is_of_batches other.statement ≡ true) later) × AreInTurn later
+
+-- lines of batches name no file of a load
+no_own_files : (p : List ℕ → Bool) (lines : List RecipeLine) → AllByRecursion (λ line. is_of_batches line.statement ≡ true) lines → own_names p (own lines) ≡ 0
+no_own_files p [] all = refl
+no_own_files p (line ∷ later) all =
+    subst (λ (l : List Statement). own_names p l ≡ 0) (sym (own_more line later)) (by line.statement all.0 (no_own_files p later all.1))
+  where
+    by : (s : Statement) → is_of_batches s ≡ true → own_names p (own later) ≡ 0 → own_names p (own_with s (own later)) ≡ 0
+    by (Set part) is e = absurd cc
+    by (Members count) is e = absurd cc
+    by (Load load) is e = absurd cc
+    by (Hardware id) is e = absurd cc
+    by (Position id place) is e = absurd cc
+    by (Data file) is e = absurd cc
+    by (Support file) is e = absurd cc
+    by (User bytes) is e = absurd cc
+    by (Batch batch) is e = refl
+    by (Target target) is e = e
+
+-- each name of the lines is one of a load or a batch, or of the lines before the first load
+names_split : (p : List ℕ → Bool) (lines : List RecipeLine) → AreInTurn lines
+    → occurs p (names_of lines) ≡ own_names p (own lines) + occurs p (flat_map load_names (loads_of lines)) + occurs p (map batch_name_of (batches_of lines))
 unfolding names_of
-names_split p [] = refl
-names_split p (line ∷ later) =
+names_split p [] turn = refl
+names_split p (line ∷ later) turn =
     let all : List (List ℕ) = flat_map (λ (l : RecipeLine). names_in l.statement) later in
     occurs-append p (names_in line.statement) all
-    ∙ subst (λ (l : List Statement). occurs p (names_in line.statement) + occurs p all ≡ own_names p l + occurs p (flat_map load_names (loads_of (line ∷ later)))) (sym (own_more line later))
-    (by line.statement (names_split p later))
+    ∙ subst (λ (l : List Statement). occurs p (names_in line.statement) + occurs p all ≡ own_names p l + occurs p (flat_map load_names (loads_of (line ∷ later))) + occurs p (map batch_name_of (batches_of (line ∷ later)))) (sym (own_more line later))
+    (by line.statement turn.0 (names_split p later turn.1))
   where
-    by : (s : Statement) → occurs p (names_of later) ≡ own_names p (own later) + occurs p (flat_map load_names (loads_of later))
-        → occurs p (names_in s) + occurs p (names_of later) ≡ own_names p (own_with s (own later)) + occurs p (flat_map load_names (load_at line.number s later ++ loads_of later))
-    by (Set part) e = omega (arith, e)
-    by (Members count) e = omega (arith, e)
-    by (Load load) e =
+    by : (s : Statement) → (is_batch s ≡ true → AllByRecursion (λ other. is_of_batches other.statement ≡ true) later)
+        → occurs p (names_of later) ≡ own_names p (own later) + occurs p (flat_map load_names (loads_of later)) + occurs p (map batch_name_of (batches_of later))
+        → occurs p (names_in s) + occurs p (names_of later)
+        ≡ own_names p (own_with s (own later)) + occurs p (flat_map load_names (load_at line.number s later ++ loads_of later)) + occurs p (map batch_name_of (batch_at s later ++ batches_of later))
+    by (Set part) turn e = omega (arith, e)
+    by (Members count) turn e = omega (arith, e)
+    by (Load load) turn e =
         let this : RecipeLoadView = record { number = line.number; load = load; own = own later } in
         let files = occurs-append p (file_names (data_of this)) (file_names (support_of this)) in
         let both = occurs-append p (file_names (data_of this) ++ file_names (support_of this)) (flat_map load_names (loads_of later)) in
         omega (arith, e, files, both)
-    by (Hardware id) e = omega (arith, e)
-    by (Position id place) e = omega (arith, e)
-    by (Data file) e = omega (arith, e)
-    by (Support file) e = omega (arith, e)
-    by (User bytes) e = omega (arith, e)
+    by (Hardware id) turn e = omega (arith, e)
+    by (Position id place) turn e = omega (arith, e)
+    by (Data file) turn e = omega (arith, e)
+    by (Support file) turn e = omega (arith, e)
+    by (User bytes) turn e = omega (arith, e)
+    by (Batch batch) turn e = omega (arith, e, no_own_files p later (turn refl))
+    by (Target target) turn e = omega (arith, e)
 
 -- ---- the names of the files of the set
 
@@ -89,6 +121,18 @@ names_of_loads sources (load ∷ loads) =
     map-append body_name (load_bodies sources load) (flat_map (load_bodies sources) loads)
     ∙ (ap (λ (l : List (List ℕ)). l ++ map body_name (flat_map (load_bodies sources) loads)) (names_of_load sources load)
     ∙ ap (λ (l : List (List ℕ)). load_names load ++ l) (names_of_loads sources loads))
+
+names_of_batches : (batches : List RecipeBatchView) → map body_name (map batch_body batches) ≡ map batch_name_of batches
+names_of_batches [] = refl
+names_of_batches (batch ∷ batches) = ap (λ (l : List (List ℕ)). batch.batch.name ∷ l) (names_of_batches batches)
+
+-- of all loads, and then of all batches
+names_of_set : (sources : Sources) (lines : List RecipeLine) → map body_name (recipe_bodies sources lines) ≡ flat_map load_names (loads_of lines) ++ map batch_name_of (batches_of lines)
+unfolding recipe_bodies
+names_of_set sources lines =
+    map-append body_name (flat_map (load_bodies sources) (loads_of lines)) (map batch_body (batches_of lines))
+    ∙ (ap (λ (l : List (List ℕ)). l ++ map body_name (map batch_body (batches_of lines))) (names_of_loads sources (loads_of lines))
+    ∙ ap (λ (l : List (List ℕ)). flat_map load_names (loads_of lines) ++ l) (names_of_batches (batches_of lines)))
 
 -- ---- names that differ
 
@@ -144,28 +188,58 @@ no_own lines p is = subst (λ (l : List RecipeLine). own_names p (own l) ≡ 0) 
     c : RecipeLine
     c = record { number = is.order.numbers.2; statement = Load is.order.load }
 
-    whole : own (a ∷ b ∷ c ∷ is.order.later) ≡ Set is.order.set ∷ Members is.order.members ∷ []
+    rest : List RecipeLine
+    rest = is.order.later ++ is.order.batches
+
+    whole : own (a ∷ b ∷ c ∷ rest) ≡ Set is.order.set ∷ Members is.order.members ∷ []
     whole =
-        own_more a (b ∷ c ∷ is.order.later)
-        ∙ ap (λ (l : List Statement). Set is.order.set ∷ l) (own_more b (c ∷ is.order.later) ∙ ap (λ (l : List Statement). Members is.order.members ∷ l) (own_more c is.order.later))
+        own_more a (b ∷ c ∷ rest)
+        ∙ ap (λ (l : List Statement). Set is.order.set ∷ l) (own_more b (c ∷ rest) ∙ ap (λ (l : List Statement). Members is.order.members ∷ l) (own_more c rest))
+
+no_batch : (s : Statement) → is_of_loads s ≡ true → is_batch s ≡ true → ⊥
+no_batch (Set part) is e = absurd cc
+no_batch (Members count) is e = absurd cc
+no_batch (Load load) is e = absurd cc
+no_batch (Hardware id) is e = absurd cc
+no_batch (Position id place) is e = absurd cc
+no_batch (Data file) is e = absurd cc
+no_batch (Support file) is e = absurd cc
+no_batch (User bytes) is e = absurd cc
+no_batch (Batch batch) is e = absurd cc
+no_batch (Target target) is e = absurd cc
+
+batches_in_turn : (lines : List RecipeLine) → AllByRecursion (λ line. is_of_batches line.statement ≡ true) lines → AreInTurn lines
+batches_in_turn [] all = tt
+batches_in_turn (line ∷ lines) all = ((λ e. all.1), batches_in_turn lines all.1)
+
+loads_in_turn : (loads batches : List RecipeLine) → AllByRecursion (λ line. is_of_loads line.statement ≡ true) loads → AreInTurn batches → AreInTurn (loads ++ batches)
+loads_in_turn [] batches all turn = turn
+loads_in_turn (line ∷ loads) batches all turn = ((λ e. absurd (no_batch line.statement all.0 e)), loads_in_turn loads batches all.1 turn)
+
+in_turn : (lines : List RecipeLine) → IsRecipe lines → AreInTurn lines
+in_turn lines is =
+    let rest = loads_in_turn is.order.later is.order.batches is.order.others (batches_in_turn is.order.batches is.order.last.each) in
+    subst AreInTurn (sym is.order.stands) ((λ e. absurd cc), ((λ e. absurd cc), ((λ e. absurd cc), rest)))
 
 -- the files have the names that the lines give, in another order
-pub same_names : (lines : List RecipeLine) (p : List ℕ → Bool) → IsRecipe lines → occurs p (names_of lines) ≡ occurs p (flat_map load_names (loads_of lines))
-same_names lines p is = omega (arith, names_split p lines, no_own lines p is)
+pub same_names : (lines : List RecipeLine) (p : List ℕ → Bool) → IsRecipe lines
+    → occurs p (names_of lines) ≡ occurs p (flat_map load_names (loads_of lines)) + occurs p (map batch_name_of (batches_of lines))
+same_names lines p is = omega (arith, names_split p lines (in_turn lines is), no_own lines p is)
+
+-- all together
+abbrev set_names : List RecipeLine → List (List ℕ)
+set_names lines = flat_map load_names (loads_of lines) ++ map batch_name_of (batches_of lines)
+
+in_set : (lines : List RecipeLine) (p : List ℕ → Bool) → IsRecipe lines → occurs p (names_of lines) ≡ occurs p (set_names lines)
+in_set lines p is = omega (arith, same_names lines p is, occurs-append p (flat_map load_names (loads_of lines)) (map batch_name_of (batches_of lines)))
 
 pub few_bodies : (sources : Sources) (lines : List RecipeLine) → IsRecipe lines → length (map body_name (recipe_bodies sources lines)) ≤ 1024
-unfolding recipe_bodies
 few_bodies sources lines is =
-    let names : map body_name (recipe_bodies sources lines) ≡ flat_map load_names (loads_of lines) = names_of_loads sources (loads_of lines) in
-    rw names
-    (omega (arith, all_occur (names_of lines), all_occur (flat_map load_names (loads_of lines)), same_names lines (λ name. true) is, is.few))
+    rw (names_of_set sources lines) (omega (arith, all_occur (names_of lines), all_occur (set_names lines), in_set lines (λ name. true) is, is.few))
 
 pub bodies_are_distinct : (sources : Sources) (lines : List RecipeLine) → IsRecipe lines → IsDistinct same_bytes (map body_name (recipe_bodies sources lines))
-unfolding recipe_bodies
 bodies_are_distinct sources lines is =
-    let names : map body_name (recipe_bodies sources lines) ≡ flat_map load_names (loads_of lines) = names_of_loads sources (loads_of lines) in
-    rw names
-    (distinct (flat_map load_names (loads_of lines)) (λ name. omega (arith, same_names lines (same_bytes name) is, occurs_once name (names_of lines) is.names)))
+    rw (names_of_set sources lines) (distinct (set_names lines) (λ name. omega (arith, in_set lines (same_bytes name) is, occurs_once name (names_of lines) is.names)))
 
 -- ---- the names of headers
 
@@ -192,6 +266,15 @@ few_loads lines is =
       header_occurs (λ name. true) (loads_of lines),
       is.few,
     )
+
+-- ---- the names of batches
+
+pub batches_are_distinct : (lines : List RecipeLine) → IsRecipe lines → IsDistinct same_bytes (map batch_name_of (batches_of lines))
+batches_are_distinct lines is =
+    distinct (map batch_name_of (batches_of lines)) (λ name. omega (arith, same_names lines (same_bytes name) is, occurs_once name (names_of lines) is.names))
+
+pub few_batches : (lines : List RecipeLine) → IsRecipe lines → length (map batch_name_of (batches_of lines)) ≤ 1024
+few_batches lines is = omega (arith, all_occur (names_of lines), all_occur (map batch_name_of (batches_of lines)), same_names lines (λ name. true) is, is.few)
 
 -- ---- entries with these names
 

@@ -7,6 +7,11 @@ use Rattle.std.proofs.lemmas.List.FromFn.{length-map-range_with_len, get_or-map-
 use Rattle.std.proofs.lemmas.Option.{slice_get-get_or, slice_get-map}
 use Rattle.load_base.specs.Bytes.{same_bytes}
 use Rattle.load_base.specs.Listed.{Listed}
+use Rattle.batch_lists.specs.Batch.{BatchView, batch}
+use Rattle.batch_lists.specs.BatchFields.{BatchSpells}
+use Rattle.batch_lists.specs.Batches.{BatchesListView, batches_list, BatchesSpells}
+use Rattle.batch_lists.specs.declared.fault.BatchesFault.{BatchesFault}
+use Rattle.media_lists.specs.declared.fault.ListFault.{ListFault}
 use Rattle.field_grammar.specs.Answers.{answer}
 use Rattle.field_grammar.specs.ExactLaws.{answer-spelled, spelled_at_start}
 use Rattle.field_grammar.specs.Grammar.{Grammar, Spelled}
@@ -20,19 +25,21 @@ use Rattle.media_check.specs.Sets.{Media, MemberView, ListedFileView, SetView, f
 use Rattle.media_check.specs.declared.built.Built.{Built}
 use Rattle.media_check.specs.declared.built.Placed.{Placed}
 use Rattle.media_check.specs.declared.found.Found.{Found}
-use Rattle.media_check.specs.declared.found.Found.TheVariants.{Read}
+use Rattle.media_check.specs.declared.found.Found.TheVariants.{Missing, Read}
 use Rattle.media_build.specs.Accepted.{IsMemberOf, IsRecipe}
 use Rattle.media_build.specs.Lines.{members_of}
 use Rattle.media_build.specs.NoFindings.{SizesFit, body_view, built_view, HaveSet}
-use Rattle.media_build.specs.RecipeSets.{Sources, BodyView, BuiltView, recipe_bodies, recipe_loads, listed_body, recipe_files, loads_list_bytes, files_list_bytes, recipe_set}
+use Rattle.media_build.specs.RecipeSets.{Sources, RecipeBatchView, BodyView, BuiltView, batches_of, recipe_bodies, recipe_loads, listed_body, recipe_files, recipe_batches, loads_list_bytes, files_list_bytes, batches_list_bytes, where_some, all_where_some, recipe_set}
 use Rattle.media_build.specs.declared.statements.RecipeLine.{RecipeLine}
-use Rattle.media_build.proofs.BuiltLists.{all_same, map_map, has_start, loads_fit, files_fit}
+use Rattle.media_build.proofs.BuiltLists.{all_same, map_map, has_start, loads_fit, files_fit, batches_fit}
 use Rattle.media_build.proofs.BuiltNames.{body_name, named, bodies_are_distinct, each_is_found}
 
 -- what the laws of the formats say
 pub record FormatLaws : Type 0 where
   pub loads : (v : LoadsListView) (bytes : List ℕ) → LoadsSpells v bytes → Spelled loads_list bytes v
   pub files : (v : FilesListView) (bytes : List ℕ) → FilesSpells v bytes → Spelled files_list bytes v
+  pub batches : (v : BatchesListView) (bytes : List ℕ) → BatchesSpells v bytes → answer batches_list bytes ≡ Ok v
+  pub batch : (v : BatchView) (bytes : List ℕ) → BatchSpells v bytes → answer batch bytes ≡ Ok v
   pub headers : (h : HeaderView) (bytes : List ℕ) → HeaderSpells h bytes → Spelled header bytes h
   pub header_length : (h : HeaderView) (bytes : List ℕ) → HeaderSpells h bytes → length bytes ≡ header_size h
   pub before_load_crc : (h : HeaderView) (crc : ℕ) (bytes others : List ℕ) → HeaderSpells h bytes → HeaderSpells (with_load_crc h crc) others
@@ -50,9 +57,18 @@ nth f members member is =
 
 -- ---- the set as it is read
 
--- both lists of a member
+-- a list of batches, where there are some
+abbrev pub found_where : List RecipeBatchView → BatchesListView → Found BatchesListView BatchesFault
+found_where [] list = Missing
+found_where (first ∷ others) list = Read list
+
+-- the lists of a member
 abbrev pub lists_of_member : Sources → List RecipeLine → ℕ → MemberView
-lists_of_member sources lines member = record { loads = Read (recipe_loads lines member); files = Read (recipe_files sources lines member) }
+lists_of_member sources lines member = record {
+  loads = Read (recipe_loads lines member);
+  files = Read (recipe_files sources lines member);
+  batches = found_where (batches_of lines) (recipe_batches lines member);
+}
 
 abbrev pub file_there : BodyView → ListedFileView
 file_there body = record { member = body.member; bytes = Some body.bytes }
@@ -64,9 +80,9 @@ read_set sources lines = record {
   files = map (named body_name file_there) (recipe_bodies sources lines);
 }
 
-same_lists : (a b : Found LoadsListView) (c d : Found FilesListView) → a ≡ b → c ≡ d
-    → (let one : MemberView = record { loads = a; files = c } in one) ≡ record { loads = b; files = d }
-same_lists a b c d e f = rw (e, f) refl
+same_lists : (a b : Found LoadsListView ListFault) (c d : Found FilesListView ListFault) (x y : Found BatchesListView BatchesFault) → a ≡ b → c ≡ d → x ≡ y
+    → (let one : MemberView = record { loads = a; files = c; batches = x } in one) ≡ record { loads = b; files = d; batches = y }
+same_lists a b c d x y e f g = rw (e, f, g) refl
 
 same_set : (first : MemberView) (a b : List MemberView) (c d : List (List ℕ × ListedFileView)) → a ≡ b → c ≡ d
     → (let one : SetView = record { first = first; further = a; files = c } in one) ≡ record { first = first; further = b; files = d }
@@ -87,8 +103,20 @@ module _ (media : Media) (sources : Sources) (lines : List RecipeLine) (has : Ha
       ap (λ (bytes : Option (List ℕ)). found_in files_list bytes) (has.files member in_set)
       ∙ ap (λ (r : _). found_as r) (answer_is files_list (files_list_bytes sources lines member) (recipe_files sources lines member) (laws.files (recipe_files sources lines member) (files_list_bytes sources lines member) spells))
 
+  batches_found : (member : ℕ) → IsMemberOf (members_of lines) member → found_in batches_list (media.batches_list member) ≡ found_where (batches_of lines) (recipe_batches lines member)
+  unfolding batches_list_bytes
+  batches_found member in_set =
+      let spells : BatchesSpells (recipe_batches lines member) (batches_list_bytes lines member) = (batches_fit lines member is in_set, refl) in
+      let read = laws.batches (recipe_batches lines member) (batches_list_bytes lines member) spells in
+      ap (λ (bytes : Option (List ℕ)). found_in batches_list bytes) (has.batches member in_set) ∙ by (batches_of lines) (ap (λ (r : _). found_as r) read)
+    where
+      by : (batches : List RecipeBatchView) → found_as (answer batches_list (batches_list_bytes lines member)) ≡ Read (recipe_batches lines member)
+          → found_in batches_list (where_some batches (batches_list_bytes lines member)) ≡ found_where batches (recipe_batches lines member)
+      by [] read = refl
+      by (first ∷ others) read = read
+
   pub member_found : (member : ℕ) → IsMemberOf (members_of lines) member → lists_in media member ≡ lists_of_member sources lines member
-  member_found member in_set = same_lists _ _ _ _ (loads_found member in_set) (files_found member in_set)
+  member_found member in_set = same_lists _ _ _ _ _ _ (loads_found member in_set) (files_found member in_set) (batches_found member in_set)
 
   members_found : (from count : ℕ) → 1 ≤ from → from + count ≤ members_of lines + 1
       → map (lists_in media) (range_with_len from count) ≡ map (lists_of_member sources lines) (range_with_len from count)
@@ -132,11 +160,18 @@ pub list_there : (f : ℕ → List ℕ) (lists : List (Listed ℕ)) (members mem
     → member_list lists member ≡ Some (f member)
 list_there f lists members member same in_set = lists_are lists member ∙ (ap (λ (l : List (List ℕ)). slice_get l (member - 1)) same ∙ nth f members member in_set)
 
+pub list_where_some : (batches : List RecipeBatchView) (f : ℕ → List ℕ) (lists : List (Listed ℕ)) (members member : ℕ)
+    → map (λ list. list.items) lists ≡ all_where_some batches (map f (range_with_len 1 members)) → IsMemberOf members member
+    → member_list lists member ≡ where_some batches (f member)
+list_where_some [] f lists members member same in_set = lists_are lists member ∙ ap (λ (l : List (List ℕ)). slice_get l (member - 1)) same
+list_where_some (first ∷ others) f lists members member same in_set = list_there f lists members member same in_set
+
 pub built_media_have : (sources : Sources) (lines : List RecipeLine) (built : Built) → IsRecipe lines → built_view built ≡ recipe_set sources lines → HaveSet (built_media built) sources lines
 unfolding recipe_set
 built_media_have sources lines built is same = record {
   loads = λ member. list_there (loads_list_bytes lines) built.loads.items (members_of lines) member (ap (λ (set : BuiltView). set.loads) same);
   files = λ member. list_there (files_list_bytes sources lines) built.files.items (members_of lines) member (ap (λ (set : BuiltView). set.files) same);
+  batches = λ member. list_where_some (batches_of lines) (batches_list_bytes lines) built.batches.items (members_of lines) member (ap (λ (set : BuiltView). set.batches) same);
   bodies = all_same _ _ body_there (recipe_bodies sources lines) (each_is_found body_name (λ b. b.bytes) (recipe_bodies sources lines) (bodies_are_distinct sources lines is));
 }
   where

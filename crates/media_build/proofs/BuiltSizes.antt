@@ -13,7 +13,7 @@ use Rattle.media_build.specs.RecipeSets.{Sources, RecipeLoadView, loads_of, data
 use Rattle.media_build.specs.declared.statements.FileLine.{FileLine}
 use Rattle.media_build.specs.declared.statements.RecipeLine.{RecipeLine}
 use Rattle.media_build.specs.declared.statements.Statement.{Statement}
-use Rattle.media_build.specs.declared.statements.Statement.TheVariants.{Set, Members, Load, Hardware, Position, Data, Support, User}
+use Rattle.media_build.specs.declared.statements.Statement.TheVariants.{Set, Members, Load, Hardware, Position, Data, Support, User, Batch, Target}
 use Rattle.media_build.proofs.BuiltHeaders.{first_part, second_part}
 use Rattle.media_build.proofs.BuiltLists.{all_append, map_map}
 
@@ -59,6 +59,8 @@ short_data sources (Position id place ∷ own) all = short_data sources own all
 short_data sources (Data file ∷ own) all = (all.0, short_data sources own all.1)
 short_data sources (Support file ∷ own) all = short_data sources own all.1
 short_data sources (User bytes ∷ own) all = short_data sources own all
+short_data sources (Batch batch ∷ own) all = short_data sources own all
+short_data sources (Target target ∷ own) all = short_data sources own all
 
 short_support : (sources : Sources) (own : List Statement) → AllByRecursion (IsShortSource sources) (flat_map source_named own) → AreShort sources (flat_map support_in own)
 short_support sources [] all = tt
@@ -70,6 +72,8 @@ short_support sources (Position id place ∷ own) all = short_support sources ow
 short_support sources (Data file ∷ own) all = short_support sources own all.1
 short_support sources (Support file ∷ own) all = (all.0, short_support sources own all.1)
 short_support sources (User bytes ∷ own) all = short_support sources own all
+short_support sources (Batch batch ∷ own) all = short_support sources own all
+short_support sources (Target target ∷ own) all = short_support sources own all
 
 -- the sources that the lines of loads name
 abbrev pub sources_named : List RecipeLoadView → List (List ℕ)

@@ -1,7 +1,7 @@
 -- How bytes are cut at a separator.
-use Rattle.std.proofs.Common.{◌≡◌, ℕ, suc, ◌+◌, ◌-◌, ◌≤◌, Bool, true, false, not, cond, nat_lt, List, [], ◌∷◌, length, take, drop, Some, None, refl, subst, arith}
+use Rattle.std.proofs.Common.{◌≡◌, ℕ, suc, ◌+◌, ◌-◌, ◌≤◌, ◌==◌, count_by, Bool, true, false, not, cond, nat_lt, List, [], ◌∷◌, length, take, drop, Some, None, refl, subst, arith}
 use Rattle.std.specs.List.{position, position_or_len, slice_split, onto_first}
-use Rattle.std.proofs.lemmas.List.Splits.{slice_split_first}
+use Rattle.std.proofs.lemmas.List.Splits.{slice_split_first, length-slice_split}
 use Rattle.std.proofs.lemmas.Bool.{ltb-true, ltb-false}
 use Rattle.std.proofs.lemmas.Grind.{common_steps}
 
@@ -36,3 +36,7 @@ module _ (p : ℕ → Bool) where
       by true t e =
           let same : position_or_len p xs ≡ end = cc in
           rw whole (subst (λ n. slice_split p xs ≡ take n xs ∷ slice_split p (drop (n + 1) xs)) same (slice_split_first p xs 0 (ltb-true _ _ t)))
+
+-- there is one piece more than separators
+pub pieces_are : (separator : ℕ) (bytes : List ℕ) → length (slice_split (λ byte. byte == separator) bytes) ≡ 1 + count_by (λ byte. byte == separator) bytes
+pieces_are separator bytes = omega (arith, length-slice_split (λ byte. byte == separator) bytes)

@@ -31,7 +31,7 @@ use Rattle.media_build.specs.Accepted.{IsMemberOf, IsRecipe}
 use Rattle.media_build.specs.Building.{IsSmall}
 use Rattle.media_build.specs.Generator.{generated, state_at}
 use Rattle.media_build.specs.GeneratedSet.{generated_recipe, generated_lines, generated_load_view, always, generated_sources, set_of_one}
-use Rattle.media_build.specs.Lines.{keyword_of, may_stand, names_of, members_of, lines_of_load}
+use Rattle.media_build.specs.Lines.{keyword_of, may_stand, stage_of, names_of, members_of, lines_of_load}
 use Rattle.media_build.specs.NoFindings.{SizesFit, built_view}
 use Rattle.media_build.specs.Recipes.{recipe_said, words_said, keyword_said, set_line, members_line, load_line, load_said, placed_words, new_place, type_words, hardware_line, file_line, file_said, source_words, part_word, text_word, name_word, ends_with}
 use Rattle.media_build.specs.RecipeSets.{Sources, BuiltView, header_start, header_bytes, header_of, load_crc_of, load_bodies, recipe_bodies, recipe_loads, recipe_files, loads_list_bytes, files_list_bytes, recipe_set}
@@ -42,7 +42,7 @@ use Rattle.media_build.proofs.BuiltLists.{word_is_text, loads_fit, files_fit}
 use Rattle.media_build.proofs.ReadableSets.{total_built}
 
 pub generated_said : recipe_said generated_recipe ≡ Ok generated_lines
-unfolding recipe_said words_said keyword_said set_line members_line load_line load_said placed_words new_place type_words hardware_line file_line file_said source_words part_word text_word name_word ends_with keyword_of may_stand names_of members_of lines_of_load written_lines decimal_between name_fault_of part_fault_of is_good_at check_of
+unfolding recipe_said words_said keyword_said set_line members_line load_line load_said placed_words new_place type_words hardware_line file_line file_said source_words part_word text_word name_word ends_with keyword_of may_stand stage_of names_of members_of lines_of_load written_lines decimal_between name_fault_of part_fault_of is_good_at check_of
 generated_said = refl
 
 pub is_recipe : IsRecipe generated_lines

@@ -18,12 +18,14 @@ pub mod Texts
 pub mod PositionKinds
 pub mod Taking
 pub mod OwnLines
+pub mod PartLists
 pub mod HeaderLimits
 pub mod ReadLines
 pub mod WholeHeaders
 pub mod AddedLoads
 pub mod AddedBodies
 pub mod MemberLists
+pub mod BatchesSoFar
 pub mod BuildAnswers
 pub mod WrittenSets
 pub mod Exclusive

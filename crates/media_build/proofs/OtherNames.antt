@@ -1,8 +1,8 @@
 -- Writing a set sets no name but those of its lists and files.
-use Rattle.std.proofs.Common.{◌≡◌, ◌≢◌, ℕ, zero, suc, ◌+◌, ◌<◌, ◌≤◌, Bool, true, false, cond, List, [], ◌∷◌, ◌++◌, length, Option, Some, None, Result, Ok, Err, refl, sym, ap, subst, ◌∙◌, append_assoc, arith}
+use Rattle.std.proofs.Common.{◌≡◌, ◌≢◌, ℕ, zero, suc, ◌+◌, ◌≤◌, Bool, true, false, cond, List, [], ◌∷◌, ◌++◌, length, Option, Some, None, Result, Ok, Err, refl, sym, subst, ◌∙◌, append_assoc, arith}
 use Rattle.std.specs.Option.{ForSome}
-use Rattle.std.specs.Prelude.{map, filter, codes}
-use Rattle.std.specs.List.{AllByRecursion, flat_map, range_with_len}
+use Rattle.std.specs.Prelude.{map, filter}
+use Rattle.std.specs.List.{AllByRecursion, range_with_len}
 use Rattle.std.proofs.lemmas.List.{length-map}
 use Rattle.load_base.specs.Bytes.{same_bytes}
 use Rattle.load_base.specs.EqualityLaws.{equal_bytes}
@@ -11,7 +11,7 @@ use Rattle.load_base.specs.Listed.{Listed}
 use Rattle.load_base.specs.declared.sink.WriteFault.{WriteFault}
 use Rattle.load_base.specs.declared.sink.WriteFault.TheVariants as writing
 use Rattle.media_check.specs.BuiltSets.{member_list}
-use Rattle.media_check.specs.HostNames.{loads_name, files_name}
+use Rattle.media_check.specs.HostNames.{loads_name, files_name, batches_name}
 use Rattle.media_check.specs.declared.built.Built.{Built}
 use Rattle.media_check.specs.declared.built.Placed.{Placed}
 use Rattle.media_build.specs.Accepted.{IsMemberOf}
@@ -19,7 +19,7 @@ use Rattle.media_build.specs.HostWrites.{Written, Writes, WritesFiles, after_wri
 use Rattle.media_build.specs.NoFindings.{body_view, built_view}
 use Rattle.media_build.specs.RecipeSets.{BodyView, BuiltView}
 use Rattle.media_build.specs.WrittenFolders.{IsNameIn, KeepsAllBut}
-use Rattle.media_build.specs.WrittenFolders.IsNameIn.{of_loads, of_files, of_body}
+use Rattle.media_build.specs.WrittenFolders.IsNameIn.{of_loads, of_files, of_batches, of_body}
 use Rattle.media_build.proofs.BuiltHeaders.{all_filter, first_part, second_part}
 use Rattle.media_build.proofs.BuiltLists.{all_append, all_flat, all_map, all_same}
 
@@ -69,8 +69,9 @@ each_of_member folder built member is =
     let set = built_view built in
     all_append (IsOneIn folder set) (written_list (loads_name folder member) (member_list built.loads.items member)) _ (one_list folder set (loads_name folder member) _ (of_loads member is refl))
     (all_append (IsOneIn folder set) (written_list (files_name folder member) (member_list built.files.items member)) _ (one_list folder set (files_name folder member) _ (of_files member is refl))
+    (all_append (IsOneIn folder set) (written_list (batches_name folder member) (member_list built.batches.items member)) _ (one_list folder set (batches_name folder member) _ (of_batches member is refl))
     (all_map (λ body. IsOneIn folder set (written_body folder body)) (IsOneIn folder set) (written_body folder) (λ body one. one) (filter (is_of member) built.bodies.items)
-    (all_filter (λ body. IsOneIn folder set (written_body folder body)) (is_of member) built.bodies.items (each_body folder set [] built.bodies.items refl))))
+    (all_filter (λ body. IsOneIn folder set (written_body folder body)) (is_of member) built.bodies.items (each_body folder set [] built.bodies.items refl)))))
 
 each_number : (members from count : ℕ) → 1 ≤ from → from + count ≤ members + 1 → AllByRecursion (IsMemberOf members) (range_with_len from count)
 each_number members from zero first last = tt

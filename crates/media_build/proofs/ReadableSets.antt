@@ -12,11 +12,14 @@ use Rattle.field_grammar.specs.Spelling.{spelled_length}
 use Rattle.header_sections.specs.SectionFields.{user_fields, entries_fields}
 use Rattle.load_base.specs.Host.{Files, longest_file}
 use Rattle.load_header.specs.HeaderFields.{header_size}
+use Rattle.batch_lists.specs.BatchFields.{IsBatch}
+use Rattle.batch_lists.specs.Batches.{batch_body_fields}
+use Rattle.batch_lists.proofs.BatchSizes.{size_batch, small_batch}
 use Rattle.media_lists.specs.Files.{file_body_fields}
 use Rattle.media_lists.specs.Lists.{ListView}
 use Rattle.media_lists.specs.ListFields.{head_fields, identity_fields, list_size, pointers_of, sections_fields, covered_fields, list_fields}
 use Rattle.media_lists.specs.Loads.{load_body_fields}
-use Rattle.media_check.specs.HostNames.{host_media, list_names, listed_name, whole_reading}
+use Rattle.media_check.specs.HostNames.{host_media, list_names, listed_name, batches_name, whole_reading}
 use Rattle.media_check.specs.Openings as openings
 use Rattle.media_check.specs.Openings.{IsShort, total_of, largest_set, CanRead}
 use Rattle.media_check.specs.Sets.{MemberView, lists_in}
@@ -25,10 +28,10 @@ use Rattle.media_check.specs.declared.built.Placed.{Placed}
 use Rattle.media_build.specs.Accepted.{IsMemberOf, IsRecipe}
 use Rattle.media_build.specs.Lines.{members_of}
 use Rattle.media_build.specs.NoFindings.{SizesFit, body_view, built_view, HaveSet}
-use Rattle.media_build.specs.RecipeSets.{Sources, RecipeLoadView, BodyView, BuiltView, loads_of, files_of, header_bytes, header_of, file_body, load_bodies, recipe_bodies, recipe_loads, recipe_files, listed_body, loads_list_bytes, files_list_bytes, recipe_set}
+use Rattle.media_build.specs.RecipeSets.{Sources, RecipeLoadView, RecipeBatchView, BodyView, batches_of, batch_of, batch_body, recipe_batches, batches_list_bytes, where_some, BuiltView, loads_of, files_of, header_bytes, header_of, file_body, load_bodies, recipe_bodies, recipe_loads, recipe_files, listed_body, loads_list_bytes, files_list_bytes, recipe_set}
 use Rattle.media_build.specs.declared.statements.RecipeLine.{RecipeLine}
 use Rattle.media_build.proofs.BuiltHeaders.{IsGoodLoad, header_spells, good_loads}
-use Rattle.media_build.proofs.BuiltLists.{all_append, all_flat, all_map, all_both, has_start, loads_fit, files_fit}
+use Rattle.media_build.proofs.BuiltLists.{all_append, all_flat, all_map, all_both, has_start, loads_fit, files_fit, batches_fit, each_batch}
 use Rattle.media_build.proofs.BuiltSet.{FormatLaws, lists_of_member, member_found}
 
 by_index : {A : Type 0} (P : A → Type 0) (xs : List A) → AllByRecursion P xs → All P xs
@@ -73,6 +76,17 @@ short_files_list sources lines member is in_set =
     let size = (files_fit sources lines member is in_set).size in
     omega (arith, size, list_length 0xA004 file_body_fields (recipe_files sources lines member))
 
+short_batches_list : (lines : List RecipeLine) (member : ℕ) → IsRecipe lines → IsMemberOf (members_of lines) member → length (batches_list_bytes lines member) ≤ longest_file
+unfolding batches_list_bytes
+short_batches_list lines member is in_set =
+    let size = (batches_fit lines member is in_set).size in
+    omega (arith, size, list_length 0xB004 batch_body_fields (recipe_batches lines member))
+
+-- a list of batches that may be there
+short_where_some : (files : Files) (name : List ℕ) (batches : List RecipeBatchView) (bytes : List ℕ) → files name ≡ where_some batches bytes → length bytes ≤ longest_file → IsShort files name
+short_where_some files name [] bytes has short = rw has (omega arith)
+short_where_some files name (batch ∷ batches) bytes has short = rw has short
+
 abbrev IsShortFile : BodyView → Type 0
 IsShortFile body = length body.bytes ≤ longest_file
 
@@ -86,7 +100,10 @@ short_of_load sources members load laws good =
 pub short_bodies : (sources : Sources) (lines : List RecipeLine) → FormatLaws → IsRecipe lines → SizesFit sources lines → AllByRecursion IsShortFile (recipe_bodies sources lines)
 unfolding recipe_bodies
 short_bodies sources lines laws is fits =
-    all_flat (IsGoodLoad sources (members_of lines)) IsShortFile (load_bodies sources) (λ load. short_of_load sources (members_of lines) load laws) (loads_of lines) (good_loads sources lines is fits)
+    all_append IsShortFile (flat_map (load_bodies sources) (loads_of lines)) (map batch_body (batches_of lines))
+    (all_flat (IsGoodLoad sources (members_of lines)) IsShortFile (load_bodies sources) (λ load. short_of_load sources (members_of lines) load laws) (loads_of lines) (good_loads sources lines is fits))
+    (all_map (λ (batch : RecipeBatchView). IsBatch (batch_of batch)) IsShortFile batch_body
+    (λ batch fits. omega (arith, size_batch (batch_of batch), small_batch (batch_of batch) fits.contents)) (batches_of lines) (each_batch lines is))
 
 -- ---- what is read
 
@@ -98,7 +115,10 @@ module _ (folder : List ℕ) (files : Files) (sources : Sources) (lines : List R
   short_lists_of member in_set =
       let loads = short_loads_list sources lines member is fits in_set in
       let listed = short_files_list sources lines member is in_set in
-      (rw (has.loads member in_set) loads, (rw (has.files member in_set) listed, tt))
+      let batches = short_batches_list lines member is in_set in (
+        rw (has.loads member in_set) loads,
+        (rw (has.files member in_set) listed, (short_where_some files (batches_name folder member) (batches_of lines) (batches_list_bytes lines member) (has.batches member in_set) batches, tt)),
+      )
 
   short_lists : (from count : ℕ) → 1 ≤ from → from + count ≤ members_of lines + 1 → AllByRecursion (IsShort files) (flat_map (list_names folder) (range_with_len from count))
   short_lists from zero low high = tt

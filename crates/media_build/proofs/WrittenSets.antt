@@ -1,5 +1,5 @@
 -- A folder into which a built set was written has the set.
-use Rattle.std.proofs.Common.{◌≡◌, ℕ, zero, suc, ◌+◌, ◌%◌, ◌<◌, ◌≤◌, ◌^◌, Bool, true, false, cond, List, [], ◌∷◌, ◌++◌, length, Some, refl, sym, ap, subst, ◌∙◌, arith}
+use Rattle.std.proofs.Common.{◌≡◌, ℕ, zero, suc, ◌+◌, ◌%◌, ◌<◌, ◌≤◌, ◌^◌, Bool, true, false, cond, List, [], ◌∷◌, ◌++◌, length, Option, Some, None, refl, sym, ap, subst, ◌∙◌, arith}
 use Rattle.std.specs.Prelude.{map, filter, codes, ◌==◌}
 use Rattle.std.specs.Fmt.{decimal}
 use Rattle.std.specs.List.{AllByRecursion, IsDistinct, flat_map, range_with_len}
@@ -11,21 +11,22 @@ use Rattle.load_base.specs.Bytes.{same_bytes}
 use Rattle.load_base.specs.EqualityLaws.{equal_bytes}
 use Rattle.load_base.specs.Host.{Files}
 use Rattle.load_base.specs.Listed.{Listed}
-use Rattle.media_check.specs.HostNames.{host_name, host_media}
+use Rattle.media_check.specs.HostNames.{host_name, host_media, batches_name}
 use Rattle.media_check.specs.declared.built.Built.{Built}
 use Rattle.media_check.specs.declared.built.Placed.{Placed}
 use Rattle.media_build.specs.Accepted.{IsMemberOf, IsFileLine, IsRecipe}
-use Rattle.media_build.specs.HostWrites.{Written, after_writes, written_body, is_of, written_bodies, written_member, written_files}
+use Rattle.media_build.specs.HostWrites.{Written, after_writes, written_list, written_body, is_of, written_bodies, written_member, written_files}
 use Rattle.media_build.specs.Lines.{members_of}
 use Rattle.media_build.specs.NoFindings.{body_view, built_view, HaveSet}
-use Rattle.media_build.specs.RecipeSets.{Sources, RecipeLoadView, BodyView, BuiltView, loads_of, data_of, support_of, files_of, header_bytes, header_of, file_body, load_bodies, recipe_bodies, loads_list_bytes, files_list_bytes, recipe_set}
-use Rattle.media_build.specs.Recipes.{ends_with, is_header_name, is_body_name}
+use Rattle.media_build.specs.RecipeSets.{Sources, RecipeLoadView, RecipeBatchView, BodyView, BuiltView, batches_of, batch_body, batches_list_bytes, batches_list_of, where_some, loads_of, data_of, support_of, files_of, header_bytes, header_of, file_body, load_bodies, recipe_bodies, loads_list_bytes, files_list_bytes, recipe_set}
+use Rattle.media_build.specs.Recipes.{ends_with, is_header_name, is_body_name, is_batch_name}
+use Rattle.media_build.specs.WrittenFolders.{HasNoOtherBatches}
 use Rattle.media_build.specs.declared.statements.RecipeLine.{RecipeLine}
 use Rattle.media_build.proofs.BuiltFindings.{all_of_map}
 use Rattle.media_build.proofs.BuiltHeaders.{all_filter, first_part, second_part}
-use Rattle.media_build.proofs.BuiltLists.{all_append, all_flat, all_map, all_same, IsSoundLoad, sound_loads, data_files, support_files, IsSoundBody, sound_bodies, has_start}
+use Rattle.media_build.proofs.BuiltLists.{all_append, all_flat, all_map, all_same, IsSoundLoad, sound_loads, data_files, support_files, IsSoundBody, sound_bodies, IsSoundBatch, sound_batches, has_start}
 use Rattle.media_build.proofs.BuiltNames.{body_name, itself, bodies_are_distinct}
-use Rattle.media_build.proofs.BuiltSet.{list_there}
+use Rattle.media_build.proofs.BuiltSet.{list_there, list_where_some}
 
 -- ---- names of the host
 
@@ -107,10 +108,10 @@ abbrev put_in : (folder : List ℕ) (member : ℕ) → BodyView → Written
 put_in folder member body = (name_in folder member body.name, body.bytes)
 
 -- its lists and its files
-abbrev member_files : (folder : List ℕ) → (loads files : ℕ → List ℕ) → List BodyView → (member : ℕ) → List Written
-member_files folder loads files bodies member =
+abbrev member_files : (folder : List ℕ) → (loads files : ℕ → List ℕ) → (batches : ℕ → Option (List ℕ)) → List BodyView → (member : ℕ) → List Written
+member_files folder loads files batches bodies member =
     (name_in folder member (codes "LOADS.LUM"), loads member) ∷ (name_in folder member (codes "FILES.LUM"), files member)
-    ∷ map (put_in folder member) (filter (λ body. body.member == member) bodies)
+    ∷ (written_list (name_in folder member (codes "BATCHES.LUM")) (batches member) ++ map (put_in folder member) (filter (λ body. body.member == member) bodies))
 
 bodies_written : (folder : List ℕ) (member : ℕ) (bodies : List Placed)
     → written_bodies folder member bodies ≡ map (put_in folder member) (filter (λ body. body.member == member) (map body_view bodies))
@@ -132,21 +133,27 @@ bodies_written folder member (body ∷ bodies) = by (body.member == member) refl
 pub record IsNoList (body : BodyView) : Type 0 where
   pub loads : same_bytes (codes "LOADS.LUM") body.name ≡ false
   pub files : same_bytes (codes "FILES.LUM") body.name ≡ false
+  pub batches : same_bytes (codes "BATCHES.LUM") body.name ≡ false
 
--- the names of both lists end with `.LUM`
-no_list_by : (P : List ℕ → Bool) (body : BodyView) → P body.name ≡ true → P (codes "LOADS.LUM") ≡ false → P (codes "FILES.LUM") ≡ false → IsNoList body
-no_list_by P body is loads files = record {
+-- the names of the lists end with `.LUM`
+no_list_by : (P : List ℕ → Bool) (body : BodyView) → P body.name ≡ true → P (codes "LOADS.LUM") ≡ false → P (codes "FILES.LUM") ≡ false → P (codes "BATCHES.LUM") ≡ false → IsNoList body
+no_list_by P body is loads files batches = record {
   loads = by_test (codes "LOADS.LUM") body.name (λ e. true_or_false (P body.name) is (subst (λ (n : List ℕ). P n ≡ false) e loads));
   files = by_test (codes "FILES.LUM") body.name (λ e. true_or_false (P body.name) is (subst (λ (n : List ℕ). P n ≡ false) e files));
+  batches = by_test (codes "BATCHES.LUM") body.name (λ e. true_or_false (P body.name) is (subst (λ (n : List ℕ). P n ≡ false) e batches));
 }
 
 header_is_no_list : (body : BodyView) → is_header_name body.name ≡ true → IsNoList body
 unfolding ends_with
-header_is_no_list body is = no_list_by is_header_name body is refl refl
+header_is_no_list body is = no_list_by is_header_name body is refl refl refl
 
 body_is_no_list : (body : BodyView) → is_body_name body.name ≡ true → IsNoList body
 unfolding ends_with
-body_is_no_list body is = no_list_by is_body_name body is refl refl
+body_is_no_list body is = no_list_by is_body_name body is refl refl refl
+
+batch_is_no_list : (body : BodyView) → is_batch_name body.name ≡ true → IsNoList body
+unfolding ends_with
+batch_is_no_list body is = no_list_by is_batch_name body is refl refl refl
 
 no_lists_of_load : (sources : Sources) (members : ℕ) (load : RecipeLoadView) → IsSoundLoad members load → AllByRecursion IsNoList (load_bodies sources load)
 unfolding load_bodies
@@ -158,7 +165,9 @@ no_lists_of_load sources members load is =
 pub no_lists : (sources : Sources) (lines : List RecipeLine) → IsRecipe lines → AllByRecursion IsNoList (recipe_bodies sources lines)
 unfolding recipe_bodies
 no_lists sources lines is =
-    all_flat (IsSoundLoad (members_of lines)) IsNoList (load_bodies sources) (no_lists_of_load sources (members_of lines)) (loads_of lines) (sound_loads lines is)
+    all_append IsNoList (flat_map (load_bodies sources) (loads_of lines)) (map batch_body (batches_of lines))
+    (all_flat (IsSoundLoad (members_of lines)) IsNoList (load_bodies sources) (no_lists_of_load sources (members_of lines)) (loads_of lines) (sound_loads lines is))
+    (all_map (IsSoundBatch (members_of lines)) IsNoList batch_body (λ batch sound. batch_is_no_list (batch_body batch) sound.line.file) (batches_of lines) (sound_batches lines is))
 
 abbrev AreApart : List ℕ → List (List ℕ) → Type 0
 AreApart name names = AllByRecursion (λ other. same_bytes name other ≡ false) names
@@ -196,18 +205,37 @@ unfolding IsDistinct
 distinct_in folder member [] small all = tt
 distinct_in folder member (body ∷ bodies) small all = (apart_in folder member body.name bodies small all.0, distinct_in folder member bodies small all.1)
 
--- the files of one member
-distinct_member : (folder : List ℕ) (loads files : ℕ → List ℕ) (bodies : List BodyView) (member : ℕ) → member < 2 ^ 64 → AllByRecursion IsNoList bodies
-    → IsDistinct same_bytes (map body_name bodies) → IsDistinct same_bytes (names_of_files (member_files folder loads files bodies member))
+-- what holds of the name of a list that may be there, and of others
+with_list : (P : List ℕ → Type 0) (name : List ℕ) (list : Option (List ℕ)) (rest : List Written) → P name → AllByRecursion P (names_of_files rest)
+    → AllByRecursion P (names_of_files (written_list name list ++ rest))
+with_list P name None rest here all = all
+with_list P name (Some bytes) rest here all = (here, all)
+
+distinct_list : (name : List ℕ) (list : Option (List ℕ)) (rest : List Written) → AreApart name (names_of_files rest) → IsDistinct same_bytes (names_of_files rest)
+    → IsDistinct same_bytes (names_of_files (written_list name list ++ rest))
 unfolding IsDistinct
-distinct_member folder loads files bodies member small none all =
+distinct_list name None rest apart all = all
+distinct_list name (Some bytes) rest apart all = (apart, all)
+
+-- the files of one member
+distinct_member : (folder : List ℕ) (loads files : ℕ → List ℕ) (batches : ℕ → Option (List ℕ)) (bodies : List BodyView) (member : ℕ) → member < 2 ^ 64 → AllByRecursion IsNoList bodies
+    → IsDistinct same_bytes (map body_name bodies) → IsDistinct same_bytes (names_of_files (member_files folder loads files batches bodies member))
+unfolding IsDistinct
+distinct_member folder loads files batches bodies member small none all =
     let some : List BodyView = filter (λ body. body.member == member) bodies in
+    let put : List Written = map (put_in folder member) some in
+    let own : List ℕ = name_in folder member (codes "BATCHES.LUM") in
     let other = all_filter IsNoList (λ (body : BodyView). body.member == member) bodies none in
     let of_loads = all_map IsNoList (λ (n : List ℕ). same_bytes (codes "LOADS.LUM") n ≡ false) body_name (λ body no. no.loads) some other in
-    let of_files = all_map IsNoList (λ (n : List ℕ). same_bytes (codes "FILES.LUM") n ≡ false) body_name (λ body no. no.files) some other in (
-      (other_names folder member (codes "LOADS.LUM") (codes "FILES.LUM") small refl, apart_in folder member (codes "LOADS.LUM") some small of_loads),
-      (apart_in folder member (codes "FILES.LUM") some small of_files, distinct_in folder member some small (distinct_filter (λ (body : BodyView). body.member == member) bodies all)),
-    )
+    let of_files = all_map IsNoList (λ (n : List ℕ). same_bytes (codes "FILES.LUM") n ≡ false) body_name (λ body no. no.files) some other in
+    let of_batches = all_map IsNoList (λ (n : List ℕ). same_bytes (codes "BATCHES.LUM") n ≡ false) body_name (λ body no. no.batches) some other in
+    let loads_apart = with_list (λ n. same_bytes (name_in folder member (codes "LOADS.LUM")) n ≡ false) own (batches member) put
+    (other_names folder member (codes "LOADS.LUM") (codes "BATCHES.LUM") small refl) (apart_in folder member (codes "LOADS.LUM") some small of_loads) in
+    let files_apart = with_list (λ n. same_bytes (name_in folder member (codes "FILES.LUM")) n ≡ false) own (batches member) put
+    (other_names folder member (codes "FILES.LUM") (codes "BATCHES.LUM") small refl) (apart_in folder member (codes "FILES.LUM") some small of_files) in
+    let rest = distinct_list own (batches member) put (apart_in folder member (codes "BATCHES.LUM") some small of_batches)
+    (distinct_in folder member some small (distinct_filter (λ (body : BodyView). body.member == member) bodies all)) in
+    ((other_names folder member (codes "LOADS.LUM") (codes "FILES.LUM") small refl, loads_apart), (files_apart, rest))
 
 distinct_append : (xs ys : List (List ℕ)) → IsDistinct same_bytes xs → IsDistinct same_bytes ys → AllByRecursion (λ x. AreApart x ys) xs → IsDistinct same_bytes (xs ++ ys)
 unfolding IsDistinct
@@ -220,19 +248,33 @@ apart_put : (folder : List ℕ) (m k : ℕ) (name : List ℕ) (bodies : List Bod
 apart_put folder m k name [] less small = tt
 apart_put folder m k name (body ∷ bodies) less small = (other_members folder m k name body.name less small, apart_put folder m k name bodies less small)
 
-module _ (folder : List ℕ) (loads files : ℕ → List ℕ) (bodies : List BodyView) where
+-- names in two members
+differ : (folder : List ℕ) (m k : ℕ) (a b : List ℕ) → m < 2 ^ 64 → k < 2 ^ 64 → (m ≡ k → ⊥) → same_bytes (name_in folder m a) (name_in folder k b) ≡ false
+differ folder m k a b small other apart = by_test (name_in folder m a) (name_in folder k b) (λ e. apart (same_place folder m k a b small other e).0)
+
+put_elsewhere : (folder : List ℕ) (m k : ℕ) (name : List ℕ) (bodies : List BodyView) → m < 2 ^ 64 → k < 2 ^ 64 → (m ≡ k → ⊥) → AreApart (name_in folder m name) (names_of_files (map (put_in folder k) bodies))
+put_elsewhere folder m k name [] small other apart = tt
+put_elsewhere folder m k name (body ∷ bodies) small other apart = (differ folder m k name body.name small other apart, put_elsewhere folder m k name bodies small other apart)
+
+module _ (folder : List ℕ) (loads files : ℕ → List ℕ) (batches : ℕ → Option (List ℕ)) (bodies : List BodyView) where
   abbrev all_files : (from count : ℕ) → List Written
-  all_files from count = flat_map (member_files folder loads files bodies) (range_with_len from count)
+  all_files from count = flat_map (member_files folder loads files batches bodies) (range_with_len from count)
+
+  abbrev some_of : (member : ℕ) → List BodyView
+  some_of member = filter (λ body. body.member == member) bodies
 
   apart_members : (m from count : ℕ) (name : List ℕ) → m < from → from + count ≤ 256 → AreApart (name_in folder m name) (names_of_files (all_files from count))
   apart_members m from zero name less few = tt
   apart_members m from (suc count) name less few =
-      let here : List Written = member_files folder loads files bodies from in
-      let some : List BodyView = filter (λ body. body.member == from) bodies in
+      let here : List Written = member_files folder loads files batches bodies from in
       let small : from < 2 ^ 64 = omega (arith, few) in
       let mine : AreApart (name_in folder m name) (names_of_files here) = (
         other_members folder m from name (codes "LOADS.LUM") less small,
-        (other_members folder m from name (codes "FILES.LUM") less small, apart_put folder m from name some less small),
+        (
+          other_members folder m from name (codes "FILES.LUM") less small,
+          with_list (λ n. same_bytes (name_in folder m name) n ≡ false) (name_in folder from (codes "BATCHES.LUM")) (batches from) (map (put_in folder from) (some_of from))
+              (other_members folder m from name (codes "BATCHES.LUM") less small) (apart_put folder m from name (some_of from) less small),
+        ),
       ) in
       subst (AreApart (name_in folder m name)) (sym (map-append (λ (file : Written). file.0) here (all_files (from + 1) count)))
       (all_append (λ (other : List ℕ). same_bytes (name_in folder m name) other ≡ false) (names_of_files here) (names_of_files (all_files (from + 1) count)) mine
@@ -248,31 +290,68 @@ module _ (folder : List ℕ) (loads files : ℕ → List ℕ) (bodies : List Bod
   unfolding IsDistinct
   distinct_members from zero few none all = tt
   distinct_members from (suc count) few none all =
-      let here : List Written = member_files folder loads files bodies from in
-      let some : List BodyView = filter (λ body. body.member == from) bodies in
-      let own = distinct_member folder loads files bodies from (omega (arith, few)) none all in
+      let here : List Written = member_files folder loads files batches bodies from in
+      let own = distinct_member folder loads files batches bodies from (omega (arith, few)) none all in
       let others = distinct_members (from + 1) count (omega (arith, few)) none all in
       let across : AllByRecursion (λ x. AreApart x (names_of_files (all_files (from + 1) count))) (names_of_files here) = (
         apart_members from (from + 1) count (codes "LOADS.LUM") (omega arith) (omega (arith, few)),
-        (apart_members from (from + 1) count (codes "FILES.LUM") (omega arith) (omega (arith, few)), across_members from count some few),
+        (
+          apart_members from (from + 1) count (codes "FILES.LUM") (omega arith) (omega (arith, few)),
+          with_list (λ x. AreApart x (names_of_files (all_files (from + 1) count))) (name_in folder from (codes "BATCHES.LUM")) (batches from) (map (put_in folder from) (some_of from))
+              (apart_members from (from + 1) count (codes "BATCHES.LUM") (omega arith) (omega (arith, few))) (across_members from count (some_of from) few),
+        ),
       ) in
       subst (IsDistinct same_bytes) (sym (map-append (λ (file : Written). file.0) here (all_files (from + 1) count)))
       (distinct_append (names_of_files here) (names_of_files (all_files (from + 1) count)) own others across)
 
+  -- no file has the name of a list of batches, where no member has one
+  no_batches_among : (m from count : ℕ) → m ≤ 255 → from + count ≤ 256 → ((member : ℕ) → batches member ≡ None) → AllByRecursion IsNoList bodies
+      → AreApart (name_in folder m (codes "BATCHES.LUM")) (names_of_files (all_files from count))
+  no_batches_among m from zero low few none lists = tt
+  no_batches_among m from (suc count) low few none lists =
+      let here : List Written = member_files folder loads files batches bodies from in
+      let small : m < 2 ^ 64 = omega (arith, low) in
+      subst (AreApart (name_in folder m (codes "BATCHES.LUM"))) (sym (map-append (λ (file : Written). file.0) here (all_files (from + 1) count)))
+      (all_append (λ (other : List ℕ). same_bytes (name_in folder m (codes "BATCHES.LUM")) other ≡ false) (names_of_files here) (names_of_files (all_files (from + 1) count))
+      (by (m == from) refl small (omega (arith, few))) (no_batches_among m (from + 1) count low (omega (arith, few)) none lists))
+    where
+      by : (b : Bool) → (m == from) ≡ b → m < 2 ^ 64 → from < 2 ^ 64 → AreApart (name_in folder m (codes "BATCHES.LUM")) (names_of_files (member_files folder loads files batches bodies from))
+      by true e small other =
+          let same : from ≡ m = sym (eqb-true m from e) in
+          let names = all_map IsNoList (λ (n : List ℕ). same_bytes (codes "BATCHES.LUM") n ≡ false) body_name (λ body no. no.batches) (some_of m)
+          (all_filter IsNoList (λ (body : BodyView). body.member == m) bodies lists) in
+          subst (λ (k : ℕ). AreApart (name_in folder m (codes "BATCHES.LUM")) (names_of_files (member_files folder loads files batches bodies k))) (sym same)
+          (rw (none m) (
+            other_names folder m (codes "BATCHES.LUM") (codes "LOADS.LUM") small refl,
+            (
+              other_names folder m (codes "BATCHES.LUM") (codes "FILES.LUM") small refl,
+              apart_in folder m (codes "BATCHES.LUM") (some_of m) small names,
+            ),
+          ))
+      by false e small other =
+          let apart : m ≡ from → ⊥ = eqb-false m from e in
+          rw (none from) (
+            differ folder m from (codes "BATCHES.LUM") (codes "LOADS.LUM") small other apart,
+            (
+              differ folder m from (codes "BATCHES.LUM") (codes "FILES.LUM") small other apart,
+              put_elsewhere folder m from (codes "BATCHES.LUM") (some_of from) small other apart,
+            ),
+          )
+
   -- what holds of all files holds of those of a member
   of_member : (P : Written → Type 0) (from count member : ℕ) → from ≤ member → member < from + count → AllByRecursion P (all_files from count)
-      → AllByRecursion P (member_files folder loads files bodies member)
+      → AllByRecursion P (member_files folder loads files batches bodies member)
   of_member P from zero member low high all = absurd (omega (arith, low, high))
   of_member P from (suc count) member low high all =
-      by (member == from) refl (second_part P (member_files folder loads files bodies from) (all_files (from + 1) count) all)
+      by (member == from) refl (second_part P (member_files folder loads files batches bodies from) (all_files (from + 1) count) all)
       (λ later. of_member P (from + 1) count member later (omega (arith, high)))
     where
       by : (b : Bool) → (member == from) ≡ b → AllByRecursion P (all_files (from + 1) count)
-          → (from + 1 ≤ member → AllByRecursion P (all_files (from + 1) count) → AllByRecursion P (member_files folder loads files bodies member))
-          → AllByRecursion P (member_files folder loads files bodies member)
+          → (from + 1 ≤ member → AllByRecursion P (all_files (from + 1) count) → AllByRecursion P (member_files folder loads files batches bodies member))
+          → AllByRecursion P (member_files folder loads files batches bodies member)
       by true e rest next =
           let same : from ≡ member = sym (eqb-true member from e) in
-          subst (λ (m : ℕ). AllByRecursion P (member_files folder loads files bodies m)) same (first_part P (member_files folder loads files bodies from) (all_files (from + 1) count) all)
+          subst (λ (m : ℕ). AllByRecursion P (member_files folder loads files batches bodies m)) same (first_part P (member_files folder loads files batches bodies from) (all_files (from + 1) count) all)
       by false e rest next = next (let other = eqb-false member from e in grind (arith, other, low)) rest
 
 -- ---- what is found then
@@ -292,45 +371,72 @@ of_bodies Q members (body ∷ bodies) sound each =
 
 member_written : (folder : List ℕ) (sources : Sources) (lines : List RecipeLine) (built : Built) (member : ℕ) → built_view built ≡ recipe_set sources lines
     → IsMemberOf (members_of lines) member
-    → written_member folder built member ≡ member_files folder (loads_list_bytes lines) (files_list_bytes sources lines) (recipe_bodies sources lines) member
+    → written_member folder built member ≡ member_files folder (loads_list_bytes lines) (files_list_bytes sources lines) (batches_list_of lines) (recipe_bodies sources lines) member
 unfolding written_member recipe_set
 member_written folder sources lines built member same in_set =
     let loads = list_there (loads_list_bytes lines) built.loads.items (members_of lines) member (ap (λ (set : BuiltView). set.loads) same) in_set in
     let files = list_there (files_list_bytes sources lines) built.files.items (members_of lines) member (ap (λ (set : BuiltView). set.files) same) in_set in
     let bodies = bodies_written folder member built.bodies.items
     ∙ ap (λ (set : BuiltView). map (put_in folder member) (filter (λ body. body.member == member) set.bodies)) same in
-    rw (loads, files, bodies) refl
+    let batches = list_where_some (batches_of lines) (batches_list_bytes lines) built.batches.items (members_of lines) member (ap (λ (set : BuiltView). set.batches) same) in_set in
+    rw (loads, files, batches, bodies) refl
 
 files_written_of : (folder : List ℕ) (sources : Sources) (lines : List RecipeLine) (built : Built) (from count : ℕ) → built_view built ≡ recipe_set sources lines → 1 ≤ from
     → from + count ≤ members_of lines + 1
     → flat_map (written_member folder built) (range_with_len from count)
-    ≡ all_files folder (loads_list_bytes lines) (files_list_bytes sources lines) (recipe_bodies sources lines) from count
+    ≡ all_files folder (loads_list_bytes lines) (files_list_bytes sources lines) (batches_list_of lines) (recipe_bodies sources lines) from count
 files_written_of folder sources lines built from zero same low high = refl
 files_written_of folder sources lines built from (suc count) same low high =
     let in_set : IsMemberOf (members_of lines) from = record { first = low; last = omega (arith, high) } in
     cc (member_written folder sources lines built from same in_set, files_written_of folder sources lines built (from + 1) count same (omega arith) (omega (arith, high)))
 
+-- the list that is there
+of_list : (P : Written → Type 0) (name : List ℕ) (list : Option (List ℕ)) (bytes : List ℕ) → list ≡ Some bytes → AllByRecursion P (written_list name list) → P (name, bytes)
+of_list P name None bytes e all = absurd cc
+of_list P name (Some other) bytes e all = let same : other ≡ bytes = cc in subst (λ (b : List ℕ). P (name, b)) same all.0
+
 -- a folder into which the set was written has it
-pub written_folder_has : (folder : List ℕ) (sources : Sources) (lines : List RecipeLine) (built : Built) (old new : Files) → IsRecipe lines → built_view built ≡ recipe_set sources lines
+pub written_folder_has : (folder : List ℕ) (sources : Sources) (lines : List RecipeLine) (built : Built) (old new : Files) → IsRecipe lines → HasNoOtherBatches folder old lines
+    → built_view built ≡ recipe_set sources lines
     → ((name : List ℕ) → new name ≡ after_writes (written_files folder built) old name) → HaveSet (host_media new folder) sources lines
 unfolding written_files recipe_set
-written_folder_has folder sources lines built old new is same written =
+written_folder_has folder sources lines built old new is fresh same written =
     let start = has_start lines is in
     let few : members_of lines ≤ 255 = start.members.last in
     let bodies : List BodyView = recipe_bodies sources lines in
     let count : length built.loads.items ≡ members_of lines =
     sym (length-map built.loads.items (λ (list : Listed ℕ). list.items)) ∙ (ap (λ (set : BuiltView). length set.loads) same ∙ length-map-range_with_len (loads_list_bytes lines) 1 (members_of lines)) in
-    let these : List Written = all_files folder (loads_list_bytes lines) (files_list_bytes sources lines) bodies 1 (members_of lines) in
+    let these : List Written = all_files folder (loads_list_bytes lines) (files_list_bytes sources lines) (batches_list_of lines) bodies 1 (members_of lines) in
     let whole : written_files folder built ≡ these =
     ap (λ (n : ℕ). flat_map (written_member folder built) (range_with_len 1 n)) count ∙ files_written_of folder sources lines built 1 (members_of lines) same (omega arith) (omega arith) in
     let left : (name : List ℕ) → new name ≡ after_writes these old name = λ name. written name ∙ ap (λ (w : List Written). after_writes w old name) whole in
-    let distinct = distinct_members folder (loads_list_bytes lines) (files_list_bytes sources lines) bodies 1 (members_of lines) (omega (arith, few)) (no_lists sources lines is) (bodies_are_distinct sources lines is) in
+    let distinct = distinct_members folder (loads_list_bytes lines) (files_list_bytes sources lines) (batches_list_of lines) bodies 1 (members_of lines) (omega (arith, few)) (no_lists sources lines is) (bodies_are_distinct sources lines is) in
     let all : AllByRecursion (λ w. new w.0 ≡ Some w.1) these = all_same _ _ (λ (w : Written) e. left w.0 ∙ e) these (all_are_written these old distinct) in
     let each = λ (member : ℕ) (in_set : IsMemberOf (members_of lines) member).
-    of_member folder (loads_list_bytes lines) (files_list_bytes sources lines) bodies (λ w. new w.0 ≡ Some w.1) 1 (members_of lines) member in_set.first (omega (arith, in_set.last)) all in
+    of_member folder (loads_list_bytes lines) (files_list_bytes sources lines) (batches_list_of lines) bodies (λ w. new w.0 ≡ Some w.1) 1 (members_of lines) member in_set.first (omega (arith, in_set.last)) all in
+    let own = λ (member : ℕ). written_list (name_in folder member (codes "BATCHES.LUM")) (batches_list_of lines member) in
+    let put = λ (member : ℕ). map (put_in folder member) (filter (λ (body : BodyView). body.member == member) bodies) in
+    let no_lists_here = no_lists sources lines is in
+    let none = λ (empty : batches_of lines ≡ []) (member : ℕ) (in_set : IsMemberOf (members_of lines) member).
+    left (batches_name folder member)
+    ∙ (untouched these old (batches_name folder member)
+    (no_batches_among folder (loads_list_bytes lines) (files_list_bytes sources lines) (batches_list_of lines) bodies member 1 (members_of lines) (omega (arith, few, in_set.last)) (omega (arith, few))
+    (λ m. ap (λ (batches : List RecipeBatchView). where_some batches (batches_list_bytes lines m)) empty) no_lists_here)
+    ∙ fresh empty member in_set) in
     record {
       loads = λ member in_set. (each member in_set).0;
       files = λ member in_set. (each member in_set).1.0;
+      batches = λ member in_set. by (batches_of lines) refl member (λ empty. none empty member in_set)
+          (λ bytes some. of_list (λ w. new w.0 ≡ Some w.1) (batches_name folder member) (batches_list_of lines member) bytes some (first_part (λ w. new w.0 ≡ Some w.1) (own member) (put member) (each member in_set).1.1));
       bodies = of_bodies (λ member body. new (name_in folder member body.name) ≡ Some body.bytes) (members_of lines) bodies (sound_bodies sources lines is)
-          (λ member in_set. all_of_map (λ (w : Written). new w.0 ≡ Some w.1) (put_in folder member) (filter (λ (body : BodyView). body.member == member) bodies) (each member in_set).1.1);
+          (λ member in_set. all_of_map (λ (w : Written). new w.0 ≡ Some w.1) (put_in folder member) (filter (λ (body : BodyView). body.member == member) bodies)
+          (second_part (λ w. new w.0 ≡ Some w.1) (own member) (put member) (each member in_set).1.1));
     }
+  where
+    by : (batches : List RecipeBatchView) → batches_of lines ≡ batches → (member : ℕ) → (batches_of lines ≡ [] → new (batches_name folder member) ≡ None)
+        → ((bytes : List ℕ) → batches_list_of lines member ≡ Some bytes → new (batches_name folder member) ≡ Some bytes)
+        → new (batches_name folder member) ≡ batches_list_of lines member
+    by [] e member none some = none e ∙ sym (ap (λ (batches : List RecipeBatchView). where_some batches (batches_list_bytes lines member)) e)
+    by (first ∷ others) e member none some =
+        let there : batches_list_of lines member ≡ Some (batches_list_bytes lines member) = ap (λ (batches : List RecipeBatchView). where_some batches (batches_list_bytes lines member)) e in
+        some (batches_list_bytes lines member) there ∙ sym there

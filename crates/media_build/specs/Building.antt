@@ -5,6 +5,8 @@ use Rattle.load_base.specs.Counts.{Rose}
 use Rattle.load_base.specs.Host.{Files, longest_file}
 use Rattle.load_base.specs.Listed.{Listed}
 use Rattle.load_header.specs.HeaderFields.{header_size, IsHeader}
+use Rattle.batch_lists.specs.BatchFields.{batch_size}
+use Rattle.batch_lists.specs.Batches.{BatchesListView, IsBatchesList, batch_body_fields}
 use Rattle.media_lists.specs.Files.{FilesListView, IsFilesList, file_body_fields}
 use Rattle.media_lists.specs.ListFields.{list_fields}
 use Rattle.media_lists.specs.Lists.{ListView}
@@ -17,7 +19,7 @@ use Rattle.media_check.specs.declared.built.Built.{Built}
 use Rattle.media_check.specs.declared.built.Placed.{Placed}
 use Rattle.media_build.specs.NoFindings.{body_view, built_view}
 use Rattle.media_build.specs.Parts.{LoadFilesView, AreFiles, bytes_from, files_from, with_file}
-use Rattle.media_build.specs.RecipeSets.{RecipeLoadView, listed_body, BodyView, load_bodies, recipe_bodies, data_in, support_in, Sources, loads_of, header_start, recipe_loads, recipe_files, recipe_set}
+use Rattle.media_build.specs.RecipeSets.{RecipeLoadView, RecipeBatchView, listed_body, BodyView, load_bodies, recipe_bodies, data_in, support_in, Sources, loads_of, batches_of, batch_of, batch_entry, header_start, recipe_loads, recipe_files, recipe_batches, recipe_set, all_where_some}
 use Rattle.media_build.specs.declared.building_fault.BuildFault.{BuildFault}
 use Rattle.media_build.specs.declared.building_fault.BuildFault.TheVariants.{Absent, TooLong, TooLarge, HeaderTooLong, ListTooLong, Failed, Memory}
 use Rattle.media_build.specs.declared.statements.RecipeLine.{RecipeLine}
@@ -38,6 +40,18 @@ header_length load = header_size (header_start unread load)
 abbrev pub headers_length : List RecipeLoadView → ℕ
 headers_length loads = sum_by header_length loads
 
+-- how many bytes the file of a batch has
+abbrev pub batch_length : RecipeBatchView → ℕ
+batch_length batch = batch_size (batch_of batch)
+
+-- how many the files of all batches have together
+abbrev pub batches_length : List RecipeBatchView → ℕ
+batches_length batches = sum_by batch_length batches
+
+-- how many all headers and the files of all batches have together
+abbrev pub fixed_length : List RecipeLine → ℕ
+fixed_length lines = headers_length (loads_of lines) + batches_length (batches_of lines)
+
 -- at most 65,536 bytes
 abbrev pub HasShortHeader : RecipeLoadView → Type 0
 HasShortHeader load = header_length load ≤ 65536
@@ -55,9 +69,11 @@ pub record IsFirstLongHeader (lines : List RecipeLine) (line : ℕ) : Type 0 whe
   pub number : load.number ≡ line
   pub long : 65536 < header_length load
 
--- Both lists of member 1 meet the limits of their formats. Those of the further members differ in its number alone.
-abbrev pub HaveLists : List RecipeLine → Type 0
-HaveLists lines = IsLoadsList (recipe_loads lines 1) × IsFilesList (recipe_files unread lines 1)
+-- The lists of member 1 meet the limits of their formats. Those of the further members differ in its number alone.
+pub record HaveLists (lines : List RecipeLine) : Type 0 where
+  pub loads : IsLoadsList (recipe_loads lines 1)
+  pub files : IsFilesList (recipe_files unread lines 1)
+  pub batches : IsBatchesList (recipe_batches lines 1)
 
 -- No header is too long, and no list breaks a limit of its format.
 pub record HaveSizes (lines : List RecipeLine) : Type 0 where
@@ -164,13 +180,13 @@ pub record HasSourceCause {T : Type 0} (before now : ℕ) (result : Result T Bui
 -- ---- what is built
 
 -- What building answers of a host's files: the set that the recipe names, of the sources that the host has; or the
--- first source that is refused, beside the bytes of all headers.
+-- first source that is refused, beside the bytes of all headers and of the files of batches.
 abbrev pub Builds : List RecipeLine → Result Built BuildFault → Files → Type 0
 Builds lines (Ok built) files =
-    CanTake files (headers_length (loads_of lines)) (source_names lines) × (built_view built ≡ recipe_set (sources_in files) lines)
-Builds lines (Err (Absent name)) files = IsFirstRefused files (headers_length (loads_of lines)) (source_names lines) (Absent name)
-Builds lines (Err (TooLong name)) files = IsFirstRefused files (headers_length (loads_of lines)) (source_names lines) (TooLong name)
-Builds lines (Err TooLarge) files = IsFirstRefused files (headers_length (loads_of lines)) (source_names lines) TooLarge
+    CanTake files (fixed_length lines) (source_names lines) × (built_view built ≡ recipe_set (sources_in files) lines)
+Builds lines (Err (Absent name)) files = IsFirstRefused files (fixed_length lines) (source_names lines) (Absent name)
+Builds lines (Err (TooLong name)) files = IsFirstRefused files (fixed_length lines) (source_names lines) (TooLong name)
+Builds lines (Err TooLarge) files = IsFirstRefused files (fixed_length lines) (source_names lines) TooLarge
 Builds lines (Err (HeaderTooLong line)) files = Unit {0}
 Builds lines (Err ListTooLong) files = Unit {0}
 Builds lines (Err Failed) files = Unit {0}
@@ -274,6 +290,13 @@ pub record TakesLoad (load : RecipeLoadView) (others : ℕ) (old : List BodyView
   pub new : map body_view read.0.items ≡ old ++ load_bodies (sources_in files) load
   pub total : read.1 ≡ others + total_of files (sources_of load)
 
+-- These are the files of the loads, whatever their bytes are. None is too long, and beside this many other bytes they have no
+-- more than headers and the largest set.
+pub record AreLoadBodies (lines : List RecipeLine) (others : ℕ) (bodies : List BodyView) : Type 0 where
+  pub places : map body_place bodies ≡ map body_place (flat_map (load_bodies unread) (loads_of lines))
+  pub short : All IsShortView bodies
+  pub together : others + bodies_length bodies ≤ headers_length (loads_of lines) + largest_set
+
 -- These are the files of the set, whatever their bytes are; none is too long, and they aren't too large together.
 pub record AreBodies (lines : List RecipeLine) (bodies : List BodyView) : Type 0 where
   pub places : map body_place bodies ≡ map body_place (recipe_bodies unread lines)
@@ -291,6 +314,9 @@ loads_bytes list = concat (list_fields 0x9004 load_body_fields list)
 
 abbrev pub files_bytes : FilesListView → List ℕ
 files_bytes list = concat (list_fields 0xA004 file_body_fields list)
+
+abbrev pub batches_bytes : BatchesListView → List ℕ
+batches_bytes list = concat (list_fields 0xB004 batch_body_fields list)
 
 -- the part number of a set, and how many members it has, as the first two lines of a recipe say
 abbrev pub start_in : (first second : Statement) → Option (List ℕ × ℕ)
@@ -318,8 +344,20 @@ files_beside loads bodies member = record {
   user = [];
 }
 
--- Each member has this list of loads, and a list of these files.
-pub record HasLists (loads : LoadsListView) (bodies : List Placed) (built : Built) : Type 0 where
+-- a list of these batches, of a set with this list of loads
+abbrev pub batches_beside : LoadsListView → List RecipeBatchView → (member : ℕ) → BatchesListView
+batches_beside loads batches member = record {
+  set = loads.set;
+  member = member;
+  members = loads.members;
+  entries = map batch_entry batches;
+  user = [];
+}
+
+-- Each member has this list of loads, a list of these files, and one of these batches, if there are any.
+pub record HasLists (loads : LoadsListView) (bodies : List Placed) (batches : List RecipeBatchView) (built : Built) : Type 0 where
   pub loads_are : map (λ list. list.items) built.loads.items ≡ map (λ member. loads_bytes (of_member loads member)) (range_with_len 1 loads.members)
   pub files_are : map (λ list. list.items) built.files.items ≡ map (λ member. files_bytes (files_beside loads bodies member)) (range_with_len 1 loads.members)
+  pub batches_are : map (λ list. list.items) built.batches.items
+      ≡ all_where_some batches (map (λ member. batches_bytes (batches_beside loads batches member)) (range_with_len 1 loads.members))
   pub bodies_are : built.bodies.items ≡ bodies

@@ -43,6 +43,7 @@ abbrev pub set_of_one : (loads files header file : List ℕ) → BuiltView
 set_of_one loads files header file = record {
   loads = loads ∷ [];
   files = files ∷ [];
+  batches = [];
   bodies =
       record { name = codes "MAKE.LUH"; member = 1; bytes = header } ∷ record { name = codes "MAKE.BIN"; member = 1; bytes = file } ∷ [];
 }

@@ -7,7 +7,7 @@ use Rattle.load_base.specs.Host.{Files}
 use Rattle.load_base.specs.declared.sink.WriteFault.{WriteFault}
 use Rattle.load_base.specs.declared.sink.WriteFault.TheVariants as writing
 use Rattle.media_check.specs.BuiltSets.{member_list}
-use Rattle.media_check.specs.HostNames.{host_name, loads_name, files_name}
+use Rattle.media_check.specs.HostNames.{host_name, loads_name, files_name, batches_name}
 use Rattle.media_check.specs.declared.built.Built.{Built}
 use Rattle.media_check.specs.declared.built.Placed.{Placed}
 
@@ -33,12 +33,13 @@ is_of member body = body.member == member
 abbrev pub written_bodies : (folder : List ℕ) (member : ℕ) → List Placed → List Written
 written_bodies folder member bodies = map (written_body folder) (filter (is_of member) bodies)
 
--- both lists of a member, and its files
+-- the lists of a member, and its files
 unfoldable pub written_member : (folder : List ℕ) → Built → (member : ℕ) → List Written
 written_member folder built member =
     written_list (loads_name folder member) (member_list built.loads.items member)
     ++ (written_list (files_name folder member) (member_list built.files.items member)
-    ++ written_bodies folder member built.bodies.items)
+    ++ (written_list (batches_name folder member) (member_list built.batches.items member)
+    ++ written_bodies folder member built.bodies.items))
 
 -- What is written of a built set, member by member.
 unfoldable pub written_files : (folder : List ℕ) → Built → List Written

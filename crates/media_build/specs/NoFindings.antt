@@ -10,7 +10,7 @@ use Rattle.media_check.specs.declared.built.Built.{Built}
 use Rattle.media_check.specs.declared.built.Placed.{Placed}
 use Rattle.media_build.specs.Accepted.{IsMemberOf}
 use Rattle.media_build.specs.Lines.{members_of}
-use Rattle.media_build.specs.RecipeSets.{Sources, RecipeLoadView, loads_of, hardware_of, files_of, bytes_of, header_start, recipe_loads, loads_list_bytes, files_list_bytes, listed_body, recipe_bodies, BodyView, BuiltView}
+use Rattle.media_build.specs.RecipeSets.{Sources, RecipeLoadView, loads_of, hardware_of, files_of, bytes_of, header_start, recipe_loads, loads_list_bytes, files_list_bytes, batches_list_of, listed_body, recipe_bodies, BodyView, BuiltView}
 use Rattle.media_build.specs.declared.statements.RecipeLine.{RecipeLine}
 
 -- ---- the limits
@@ -24,7 +24,7 @@ pub record IsShortLoad (sources : Sources) (load : RecipeLoadView) : Type 0 wher
 abbrev pub HasShortSources : Sources → RecipeLoadView → Type 0
 HasShortSources sources load = AllByRecursion (λ file. length (bytes_of sources file) ≤ longest_file) (files_of load)
 
--- No header, list or source is too long. FILES.LUM never is, since a set has at most 1,024 files.
+-- No header, list or source is too long. FILES.LUM and BATCHES.LUM never are, since a set has at most 1,024 files.
 pub record SizesFit (sources : Sources) (lines : List RecipeLine) : Type 0 where
   pub loads : AllByRecursion (IsShortLoad sources) (loads_of lines)
   pub list : list_size load_body_fields (recipe_loads lines 1) ≤ 1048576
@@ -40,11 +40,13 @@ abbrev pub built_view : Built → BuiltView
 built_view built = record {
   loads = map (λ list. list.items) built.loads.items;
   files = map (λ list. list.items) built.files.items;
+  batches = map (λ list. list.items) built.batches.items;
   bodies = map body_view built.bodies.items;
 }
 
--- Media have the set of a recipe: both lists of each member, and for each entry of FILES.LUM its file.
+-- Media have the set of a recipe: the lists of each member, and for each entry of FILES.LUM its file.
 pub record HaveSet (media : Media) (sources : Sources) (lines : List RecipeLine) : Type 0 where
   pub loads : (member : ℕ) → IsMemberOf (members_of lines) member → media.loads_list member ≡ Some (loads_list_bytes lines member)
   pub files : (member : ℕ) → IsMemberOf (members_of lines) member → media.files_list member ≡ Some (files_list_bytes sources lines member)
+  pub batches : (member : ℕ) → IsMemberOf (members_of lines) member → media.batches_list member ≡ batches_list_of lines member
   pub bodies : AllByRecursion (λ body. media.listed (listed_body body) ≡ Some body.bytes) (recipe_bodies sources lines)

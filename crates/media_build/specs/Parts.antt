@@ -8,11 +8,12 @@ use Rattle.load_header.specs.Header.{HeaderView, HardwareAtView}
 use Rattle.load_header.specs.HeaderChanges.{with_load_crc}
 use Rattle.load_header.specs.declared.header.FileEntry.{FileEntry}
 use Rattle.media_build.specs.RecipeSets.{RecipeLoadView, BodyView, Sources, bytes_of, hardware_of, gathered, position_in, data_in, support_in, user_in, header_bytes}
+use Rattle.media_build.specs.declared.statements.BatchLine.{BatchLine}
 use Rattle.media_build.specs.declared.statements.FileLine.{FileLine}
 use Rattle.media_build.specs.declared.statements.LoadLine.{LoadLine}
 use Rattle.media_build.specs.declared.statements.RecipeLine.{RecipeLine}
 use Rattle.media_build.specs.declared.statements.Statement.{Statement}
-use Rattle.media_build.specs.declared.statements.Statement.TheVariants.{Load}
+use Rattle.media_build.specs.declared.statements.Statement.TheVariants.{Load, Batch}
 
 -- what lines say
 abbrev pub statements : List RecipeLine → List Statement
@@ -22,6 +23,11 @@ statements lines = map (λ line. line.statement) lines
 abbrev pub load_of : Statement → Option LoadLine
 load_of (Load load) = Some load
 load_of statement = None
+
+-- the batch that a line begins
+abbrev pub batch_line_of : Statement → Option BatchLine
+batch_line_of (Batch batch) = Some batch
+batch_line_of statement = None
 
 -- ---- files with their bytes
 

@@ -1,6 +1,10 @@
 -- The media set that a recipe names (docs/FORMATS.md, "Recipe").
-use Rattle.std.specs.Prelude.{ℕ, ◌-◌, List, [], ◌∷◌, ◌++◌, length, map, filter, take, codes, not}
+use Rattle.std.specs.Prelude.{ℕ, ◌-◌, List, [], ◌∷◌, ◌++◌, length, map, filter, take, codes, not, Option, Some, None}
 use Rattle.std.specs.List.{concat, flat_map, range_with_len, take_while}
+use Rattle.batch_lists.specs.Batch.{BatchView, BatchTargetView}
+use Rattle.batch_lists.specs.BatchFields.{batch_fields}
+use Rattle.batch_lists.specs.Batches.{BatchesListView, batch_body_fields}
+use Rattle.batch_lists.specs.declared.batches.BatchEntry.{BatchEntry}
 use Rattle.crc_fields.specs.CheckSums.{crc16_of, crc32_of}
 use Rattle.load_base.specs.Bytes.{same_bytes}
 use Rattle.load_header.specs.Header.{HeaderView, HardwareAtView}
@@ -11,12 +15,14 @@ use Rattle.media_lists.specs.Files.{FilesListView, file_body_fields}
 use Rattle.media_lists.specs.ListFields.{list_fields}
 use Rattle.media_lists.specs.Loads.{LoadsListView, LoadEntryView, load_body_fields}
 use Rattle.media_lists.specs.declared.lists.ListedFile.{ListedFile}
-use Rattle.media_build.specs.Lines.{is_load, members_of}
+use Rattle.media_build.specs.Lines.{ends_load, is_target, members_of}
+use Rattle.media_build.specs.declared.statements.BatchLine.{BatchLine}
 use Rattle.media_build.specs.declared.statements.FileLine.{FileLine}
 use Rattle.media_build.specs.declared.statements.LoadLine.{LoadLine}
 use Rattle.media_build.specs.declared.statements.RecipeLine.{RecipeLine}
 use Rattle.media_build.specs.declared.statements.Statement.{Statement}
-use Rattle.media_build.specs.declared.statements.Statement.TheVariants.{Set, Load, Hardware, Position, Data, Support, User}
+use Rattle.media_build.specs.declared.statements.Statement.TheVariants.{Set, Load, Hardware, Position, Data, Support, User, Batch, Target}
+use Rattle.media_build.specs.declared.statements.TargetLine.{TargetLine}
 
 -- ---- what single lines say
 
@@ -47,7 +53,7 @@ user_in statement = []
 
 -- ---- loads
 
--- a load: the number of its line, what that says, and what the lines say that follow it up to the next load
+-- a load: the number of its line, what that says, and what the lines say that follow it up to the next load or batch
 pub record RecipeLoadView : Type 0 where
   pub number : ℕ
   pub load : LoadLine
@@ -58,7 +64,7 @@ abbrev pub load_at : (number : ℕ) → Statement → (later : List RecipeLine) 
 load_at number (Load load) later = record {
   number = number;
   load = load;
-  own = map (λ line. line.statement) (take_while (λ line. not (is_load line.statement)) later);
+  own = map (λ line. line.statement) (take_while (λ line. not (ends_load line.statement)) later);
 } ∷ []
 load_at number statement later = []
 
@@ -66,6 +72,32 @@ load_at number statement later = []
 abbrev pub loads_of : List RecipeLine → List RecipeLoadView
 loads_of [] = []
 loads_of (line ∷ later) = load_at line.number line.statement later ++ loads_of later
+
+-- ---- batches
+
+abbrev pub targets_in : Statement → List TargetLine
+targets_in (Target target) = target ∷ []
+targets_in statement = []
+
+-- a batch: what its line says, and the targets on the lines that follow it
+pub record RecipeBatchView : Type 0 where
+  pub batch : BatchLine
+  pub targets : List TargetLine
+
+-- the batch that begins with this line, if one does
+abbrev pub batch_at : Statement → (later : List RecipeLine) → List RecipeBatchView
+batch_at (Batch batch) later = record {
+  batch = batch;
+  targets = flat_map (λ line. targets_in line.statement) (take_while (λ line. is_target line.statement) later);
+} ∷ []
+batch_at statement later = []
+
+-- the batches of a recipe, in their order
+abbrev pub batches_of : List RecipeLine → List RecipeBatchView
+batches_of [] = []
+batches_of (line ∷ later) = batch_at line.statement later ++ batches_of later
+
+-- ---- what a load says
 
 abbrev pub hardware_of : RecipeLoadView → List (List ℕ)
 hardware_of load = flat_map hardware_in load.own
@@ -150,9 +182,19 @@ unfoldable pub load_bodies : Sources → RecipeLoadView → List BodyView
 load_bodies sources load =
     record { name = load.load.name; member = load.load.member; bytes = header_bytes (header_of sources load) } ∷ map (file_body sources) (files_of load)
 
--- All files of the set, load by load.
+abbrev pub batch_target : TargetLine → BatchTargetView
+batch_target target = record { hw = target.hw; pos = target.pos; parts = target.parts }
+
+-- a batch, as its file has it
+abbrev pub batch_of : RecipeBatchView → BatchView
+batch_of batch = record { part = batch.batch.part; targets = map batch_target batch.targets }
+
+abbrev pub batch_body : RecipeBatchView → BodyView
+batch_body batch = record { name = batch.batch.name; member = batch.batch.member; bytes = concat (batch_fields (batch_of batch)) }
+
+-- All files of the set, load by load, and then those of the batches.
 unfoldable pub recipe_bodies : Sources → List RecipeLine → List BodyView
-recipe_bodies sources lines = flat_map (load_bodies sources) (loads_of lines)
+recipe_bodies sources lines = flat_map (load_bodies sources) (loads_of lines) ++ map batch_body (batches_of lines)
 
 -- ---- lists
 
@@ -180,18 +222,43 @@ recipe_files sources lines member = record {
   user = [];
 }
 
+abbrev pub batch_entry : RecipeBatchView → BatchEntry
+batch_entry batch = record { part = batch.batch.part; file = batch.batch.name; member = batch.batch.member }
+
+-- `BATCHES.LUM` of a member
+unfoldable pub recipe_batches : List RecipeLine → (member : ℕ) → BatchesListView
+recipe_batches lines member = record { set = set_of lines; member = member; members = members_of lines; entries = map batch_entry (batches_of lines); user = [] }
+
 unfoldable pub loads_list_bytes : List RecipeLine → (member : ℕ) → List ℕ
 loads_list_bytes lines member = concat (list_fields 0x9004 load_body_fields (recipe_loads lines member))
 
 unfoldable pub files_list_bytes : Sources → List RecipeLine → (member : ℕ) → List ℕ
 files_list_bytes sources lines member = concat (list_fields 0xA004 file_body_fields (recipe_files sources lines member))
 
+unfoldable pub batches_list_bytes : List RecipeLine → (member : ℕ) → List ℕ
+batches_list_bytes lines member = concat (list_fields 0xB004 batch_body_fields (recipe_batches lines member))
+
+-- something, where some stand there, and else nothing
+abbrev pub where_some : {A B : Type 0} → List A → B → Option B
+where_some [] value = None
+where_some (x ∷ xs) value = Some value
+
+-- the same of a list
+abbrev pub all_where_some : {A B : Type 0} → List A → List B → List B
+all_where_some [] values = []
+all_where_some (x ∷ xs) values = values
+
+-- `BATCHES.LUM` of a member; none has one where the recipe has no batch
+abbrev pub batches_list_of : List RecipeLine → (member : ℕ) → Option (List ℕ)
+batches_list_of lines member = where_some (batches_of lines) (batches_list_bytes lines member)
+
 -- ---- the whole
 
--- A set that is built: both lists of each member, and the files in the order of FILES.LUM.
+-- A set that is built: the lists of each member, and the files in the order of FILES.LUM.
 pub record BuiltView : Type 0 where
   pub loads : List (List ℕ)
   pub files : List (List ℕ)
+  pub batches : List (List ℕ)
   pub bodies : List BodyView
 
 -- The set that a recipe names, of sources with these bytes.
@@ -199,5 +266,6 @@ unfoldable pub recipe_set : Sources → List RecipeLine → BuiltView
 recipe_set sources lines = record {
   loads = map (loads_list_bytes lines) (range_with_len 1 (members_of lines));
   files = map (files_list_bytes sources lines) (range_with_len 1 (members_of lines));
+  batches = all_where_some (batches_of lines) (map (batches_list_bytes lines) (range_with_len 1 (members_of lines)));
   bodies = recipe_bodies sources lines;
 }

@@ -5,19 +5,21 @@ use Rattle.hex.specs.Hex.{decode_of}
 use Rattle.hex.specs.declared.error.FromHexError.{FromHexError}
 use Rattle.load_base.specs.Bytes.{same_bytes}
 use Rattle.load_base.specs.PartText.{is_graphic}
-use Rattle.load_base.specs.Verdicts.{verdict, name_fault_of}
+use Rattle.load_base.specs.Verdicts.{verdict, name_fault_of, ident_fault_of}
 use Rattle.part_number.specs.Verdicts.{part_fault_of}
 use Rattle.exchange_trace.specs.Scripts.{WrittenLine, written_lines, is_passed_over, decimal_between}
-use Rattle.media_build.specs.Lines.{keyword_of, may_stand, one_of, two_of, four_of, five_of, names_of, members_of, files_of_load, has_user, is_used}
+use Rattle.media_build.specs.Lines.{keyword_of, stage_of, is_whole, may_follow, one_of, two_of, three_of, four_of, five_of, target_of, names_of, members_of, files_of_load, has_user, is_used, is_loaded, target_count}
 use Rattle.media_build.specs.declared.fault.RecipeFault.{RecipeFault}
-use Rattle.media_build.specs.declared.fault.RecipeFault.TheVariants.{Word, Number, Name, Part, Order, Repeated, Hex, Limit}
+use Rattle.media_build.specs.declared.fault.RecipeFault.TheVariants.{Word, Number, Name, Part, Order, Repeated, Hex, Limit, NotInRecipe}
 use Rattle.media_build.specs.declared.keywords.Keyword.{Keyword}
 use Rattle.media_build.specs.declared.keywords.Keyword.TheVariants as keywords
+use Rattle.media_build.specs.declared.statements.BatchLine.{BatchLine}
 use Rattle.media_build.specs.declared.statements.FileLine.{FileLine}
 use Rattle.media_build.specs.declared.statements.LoadLine.{LoadLine}
 use Rattle.media_build.specs.declared.statements.RecipeLine.{RecipeLine}
 use Rattle.media_build.specs.declared.statements.Statement.{Statement}
-use Rattle.media_build.specs.declared.statements.Statement.TheVariants.{Set, Members, Load, Hardware, Position, Data, Support, User}
+use Rattle.media_build.specs.declared.statements.Statement.TheVariants.{Set, Members, Load, Hardware, Position, Data, Support, User, Batch, Target}
+use Rattle.media_build.specs.declared.statements.TargetLine.{TargetLine}
 
 infixl 10 ◌>>=◌
 -- what follows, where nothing was refused
@@ -60,6 +62,14 @@ is_header_name name = ends_with (codes ".LUH") name
 -- the name of a data or support file
 abbrev pub is_body_name : List ℕ → Bool
 is_body_name name = not (ends_with (codes ".LUH") name) && not (ends_with (codes ".LUM") name)
+
+-- the name of a batch's file
+abbrev pub is_batch_name : List ℕ → Bool
+is_batch_name name = ends_with (codes ".LUB") name
+
+-- the hardware or the position of a target
+unfoldable pub ident_word : (line : ℕ) → List ℕ → Result (List ℕ) RecipeFault
+ident_word line word = verdict (λ _. Name line) (ident_fault_of word) word
 
 unfoldable pub name_word : (line : ℕ) → List ℕ → Result (List ℕ) RecipeFault
 name_word line word = verdict (λ _. Name line) (name_fault_of word) word
@@ -160,6 +170,48 @@ user_line line before words = do
   bytes ← user_word line hex
   passed (not (has_user before)) (Limit line) bytes
 
+unfoldable pub batch_said : (line : ℕ) → List RecipeLine → (part name member : List ℕ) → Result BatchLine RecipeFault
+batch_said line before part name member = do
+  number ← part_word line part
+  file ← placed_words line before is_batch_name name member
+  passed (has_room before) (Limit line) (record { part = number; name = file.0; member = file.1 })
+
+-- `batch PART NAME MEMBER`
+unfoldable pub batch_line : (line : ℕ) → List RecipeLine → List (List ℕ) → Result BatchLine RecipeFault
+batch_line line before words = required (Word line) (three_of words) >>= λ w. batch_said line before w.0 w.1 w.2
+
+-- a part number that is that of a load
+unfoldable pub load_part_word : (line : ℕ) → List RecipeLine → List ℕ → Result (List ℕ) RecipeFault
+load_part_word line before word = do
+  part ← part_word line word
+  passed (is_loaded before part) (NotInRecipe line) part
+
+-- each of them, up to the first that is wrong
+abbrev pub load_part_words : (line : ℕ) → List RecipeLine → List (List ℕ) → Result (List (List ℕ)) RecipeFault
+load_part_words line before [] = Ok []
+load_part_words line before (word ∷ words) = load_part_word line before word >>= λ part. (load_part_words line before words >>= λ parts. Ok (part ∷ parts))
+
+-- the hardware and the position of a target
+unfoldable pub place_words : (line : ℕ) → (hw pos : List ℕ) → Result (List ℕ × List ℕ) RecipeFault
+place_words line hw pos = do
+  hardware ← ident_word line hw
+  position ← ident_word line pos
+  Ok (hardware, position)
+
+-- the batch has fewer than 64 targets before
+abbrev pub batch_has_room : List RecipeLine → Bool
+batch_has_room before = nat_lt (target_count before) 64
+
+unfoldable pub target_said : (line : ℕ) → List RecipeLine → (hw pos : List ℕ) → (parts : List (List ℕ)) → Result TargetLine RecipeFault
+target_said line before hw pos parts = do
+  place ← place_words line hw pos
+  loads ← load_part_words line before parts
+  passed (batch_has_room before) (Limit line) (record { hw = place.0; pos = place.1; parts = loads })
+
+-- `target HW POS PART ..`
+unfoldable pub target_line : (line : ℕ) → List RecipeLine → List (List ℕ) → Result TargetLine RecipeFault
+target_line line before words = required (Word line) (target_of words) >>= λ w. target_said line before w.0 w.1 w.2
+
 -- What the words after a keyword say, after the lines before: their number is tested first, then each word, and the
 -- limits last.
 abbrev pub statement_said : (line : ℕ) → List RecipeLine → Keyword → List (List ℕ) → Result Statement RecipeFault
@@ -171,15 +223,17 @@ statement_said line before keywords.Position words = position_line line words >>
 statement_said line before keywords.Data words = file_line line before words >>= λ file. Ok (Data file)
 statement_said line before keywords.Support words = file_line line before words >>= λ file. Ok (Support file)
 statement_said line before keywords.User words = user_line line before words >>= λ bytes. Ok (User bytes)
+statement_said line before keywords.Batch words = batch_line line before words >>= λ batch. Ok (Batch batch)
+statement_said line before keywords.Target words = target_line line before words >>= λ target. Ok (Target target)
 
--- a line's keyword, where it may stand after this many lines
-unfoldable pub keyword_said : (line before : ℕ) → List ℕ → Result Keyword RecipeFault
-keyword_said line before word = required (Word line) (keyword_of word) >>= λ keyword. passed (may_stand before keyword) (Order line) keyword
+-- a line's keyword, where it may stand after these lines
+unfoldable pub keyword_said : (line : ℕ) → List RecipeLine → List ℕ → Result Keyword RecipeFault
+keyword_said line before word = required (Word line) (keyword_of word) >>= λ keyword. passed (may_follow before keyword) (Order line) keyword
 
 -- What a line says after those before it: its keyword is tested first, then whether it may stand there, then the rest.
 unfoldable pub words_said : (line : ℕ) → List RecipeLine → List (List ℕ) → Result Statement RecipeFault
 words_said line before [] = Err (Word line)
-words_said line before (word ∷ words) = keyword_said line (length before) word >>= λ keyword. statement_said line before keyword words
+words_said line before (word ∷ words) = keyword_said line before word >>= λ keyword. statement_said line before keyword words
 
 -- ---- the whole
 
@@ -199,9 +253,10 @@ line_said number before line =
 abbrev pub line_count : List ℕ → ℕ
 line_count text = count_by (λ byte. byte == 10) text + (if (length text == 0) || (slice_index text (length text - 1) == 10) then 0 else 1)
 
--- Three lines stand in each recipe: `set`, `members` and a load. The end has the number of the line that is missing.
+-- Three lines stand in each recipe: `set`, `members` and a load; and each batch has a target. The end has the number of
+-- the line that is missing.
 abbrev pub complete : (last : ℕ) → List RecipeLine → Result (List RecipeLine) RecipeFault
-complete last lines = passed (nat_le 3 (length lines)) (Order (last + 1)) lines
+complete last lines = passed (nat_le 3 (length lines) && is_whole (stage_of lines)) (Order (last + 1)) lines
 
 -- What a text says as a recipe: its lines, or its first fault.
 unfoldable pub recipe_said : List ℕ → Result (List RecipeLine) RecipeFault

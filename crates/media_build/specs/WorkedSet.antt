@@ -1,10 +1,10 @@
--- A recipe of one load with one data file.
-use Rattle.std.specs.Prelude.{List, [], ◌∷◌, codes}
+-- Recipes of one load with one data file, with a batch and without.
+use Rattle.std.specs.Prelude.{ℕ, List, [], ◌∷◌, ◌++◌, codes}
 use Rattle.media_build.specs.RecipeSets.{RecipeLoadView, Sources}
 use Rattle.media_build.specs.declared.statements.LoadLine.{LoadLine}
 use Rattle.media_build.specs.declared.statements.RecipeLine.{RecipeLine}
 use Rattle.media_build.specs.declared.statements.Statement.{Statement}
-use Rattle.media_build.specs.declared.statements.Statement.TheVariants.{Set, Members, Load, Hardware, Position, Data, Support, User}
+use Rattle.media_build.specs.declared.statements.Statement.TheVariants.{Set, Members, Load, Hardware, Position, Data, Support, User, Batch, Target}
 
 -- each source has these bytes
 abbrev pub nine_bytes : Sources
@@ -25,6 +25,16 @@ one_load_recipe =
     record { number = 1; statement = Set (codes "XYZ5A-0000-0001") } ∷ record { number = 2; statement = Members 1 }
     ∷ record { number = 3; statement = Load load_line } ∷ record { number = 4; statement = Hardware (codes "HW1") }
     ∷ record { number = 5; statement = Data (record { name = codes "APP.BIN"; member = 1; source = codes "app.bin"; part = codes "APP1" }) } ∷ []
+
+-- a target at this position that gets the load
+abbrev pub target_at : (line : ℕ) → (pos : List ℕ) → RecipeLine
+target_at line pos = record { number = line; statement = Target (record { hw = codes "HW1"; pos = pos; parts = codes "ABC41-0000-0001" ∷ [] }) }
+
+-- the same recipe with a batch for two targets
+abbrev pub one_batch_recipe : List RecipeLine
+one_batch_recipe =
+    one_load_recipe ++ record { number = 6; statement = Batch (record { part = codes "ABC43-0000-0003"; name = codes "TWO.LUB"; member = 1 }) }
+    ∷ target_at 7 (codes "L") ∷ target_at 8 (codes "R") ∷ []
 
 -- no bytes: no length depends on them
 abbrev pub no_bytes : Sources

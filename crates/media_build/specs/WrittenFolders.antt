@@ -1,14 +1,15 @@
 -- The names under which a set lies in a folder of the host, and a folder in which nothing is wrong with it
 -- (docs/FORMATS.md, "Media sets").
-use Rattle.std.specs.Prelude.{◌≡◌, ℕ, List, [], ◌∷◌, ◌++◌, length, codes, Option, Some}
+use Rattle.std.specs.Prelude.{◌≡◌, ℕ, List, [], ◌∷◌, ◌++◌, length, codes, Option, Some, None}
 use Rattle.load_base.specs.Host.{Files}
 use Rattle.media_check.specs.Findings.{findings_of}
-use Rattle.media_check.specs.HostNames.{host_media, host_name, loads_name, files_name, whole_reading}
+use Rattle.media_check.specs.HostNames.{host_media, host_name, loads_name, files_name, batches_name, whole_reading}
 use Rattle.media_check.specs.Openings.{CanRead}
 use Rattle.media_check.specs.Sets.{lists_in, set_in}
 use Rattle.media_build.specs.Accepted.{IsMemberOf}
+use Rattle.media_build.specs.Lines.{members_of}
 use Rattle.media_build.specs.NoFindings.{HaveSet}
-use Rattle.media_build.specs.RecipeSets.{Sources, BodyView, BuiltView}
+use Rattle.media_build.specs.RecipeSets.{Sources, BodyView, BuiltView, batches_of}
 use Rattle.media_build.specs.declared.statements.RecipeLine.{RecipeLine}
 
 -- ---- names
@@ -17,6 +18,7 @@ use Rattle.media_build.specs.declared.statements.RecipeLine.{RecipeLine}
 pub data IsNameIn (folder : List ℕ) (set : BuiltView) (name : List ℕ) : Type 0 where
   of_loads : (member : ℕ) → IsMemberOf (length set.loads) member → name ≡ loads_name folder member → IsNameIn folder set name
   of_files : (member : ℕ) → IsMemberOf (length set.loads) member → name ≡ files_name folder member → IsNameIn folder set name
+  of_batches : (member : ℕ) → IsMemberOf (length set.loads) member → name ≡ batches_name folder member → IsNameIn folder set name
   of_body : (before : List BodyView) (body : BodyView) (after : List BodyView) → set.bodies ≡ before ++ body ∷ after
       → name ≡ host_name folder body.member (codes "\\") body.name → IsNameIn folder set name
 
@@ -27,6 +29,12 @@ pub record KeepsAllBut (IsSet : List ℕ → Type 0) (old : Files) (new : Option
   pub others : (name : List ℕ) → ¬ IsSet name → files name ≡ old name
 
 -- ---- a folder
+
+-- A set without batches isn't written where a member has a list of batches. Nothing takes such a list away, so that it would
+-- stand there as if it were one of the set's.
+abbrev pub HasNoOtherBatches : (folder : List ℕ) → Files → List RecipeLine → Type 0
+HasNoOtherBatches folder files lines =
+    batches_of lines ≡ [] → (member : ℕ) → IsMemberOf (members_of lines) member → files (batches_name folder member) ≡ None
 
 -- The set in a folder can be read, and it has no finding.
 pub record IsCleanFolder (folder : List ℕ) (files : Files) : Type 0 where

@@ -1,4 +1,4 @@
-//! The files of a set: of each load its header, its data files and its support files.
+//! The files of loads: of each its header, its data files and its support files.
 ghost use Rattle.std.specs.Prelude.{◌≡◌, ◌≤◌, ◌-◌, ◌++◌, List as Items, ℕ, All, length, map, take};
 ghost use Rattle.std.specs.Prelude.{IfOk};
 ghost use Rattle.std.specs.List.{flat_map};
@@ -7,15 +7,15 @@ ghost use Rattle.crc_fields.specs.CheckSums.{crc32_of};
 ghost use Rattle.load_header.specs.HeaderFields.{IsHeader};
 ghost use Rattle.media_check.specs.Openings.{largest_set};
 ghost use Rattle.media_build.specs.Accepted.{IsRecipe};
-ghost use Rattle.media_build.specs.Building.{AddsLoad, AreBodies, HasSourceCause};
+ghost use Rattle.media_build.specs.Building.{AddsLoad, AreLoadBodies, HasSourceCause};
 ghost use Rattle.media_build.specs.Building.{HaveShortHeaders, TakesLoad, TakesSources};
-ghost use Rattle.media_build.specs.Building.{headers_length, source_names, sources_in, sources_of};
+ghost use Rattle.media_build.specs.Building.{source_names, sources_in, sources_of};
 ghost use Rattle.media_build.specs.Building.{unread};
 ghost use Rattle.media_build.specs.NoFindings.{body_view};
 ghost use Rattle.media_build.specs.Parts.{IsShortSource, all_files, bodies_with, header_with};
 ghost use Rattle.media_build.specs.Parts.{whole_header};
 ghost use Rattle.media_build.specs.RecipeSets.{header_bytes as bytes_of_header};
-ghost use Rattle.media_build.specs.RecipeSets.{header_start, loads_of, recipe_bodies};
+ghost use Rattle.media_build.specs.RecipeSets.{header_start, load_bodies, loads_of};
 
 use crate::building_fault::BuildFault;
 use crate::gathering::header_of;
@@ -28,27 +28,28 @@ use load_header::{LoadCrc, header_laws};
 use media_check::Placed;
 use std::alloc::Global;
 
-/// Reads the sources of all loads, and gives the files of the set. All headers have `headers` bytes
-/// together.
+/// Reads the sources of all loads beside `others` bytes of headers and batches, and gives the files
+/// of the loads.
 pub(crate) fn read_bodies<H: Host>(
     alloc: Global,
     host: &mut H,
     lines: &[RecipeLine],
-    headers: usize,
+    others: usize,
 ) -> Result<List<Placed>, BuildFault>
     requires recipe { IsRecipe lines.now }
     requires short { HaveShortHeaders lines.now }
-    requires headers { headers ≡ headers_length (loads_of lines.now) }
-    ensures takes { ForSome (H.files host.old) (TakesSources headers (source_names lines.now)
-        (λ files bodies. map body_view bodies.items ≡ recipe_bodies (sources_in files) lines.now)
-        result) }
-    ensures are { IfOk result (λ bodies. AreBodies lines.now (map body_view bodies.items)) }
+    requires others { others ≤ largest_set }
+    ensures takes { ForSome (H.files host.old) (TakesSources others (source_names lines.now)
+        (λ files bodies. map body_view bodies.items
+        ≡ flat_map (load_bodies (sources_in files)) (loads_of lines.now)) result) }
+    ensures are { IfOk result (λ bodies.
+        AreLoadBodies lines.now others (map body_view bodies.items)) }
     ensures cause { HasSourceCause (H.faults host.old) (H.faults host.new) result }
     ensures kept { H.files host.new ≡ H.files host.old }
 {
     let mut loads = Loads::new(lines);
     let mut bodies = List::new(alloc);
-    let mut total = headers;
+    let mut total = others;
     while let Some(load) = loads.next() {
         let read = read_load(alloc, host, &load, bodies, total)?;
         bodies = read.0;

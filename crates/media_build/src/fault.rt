@@ -16,16 +16,19 @@ pub enum RecipeFault {
     Name(u64),
     /// B4: a word is no part number.
     Part(u64),
-    /// B5: a line that may not stand there, or the end of a recipe without a load, which has the
-    /// number of the last line plus one.
+    /// B5: a line that may not stand there, or the end of a recipe without a load or after a batch
+    /// without a target, which has the number of the last line plus one.
     Order(u64),
     /// B6: an earlier line gives this name to a file.
     Repeated(u64),
     /// B7: a word isn't a multiple of four hexadecimal digits, or is empty.
     Hex(u64),
-    /// B8: the 256th data or support file of a load, the 1,025th file of the set, or the second
-    /// user data of a load; and, with the number 0, a text of more than 1,000,000 bytes.
+    /// B8: the 256th data or support file of a load, the 1,025th file of the set, the second user
+    /// data of a load, or the 65th target of a batch; and, with the number 0, a text of more than
+    /// 1,000,000 bytes.
     Limit(u64),
+    /// B9: a word is the part number of no load of the recipe.
+    NotInRecipe(u64),
     /// Out of memory.
     Memory,
 }

@@ -5,7 +5,6 @@ ghost use Rattle.std.specs.List.{AllByRecursion, sum_by};
 ghost use Rattle.exchange_trace.specs.Scripts.{WrittenLine, lines};
 ghost use Rattle.load_base.specs.Host.{Files};
 ghost use Rattle.load_header.specs.HeaderFields.{header_size};
-ghost use Rattle.load_base.specs.Host.{Files};
 ghost use Rattle.media_build.specs.Accepted.{IsRecipe};
 ghost use Rattle.media_build.specs.Building.{CanTake, HaveSizes, IsFirstRefused, IsSizeFault};
 ghost use Rattle.media_build.specs.declared.building_fault.BuildFault.{BuildFault};
@@ -15,11 +14,13 @@ ghost use Rattle.media_build.specs.Building.{AnswersSizes, Builds, IsSmall, sour
 ghost use Rattle.media_build.specs.GeneratedSet.{generated_recipe, generated_lines};
 ghost use Rattle.media_build.specs.GeneratedSet.{generated_load_view, generated_sources};
 ghost use Rattle.media_build.specs.Recipes.{IsFirstWrong, lines_said, recipe_said, statement_said};
+ghost use Rattle.media_build.specs.Recipes.{words_said};
+ghost use Rattle.media_build.specs.WorkedSet.{one_batch_recipe, one_load_recipe};
 ghost use Rattle.media_build.specs.HostWrites.{WritesFiles, written_files};
 ghost use Rattle.media_build.specs.NoFindings.{HasShortSources, HaveSet, SizesFit, built_view};
 ghost use Rattle.media_build.specs.RecipeSets.{Sources, header_start, loads_of, recipe_loads};
 ghost use Rattle.media_build.specs.RecipeSets.{recipe_set};
-ghost use Rattle.media_build.specs.WrittenFolders.{HoldsSet};
+ghost use Rattle.media_build.specs.WrittenFolders.{HasNoOtherBatches, HoldsSet};
 ghost use Rattle.media_build.specs.declared.fault.RecipeFault.{RecipeFault};
 ghost use Rattle.media_build.specs.declared.fault.RecipeFault.TheVariants as faults;
 ghost use Rattle.media_build.specs.declared.keywords.Keyword.TheVariants as keywords;
@@ -27,6 +28,7 @@ ghost use Rattle.media_build.specs.declared.statements.RecipeLine.{RecipeLine};
 ghost use Rattle.media_build.specs.declared.statements.Statement.TheVariants.{Set, Members, Load};
 ghost use Rattle.media_build.specs.declared.statements.Statement.TheVariants.{Hardware, Position};
 ghost use Rattle.media_build.specs.declared.statements.Statement.TheVariants.{Data, User};
+ghost use Rattle.media_build.specs.declared.statements.Statement.TheVariants.{Batch, Target};
 ghost use Rattle.media_check.specs.BuiltSets.{built_media};
 ghost use Rattle.media_check.specs.HostNames.{host_media, whole_reading};
 ghost use Rattle.media_check.specs.Openings.{CanRead, largest_set};
@@ -35,6 +37,7 @@ ghost use Rattle.media_check.specs.Sets.{Media, lists_in, set_in};
 ghost use Rattle.media_check.specs.declared.built.Built.{Built};
 ghost use Rattle.media_lists.specs.Loads.{IsLoadsList};
 
+use batch_lists::{batch_laws, batches_list_laws};
 use load_header::header_laws;
 use media_lists::{files_list_laws, loads_list_laws};
 
@@ -61,10 +64,11 @@ pub fn a_built_set_has_no_finding()
     ensures built { (sources : Sources) (lines : List RecipeLine) (built : Built) → IsRecipe lines
         → SizesFit sources lines → built_view built ≡ recipe_set sources lines
         → findings_of (set_in (built_media built)) ≡ [] }
-    // As a folder of the host has it into which it was written.
+    // As a folder of the host has it into which it was written, where no other set's list of
+    // batches stands there.
     ensures written { (folder : List ℕ) (sources : Sources) (lines : List RecipeLine)
         (built : Built) (old new : Files) → IsRecipe lines → SizesFit sources lines
-        → built_view built ≡ recipe_set sources lines
+        → HasNoOtherBatches folder old lines → built_view built ≡ recipe_set sources lines
         → WritesFiles (written_files folder built) old new (Ok tt)
         → findings_of (set_in (host_media new folder)) ≡ [] }
     // As any media tell it that have it.
@@ -75,15 +79,19 @@ pub fn a_built_set_has_no_finding()
     header_laws();
     files_list_laws();
     loads_list_laws();
+    batches_list_laws();
+    batch_laws();
 }
 
 /// A folder into which such a set was written can be read, where its files aren't too large
-/// together: opening it is refused for no file (`media_check::opening_laws`).
+/// together: opening it is refused for no file (`media_check::opening_laws`). A list of batches
+/// that another set left there is read too, so that none may stand there where this set has no
+/// batches.
 // For the proof: does nothing.
 pub fn a_written_set_can_be_read()
     ensures { (folder : List ℕ) (sources : Sources) (lines : List RecipeLine)
         (built : Built) (old new : Files) → IsRecipe lines → SizesFit sources lines
-        → built_view built ≡ recipe_set sources lines
+        → HasNoOtherBatches folder old lines → built_view built ≡ recipe_set sources lines
         → sum_by (λ body. length body.bytes.items) built.bodies.items ≤ largest_set
         → WritesFiles (written_files folder built) old new (Ok tt)
         → CanRead new (whole_reading folder (lists_in (host_media new folder) 1)) }
@@ -91,6 +99,8 @@ pub fn a_written_set_can_be_read()
     header_laws();
     files_list_laws();
     loads_list_laws();
+    batches_list_laws();
+    batch_laws();
 }
 
 /// What is built of a host's files has no finding: `build` promises what this asks for.
@@ -106,17 +116,20 @@ pub fn what_is_built_has_no_finding()
 
 /// A folder of a host that tells its files has the set that was built or made, once it was written
 /// there: each list and file has its bytes, the folder can be read, and nothing is wrong there.
+/// Where it has no batches, no other set's list of batches may stand there, since writing takes no
+/// file away.
 // For the proof: does nothing.
 pub fn a_written_folder_holds_the_set()
     // The set of a recipe, as `build` gives it.
     ensures built { (folder text : List ℕ) (lines : List RecipeLine) (built : Built)
         (files old new : Files) → recipe_said text ≡ Ok lines → AnswersSizes lines (Ok built)
-        → Builds lines (Ok built) files → IsSmall built
+        → Builds lines (Ok built) files → IsSmall built → HasNoOtherBatches folder old lines
         → WritesFiles (written_files folder built) old new (Ok tt)
         → HoldsSet folder new (sources_in files) lines }
     // The generated set of a number, as `make` gives it.
     ensures made { (folder : List ℕ) (number : ℕ) (built : Built) (old new : Files)
         → built_view built ≡ recipe_set (generated_sources number) generated_lines → IsSmall built
+        → HasNoOtherBatches folder old generated_lines
         → WritesFiles (written_files folder built) old new (Ok tt)
         → HoldsSet folder new (generated_sources number) generated_lines }
 {
@@ -212,6 +225,40 @@ pub fn worked_recipes()
         } ∷ [])
         keywords.Support (codes "A" ∷ codes "3" ∷ codes "a" ∷ codes "P" ∷ [])
         ≡ Err (faults.Repeated 9) }
+{}
+
+/// What lines of batches say after a recipe of one load, how they are refused, and where a recipe
+/// may not end (docs/FORMATS.md, "Recipe").
+pub fn worked_batch_lines()
+    ensures batch { statement_said 6 one_load_recipe keywords.Batch
+        (codes "ABC43-0000-0003" ∷ codes "TWO.LUB" ∷ codes "1" ∷ [])
+        ≡ Ok (Batch (record {
+          part = codes "ABC43-0000-0003";
+          name = codes "TWO.LUB";
+          member = 1;
+        })) }
+    ensures other_ending { statement_said 6 one_load_recipe keywords.Batch
+        (codes "ABC43-0000-0003" ∷ codes "TWO.LUH" ∷ codes "9" ∷ []) ≡ Err (faults.Name 6) }
+    ensures target { statement_said 9 one_batch_recipe keywords.Target
+        (codes "HW1" ∷ codes "L" ∷ codes "ABC41-0000-0001" ∷ [])
+        ≡ Ok (Target (record {
+          hw = codes "HW1";
+          pos = codes "L";
+          parts = codes "ABC41-0000-0001" ∷ [];
+        })) }
+    ensures no_part { statement_said 9 one_batch_recipe keywords.Target
+        (codes "HW1" ∷ codes "L" ∷ []) ≡ Err (faults.Word 9) }
+    // A part number of no load comes before the next word.
+    ensures other_load { statement_said 9 one_batch_recipe keywords.Target
+        (codes "HW1" ∷ codes "L" ∷ codes "ABC42-0000-0002" ∷ codes "ABC4" ∷ [])
+        ≡ Err (faults.NotInRecipe 9) }
+    ensures wrong_part { statement_said 9 one_batch_recipe keywords.Target
+        (codes "HW1" ∷ codes "L" ∷ codes "ABC4" ∷ codes "ABC42-0000-0002" ∷ [])
+        ≡ Err (faults.Part 9) }
+    ensures no_target { recipe_said (lines (codes "set XYZ5A-0000-0001" ∷ codes "members 1"
+        ∷ codes "load ABC41-0000-0001 APP.LUH 1 7 APP"
+        ∷ codes "batch ABC43-0000-0003 TWO.LUB 1" ∷ [])) ≡ Err (faults.Order 5) }
+    ensures late_load { words_said 9 one_batch_recipe (codes "load" ∷ []) ≡ Err (faults.Order 9) }
 {}
 
 /// The recipe of the generated set as it is written in docs/FORMATS.md, what it says, and how many

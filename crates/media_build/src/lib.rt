@@ -6,6 +6,8 @@
 //! [`make`], which makes the generated set. [`write`] writes a built set into a folder of the host.
 #![tactic(auto)]
 
+mod batch_files;
+mod batches;
 mod bodies;
 mod building;
 mod building_fault;
@@ -14,7 +16,9 @@ mod gathering;
 mod generated;
 mod keywords;
 pub mod laws;
+mod line_counts;
 mod lists;
+mod load_parts;
 mod loads;
 mod making;
 mod partial;
@@ -34,9 +38,11 @@ pub use building::build;
 pub use building_fault::BuildFault;
 pub use fault::RecipeFault;
 pub use generated::generated_bytes;
-pub use keywords::Keyword;
+pub use keywords::{Keyword, Stage};
 pub use making::make;
 pub use media_check::{Built, Placed};
 pub use recipe::Recipe;
-pub use statements::{FileLine, LoadLine, RecipeLine, Statement, UserData};
+pub use statements::{
+    BatchLine, FileLine, LoadLine, RecipeLine, Statement, TargetLine, TargetParts, UserData,
+};
 pub use writing::write;

@@ -1,19 +1,24 @@
-//! The two lists of a media set, as a recipe and the files of its set give them.
+//! The lists of a media set, as a recipe and the files of its set give them.
 ghost use Rattle.std.specs.Prelude.{◌≡◌, ℕ, ◌≤◌, [], codes, map, Some, IfOk};
 ghost use Rattle.std.specs.List.{range_with_len};
+ghost use Rattle.batch_lists.specs.Batches.{IsBatchesList, batches_list_view};
 ghost use Rattle.media_lists.specs.Files.{IsFilesList, files_list_view};
 ghost use Rattle.media_lists.specs.Loads.{IsLoadsList, load_entry_view, loads_list_view};
 ghost use Rattle.media_build.specs.Accepted.{IsRecipe};
-ghost use Rattle.media_build.specs.Building.{AnswersLoads, files_bytes, loads_bytes, of_member};
+ghost use Rattle.media_build.specs.Building.{AnswersLoads, batches_bytes, batches_beside};
+ghost use Rattle.media_build.specs.Building.{files_bytes, loads_bytes, of_member};
 ghost use Rattle.media_build.specs.Building.{start_of as start_said};
 ghost use Rattle.media_build.specs.NoFindings.{body_view};
 ghost use Rattle.media_build.specs.RecipeSets.{listed_body, load_entry as entry_said, loads_of};
-ghost use Rattle.media_build.specs.RecipeSets.{recipe_loads};
+ghost use Rattle.media_build.specs.RecipeSets.{all_where_some, batch_entry as batch_said};
+ghost use Rattle.media_build.specs.RecipeSets.{batches_of, recipe_loads};
 
+use crate::batches::{BatchPart, Batches};
 use crate::building_fault::BuildFault;
 use crate::gathering::hardware_of;
 use crate::loads::{LoadPart, Loads};
 use crate::statements::{RecipeLine, Statement};
+use batch_lists::{BatchEntry, BatchesList};
 use crc_fields::crc16;
 use load_base::{Bytes, List, NoMemory, Text};
 use media_check::Placed;
@@ -164,6 +169,77 @@ pub(crate) fn files_lists(alloc: Global, list: FilesList) -> Result<List<Bytes>,
         → IsFilesList (of_member (files_list_view list) member) }
     ensures { IfOk result (λ all. map (λ bytes. bytes.items) all.items
         ≡ map (λ member. files_bytes (of_member (files_list_view list) member))
+        (range_with_len 1 list.members)) }
+{
+    let mut list = list;
+    let mut all = List::new(alloc);
+    for index in 0..list.members {
+        list.member = 1 + index;
+        all.push(list.encode(alloc)?)?;
+    }
+    Ok(all)
+}
+
+/// `BATCHES.LUM` of member 1 of the set with this list of loads, whether it names a batch or not.
+pub(crate) fn batches_list(
+    alloc: Global,
+    loads: &LoadsList,
+    lines: &[RecipeLine],
+) -> Result<BatchesList, NoMemory>
+    ensures { IfOk result (λ list. batches_list_view list
+        ≡ batches_beside (loads_list_view loads.now) (batches_of lines.now) 1) }
+{
+    Ok(BatchesList {
+        set: loads.set,
+        member: 1,
+        members: loads.members,
+        batches: batch_entries(alloc, lines)?,
+        user: Bytes::new(alloc),
+    })
+}
+
+fn batch_entries(alloc: Global, lines: &[RecipeLine]) -> Result<List<BatchEntry>, NoMemory>
+    ensures { IfOk result (λ entries. entries.items ≡ map batch_said (batches_of lines.now)) }
+{
+    let mut batches = Batches::new(lines);
+    let mut entries = List::new(alloc);
+    while let Some(batch) = batches.next() {
+        entries.push(batch_entry(&batch))?;
+    }
+    Ok(entries)
+}
+
+fn batch_entry(batch: &BatchPart) -> BatchEntry
+    ensures { result ≡ batch_said batch.now }
+{
+    let line = batch.line();
+    BatchEntry {
+        part: line.part,
+        file: line.name,
+        member: u16::from(line.member),
+    }
+}
+
+/// The bytes of `BATCHES.LUM` of each member, of which one is given; none where it names no batch.
+pub(crate) fn batches_lists(alloc: Global, list: BatchesList) -> Result<List<Bytes>, NoMemory>
+    requires { (member : ℕ) → 1 ≤ member → member ≤ list.members
+        → IsBatchesList (of_member (batches_list_view list) member) }
+    ensures { IfOk result (λ all. map (λ bytes. bytes.items) all.items
+        ≡ all_where_some list.batches.items
+        (map (λ member. batches_bytes (of_member (batches_list_view list) member))
+        (range_with_len 1 list.members))) }
+{
+    if list.batches.is_empty() {
+        return Ok(List::new(alloc));
+    }
+    each_batches_list(alloc, list)
+}
+
+fn each_batches_list(alloc: Global, list: BatchesList) -> Result<List<Bytes>, NoMemory>
+    requires { (member : ℕ) → 1 ≤ member → member ≤ list.members
+        → IsBatchesList (of_member (batches_list_view list) member) }
+    ensures { IfOk result (λ all. map (λ bytes. bytes.items) all.items
+        ≡ map (λ member. batches_bytes (of_member (batches_list_view list) member))
         (range_with_len 1 list.members)) }
 {
     let mut list = list;

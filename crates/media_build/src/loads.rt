@@ -1,7 +1,7 @@
 //! The loads of a recipe, one after the other.
 ghost use Rattle.std.specs.Prelude.{◌≡◌, ◌++◌, ◌∷◌, [], MatchOption, not, option_map};
 ghost use Rattle.std.specs.List.{take_while};
-ghost use Rattle.media_build.specs.Lines.{is_load};
+ghost use Rattle.media_build.specs.Lines.{ends_load as is_end};
 ghost use Rattle.media_build.specs.Parts.{load_of, statements};
 ghost use Rattle.media_build.specs.RecipeSets.{load_at, loads_of};
 ghost use Rattle.media_build.specs.declared.statements.Statement.TheVariants.{Load};
@@ -10,7 +10,7 @@ use crate::statements::{LoadLine, RecipeLine, Statement};
 use std::marker::Model;
 
 /// A load of a recipe: the number of its line, what that says, and the lines that follow it up to
-/// the next load.
+/// the next load or batch.
 #[derive(Drop)]
 pub(crate) struct LoadPart<'a> {
     number: u64,
@@ -46,7 +46,7 @@ impl<'a> LoadPart<'a> {
         self.line
     }
 
-    /// The lines that follow it up to the next load.
+    /// The lines that follow it up to the next load or batch.
     pub(crate) fn own(&self) -> &'a [RecipeLine]
         ensures { statements result.now ≡ self.now.own }
     {
@@ -104,17 +104,24 @@ fn first_load(lines: &[RecipeLine]) -> Option<(u64, &LoadLine, &[RecipeLine])>
     None
 }
 
-// The lines up to the next load, and those from it on.
+// The lines up to the next load or batch, and those from it on.
 fn cut(lines: &[RecipeLine]) -> (&[RecipeLine], &[RecipeLine])
-    ensures own { result.0.now ≡ take_while (λ line. not (is_load line.statement)) lines.now }
+    ensures own { result.0.now ≡ take_while (λ line. not (is_end line.statement)) lines.now }
     ensures rest { loads_of result.1.now ≡ loads_of lines.now }
 {
     for (index, line) in lines.iter().enumerate() {
-        if load_in(&line.statement).is_some() {
+        if ends_load(&line.statement) {
             return (&lines[..index], &lines[index..]);
         }
     }
     (lines, &lines[lines.len()..])
+}
+
+// Whether the lines of a load end here.
+fn ends_load(statement: &Statement) -> bool
+    ensures { result ≡ is_end statement.now }
+{
+    matches!(statement, Statement::Load(_) | Statement::Batch(_))
 }
 
 fn load_in(statement: &Statement) -> Option<&LoadLine>

@@ -67,6 +67,7 @@ fn built_of(
     let mut built = Built {
         loads: List::new(alloc),
         files: List::new(alloc),
+        batches: List::new(alloc),
         bodies: List::new(alloc),
     };
     built.loads.push(loads)?;

@@ -1,29 +1,38 @@
 //! The lines of a recipe that were read so far, and what the next line is tested against.
-ghost use Rattle.std.specs.Prelude.{◌≡◌, ◌≤◌, ◌∷◌, ◌++◌, [], length, false, IfOk, OnOk};
+ghost use Rattle.std.specs.Prelude.{◌≡◌, ◌<◌, ◌∷◌, ◌++◌, [], length, false, IfOk, OnOk};
 ghost use Rattle.field_grammar.specs.Answers.{Gives};
-ghost use Rattle.media_build.specs.Lines.{is_used, names_in, members_in, given};
-ghost use Rattle.media_build.specs.Partials.{MayFollow, IsNewFile, IsNewName, count_files};
-ghost use Rattle.media_build.specs.Partials.{keeps_user};
+ghost use Rattle.media_build.specs.Lines.{is_used, is_whole as is_whole_at, names_in, stage_of};
+ghost use Rattle.media_build.specs.Lines.{target_count};
+ghost use Rattle.media_build.specs.Partials.{MayFollow, IsNewFile, IsNewName, with_parts};
 ghost use Rattle.media_build.specs.Recipes.{new_place, placed_words, type_words, load_said};
 ghost use Rattle.media_build.specs.Recipes.{source_words, file_said, set_line as set_words};
 ghost use Rattle.media_build.specs.Recipes.{members_line as members_words, load_line as load_words};
 ghost use Rattle.media_build.specs.Recipes.{hardware_line as hardware_words};
 ghost use Rattle.media_build.specs.Recipes.{position_line as position_words};
 ghost use Rattle.media_build.specs.Recipes.{file_line as file_words, user_line as user_words};
+ghost use Rattle.media_build.specs.Recipes.{batch_line as batch_words, batch_said};
+ghost use Rattle.media_build.specs.Recipes.{target_line as target_words, target_said};
+ghost use Rattle.media_build.specs.Recipes.{load_part_word, load_part_words, place_words};
 ghost use Rattle.media_build.specs.Recipes.{statement_said, keyword_said, words_said};
 ghost use Rattle.media_build.specs.Recipes.{is_header_name as is_header, is_body_name as is_body};
+ghost use Rattle.media_build.specs.Recipes.{is_batch_name as is_batch};
 ghost use Rattle.media_build.specs.Recipes.{has_room as has_room_for_file};
 ghost use Rattle.media_build.specs.declared.fault.RecipeFault.TheVariants.{Memory};
 
 use crate::fault::RecipeFault;
-use crate::keywords::{Keyword, keyword_of, may_stand};
+use crate::keywords::{Keyword, Stage, is_whole, keyword_of, may_stand};
+use crate::line_counts::Counts;
+use crate::load_parts::LoadParts;
 use crate::pieces::Pieces;
-use crate::statements::{FileLine, LoadLine, RecipeLine, Statement, UserData};
+use crate::statements::{
+    BatchLine, FileLine, LoadLine, RecipeLine, Statement, TargetLine, TargetParts, UserData,
+};
 use crate::words::{
-    LONGEST_SOURCE, LONGEST_TEXT, is_body_name, is_header_name, name, number, part, text, user,
+    LONGEST_SOURCE, LONGEST_TEXT, ident, is_batch_name, is_body_name, is_header_name, name, number,
+    part, text, user,
 };
 use indexmap::IndexSet;
-use load_base::{List, Name, NoMemory, Text};
+use load_base::{Ident, List, Name, NoMemory, Text};
 use part_number::PartNumber;
 use std::alloc::Global;
 use std::marker::Model;
@@ -34,44 +43,50 @@ const MOST_FILES: usize = 1024;
 /// The most data and support files of a load.
 const MOST_FILES_OF_LOAD: usize = 255;
 
+/// The most targets of a batch.
+const MOST_TARGETS: usize = 64;
+
 /// The lines so far. A contract sees it as their list.
 #[derive(Drop)]
 pub(crate) struct PartialRecipe {
     lines: List<RecipeLine>,
     // The names of all files, headers too.
     names: IndexSet<Name>,
-    members: u8,
-    // How many data and support files the last load has, and whether it has user data.
-    files: usize,
-    has_user: bool,
+    // The part numbers of all loads.
+    parts: LoadParts,
+    counts: Counts,
 }
 
 impl Model for PartialRecipe {
     ghost use Rattle.std.specs.Prelude.{List};
     ghost use Rattle.media_build.specs.declared.statements.RecipeLine.{RecipeLine};
     ghost use Rattle.media_build.specs.Partials.{KeepsCount};
-    ghost use Rattle.media_build.specs.declared.statements.RecipeLine.{RecipeLine};
 
     ghost Value = { List RecipeLine };
 
     ghost view = { λ partial. partial.lines.items };
 
-    ghost invariant = { λ partial. KeepsCount partial.lines.items partial.names.keys partial.members
-        partial.files partial.has_user };
+    ghost invariant = { λ partial. KeepsCount partial.lines.items partial.names.keys partial.parts
+        partial.counts };
 }
 
 impl PartialRecipe {
     /// No lines yet.
-    #[tactic(auto, unfolding(crate::specs::Lines::names_of, crate::specs::Lines::members_of, crate::specs::Lines::lines_of_load))]
+    #[tactic(auto, unfolding(crate::specs::Lines::names_of, crate::specs::Lines::members_of, crate::specs::Lines::lines_of_load, crate::specs::Lines::is_loaded, crate::specs::Lines::stage_of, crate::specs::Lines::targets_of_batch))]
     pub(crate) fn new(alloc: Global) -> PartialRecipe
         ensures { result ≡ [] }
     {
         PartialRecipe {
             lines: List::new(alloc),
             names: IndexSet::new(alloc),
-            members: 0,
-            files: 0,
-            has_user: false,
+            parts: LoadParts::new(alloc),
+            counts: Counts {
+                members: 0,
+                files: 0,
+                has_user: false,
+                stage: Stage::Loads,
+                targets: 0,
+            },
         }
     }
 
@@ -80,6 +95,13 @@ impl PartialRecipe {
         ensures { result ≡ length self.now }
     {
         self.lines.len()
+    }
+
+    /// Whether no batch is left without a target.
+    pub(crate) fn is_whole(&self) -> bool
+        ensures { result ≡ is_whole_at (stage_of self.now) }
+    {
+        is_whole(self.counts.stage)
     }
 
     /// The lines.
@@ -111,12 +133,12 @@ impl PartialRecipe {
     #[tactic(auto, unfolding(crate::specs::Recipes::keyword_said))]
     fn keyword(&self, line: u64, word: &[u8]) -> Result<Keyword, RecipeFault>
         ensures { Gives Memory (λ keyword. keyword) result
-            (keyword_said line (length self.now) word.now) }
+            (keyword_said line self.now word.now) }
     {
         let Some(keyword) = keyword_of(word) else {
             return Err(RecipeFault::Word(line));
         };
-        if may_stand(self.len(), keyword) {
+        if may_stand(self.len(), self.counts.stage, keyword) {
             Ok(keyword)
         } else {
             Err(RecipeFault::Order(line))
@@ -146,6 +168,8 @@ impl PartialRecipe {
             Keyword::Data => Ok(Statement::Data(self.file_line(alloc, line, words)?)),
             Keyword::Support => Ok(Statement::Support(self.file_line(alloc, line, words)?)),
             Keyword::User => Ok(Statement::User(self.user_line(alloc, line, words)?)),
+            Keyword::Batch => Ok(Statement::Batch(self.batch_line(line, words)?)),
+            Keyword::Target => Ok(Statement::Target(self.target_line(alloc, line, words)?)),
         }
     }
 
@@ -227,7 +251,7 @@ impl PartialRecipe {
     {
         let (name, member) = self.body_place(line, name_word, member_word)?;
         let (source, part) = source_of(alloc, line, source_word, part_word)?;
-        if self.files >= MOST_FILES_OF_LOAD || !self.has_room() {
+        if self.counts.files >= MOST_FILES_OF_LOAD || !self.has_room() {
             return Err(RecipeFault::Limit(line));
         }
         Ok(FileLine {
@@ -251,10 +275,109 @@ impl PartialRecipe {
             return Err(RecipeFault::Word(line));
         };
         let bytes = user(alloc, line, word)?;
-        if self.has_user {
+        if self.counts.has_user {
             return Err(RecipeFault::Limit(line));
         }
         Ok(bytes)
+    }
+
+    #[tactic(auto, unfolding(crate::specs::Recipes::batch_line))]
+    fn batch_line(&self, line: u64, words: &mut Pieces) -> Result<BatchLine, RecipeFault>
+        ensures said { Gives Memory (λ batch. batch) result (batch_words line self.now words.old) }
+        ensures new { IfOk result (λ batch. is_used self.now batch.name ≡ false) }
+    {
+        let Some((part, name, member)) = words.three() else {
+            return Err(RecipeFault::Word(line));
+        };
+        self.batch(line, part, name, member)
+    }
+
+    #[tactic(auto, unfolding(crate::specs::Recipes::batch_said))]
+    fn batch(
+        &self,
+        line: u64,
+        part_word: &[u8],
+        name_word: &[u8],
+        member_word: &[u8],
+    ) -> Result<BatchLine, RecipeFault>
+        ensures said { Gives Memory (λ batch. batch) result
+            (batch_said line self.now part_word.now name_word.now member_word.now) }
+        ensures new { IfOk result (λ batch. is_used self.now batch.name ≡ false) }
+    {
+        let part = part(line, part_word)?;
+        let (name, member) = self.batch_place(line, name_word, member_word)?;
+        if !self.has_room() {
+            return Err(RecipeFault::Limit(line));
+        }
+        Ok(BatchLine { part, name, member })
+    }
+
+    #[tactic(auto, unfolding(crate::specs::Recipes::target_line))]
+    fn target_line(
+        &self,
+        alloc: Global,
+        line: u64,
+        words: &mut Pieces,
+    ) -> Result<TargetLine, RecipeFault>
+        ensures said { Gives Memory (λ target. target) result
+            (target_words line self.now words.old) }
+        ensures new { IfOk result (λ target. target_count self.now < 64) }
+    {
+        let Some((hw, pos)) = words.two_before_few() else {
+            return Err(RecipeFault::Word(line));
+        };
+        self.target(alloc, line, hw, pos, words)
+    }
+
+    // The words behind the first two are the parts.
+    #[tactic(auto, unfolding(crate::specs::Recipes::target_said))]
+    fn target(
+        &self,
+        alloc: Global,
+        line: u64,
+        hw_word: &[u8],
+        pos_word: &[u8],
+        words: &mut Pieces,
+    ) -> Result<TargetLine, RecipeFault>
+        ensures said { Gives Memory (λ target. target) result
+            (target_said line self.now hw_word.now pos_word.now words.old) }
+        ensures new { IfOk result (λ target. target_count self.now < 64) }
+    {
+        let (hw, pos) = place_of(line, hw_word, pos_word)?;
+        let parts = self.load_parts(alloc, line, words)?;
+        if self.counts.targets >= MOST_TARGETS {
+            return Err(RecipeFault::Limit(line));
+        }
+        Ok(TargetLine { hw, pos, parts })
+    }
+
+    // All words that are left, each the part number of a load.
+    fn load_parts(
+        &self,
+        alloc: Global,
+        line: u64,
+        words: &mut Pieces,
+    ) -> Result<TargetParts, RecipeFault>
+        ensures { Gives Memory (λ parts. parts) result
+            (load_part_words line self.now words.old) }
+    {
+        let mut parts = TargetParts::new(alloc);
+        while let Some(word) = words.next() {
+            let part = self.load_part(line, word)?;
+            parts = parts.with(part)?;
+        }
+        Ok(parts)
+    }
+
+    #[tactic(auto, unfolding(crate::specs::Recipes::load_part_word))]
+    fn load_part(&self, line: u64, word: &[u8]) -> Result<PartNumber, RecipeFault>
+        ensures { Gives Memory (λ part. part) result (load_part_word line self.now word.now) }
+    {
+        let part = part(line, word)?;
+        if !self.parts.contains(part) {
+            return Err(RecipeFault::NotInRecipe(line));
+        }
+        Ok(part)
     }
 
     // The name and the member of a header.
@@ -295,6 +418,25 @@ impl PartialRecipe {
         self.place(line, name, member_word)
     }
 
+    // The name and the member of a batch's file.
+    #[tactic(auto, unfolding(crate::specs::Recipes::placed_words))]
+    fn batch_place(
+        &self,
+        line: u64,
+        name_word: &[u8],
+        member_word: &[u8],
+    ) -> Result<(Name, u8), RecipeFault>
+        ensures said { Gives Memory (λ place. place) result
+            (placed_words line self.now is_batch name_word.now member_word.now) }
+        ensures new { IfOk result (λ place. is_used self.now place.0 ≡ false) }
+    {
+        let name = name(line, name_word)?;
+        if !is_batch_name(name.as_slice()) {
+            return Err(RecipeFault::Name(line));
+        }
+        self.place(line, name, member_word)
+    }
+
     // A name, unless it is used, and the member.
     #[tactic(auto, unfolding(crate::specs::Recipes::new_place))]
     fn place(&self, line: u64, name: Name, member_word: &[u8]) -> Result<(Name, u8), RecipeFault>
@@ -305,7 +447,7 @@ impl PartialRecipe {
         if self.names.contains(&name) {
             return Err(RecipeFault::Repeated(line));
         }
-        let member = number(line, member_word, 1, u16::from(self.members))?;
+        let member = number(line, member_word, 1, u16::from(self.counts.members))?;
         Ok((name, member as u8))
     }
 
@@ -326,14 +468,12 @@ impl PartialRecipe {
         let PartialRecipe {
             mut lines,
             mut names,
-            members,
-            files,
-            has_user,
+            mut parts,
+            counts,
         } = self;
         insert_name(&mut names, &statement)?;
-        let members = members_after(&statement, members);
-        let files = files_after(&statement, files);
-        let has_user = has_user_after(&statement, has_user);
+        insert_part(&mut parts, &statement)?;
+        let counts = counts.after(&statement);
         lines.push(RecipeLine {
             number: line,
             statement,
@@ -341,9 +481,8 @@ impl PartialRecipe {
         Ok(PartialRecipe {
             lines,
             names,
-            members,
-            files,
-            has_user,
+            parts,
+            counts,
         })
     }
 }
@@ -363,43 +502,22 @@ fn insert_name(names: &mut IndexSet<Name>, statement: &Statement) -> Result<(), 
         Statement::Support(file) => {
             names.insert(file.name)?;
         }
+        Statement::Batch(batch) => {
+            names.insert(batch.name)?;
+        }
         _ => {}
     }
     Ok(())
 }
 
-// How many members there are after this line.
-fn members_after(statement: &Statement, members: u8) -> u8
-    ensures { result ≡ given (members_in statement.now) members }
+// Adds the part number that a line gives to a load.
+fn insert_part(parts: &mut LoadParts, statement: &Statement) -> Result<(), NoMemory>
+    ensures { OnOk result (parts.new ≡ with_parts statement.now parts.old) }
 {
-    match statement {
-        Statement::Members(count) => *count,
-        _ => members,
+    if let Statement::Load(load) = statement {
+        parts.add(load.part)?;
     }
-}
-
-// How many files the last load has after this line.
-fn files_after(statement: &Statement, files: usize) -> usize
-    requires { files ≤ 255 }
-    ensures { result ≡ count_files statement.now files }
-{
-    match statement {
-        Statement::Load(_) => 0,
-        Statement::Data(_) => files + 1,
-        Statement::Support(_) => files + 1,
-        _ => files,
-    }
-}
-
-// Whether the last load has user data after this line.
-fn has_user_after(statement: &Statement, has_user: bool) -> bool
-    ensures { result ≡ keeps_user statement.now has_user }
-{
-    match statement {
-        Statement::Load(_) => false,
-        Statement::User(_) => true,
-        _ => has_user,
-    }
+    Ok(())
 }
 
 #[tactic(auto, unfolding(crate::specs::Recipes::set_line))]
@@ -474,4 +592,14 @@ fn source_of(
     let source = text(alloc, line, LONGEST_SOURCE, source_word)?;
     let part = text(alloc, line, LONGEST_TEXT, part_word)?;
     Ok((source, part))
+}
+
+// The hardware and the position of a target.
+#[tactic(auto, unfolding(crate::specs::Recipes::place_words))]
+fn place_of(line: u64, hw_word: &[u8], pos_word: &[u8]) -> Result<(Ident, Ident), RecipeFault>
+    ensures { Gives Memory (λ place. place) result (place_words line hw_word.now pos_word.now) }
+{
+    let hw = ident(line, hw_word)?;
+    let pos = ident(line, pos_word)?;
+    Ok((hw, pos))
 }

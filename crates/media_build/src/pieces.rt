@@ -1,9 +1,14 @@
 //! What stands between the separators of bytes: the lines of a text, and the words of a line.
-ghost use Rattle.std.specs.Prelude.{◌≡◌, ◌==◌, ◌∷◌, [], MatchOption, option_copied, option_map};
+ghost use Rattle.std.specs.Prelude.{◌≡◌, ◌==◌, ◌∷◌, [], None, Some, MatchOption, length};
+ghost use Rattle.std.specs.Prelude.{option_copied, option_map};
 ghost use Rattle.std.specs.List.{slice_split, position};
-ghost use Rattle.media_build.specs.Lines.{pieces_left, one_of, two_of, four_of, five_of};
+ghost use Rattle.media_build.specs.Lines.{pieces_left, one_of, two_of, three_of, four_of, five_of};
+ghost use Rattle.media_build.specs.Lines.{target_of};
 
 use std::marker::Model;
+
+/// The most loads of a target.
+const MOST_PARTS: usize = 32;
 
 /// The pieces between the separators, from left to right; there is one more than separators.
 ///
@@ -73,6 +78,20 @@ impl<'a> Pieces<'a> {
         Some((first, second))
     }
 
+    /// The three pieces that are left.
+    pub(crate) fn three(&mut self) -> Option<(&'a [u8], &'a [u8], &'a [u8])>
+        ensures { option_map (λ words. (words.0.now, words.1.now, words.2.now)) result
+            ≡ three_of self.old }
+    {
+        let Some(first) = self.next() else {
+            return None;
+        };
+        let Some((second, third)) = self.two() else {
+            return None;
+        };
+        Some((first, second, third))
+    }
+
     /// The four pieces that are left.
     pub(crate) fn four(&mut self) -> Option<(&'a [u8], &'a [u8], &'a [u8], &'a [u8])>
         ensures { option_map (λ words. (words.0.now, words.1.now, words.2.now, words.3.now)) result
@@ -109,6 +128,36 @@ impl<'a> Pieces<'a> {
             return None;
         };
         Some((first, others))
+    }
+
+    /// Takes the first two pieces, where 1 to 32 stand behind them.
+    pub(crate) fn two_before_few(&mut self) -> Option<(&'a [u8], &'a [u8])>
+        ensures { MatchOption result (target_of self.old ≡ None)
+            (λ words. target_of self.old ≡ Some (words.0.now, words.1.now, self.new)) }
+    {
+        let Some(first) = self.next() else {
+            return None;
+        };
+        let Some(second) = self.next() else {
+            return None;
+        };
+        let count = self.count();
+        if count < 1 || count > MOST_PARTS {
+            return None;
+        }
+        Some((first, second))
+    }
+
+    // How many pieces are left.
+    #[tactic(auto, using(crate::proofs::Cuts::pieces_are))]
+    fn count(&self) -> usize
+        ensures { result ≡ length self.now }
+    {
+        let Some(bytes) = self.rest else {
+            return 0;
+        };
+        let separator = self.separator;
+        1 + bytes.iter().filter(|byte| **byte == separator).count()
     }
 }
 

@@ -11,7 +11,7 @@ impl Printed for RecipeFault {
 
     ghost longest = { 23 };
 
-    /// `B1 LINE` to `B8 LINE`.
+    /// `B1 LINE` to `B9 LINE`.
     fn text(&self, alloc: Global) -> Result<Text, NoMemory> {
         match *self {
             RecipeFault::Word(line) => coded(alloc, b"B1", &[line]),
@@ -22,6 +22,7 @@ impl Printed for RecipeFault {
             RecipeFault::Repeated(line) => coded(alloc, b"B6", &[line]),
             RecipeFault::Hex(line) => coded(alloc, b"B7", &[line]),
             RecipeFault::Limit(line) => coded(alloc, b"B8", &[line]),
+            RecipeFault::NotInRecipe(line) => coded(alloc, b"B9", &[line]),
             RecipeFault::Memory => Ok(Text::empty(alloc)),
         }
     }

@@ -45,8 +45,8 @@ impl Model for Recipe {
 
 impl Recipe {
     /// Reads a whole text as a recipe. A text of more than 1,000,000 bytes is refused first; then
-    /// the first line that is wrong, and in it the first word; and the end of a recipe without a
-    /// load last.
+    /// the first line that is wrong, and in it the first word; and last the end of a recipe without
+    /// a load, or after a batch without a target.
     #[tactic(auto, unfolding(crate::specs::Recipes::recipe_said))]
     pub fn read(alloc: Global, bytes: &[u8]) -> Result<Recipe, RecipeFault>
         ensures found { IfOk result (λ recipe. recipe_said bytes.now ≡ Ok recipe) }
@@ -57,7 +57,7 @@ impl Recipe {
             return Err(RecipeFault::Limit(0));
         }
         let partial = read_lines(alloc, bytes)?;
-        if partial.len() < FEWEST_LINES {
+        if partial.len() < FEWEST_LINES || !partial.is_whole() {
             return Err(RecipeFault::Order(line_count(bytes) + 1));
         }
         Ok(Recipe {

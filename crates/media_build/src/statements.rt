@@ -1,8 +1,9 @@
 //! What the lines of a recipe say.
-ghost use Rattle.std.specs.Prelude.{◌≡◌};
+ghost use Rattle.std.specs.Prelude.{◌≡◌, ◌++◌, ◌∷◌, [], IfOk};
 
-use load_base::{Name, Text};
+use load_base::{Ident, Name, NoMemory, Text};
 use part_number::PartNumber;
+use std::alloc::Global;
 use std::marker::Model;
 
 /// A line of a recipe that isn't passed over.
@@ -33,6 +34,10 @@ pub enum Statement {
     Support(FileLine),
     /// `user HEX`: the user data of the load's header.
     User(UserData),
+    /// `batch ..`: the start of a batch.
+    Batch(BatchLine),
+    /// `target ..`: a target of the batch.
+    Target(TargetLine),
 }
 
 /// `load PART NAME MEMBER TYPEID TYPENAME`.
@@ -87,5 +92,67 @@ impl UserData {
         ensures { result.now ≡ self.now }
     {
         self.bytes.as_slice()
+    }
+}
+
+/// `batch PART NAME MEMBER`.
+#[derive(Drop)]
+pub struct BatchLine {
+    pub part: PartNumber,
+    /// The name of its file, which ends with `.LUB`.
+    pub name: Name,
+    /// The member that has the file, from 1.
+    pub member: u8,
+}
+
+/// `target HW POS PART ..`.
+#[derive(Drop)]
+pub struct TargetLine {
+    /// The name of its hardware.
+    pub hw: Ident,
+    /// Its position.
+    pub pos: Ident,
+    /// The loads that it gets, each one of the recipe's.
+    pub parts: TargetParts,
+}
+
+/// The part numbers of the loads that a target gets, 1 to 32. A contract sees it as their list.
+#[derive(Drop)]
+pub struct TargetParts {
+    parts: Vec<PartNumber>,
+}
+
+impl Model for TargetParts {
+    ghost use Rattle.std.specs.Prelude.{List, ℕ};
+
+    ghost Value = { List (List ℕ) };
+
+    ghost view = { λ target. target.parts.items };
+}
+
+impl TargetParts {
+    /// None yet.
+    pub(crate) fn new(alloc: Global) -> TargetParts
+        ensures { result ≡ [] }
+    {
+        TargetParts {
+            parts: Vec::new(alloc),
+        }
+    }
+
+    /// With one more.
+    pub(crate) fn with(self, part: PartNumber) -> Result<TargetParts, NoMemory>
+        ensures { IfOk result (λ more. more ≡ self ++ part ∷ []) }
+    {
+        let TargetParts { mut parts } = self;
+        parts.push(part)?;
+        Ok(TargetParts { parts })
+    }
+
+    /// The part numbers, in the order of the line.
+    pub fn as_slice(&self) -> &[PartNumber]
+        ensures { result.now ≡ self.now }
+    {
+        self.parts.as_slice()
     }
 }

@@ -4,16 +4,16 @@ ghost use Rattle.std.specs.List.{list_all};
 ghost use Rattle.field_grammar.specs.Answers.{Gives};
 ghost use Rattle.load_base.specs.PartText.{is_graphic as is_graphic_byte};
 ghost use Rattle.media_build.specs.Recipes.{number_word, part_word, text_word, name_word};
-ghost use Rattle.media_build.specs.Recipes.{user_word, is_graphic_word};
+ghost use Rattle.media_build.specs.Recipes.{user_word, is_graphic_word, ident_word};
 ghost use Rattle.media_build.specs.Recipes.{is_header_name as is_header, is_body_name as is_body};
-ghost use Rattle.media_build.specs.Recipes.{ends_with as has_end};
+ghost use Rattle.media_build.specs.Recipes.{is_batch_name as is_batch, ends_with as has_end};
 ghost use Rattle.media_build.specs.declared.fault.RecipeFault.TheVariants.{Memory};
 
 use crate::fault::RecipeFault;
 use crate::statements::UserData;
 use exchange_trace::decimal_in;
 use hex::FromHexError;
-use load_base::{Bytes, Name, NoMemory, Text};
+use load_base::{Bytes, Ident, Name, NoMemory, Text};
 use part_number::PartNumber;
 use std::alloc::Global;
 
@@ -50,6 +50,17 @@ pub(crate) fn name(line: u64, word: &[u8]) -> Result<Name, RecipeFault>
 {
     match Name::read(word) {
         Ok(name) => Ok(name),
+        Err(_) => Err(RecipeFault::Name(line)),
+    }
+}
+
+/// The hardware or the position of a target.
+#[tactic(auto, unfolding(crate::specs::Recipes::ident_word), using(load_base::specs::VerdictLaws::read_judged, load_base::specs::VerdictLaws::refused_judged))]
+pub(crate) fn ident(line: u64, word: &[u8]) -> Result<Ident, RecipeFault>
+    ensures { Gives Memory (λ ident. ident) result (ident_word line word.now) }
+{
+    match Ident::read(word) {
+        Ok(ident) => Ok(ident),
         Err(_) => Err(RecipeFault::Name(line)),
     }
 }
@@ -102,6 +113,13 @@ pub(crate) fn is_body_name(name: &[u8]) -> bool
     ensures { result ≡ is_body name.now }
 {
     !ends_with(name, b".LUH") && !ends_with(name, b".LUM")
+}
+
+/// The name of a batch's file.
+pub(crate) fn is_batch_name(name: &[u8]) -> bool
+    ensures { result ≡ is_batch name.now }
+{
+    ends_with(name, b".LUB")
 }
 
 #[tactic(auto, unfolding(crate::specs::Recipes::ends_with))]

@@ -8,6 +8,7 @@ ghost use Rattle.media_build.specs.NoFindings.{built_view};
 ghost use Rattle.media_build.specs.WrittenFolders.{IsNameIn, KeepsAllBut};
 ghost use Rattle.media_check.specs.BuiltSets.{member_list};
 ghost use Rattle.media_check.specs.HostNames.{host_name, loads_name, files_name};
+ghost use Rattle.media_check.specs.HostNames.{batches_name};
 
 use arrayvec::ArrayVec;
 use itoa::Buffer;
@@ -18,10 +19,11 @@ use media_check::{Built, Placed};
 /// digits and 64 of a file's name.
 const LONGEST_NAME: usize = 256;
 
-/// Writes a set into this folder of the host, member by member: `LOADS.LUM`, `FILES.LUM`, and the
-/// member's files in the order of the set (docs/FORMATS.md). Where the host fails at a file, those
-/// before it were written, that one may have anything, and the others are as they were. Where the
-/// host is out of memory, that one is as it was too. It takes no memory of its own.
+/// Writes a set into this folder of the host, member by member: `LOADS.LUM`, `FILES.LUM`,
+/// `BATCHES.LUM` if the set has one, and the member's files in the order of the set
+/// (docs/FORMATS.md). Where the host fails at a file, those before it were written, that one may
+/// have anything, and the others are as they were. Where the host is out of memory, that one is as
+/// it was too. It takes no memory of its own.
 #[tactic(auto, unfolding(crate::specs::HostWrites::written_files))]
 pub fn write<H: Host>(host: &mut H, folder: &[u8], built: &Built) -> Result<(), WriteFault>
     requires { length folder.now ≤ 150 }
@@ -39,7 +41,7 @@ pub fn write<H: Host>(host: &mut H, folder: &[u8], built: &Built) -> Result<(), 
     Ok(())
 }
 
-// Both lists of a member, and its files.
+// The lists of a member, and its files.
 #[tactic(auto, unfolding(crate::specs::HostWrites::written_member))]
 fn write_member<H: Host>(
     host: &mut H,
@@ -57,6 +59,8 @@ fn write_member<H: Host>(
     write_list(host, folder, member, b"LOADS.LUM", loads)?;
     let files = list_of(built.files.as_slice(), member);
     write_list(host, folder, member, b"FILES.LUM", files)?;
+    let batches = list_of(built.batches.as_slice(), member);
+    write_list(host, folder, member, b"BATCHES.LUM", batches)?;
     write_bodies(host, folder, member, built.bodies.as_slice())
 }
 

@@ -72,12 +72,12 @@ body_put rest old body name found others all is put so_far =
     ∙ ap (λ (bodies : List Placed). or_else (body_of bodies name) (bytes_view others)) (sym is) ∙ so_far
 
 -- the lists of one more member
-pub lists_more : (loads files : List (Listed ℕ)) (count : ℕ) (old new : List MemberLists) (lists : MemberLists) → map lists_view old ≡ map (built_lists loads files) (range_with_len 2 count)
-    → lists_view lists ≡ built_lists loads files (2 + count) → new ≡ old ++ lists ∷ [] → map lists_view new ≡ map (built_lists loads files) (range_with_len 2 (count + 1))
-lists_more loads files count old new lists so_far this is =
+pub lists_more : (loads files batches : List (Listed ℕ)) (count : ℕ) (old new : List MemberLists) (lists : MemberLists) → map lists_view old ≡ map (built_lists loads files batches) (range_with_len 2 count)
+    → lists_view lists ≡ built_lists loads files batches (2 + count) → new ≡ old ++ lists ∷ [] → map lists_view new ≡ map (built_lists loads files batches) (range_with_len 2 (count + 1))
+lists_more loads files batches count old new lists so_far this is =
     ap (map lists_view) is ∙ map-append lists_view old (lists ∷ []) ∙ ap (λ (l : List MemberView). l ++ lists_view lists ∷ []) so_far
-    ∙ ap (λ (view : MemberView). map (built_lists loads files) (range_with_len 2 count) ++ view ∷ []) this
-    ∙ sym (map-append (built_lists loads files) (range_with_len 2 count) ((2 + count) ∷ [])) ∙ ap (map (built_lists loads files)) (sym (range_more 2 count))
+    ∙ ap (λ (view : MemberView). map (built_lists loads files batches) (range_with_len 2 count) ++ view ∷ []) this
+    ∙ sym (map-append (built_lists loads files batches) (range_with_len 2 count) ((2 + count) ∷ [])) ∙ ap (map (built_lists loads files batches)) (sym (range_more 2 count))
 
 -- one more file with the body of its name
 pub files_more : (bodies : List (List ℕ × Listed ℕ)) (entries : List ListedFile) (entry : ListedFile) (old new : List (List ℕ × KeptFile)) (bytes : Option (Listed ℕ))

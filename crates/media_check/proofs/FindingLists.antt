@@ -9,26 +9,30 @@ use Rattle.load_base.specs.Bytes.{same_bytes}
 use Rattle.media_lists.specs.Entries.{is_listed}
 use Rattle.media_lists.specs.Loads.{LoadEntryView, load_name}
 use Rattle.media_lists.specs.declared.lists.ListedFile.{ListedFile}
-use Rattle.media_check.specs.Findings.{findings_of, contents_findings, members_findings, member_findings, entry_findings, body_findings, where_it_holds, plain, is_header_name}
+use Rattle.media_check.specs.Findings.{findings_of, batches_findings, contents_findings, of_members, member_findings, entry_findings, body_findings, where_it_holds, plain, is_header_name}
 use Rattle.media_check.specs.Sets.{MemberView, SetView, lists_view, bytes_of}
 use Rattle.media_check.specs.declared.finding.Finding.{Finding}
 use Rattle.media_check.specs.declared.set.MemberLists.{MemberLists}
 
-pub members_none : (first : MemberView) (member : ℕ) → members_findings first member [] ≡ []
-unfolding members_findings
-members_none first member = refl
+-- what is found of members, of which the first has this number
+abbrev pub OfMember : Type 0
+OfMember = (member : ℕ) → MemberView → List Finding
+
+pub members_none : (found : OfMember) (member : ℕ) → of_members found member [] ≡ []
+unfolding of_members
+members_none found member = refl
 
 -- what is found of one more member
-pub members_more : (first : MemberView) (member : ℕ) (members : List MemberView) (this : MemberView)
-    → members_findings first member (members ++ this ∷ []) ≡ members_findings first member members ++ member_findings first (member + length members) this
-unfolding members_findings
-members_more first member [] this =
+pub members_more : (found : OfMember) (member : ℕ) (members : List MemberView) (this : MemberView)
+    → of_members found member (members ++ this ∷ []) ≡ of_members found member members ++ found (member + length members) this
+unfolding of_members
+members_more found member [] this =
     let e : member ≡ member + 0 = omega arith in
-    append-nil (member_findings first member this) ∙ ap (λ (n : ℕ). member_findings first n this) e
-members_more first member (other ∷ members) this =
+    append-nil (found member this) ∙ ap (λ (n : ℕ). found n this) e
+members_more found member (other ∷ members) this =
     let e : (member + 1) + length members ≡ member + suc (length members) = omega arith in
-    ap (λ (l : List Finding). member_findings first member other ++ l) (members_more first (member + 1) members this ∙ ap (λ (n : ℕ). members_findings first (member + 1) members ++ member_findings first n this) e)
-    ∙ sym (append_assoc (member_findings first member other) (members_findings first (member + 1) members) (member_findings first (member + suc (length members)) this))
+    ap (λ (l : List Finding). found member other ++ l) (members_more found (member + 1) members this ∙ ap (λ (n : ℕ). of_members found (member + 1) members ++ found n this) e)
+    ∙ sym (append_assoc (found member other) (of_members found (member + 1) members) (found (member + suc (length members)) this))
 
 pub named_none : (name : List ℕ) → is_listed load_name name [] ≡ false
 unfolding is_listed
@@ -51,19 +55,19 @@ mapped_more view xs i x within is =
     ap (map view) (take_more xs i x within ∙ ap (λ (y : _). take i xs ++ y ∷ []) (sym is)) ∙ map-append view (take i xs) (x ∷ [])
 
 -- what is found of the members so far, with one more
-pub members_taken : (first : MemberView) (start old new : List Finding) (members : List MemberLists) (i : ℕ) (this : MemberLists) → i < length members → this ≡ get_or members i this
-    → old ≡ start ++ members_findings first 2 (take i (map lists_view members)) → new ≡ old ++ member_findings first (i + 2) (lists_view this)
-    → new ≡ start ++ members_findings first 2 (take (i + 1) (map lists_view members))
-members_taken first start old new members i this within is so_far found =
+pub members_taken : (found : OfMember) (start old new : List Finding) (members : List MemberLists) (i : ℕ) (this : MemberLists) → i < length members → this ≡ get_or members i this
+    → old ≡ start ++ of_members found 2 (take i (map lists_view members)) → new ≡ old ++ found (i + 2) (lists_view this)
+    → new ≡ start ++ of_members found 2 (take (i + 1) (map lists_view members))
+members_taken found start old new members i this within is so_far more =
     let seen : List MemberView = map lists_view (take i members) in
     let before : take i (map lists_view members) ≡ seen = take-map lists_view i members in
     let after : take (i + 1) (map lists_view members) ≡ seen ++ lists_view this ∷ [] = take-map lists_view (i + 1) members ∙ mapped_more lists_view members i this within is in
     let size : length seen ≡ i = length-map (take i members) lists_view ∙ length-take-le i members (omega (arith, within)) in
     let number : i + 2 ≡ 2 + length seen = omega (arith, size) in
-    found ∙ ap (λ (l : List Finding). l ++ member_findings first (i + 2) (lists_view this)) (so_far ∙ ap (λ (m : List MemberView). start ++ members_findings first 2 m) before)
-    ∙ append_assoc start (members_findings first 2 seen) (member_findings first (i + 2) (lists_view this))
-    ∙ ap (λ (l : List Finding). start ++ l) (ap (λ (n : ℕ). members_findings first 2 seen ++ member_findings first n (lists_view this)) number ∙ sym (members_more first 2 seen (lists_view this))
-    ∙ ap (λ (m : List MemberView). members_findings first 2 m) (sym after))
+    more ∙ ap (λ (l : List Finding). l ++ found (i + 2) (lists_view this)) (so_far ∙ ap (λ (m : List MemberView). start ++ of_members found 2 m) before)
+    ∙ append_assoc start (of_members found 2 seen) (found (i + 2) (lists_view this))
+    ∙ ap (λ (l : List Finding). start ++ l) (ap (λ (n : ℕ). of_members found 2 seen ++ found n (lists_view this)) number ∙ sym (members_more found 2 seen (lists_view this))
+    ∙ ap (λ (m : List MemberView). of_members found 2 m) (sym after))
 
 -- what is found of an entry, where it is known whether a load names it
 pub entry_is : (set : SetView) (loads : List LoadEntryView) (entry : ListedFile) (is_named : Bool) → is_named ≡ is_listed load_name entry.name loads
@@ -81,9 +85,13 @@ found_more f start old new xs i x within is so_far found =
     ∙ ap (λ (l : List Finding). start ++ l) (ap (λ (l : List Finding). flat_map f (take i xs) ++ l) (sym (append-nil (f x))) ∙ sym (flat_map-append f (take i xs) (x ∷ [])) ∙ ap (flat_map f) (sym taken))
 
 -- the parts of all findings
-pub all_found : (set : SetView) (start lists further whole : List Finding) → start ≡ [] → lists ≡ start ++ member_findings set.first 1 set.first
-    → further ≡ lists ++ members_findings set.first 2 set.further → whole ≡ further ++ contents_findings set set.first.loads set.first.files → whole ≡ findings_of set
-unfolding findings_of members_findings
-all_found set start lists further whole none one others rest =
-    rest ∙ ap (λ (l : List Finding). l ++ contents_findings set set.first.loads set.first.files)
-    (others ∙ ap (λ (l : List Finding). l ++ members_findings set.first 2 set.further) (one ∙ ap (λ (l : List Finding). l ++ member_findings set.first 1 set.first) none))
+pub all_found : (set : SetView) (start lists further contents whole : List Finding) → start ≡ [] → lists ≡ start ++ member_findings set.first 1 set.first
+    → further ≡ lists ++ of_members (member_findings set.first) 2 set.further → contents ≡ further ++ contents_findings set set.first.loads set.first.files
+    → whole ≡ contents ++ batches_findings set set.first.loads set.first.files → whole ≡ findings_of set
+unfolding findings_of of_members
+all_found set start lists further contents whole none one others rest last =
+    let found : List Finding = contents_findings set set.first.loads set.first.files in
+    let batches : List Finding = batches_findings set set.first.loads set.first.files in
+    let both : contents ++ batches ≡ further ++ (found ++ batches) = ap (λ (l : List Finding). l ++ batches) rest ∙ append_assoc further found batches in
+    last ∙ both ∙ ap (λ (l : List Finding). l ++ (found ++ batches))
+    (others ∙ ap (λ (l : List Finding). l ++ of_members (member_findings set.first) 2 set.further) (one ∙ ap (λ (l : List Finding). l ++ member_findings set.first 1 set.first) none))

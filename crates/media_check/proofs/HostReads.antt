@@ -10,12 +10,15 @@ use Rattle.load_base.specs.Host.{Files, ReadsFile, longest_file}
 use Rattle.load_base.specs.Listed.{Listed}
 use Rattle.load_base.specs.declared.host.ReadFault.TheVariants as reading
 use Rattle.field_grammar.specs.Grammar.{Grammar}
+use Rattle.batch_lists.specs.Batches.{batches_list, batches_list_view}
+use Rattle.batch_lists.specs.declared.batches.BatchesList.{BatchesList}
+use Rattle.batch_lists.specs.declared.fault.BatchesFault.{BatchesFault}
 use Rattle.media_lists.specs.declared.fault.ListFault.{ListFault}
 use Rattle.media_lists.specs.Files.{files_list, files_list_view}
 use Rattle.media_lists.specs.Loads.{loads_list, loads_list_view}
 use Rattle.media_lists.specs.declared.lists.FilesList.{FilesList}
 use Rattle.media_lists.specs.declared.lists.LoadsList.{LoadsList}
-use Rattle.media_check.specs.HostNames.{host_media, loads_name, files_name, list_names}
+use Rattle.media_check.specs.HostNames.{host_media, loads_name, files_name, batches_name, list_names}
 use Rattle.media_check.specs.Kept.{bytes_view}
 use Rattle.media_check.specs.Openings.{IsShort, ReadsNames, ReadsList}
 use Rattle.media_check.specs.Sets.{found_in, found_view, lists_view, lists_in}
@@ -23,7 +26,7 @@ use Rattle.media_check.specs.declared.fault.OpenFault.{OpenFault}
 use Rattle.media_check.specs.declared.fault.OpenFault.TheVariants.{TooLong}
 use Rattle.media_check.specs.declared.found.Found.{Found}
 use Rattle.media_check.specs.declared.set.MemberLists.{MemberLists}
-use Rattle.media_check.proofs.Refusals.{told_also, told_both, told_anyway, names_refused, one_short}
+use Rattle.media_check.proofs.Refusals.{told_all, told_also, told_both, told_anyway, names_refused, one_short}
 
 -- ---- a file
 
@@ -54,42 +57,57 @@ file_too_long o name P refused reads same files told =
 -- ---- lists
 
 -- a list is what is found under this name
-abbrev pub IsListFound : {L V : Type 0} → (L → V) → Grammar ListFault V → (name : List ℕ) → Files → Found L → Type 0
+abbrev pub IsListFound : {L V F : Type 0} → (L → V) → Grammar F V → (name : List ℕ) → Files → Found L F → Type 0
 IsListFound view format name files found = found_view view found ≡ found_in format (files name)
 
-pub list_read : {L V : Type 0} (o : Option Files) (name named : List ℕ) (view : L → V) (format : Grammar ListFault V) (file : Option (Listed ℕ)) (found : Found L) → name ≡ named
+pub list_read : {L V F : Type 0} (o : Option Files) (name named : List ℕ) (view : L → V) (format : Grammar F V) (file : Option (Listed ℕ)) (found : Found L F) → name ≡ named
     → ForSome o (ReadsNames (name ∷ []) (λ files (f : Option (Listed ℕ)). bytes_view f ≡ files name) (Ok file)) → found_view view found ≡ found_in format (bytes_view file)
     → ForSome o (ReadsList view format named (Ok found))
 list_read o name named view format file found same reads is =
     subst (λ (n : List ℕ). ForSome o (ReadsList view format n (Ok found))) same
     (told_also o _ _ reads (λ files read. (read.0, is ∙ ap (found_in format) read.1)))
 
-pub list_unread : {S L V : Type 0} (o : Option Files) (name named : List ℕ) (view : L → V) (format : Grammar ListFault V) (P : Files → S → Type 0) (fault : OpenFault) → name ≡ named
+pub list_unread : {S L V F : Type 0} (o : Option Files) (name named : List ℕ) (view : L → V) (format : Grammar F V) (P : Files → S → Type 0) (fault : OpenFault) → name ≡ named
     → ForSome o (ReadsNames (name ∷ []) P (Err fault)) → ForSome o (ReadsList view format named (Err fault))
-list_unread {S = S} {L = L} o name named view format P fault same reads =
+list_unread {S = S} {L = L} {F = F} o name named view format P fault same reads =
     subst (λ (n : List ℕ). ForSome o (ReadsList view format n (Err fault))) same
     (told_also o _ (ReadsList view format name (Err fault)) reads
-    (λ files refused. names_refused {S = S} {T = Found L} files [] (name ∷ []) [] P (IsListFound view format name) fault (All-nil (IsShort files)) refused))
+    (λ files refused. names_refused {S = S} {T = Found L F} files [] (name ∷ []) [] P (IsListFound view format name) fault (All-nil (IsShort files)) refused))
 
-pub member_read : (o : Option Files) (folder : List ℕ) (member : ℕ) (loads : Found LoadsList) (files : Found FilesList) → ForSome o (ReadsList loads_list_view loads_list (loads_name folder member) (Ok loads))
-    → ForSome o (ReadsList files_list_view files_list (files_name folder member) (Ok files))
-    → ForSome o (ReadsNames (list_names folder member) (λ files (lists : MemberLists). lists_view lists ≡ lists_in (host_media files folder) member) (Ok (record { loads = loads; files = files })))
-member_read o folder member loads files first second =
-    told_both o _ _ _ first second (λ host one other. (
-      All-append (IsShort host) (loads_name folder member ∷ []) (files_name folder member ∷ []) one.0 other.0,
-      rw (one.1, other.1) refl,
+-- of the files of these names none is too long
+abbrev pub AreShort : List (List ℕ) → Files → Type 0
+AreShort names files = All (IsShort files) names
+
+pub none_short : (o : Option Files) → ForSome o (AreShort [])
+none_short o = told_anyway o _ (λ files. All-nil (IsShort files))
+
+-- one more list was read
+pub more_short : {L V F : Type 0} (o : Option Files) (before : List (List ℕ)) (name : List ℕ) (view : L → V) (format : Grammar F V) (found : Found L F) → ForSome o (AreShort before)
+    → ForSome o (ReadsList view format name (Ok found)) → ForSome o (AreShort (before ++ name ∷ []))
+more_short o before name view format found first reads =
+    told_both o _ _ (AreShort (before ++ name ∷ [])) first reads (λ files short read. All-append (IsShort files) before (name ∷ []) short read.0)
+
+-- a list is refused, after these names were read
+pub refused_after : {L V F T : Type 0} (files : Files) (before after : List (List ℕ)) (name : List ℕ) (view : L → V) (format : Grammar F V) (P : Files → T → Type 0) (fault : OpenFault) → AreShort before files
+    → ReadsList view format name (Err fault) files → ReadsNames (before ++ name ∷ after) P (Err fault) files
+refused_after {L = L} {F = F} {T = T} files before after name view format P fault short refused =
+    names_refused {S = Found L F} {T = T} files before (name ∷ []) after (IsListFound view format name) P fault short refused
+
+pub list_unread_after : {L V F T : Type 0} (o : Option Files) (before after : List (List ℕ)) (name : List ℕ) (view : L → V) (format : Grammar F V) (P : Files → T → Type 0) (fault : OpenFault)
+    → ForSome o (AreShort before) → ForSome o (ReadsList view format name (Err fault)) → ForSome o (ReadsNames (before ++ name ∷ after) P (Err fault))
+list_unread_after {T = T} o before after name view format P fault first reads =
+    told_both o _ _ (ReadsNames (before ++ name ∷ after) P (Err fault)) first reads (λ files short refused. refused_after {T = T} files before after name view format P fault short refused)
+
+pub member_read : (o : Option Files) (folder : List ℕ) (member : ℕ) (loads : Found LoadsList ListFault) (files : Found FilesList ListFault) (batches : Found BatchesList BatchesFault)
+    → ForSome o (ReadsList loads_list_view loads_list (loads_name folder member) (Ok loads)) → ForSome o (ReadsList files_list_view files_list (files_name folder member) (Ok files))
+    → ForSome o (ReadsList batches_list_view batches_list (batches_name folder member) (Ok batches))
+    → ForSome o (ReadsNames (list_names folder member) (λ files (lists : MemberLists). lists_view lists ≡ lists_in (host_media files folder) member) (Ok (record { loads = loads; files = files; batches = batches })))
+member_read o folder member loads files batches first second third =
+    told_all o _ _ _ _ first second third (λ host one other last. (
+      All-append (IsShort host) (loads_name folder member ∷ files_name folder member ∷ []) (batches_name folder member ∷ [])
+          (All-append (IsShort host) (loads_name folder member ∷ []) (files_name folder member ∷ []) one.0 other.0) last.0,
+      rw (one.1, other.1, last.1) refl,
     ))
-
-pub first_unread : {L V T : Type 0} (o : Option Files) (one other : List ℕ) (view : L → V) (format : Grammar ListFault V) (P : Files → T → Type 0) (fault : OpenFault) → ForSome o (ReadsList view format one (Err fault))
-    → ForSome o (ReadsNames (one ∷ other ∷ []) P (Err fault))
-first_unread {L = L} {T = T} o one other view format P fault reads =
-    told_also o _ _ reads (λ files refused. names_refused {S = Found L} {T = T} files [] (one ∷ []) (other ∷ []) (IsListFound view format one) P fault (All-nil (IsShort files)) refused)
-
-pub second_unread : {K U L V T : Type 0} (o : Option Files) (one other : List ℕ) (first_view : K → U) (first_format : Grammar ListFault U) (read : Found K) (view : L → V) (format : Grammar ListFault V)
-    (P : Files → T → Type 0) (fault : OpenFault) → ForSome o (ReadsList first_view first_format one (Ok read)) → ForSome o (ReadsList view format other (Err fault))
-    → ForSome o (ReadsNames (one ∷ other ∷ []) P (Err fault))
-second_unread {L = L} {T = T} o one other first_view first_format read view format P fault first reads =
-    told_both o _ _ _ first reads (λ files before refused. names_refused {S = Found L} {T = T} files (one ∷ []) (other ∷ []) [] (IsListFound view format other) P fault before.0 refused)
 
 -- ---- the further members
 

@@ -1,6 +1,8 @@
+pub mod BatchFindings
 pub mod Bodies
 pub mod FindingLists
 pub mod HostReads
+pub mod KeptBatches
 pub mod KeptFiles
 pub mod LoadFindings
 pub mod Lookups

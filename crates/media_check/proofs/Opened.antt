@@ -1,18 +1,21 @@
 -- The parts of an opening, put together.
-use Rattle.std.proofs.Common.{◌≡◌, ℕ, List, [], ◌∷◌, ◌++◌, Option, Result, Ok, Err, refl, subst, append-nil, inl, inr}
+use Rattle.std.proofs.Common.{◌≡◌, ℕ, List, [], ◌∷◌, ◌++◌, Option, Result, Ok, Err, refl, sym, ap, subst, ◌∙◌, append-nil, append_assoc, inl, inr}
 use Rattle.std.specs.Prelude.{All, map}
 use Rattle.std.specs.List.{flat_map}
 use Rattle.std.specs.Option.{ForSome}
-use Rattle.std.proofs.lemmas.List.Elements.{All-nil, All-append}
+use Rattle.std.proofs.lemmas.List.Elements.{All-append}
 use Rattle.load_base.specs.Host.{Files}
 use Rattle.load_base.specs.Listed.{Listed}
 use Rattle.field_grammar.specs.Grammar.{Grammar}
+use Rattle.batch_lists.specs.Batches.{batches_list, batches_list_view}
+use Rattle.batch_lists.specs.declared.batches.BatchesList.{BatchesList}
+use Rattle.batch_lists.specs.declared.fault.BatchesFault.{BatchesFault}
 use Rattle.media_lists.specs.declared.fault.ListFault.{ListFault}
 use Rattle.media_lists.specs.Files.{files_list, files_list_view}
 use Rattle.media_lists.specs.Loads.{loads_list, loads_list_view}
 use Rattle.media_lists.specs.declared.lists.FilesList.{FilesList}
 use Rattle.media_lists.specs.declared.lists.LoadsList.{LoadsList}
-use Rattle.media_check.specs.HostNames.{host_media, loads_name, files_name, list_names, further_reading, whole_reading}
+use Rattle.media_check.specs.HostNames.{host_media, loads_name, files_name, batches_name, list_names, further_reading, whole_reading}
 use Rattle.media_check.specs.Openings.{IsShort, IsFirstLong, ReadsNames, ReadsList, Reads, CanRead, KeepsListed, Opens, OpensRest}
 use Rattle.media_check.specs.Sets.{MemberView, SetView, found_view, further_members, entries_of, lists_view, lists_in, files_view, set_with, set_in}
 use Rattle.media_check.specs.declared.fault.OpenFault.{OpenFault}
@@ -21,8 +24,8 @@ use Rattle.media_check.specs.declared.found.Found.{Found}
 use Rattle.media_check.specs.declared.set.KeptFile.{KeptFile}
 use Rattle.media_check.specs.declared.set.MediaSet.{MediaSet}
 use Rattle.media_check.specs.declared.set.MemberLists.{MemberLists}
-use Rattle.media_check.proofs.HostReads.{IsListFound, ReadsMembers}
-use Rattle.media_check.proofs.Refusals.{told_also, told_both, first_long_later, names_refused, list_refused}
+use Rattle.media_check.proofs.HostReads.{AreShort, ReadsMembers, member_read, refused_after}
+use Rattle.media_check.proofs.Refusals.{told_also, told_both, first_long_later, list_refused}
 
 -- ---- the rest
 
@@ -71,32 +74,25 @@ whole_of files folder first set (Err TooLarge) short reads = (All-append (IsShor
 whole_of files folder first set (Err Failed) short reads = tt
 whole_of files folder first set (Err Memory) short reads = tt
 
-pub whole_read : (o : Option Files) (folder : List ℕ) (loads : Found LoadsList) (listed : Found FilesList) (result : Result MediaSet OpenFault)
+pub whole_read : (o : Option Files) (folder : List ℕ) (loads : Found LoadsList ListFault) (listed : Found FilesList ListFault) (batches : Found BatchesList BatchesFault) (result : Result MediaSet OpenFault)
     → ForSome o (ReadsList loads_list_view loads_list (loads_name folder 1) (Ok loads)) → ForSome o (ReadsList files_list_view files_list (files_name folder 1) (Ok listed))
-    → ForSome o (OpensRest folder (record { loads = found_view loads_list_view loads; files = found_view files_list_view listed }) result) → ForSome o (Opens folder result)
-whole_read o folder loads listed result first second rest =
-    told_both o _ _ _ (told_both o _ (ReadsList files_list_view files_list (files_name folder 1) (Ok listed)) (λ files. ReadsList loads_list_view loads_list (loads_name folder 1) (Ok loads) files × ReadsList files_list_view files_list (files_name folder 1) (Ok listed) files)
-    first second (λ files one other. (one, other))) rest
-    (λ files both reads.
-    let seen : MemberView = record { loads = found_view loads_list_view loads; files = found_view files_list_view listed } in
-    let is : seen ≡ lists_in (host_media files folder) 1 = rw (both.0.1, both.1.1) refl in
+    → ForSome o (ReadsList batches_list_view batches_list (batches_name folder 1) (Ok batches))
+    → ForSome o (OpensRest folder (record { loads = found_view loads_list_view loads; files = found_view files_list_view listed; batches = found_view batches_list_view batches }) result) → ForSome o (Opens folder result)
+whole_read o folder loads listed batches result first second third rest =
+    told_both o _ _ _ (member_read o folder 1 loads listed batches first second third) rest
+    (λ files read reads.
+    let seen : MemberView = record { loads = found_view loads_list_view loads; files = found_view files_list_view listed; batches = found_view batches_list_view batches } in
+    let is : seen ≡ lists_in (host_media files folder) 1 = read.1 in
     subst (λ (view : MemberView). Reads files (whole_reading folder view) (set_with (host_media files folder) view) result) is
-    (whole_of files folder seen (set_with (host_media files folder) seen) result
-    (All-append (IsShort files) (loads_name folder 1 ∷ []) (files_name folder 1 ∷ []) both.0.0 both.1.0) reads))
+    (whole_of files folder seen (set_with (host_media files folder) seen) result read.0 reads))
 
-pub loads_unread : {L V : Type 0} (o : Option Files) (folder : List ℕ) (view : L → V) (format : Grammar ListFault V) (fault : OpenFault)
-    → ForSome o (ReadsList view format (loads_name folder 1) (Err fault)) → ForSome o (Opens folder (Err fault))
-loads_unread {L = L} o folder view format fault reads =
-    told_also o _ _ reads (λ files refused.
+-- a list of member 1 is refused, after those before it were read
+pub list_unread_in_whole : {L V F : Type 0} (o : Option Files) (folder : List ℕ) (before rest : List (List ℕ)) (name : List ℕ) (view : L → V) (format : Grammar F V) (fault : OpenFault)
+    → before ++ name ∷ rest ≡ list_names folder 1 → ForSome o (AreShort before) → ForSome o (ReadsList view format name (Err fault)) → ForSome o (Opens folder (Err fault))
+list_unread_in_whole {L = L} o folder before rest name view format fault stands first reads =
+    told_both o _ _ (Opens folder (Err fault)) first reads (λ files short refused.
     let later : List (List ℕ) = flat_map (list_names folder) (further_members (lists_in (host_media files folder) 1).loads) in
+    let names : before ++ name ∷ (rest ++ later) ≡ list_names folder 1 ++ later = sym (append_assoc before (name ∷ rest) later) ∙ ap (λ (l : List (List ℕ)). l ++ later) stands in
     list_refused {S = L} files (whole_reading folder (lists_in (host_media files folder) 1)) (set_in (host_media files folder)) (λ files (l : L). Unit {0}) fault
-    (names_refused {S = Found L} {T = L} files [] (loads_name folder 1 ∷ []) (files_name folder 1 ∷ later) (IsListFound view format (loads_name folder 1)) (λ files (l : L). Unit {0}) fault (All-nil (IsShort files)) refused))
-
-pub files_list_unread : {K U L V : Type 0} (o : Option Files) (folder : List ℕ) (first_view : K → U) (first_format : Grammar ListFault U) (read : Found K) (view : L → V) (format : Grammar ListFault V)
-    (fault : OpenFault) → ForSome o (ReadsList first_view first_format (loads_name folder 1) (Ok read)) → ForSome o (ReadsList view format (files_name folder 1) (Err fault))
-    → ForSome o (Opens folder (Err fault))
-files_list_unread {L = L} o folder first_view first_format read view format fault first reads =
-    told_both o _ _ _ first reads (λ files before refused.
-    let later : List (List ℕ) = flat_map (list_names folder) (further_members (lists_in (host_media files folder) 1).loads) in
-    list_refused {S = L} files (whole_reading folder (lists_in (host_media files folder) 1)) (set_in (host_media files folder)) (λ files (l : L). Unit {0}) fault
-    (names_refused {S = Found L} {T = L} files (loads_name folder 1 ∷ []) (files_name folder 1 ∷ []) later (IsListFound view format (files_name folder 1)) (λ files (l : L). Unit {0}) fault before.0 refused))
+    (subst (λ (l : List (List ℕ)). ReadsNames l (λ files (x : L). Unit {0}) (Err fault) files) names
+    (refused_after {T = L} files before (rest ++ later) name view format (λ files (x : L). Unit {0}) fault short refused)))

@@ -18,6 +18,9 @@ told_also o P Q p f = λ x told. f x (p x told)
 pub told_both : {A : Type 0} (o : Option A) (P Q R : A → Type 0) → ForSome o P → ForSome o Q → ((x : A) → P x → Q x → R x) → ForSome o R
 told_both o P Q R p q f = λ x told. f x (p x told) (q x told)
 
+pub told_all : {A : Type 0} (o : Option A) (P Q R S : A → Type 0) → ForSome o P → ForSome o Q → ForSome o R → ((x : A) → P x → Q x → R x → S x) → ForSome o S
+told_all o P Q R S p q r f = λ x told. f x (p x told) (q x told) (r x told)
+
 pub told_anyway : {A : Type 0} (o : Option A) (P : A → Type 0) → ((x : A) → P x) → ForSome o P
 told_anyway o P f = λ x told. f x
 

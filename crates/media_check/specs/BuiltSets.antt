@@ -4,6 +4,7 @@ use Rattle.std.specs.Map.{lookup}
 use Rattle.load_base.specs.Bytes.{same_bytes}
 use Rattle.load_base.specs.Host.{longest_file}
 use Rattle.load_base.specs.Listed.{Listed}
+use Rattle.batch_lists.specs.Batches.{batches_list}
 use Rattle.media_lists.specs.Files.{files_list}
 use Rattle.media_lists.specs.Loads.{loads_list}
 use Rattle.media_lists.specs.declared.lists.ListedFile.{ListedFile}
@@ -25,14 +26,16 @@ abbrev pub built_media : Built → Media
 built_media built = record {
   loads_list = member_list built.loads.items;
   files_list = member_list built.files.items;
+  batches_list = member_list built.batches.items;
   listed = λ entry. body_of built.bodies.items entry.name;
 }
 
--- both lists of a member, as these bytes are read
-abbrev pub built_lists : (loads files : List (Listed ℕ)) (member : ℕ) → MemberView
-built_lists loads files member = record {
+-- the lists of a member, as these bytes are read
+abbrev pub built_lists : (loads files batches : List (Listed ℕ)) (member : ℕ) → MemberView
+built_lists loads files batches member = record {
   loads = found_in loads_list (member_list loads member);
   files = found_in files_list (member_list files member);
+  batches = found_in batches_list (member_list batches member);
 }
 
 -- a listed file, with the bytes that stand under its name

@@ -1,9 +1,14 @@
--- The findings of a media set, M1 to M12 (docs/FORMATS.md, "Findings").
-use Rattle.std.specs.Prelude.{ℕ, ◌+◌, ◌-◌, List, [], ◌∷◌, ◌++◌, length, map, take, drop, codes, ◌==◌, Bool, true, not, ◌&&◌, if◌then◌else◌, Option, Some, None, is_some, Result, Ok, Err}
+-- The findings of a media set, M1 to M19 (docs/FORMATS.md, "Findings").
+use Rattle.std.specs.Prelude.{ℕ, ◌+◌, ◌-◌, List, [], ◌∷◌, ◌++◌, length, map, take, drop, codes, ◌==◌, Bool, true, false, not, ◌&&◌, if◌then◌else◌, Option, Some, None, is_some, Result, Ok, Err}
 use Rattle.std.specs.Cmp.Lexicographic.{pointwise}
-use Rattle.std.specs.List.{flat_map, list_all}
+use Rattle.std.specs.List.{flat_map, list_all, list_any}
 use Rattle.crc_fields.specs.CheckSums.{crc16_of, crc32_of}
 use Rattle.load_base.specs.Bytes.{same_bytes}
+use Rattle.batch_lists.specs.Batch.{BatchView}
+use Rattle.batch_lists.specs.FaultTexts.{batch_fault_text, batches_fault_text}
+use Rattle.batch_lists.specs.declared.batches.BatchEntry.{BatchEntry}
+use Rattle.batch_lists.specs.declared.fault.BatchFault.{BatchFault}
+use Rattle.batch_lists.specs.declared.fault.BatchesFault.{BatchesFault}
 use Rattle.field_grammar.specs.Answers.{answer}
 use Rattle.load_header.specs.Header.{header, HeaderView}
 use Rattle.load_header.specs.HeaderFaultText.{header_fault_text}
@@ -14,8 +19,10 @@ use Rattle.media_lists.specs.Files.{FilesListView}
 use Rattle.media_lists.specs.ListFaultText.{list_fault_text}
 use Rattle.media_lists.specs.Lists.{ListView}
 use Rattle.media_lists.specs.Loads.{LoadsListView, LoadEntryView, load_name}
+use Rattle.media_lists.specs.declared.fault.ListFault.{ListFault}
 use Rattle.media_lists.specs.declared.lists.ListedFile.{ListedFile}
-use Rattle.media_check.specs.Kept.{contents}
+use Rattle.media_check.specs.Batches.{KeptBatchView, batch_at}
+use Rattle.media_check.specs.Kept.{contents, entries_of}
 use Rattle.media_check.specs.Sets.{MemberView, ListedFileView, SetView, find, bytes_of}
 use Rattle.media_check.specs.declared.finding.Finding.{Finding}
 use Rattle.media_check.specs.declared.found.Found.{Found}
@@ -55,31 +62,45 @@ same_but_member same one other =
     && same_bytes one.user other.user
 
 -- a list isn't compared where member 1's is missing or refused
-abbrev pub agrees : {E : Type 0} → (E → E → Bool) → Found (ListView E) → ListView E → Bool
+abbrev pub agrees : {E F : Type 0} → (E → E → Bool) → Found (ListView E) F → ListView E → Bool
 agrees same (Read first) list = same_but_member same first list
 agrees same Missing list = true
 agrees same (Refused fault) list = true
 
 -- the list says that it is this member's, and agrees with that of member 1
-unfoldable pub is_members_list : {E : Type 0} → (E → E → Bool) → (member : ℕ) → Found (ListView E) → ListView E → Bool
+unfoldable pub is_members_list : {E F : Type 0} → (E → E → Bool) → (member : ℕ) → Found (ListView E) F → ListView E → Bool
 is_members_list same member first list = (list.member == member) && agrees same first list
 
--- what is found of a member's list of this name
-unfoldable pub list_findings : {E : Type 0} → (E → E → Bool) → (name : List ℕ) (member : ℕ) (first this : Found (ListView E)) → List Finding
-list_findings same name member first Missing = plain 1 member name ∷ []
-list_findings same name member first (Refused fault) = detailed 2 member name (list_fault_text fault) ∷ []
-list_findings same name member first (Read list) = where_it_holds (not (is_members_list same member first list)) (plain 3 member name)
+-- A sort of list: its name, the kinds of its findings, when two of its entries are the same, and the texts of its faults.
+pub record ListSort (E F : Type 0) : Type 0 where
+  pub name : List ℕ
+  pub missing : ℕ
+  pub refused : ℕ
+  pub differs : ℕ
+  pub same : E → E → Bool
+  pub text : F → List ℕ
 
--- both lists of a member
+abbrev pub loads_sort : ListSort LoadEntryView ListFault
+loads_sort = record { name = codes "LOADS.LUM"; missing = 1; refused = 2; differs = 3; same = same_load; text = list_fault_text }
+
+abbrev pub files_sort : ListSort ListedFile ListFault
+files_sort = record { name = codes "FILES.LUM"; missing = 1; refused = 2; differs = 3; same = same_file; text = list_fault_text }
+
+-- what is found of a member's list
+unfoldable pub list_findings : {E F : Type 0} → ListSort E F → (member : ℕ) (first this : Found (ListView E) F) → List Finding
+list_findings sort member first Missing = plain sort.missing member sort.name ∷ []
+list_findings sort member first (Refused fault) = detailed sort.refused member sort.name (sort.text fault) ∷ []
+list_findings sort member first (Read list) = where_it_holds (not (is_members_list sort.same member first list)) (plain sort.differs member sort.name)
+
+-- LOADS.LUM and FILES.LUM of a member
 unfoldable pub member_findings : (first : MemberView) (member : ℕ) (this : MemberView) → List Finding
 member_findings first member this =
-    list_findings same_load (codes "LOADS.LUM") member first.loads this.loads
-    ++ list_findings same_file (codes "FILES.LUM") member first.files this.files
+    list_findings loads_sort member first.loads this.loads ++ list_findings files_sort member first.files this.files
 
--- the lists of members, of which the first is this one
-unfoldable pub members_findings : (first : MemberView) (member : ℕ) → List MemberView → List Finding
-members_findings first member [] = []
-members_findings first member (this ∷ others) = member_findings first member this ++ members_findings first (member + 1) others
+-- what is found of each of these members, of which the first has this number
+unfoldable pub of_members : (found : (member : ℕ) → MemberView → List Finding) → (member : ℕ) → List MemberView → List Finding
+of_members found member [] = []
+of_members found member (this ∷ others) = found member this ++ of_members found (member + 1) others
 
 -- ---- for each entry of FILES.LUM: M4 missing or M6 another check sum; then M8, a header that no load names
 
@@ -155,14 +176,85 @@ load_findings_as set load (Some found) = listed_findings set load found found.by
 unfoldable pub load_findings : SetView → LoadEntryView → List Finding
 load_findings set load = load_findings_as set load (find set load.header_name)
 
+-- ---- for each member's list of batches: M13 missing, M14 refused, M15 another member's or not the list of member 1
+
+abbrev pub same_batch : BatchEntry → BatchEntry → Bool
+same_batch one other = same_bytes one.part other.part && same_bytes one.file other.file && (one.member == other.member)
+
+abbrev pub batches_sort : ListSort BatchEntry BatchesFault
+batches_sort = record { name = codes "BATCHES.LUM"; missing = 13; refused = 14; differs = 15; same = same_batch; text = batches_fault_text }
+
+-- BATCHES.LUM of a member
+abbrev pub batches_list_findings : (first : MemberView) (member : ℕ) (this : MemberView) → List Finding
+batches_list_findings first member this = list_findings batches_sort member first.batches this.batches
+
+-- ---- for each entry of member 1's: M16 its file isn't listed, M17 it is refused, M18 another part, M19 no load has a part
+
+-- the part numbers of all targets, in their order
+abbrev pub parts_of : BatchView → List (List ℕ)
+parts_of b = flat_map (λ target. target.parts) b.targets
+
+-- a part that a target gets, where it is known of which parts there are loads
+unfoldable pub part_findings : (is_loads : List ℕ → Bool) → (member : ℕ) (file part : List ℕ) → List Finding
+part_findings is_loads member file part = where_it_holds (not (is_loads part)) (detailed 19 member file part)
+
+-- a batch whose file is in this member
+unfoldable pub read_batch_findings : (is_loads : List ℕ → Bool) → BatchEntry → (member : ℕ) → BatchView → List Finding
+read_batch_findings is_loads entry member b =
+    where_it_holds (not (same_bytes b.part entry.part)) (plain 18 member entry.file)
+    ++ flat_map (part_findings is_loads member entry.file) (parts_of b)
+
+abbrev pub found_batch_findings : (is_loads : List ℕ → Bool) → BatchEntry → (member : ℕ) → Found BatchView BatchFault → List Finding
+found_batch_findings is_loads entry member Missing = []
+found_batch_findings is_loads entry member (Refused fault) = detailed 17 member entry.file (batch_fault_text fault) ∷ []
+found_batch_findings is_loads entry member (Read b) = read_batch_findings is_loads entry member b
+
+abbrev pub kept_batch_findings : (is_loads : List ℕ → Bool) → BatchEntry → Option KeptBatchView → List Finding
+kept_batch_findings is_loads entry None = plain 16 0 entry.file ∷ []
+kept_batch_findings is_loads entry (Some kept) = found_batch_findings is_loads entry kept.member kept.found
+
+-- an entry, beside what is found of its file
+unfoldable pub batch_findings : SetView → (is_loads : List ℕ → Bool) → BatchEntry → List Finding
+batch_findings set is_loads entry = kept_batch_findings is_loads entry (batch_at set.files entry)
+
+abbrev pub load_part : LoadEntryView → List ℕ
+load_part load = load.part
+
+-- one of these loads has this part number
+abbrev pub is_part_of : List LoadEntryView → List ℕ → Bool
+is_part_of loads part = is_listed load_part part loads
+
 -- ---- the whole
 
 -- what is found beside the lists, where both of member 1 were read
-abbrev pub contents_findings : SetView → Found LoadsListView → Found FilesListView → List Finding
+abbrev pub contents_findings : SetView → Found LoadsListView ListFault → Found FilesListView ListFault → List Finding
 contents_findings set (Read loads) (Read files) =
     flat_map (entry_findings set loads.entries) files.entries ++ flat_map (load_findings set) loads.entries
 contents_findings set loads files = []
 
+-- the list is there, whether or not it is refused
+abbrev pub is_there : {L F : Type 0} → Found L F → Bool
+is_there Missing = false
+is_there (Refused fault) = true
+is_there (Read list) = true
+
+abbrev pub has_batches : MemberView → Bool
+has_batches lists = is_there lists.batches
+
+-- what is found of the batches, where a member has a list of them
+unfoldable pub all_batches_findings : SetView → List LoadEntryView → List Finding
+all_batches_findings set loads =
+    of_members (batches_list_findings set.first) 1 (set.first ∷ set.further)
+    ++ flat_map (batch_findings set (is_part_of loads)) (entries_of set.first.batches)
+
+-- and both other lists of member 1 were read
+abbrev pub batches_findings : SetView → Found LoadsListView ListFault → Found FilesListView ListFault → List Finding
+batches_findings set (Read loads) (Read files) =
+    if list_any has_batches (set.first ∷ set.further) then all_batches_findings set loads.entries else []
+batches_findings set loads files = []
+
 -- all findings of a set, in their order
 unfoldable pub findings_of : SetView → List Finding
-findings_of set = members_findings set.first 1 (set.first ∷ set.further) ++ contents_findings set set.first.loads set.first.files
+findings_of set =
+    of_members (member_findings set.first) 1 (set.first ∷ set.further)
+    ++ (contents_findings set set.first.loads set.first.files ++ batches_findings set set.first.loads set.first.files)

@@ -21,6 +21,9 @@ loads_name folder member = host_name folder member (codes "\\") (codes "LOADS.LU
 abbrev pub files_name : (folder : List ℕ) (member : ℕ) → List ℕ
 files_name folder member = host_name folder member (codes "\\") (codes "FILES.LUM")
 
+abbrev pub batches_name : (folder : List ℕ) (member : ℕ) → List ℕ
+batches_name folder member = host_name folder member (codes "\\") (codes "BATCHES.LUM")
+
 -- a listed file lies where its entry says
 abbrev pub listed_name : (folder : List ℕ) → ListedFile → List ℕ
 listed_name folder entry = host_name folder entry.member entry.path entry.name
@@ -30,6 +33,7 @@ abbrev pub host_media : Files → (folder : List ℕ) → Media
 host_media files folder = record {
   loads_list = λ member. files (loads_name folder member);
   files_list = λ member. files (files_name folder member);
+  batches_list = λ member. files (batches_name folder member);
   listed = λ entry. files (listed_name folder entry);
 }
 
@@ -37,7 +41,7 @@ host_media files folder = record {
 
 -- the lists of a member
 abbrev pub list_names : (folder : List ℕ) (member : ℕ) → List (List ℕ)
-list_names folder member = loads_name folder member ∷ files_name folder member ∷ []
+list_names folder member = loads_name folder member ∷ files_name folder member ∷ batches_name folder member ∷ []
 
 -- the names that an opening reads: those of lists, and after them those of listed files
 pub record Reading : Type 0 where

@@ -1,4 +1,5 @@
 pub mod Kept
+pub mod Batches
 pub mod Sets
 pub mod HostNames
 pub mod Openings

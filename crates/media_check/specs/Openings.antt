@@ -4,7 +4,6 @@ use Rattle.std.specs.List.{sum_by}
 use Rattle.load_base.specs.Counts.{Rose}
 use Rattle.load_base.specs.Host.{Files, longest_file}
 use Rattle.field_grammar.specs.Grammar.{Grammar}
-use Rattle.media_lists.specs.declared.fault.ListFault.{ListFault}
 use Rattle.media_check.specs.Kept.{contents}
 use Rattle.media_check.specs.Sets.{MemberView, SetView, found_in, found_view, lists_in, file_in, files_view, set_with, set_in, set_view}
 use Rattle.media_lists.specs.declared.lists.ListedFile.{ListedFile}
@@ -97,7 +96,7 @@ ReadsNames names IsRead (Err Failed) files = Unit {0}
 ReadsNames names IsRead (Err Memory) files = Unit {0}
 
 -- a list is what is found under the name
-abbrev pub ReadsList : {L V : Type 0} → (L → V) → Grammar ListFault V → (name : List ℕ) → Result (Found L) OpenFault → Files → Type 0
+abbrev pub ReadsList : {L V F : Type 0} → (L → V) → Grammar F V → (name : List ℕ) → Result (Found L F) OpenFault → Files → Type 0
 ReadsList view format name result files =
     ReadsNames (name ∷ []) (λ files found. found_view view found ≡ found_in format (files name)) result files
 

@@ -1,33 +1,31 @@
 -- A media set as a value: the lists of its members as they were found, and the listed files (docs/FORMATS.md, "Media sets").
-use Rattle.std.specs.Prelude.{◌≡◌, ℕ, ◌-◌, ◌≤◌, List, [], length, map, Option, Some, None, Result, Ok, Err}
+pub use Rattle.media_check.specs.Kept.{ListedFileView, found_as, found_in, found_view, entries_of, file_view, files_view}
+use Rattle.std.specs.Prelude.{◌≡◌, ℕ, ◌-◌, ◌≤◌, List, [], length, map, Option, Some, None}
 use Rattle.std.specs.List.{range_with_len}
 use Rattle.std.specs.Map.{lookup}
 use Rattle.load_base.specs.Bytes.{same_bytes}
 use Rattle.load_base.specs.Host.{longest_file}
-use Rattle.field_grammar.specs.Grammar.{Grammar, IsBytes}
-use Rattle.field_grammar.specs.Answers.{answer}
+use Rattle.field_grammar.specs.Grammar.{IsBytes}
+use Rattle.batch_lists.specs.Batch.{BatchView}
+use Rattle.batch_lists.specs.Batches.{BatchesListView, batches_list, batches_list_view}
+use Rattle.batch_lists.specs.declared.fault.BatchesFault.{BatchesFault}
 use Rattle.media_lists.specs.Files.{FilesListView, files_list, files_list_view, IsFilesList}
 use Rattle.media_lists.specs.Loads.{LoadsListView, loads_list, loads_list_view}
 use Rattle.media_lists.specs.declared.fault.ListFault.{ListFault}
 use Rattle.media_lists.specs.declared.lists.ListedFile.{ListedFile}
-use Rattle.media_check.specs.Kept.{bytes_view}
+use Rattle.media_check.specs.Batches.{batch_of_entry, first_batch}
 use Rattle.media_check.specs.declared.found.Found.{Found}
 use Rattle.media_check.specs.declared.found.Found.TheVariants.{Missing, Refused, Read}
 use Rattle.media_check.specs.declared.set.MemberLists.{MemberLists}
-use Rattle.media_check.specs.declared.set.KeptFile.{KeptFile}
 use Rattle.media_check.specs.declared.set.MediaSet.{MediaSet}
 
 -- ---- what a set is
 
--- both lists of a member, as they were found
+-- the lists of a member, as they were found
 pub record MemberView : Type 0 where
-  pub loads : Found LoadsListView
-  pub files : Found FilesListView
-
--- a listed file: the member that its entry names, and its bytes, or None where it is absent
-pub record ListedFileView : Type 0 where
-  pub member : ℕ
-  pub bytes : Option (List ℕ)
+  pub loads : Found LoadsListView ListFault
+  pub files : Found FilesListView ListFault
+  pub batches : Found BatchesListView BatchesFault
 
 -- The lists of member 1 and those of the members from 2 on; and the files that member 1's FILES.LUM lists, by their
 -- names in the order of the list.
@@ -37,7 +35,7 @@ pub record SetView : Type 0 where
   pub files : List (List ℕ × ListedFileView)
 
 -- the list, where it was read
-abbrev pub list_of : {V : Type 0} → Found V → Option V
+abbrev pub list_of : {V F : Type 0} → Found V F → Option V
 list_of (Read v) = Some v
 list_of Missing = None
 list_of (Refused fault) = None
@@ -58,43 +56,34 @@ bytes_of set name = bytes_found (find set name)
 abbrev pub AreFilesBytes : SetView → Type 0
 AreFilesBytes set = (name bytes : List ℕ) → bytes_of set name ≡ Some bytes → IsBytes bytes × (length bytes ≤ longest_file)
 
+-- The batch of the first entry of member 1's BATCHES.LUM that has this part number; None where no entry has it, where its
+-- file isn't listed or is absent, and where that is refused.
+abbrev pub batch_of : SetView → (part : List ℕ) → Option BatchView
+batch_of set part = batch_of_entry set.files (first_batch part (entries_of set.first.batches))
+
 -- ---- what media tell
 
--- The bytes that media have: of both lists of each member, and of the file that an entry of FILES.LUM names. None is a
+-- The bytes that media have: of the lists of each member, and of the file that an entry of FILES.LUM names. None is a
 -- file that is absent.
 pub record Media : Type 0 where
   pub loads_list : (member : ℕ) → Option (List ℕ)
   pub files_list : (member : ℕ) → Option (List ℕ)
+  pub batches_list : (member : ℕ) → Option (List ℕ)
   pub listed : ListedFile → Option (List ℕ)
-
--- what reading its bytes gives of a list: the list, or the first fault
-abbrev pub found_as : {V : Type 0} → Result V ListFault → Found V
-found_as (Ok v) = Read v
-found_as (Err fault) = Refused fault
-
--- what is found of a list that has these bytes, or is absent
-abbrev pub found_in : {V : Type 0} → Grammar ListFault V → Option (List ℕ) → Found V
-found_in format None = Missing
-found_in format (Some bytes) = found_as (answer format bytes)
 
 -- the lists of this member
 abbrev pub lists_in : Media → (member : ℕ) → MemberView
 lists_in media member = record {
   loads = found_in loads_list (media.loads_list member);
   files = found_in files_list (media.files_list member);
+  batches = found_in batches_list (media.batches_list member);
 }
 
 -- the numbers of the further members, which member 1's LOADS.LUM counts; there are none where it wasn't read
-abbrev pub further_members : Found LoadsListView → List ℕ
+abbrev pub further_members : Found LoadsListView ListFault → List ℕ
 further_members (Read list) = range_with_len 2 (list.members - 1)
 further_members Missing = []
 further_members (Refused fault) = []
-
--- what member 1's FILES.LUM lists; nothing where it wasn't read
-abbrev pub entries_of : Found FilesListView → List ListedFile
-entries_of (Read list) = list.entries
-entries_of Missing = []
-entries_of (Refused fault) = []
 
 -- a listed file by its name, with the bytes that the media have of it
 abbrev pub file_in : Media → ListedFile → List ℕ × ListedFileView
@@ -114,21 +103,12 @@ set_in media = set_with media (lists_in media 1)
 
 -- ---- what is kept
 
--- what was found, with the list as it is seen
-abbrev pub found_view : {L V : Type 0} → (L → V) → Found L → Found V
-found_view view Missing = Missing
-found_view view (Refused fault) = Refused fault
-found_view view (Read list) = Read (view list)
-
 abbrev pub lists_view : MemberLists → MemberView
-lists_view lists = record { loads = found_view loads_list_view lists.loads; files = found_view files_list_view lists.files }
-
-abbrev pub file_view : KeptFile → ListedFileView
-file_view file = record { member = file.member; bytes = bytes_view file.bytes }
-
--- files by their names
-abbrev pub files_view : List (List ℕ × KeptFile) → List (List ℕ × ListedFileView)
-files_view files = map (λ e. (e.0, file_view e.1)) files
+lists_view lists = record {
+  loads = found_view loads_list_view lists.loads;
+  files = found_view files_list_view lists.files;
+  batches = found_view batches_list_view lists.batches;
+}
 
 abbrev pub set_view : MediaSet → SetView
 set_view set = record {
@@ -138,7 +118,7 @@ set_view set = record {
 }
 
 -- A list that was read is one that its format can spell.
-abbrev pub IsFoundFiles : Found FilesListView → Type 0
+abbrev pub IsFoundFiles : Found FilesListView ListFault → Type 0
 IsFoundFiles (Read list) = IsFilesList list
 IsFoundFiles Missing = Unit {0}
 IsFoundFiles (Refused fault) = Unit {0}

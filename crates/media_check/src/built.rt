@@ -13,12 +13,13 @@ ghost use Rattle.media_check.specs.Kept.{bytes_view, IsShortFile};
 ghost use Rattle.media_check.specs.Sets.{set_view, set_in, lists_view, found_view, files_view};
 ghost use Rattle.media_check.specs.Sets.{entries_of, IsFoundFiles};
 
-use crate::found::{Found, files_in, loads_in};
+use crate::batches::batches_among;
+use crate::found::{Found, batches_in, files_in, loads_in};
 use crate::opening::{count_further, keep};
 use crate::set::{KeptFile, MediaSet, MemberLists};
 use indexmap::IndexMap;
 use load_base::{Bytes, List, Name, NoMemory};
-use media_lists::{FilesList, ListedFile};
+use media_lists::{FilesList, ListFault, ListedFile};
 use std::alloc::Global;
 
 /// A file of a set that was built.
@@ -30,7 +31,7 @@ pub struct Placed {
     pub bytes: Bytes,
 }
 
-/// A set as it is built: the bytes of both lists of each member, from member 1 on, and the files in
+/// A set as it is built: the bytes of the lists of each member, from member 1 on, and the files in
 /// the order of `FILES.LUM`.
 #[derive(Drop)]
 pub struct Built {
@@ -38,6 +39,8 @@ pub struct Built {
     pub loads: List<Bytes>,
     /// `FILES.LUM` of each member.
     pub files: List<Bytes>,
+    /// `BATCHES.LUM` of each member; none of a set without batches.
+    pub batches: List<Bytes>,
     pub bodies: List<Placed>,
 }
 
@@ -52,17 +55,21 @@ impl MediaSet {
         let Built {
             loads,
             files,
+            batches,
             bodies,
         } = built;
-        let first = member_lists(alloc, loads.as_slice(), files.as_slice(), 1)?;
+        let (loads, files, batches) = (loads.as_slice(), files.as_slice(), batches.as_slice());
+        let first = member_lists(alloc, loads, files, batches, 1)?;
         let count = count_further(&first.loads);
-        let further = further_lists(alloc, loads.as_slice(), files.as_slice(), count)?;
+        let further = further_lists(alloc, loads, files, batches, count)?;
         let bodies = by_name(alloc, bodies)?;
         let files = listed_bodies(alloc, &first.files, bodies)?;
+        let batches = batches_among(alloc, &first.batches, &files)?;
         Ok(MediaSet {
             first,
             further,
             files,
+            batches,
         })
     }
 }
@@ -78,16 +85,17 @@ fn list_of(lists: &[Bytes], member: u16) -> Option<&[u8]>
     }
 }
 
-// Both lists of this member, as their bytes are read.
+// The lists of this member, as their bytes are read.
 fn member_lists(
     alloc: Global,
     loads: &[Bytes],
     files: &[Bytes],
+    batches: &[Bytes],
     member: u16,
 ) -> Result<MemberLists, NoMemory>
     requires { 1 ≤ member }
     ensures lists { IfOk result (λ lists. lists_view lists
-        ≡ built_lists loads.now files.now member) }
+        ≡ built_lists loads.now files.now batches.now member) }
     ensures spelled { IfOk result (λ lists. IsFoundFiles (found_view files_list_view lists.files)) }
 {
     let loads = match list_of(loads, member) {
@@ -98,7 +106,15 @@ fn member_lists(
         Some(bytes) => files_in(alloc, bytes)?,
         None => Found::Missing,
     };
-    Ok(MemberLists { loads, files })
+    let batches = match list_of(batches, member) {
+        Some(bytes) => batches_in(alloc, bytes)?,
+        None => Found::Missing,
+    };
+    Ok(MemberLists {
+        loads,
+        files,
+        batches,
+    })
 }
 
 // The lists of this many members from 2 on.
@@ -106,17 +122,18 @@ fn further_lists(
     alloc: Global,
     loads: &[Bytes],
     files: &[Bytes],
+    batches: &[Bytes],
     count: u16,
 ) -> Result<List<MemberLists>, NoMemory>
     requires { count ≤ 254 }
     ensures lists { IfOk result (λ further.
         map lists_view further.items
-        ≡ map (built_lists loads.now files.now) (range_with_len 2 count)) }
+        ≡ map (built_lists loads.now files.now batches.now) (range_with_len 2 count)) }
     ensures few { IfOk result (λ further. length further.items ≤ 254) }
 {
     let mut further = List::new(alloc);
     for index in 0..count {
-        let lists = member_lists(alloc, loads, files, 2 + index)?;
+        let lists = member_lists(alloc, loads, files, batches, 2 + index)?;
         further.push(lists)?;
     }
     Ok(further)
@@ -139,7 +156,7 @@ fn by_name(alloc: Global, bodies: List<Placed>) -> Result<IndexMap<Name, Bytes>,
 // wasn't read.
 fn listed_bodies(
     alloc: Global,
-    files: &Found<FilesList>,
+    files: &Found<FilesList, ListFault>,
     loose: IndexMap<Name, Bytes>,
 ) -> Result<IndexMap<Name, KeptFile>, NoMemory>
     requires spelled { IsFoundFiles (found_view files_list_view files.now) }

@@ -7,27 +7,33 @@ ghost use Rattle.load_base.specs.Text.{IsText};
 ghost use Rattle.indexmap.specs.IndexSet.{contains as has};
 ghost use Rattle.media_lists.specs.Entries.{is_listed};
 ghost use Rattle.media_lists.specs.Files.{files_list_view};
+ghost use Rattle.media_lists.specs.ListFaultText.{list_fault_text};
 ghost use Rattle.media_lists.specs.Loads.{loads_list_view, load_entry_view, load_name};
-ghost use Rattle.media_check.specs.Findings.{findings_of, contents_findings, members_findings};
+ghost use Rattle.media_check.specs.Findings.{findings_of, contents_findings, of_members};
 ghost use Rattle.media_check.specs.Findings.{member_findings, list_findings, entry_findings};
+ghost use Rattle.media_check.specs.Findings.{loads_sort, files_sort, detailed};
 ghost use Rattle.media_check.specs.Findings.{body_findings, agrees, is_members_list};
 ghost use Rattle.media_check.specs.Findings.{is_header_name as is_header, plain, where_it_holds};
 ghost use Rattle.media_check.specs.Findings.{same_load, same_file, file_sums};
 ghost use Rattle.media_check.specs.Sets.{set_view, lists_view, found_view, bytes_of};
 
+use crate::batch_checking::put_batches;
 use crate::comparing::{same_files_list, same_loads_list};
-use crate::finding::{Finding, put, put_of_list, put_refused_list, put_where};
+use crate::finding::{Finding, put, put_detailed_of_list, put_of_list, put_where};
 use crate::found::Found;
 use crate::loads::put_loads;
 use crate::set::{MediaSet, MemberLists};
 use crate::sums::{summed_file, sums_of};
 use indexmap::IndexSet;
 use load_base::{List, Name, NoMemory};
-use media_lists::{FilesList, ListedFile, LoadEntry, LoadsList};
+use media_lists::{FilesList, ListFault, ListedFile, LoadEntry, LoadsList};
+use printed_text::Printed;
 use std::alloc::Global;
 
 // The kinds of findings of lists and of entries of `FILES.LUM` (docs/FORMATS.md).
 const LIST_MISSING: u8 = 1;
+
+const LIST_REFUSED: u8 = 2;
 
 const LIST_DIFFERS: u8 = 3;
 
@@ -38,7 +44,7 @@ const FILE_CHANGED: u8 = 6;
 const HEADER_WITHOUT_LOAD: u8 = 8;
 
 /// All findings of a set, in the order of docs/FORMATS.md: for each member and list, for each entry
-/// of member 1's `FILES.LUM`, and for each load of its `LOADS.LUM`.
+/// of member 1's `FILES.LUM`, for each load of its `LOADS.LUM`, and for the batches.
 #[tactic(auto, unfolding(crate::specs::Findings::findings_of))]
 pub fn check(alloc: Global, set: &MediaSet) -> Result<List<Finding>, NoMemory>
     ensures { IfOk result (λ findings. findings.items ≡ findings_of (set_view set.now)) }
@@ -47,12 +53,14 @@ pub fn check(alloc: Global, set: &MediaSet) -> Result<List<Finding>, NoMemory>
     put_member(alloc, &mut out, &set.first, 1, &set.first)?;
     put_further(alloc, &mut out, set)?;
     put_contents(alloc, &mut out, set)?;
+    put_batches(alloc, &mut out, set)?;
     Ok(out)
 }
 
 fn put_further(alloc: Global, out: &mut List<Finding>, set: &MediaSet) -> Result<(), NoMemory>
     ensures { OnOk result (out.new.items ≡ out.old.items
-        ++ members_findings (lists_view set.now.first) 2 (map lists_view set.now.further.items)) }
+        ++ of_members (member_findings (lists_view set.now.first)) 2
+        (map lists_view set.now.further.items)) }
 {
     for (index, lists) in set.further.as_slice().iter().enumerate() {
         put_member(alloc, out, &set.first, index as u16 + 2, lists)?;
@@ -60,7 +68,7 @@ fn put_further(alloc: Global, out: &mut List<Finding>, set: &MediaSet) -> Result
     Ok(())
 }
 
-// What is found of the lists of a member.
+// What is found of the loads and the files that a member lists.
 #[tactic(auto, unfolding(crate::specs::Findings::member_findings))]
 fn put_member(
     alloc: Global,
@@ -80,17 +88,17 @@ fn put_member(
 fn put_loads_list(
     alloc: Global,
     out: &mut List<Finding>,
-    first: &Found<LoadsList>,
+    first: &Found<LoadsList, ListFault>,
     member: u16,
-    this: &Found<LoadsList>,
+    this: &Found<LoadsList, ListFault>,
 ) -> Result<(), NoMemory>
     ensures { OnOk result (out.new.items ≡ out.old.items
-        ++ list_findings same_load (codes "LOADS.LUM") member
-        (found_view loads_list_view first.now) (found_view loads_list_view this.now)) }
+        ++ list_findings loads_sort member (found_view loads_list_view first.now)
+        (found_view loads_list_view this.now)) }
 {
     match this {
         Found::Missing => put_of_list(alloc, out, true, LIST_MISSING, member, b"LOADS.LUM"),
-        Found::Refused(fault) => put_refused_list(alloc, out, member, b"LOADS.LUM", fault),
+        Found::Refused(fault) => put_refused_list(alloc, out, member, b"LOADS.LUM", *fault),
         Found::Read(list) => {
             let differs = !is_loads_list_of(member, first, list);
             put_of_list(alloc, out, differs, LIST_DIFFERS, member, b"LOADS.LUM")
@@ -102,17 +110,17 @@ fn put_loads_list(
 fn put_files_list(
     alloc: Global,
     out: &mut List<Finding>,
-    first: &Found<FilesList>,
+    first: &Found<FilesList, ListFault>,
     member: u16,
-    this: &Found<FilesList>,
+    this: &Found<FilesList, ListFault>,
 ) -> Result<(), NoMemory>
     ensures { OnOk result (out.new.items ≡ out.old.items
-        ++ list_findings same_file (codes "FILES.LUM") member
-        (found_view files_list_view first.now) (found_view files_list_view this.now)) }
+        ++ list_findings files_sort member (found_view files_list_view first.now)
+        (found_view files_list_view this.now)) }
 {
     match this {
         Found::Missing => put_of_list(alloc, out, true, LIST_MISSING, member, b"FILES.LUM"),
-        Found::Refused(fault) => put_refused_list(alloc, out, member, b"FILES.LUM", fault),
+        Found::Refused(fault) => put_refused_list(alloc, out, member, b"FILES.LUM", *fault),
         Found::Read(list) => {
             let differs = !is_files_list_of(member, first, list);
             put_of_list(alloc, out, differs, LIST_DIFFERS, member, b"FILES.LUM")
@@ -120,9 +128,24 @@ fn put_files_list(
     }
 }
 
+fn put_refused_list(
+    alloc: Global,
+    out: &mut List<Finding>,
+    member: u16,
+    name: &[u8],
+    fault: ListFault,
+) -> Result<(), NoMemory>
+    requires { IsText name.now }
+    ensures { OnOk result (out.new.items ≡ out.old.items
+        ++ detailed 2 member name.now (list_fault_text fault) ∷ []) }
+{
+    let detail = fault.text(alloc)?;
+    put_detailed_of_list(alloc, out, LIST_REFUSED, member, name, detail)
+}
+
 // Whether the list is this member's, and that of member 1 but for the number of the member.
 #[tactic(auto, unfolding(crate::specs::Findings::is_members_list))]
-fn is_loads_list_of(member: u16, first: &Found<LoadsList>, list: &LoadsList) -> bool
+fn is_loads_list_of(member: u16, first: &Found<LoadsList, ListFault>, list: &LoadsList) -> bool
     ensures { result ≡ is_members_list same_load member (found_view loads_list_view first.now)
         (loads_list_view list.now) }
 {
@@ -130,14 +153,14 @@ fn is_loads_list_of(member: u16, first: &Found<LoadsList>, list: &LoadsList) -> 
 }
 
 #[tactic(auto, unfolding(crate::specs::Findings::is_members_list))]
-fn is_files_list_of(member: u16, first: &Found<FilesList>, list: &FilesList) -> bool
+fn is_files_list_of(member: u16, first: &Found<FilesList, ListFault>, list: &FilesList) -> bool
     ensures { result ≡ is_members_list same_file member (found_view files_list_view first.now)
         (files_list_view list.now) }
 {
     u16::from(list.member) == member && agrees_with_files(first, list)
 }
 
-fn agrees_with_loads(first: &Found<LoadsList>, list: &LoadsList) -> bool
+fn agrees_with_loads(first: &Found<LoadsList, ListFault>, list: &LoadsList) -> bool
     ensures { result ≡ agrees same_load (found_view loads_list_view first.now)
         (loads_list_view list.now) }
 {
@@ -147,7 +170,7 @@ fn agrees_with_loads(first: &Found<LoadsList>, list: &LoadsList) -> bool
     }
 }
 
-fn agrees_with_files(first: &Found<FilesList>, list: &FilesList) -> bool
+fn agrees_with_files(first: &Found<FilesList, ListFault>, list: &FilesList) -> bool
     ensures { result ≡ agrees same_file (found_view files_list_view first.now)
         (files_list_view list.now) }
 {

@@ -1,32 +1,23 @@
 //! What is wrong with a media set.
 ghost use Rattle.std.specs.Prelude.{◌≡◌, ◌∷◌, ◌++◌, [], OnOk, IfOk};
 ghost use Rattle.load_base.specs.Text.{IsText};
-ghost use Rattle.media_lists.specs.ListFaultText.{list_fault_text};
-ghost use Rattle.load_header.specs.HeaderFaultText.{header_fault_text};
 ghost use Rattle.media_check.specs.Findings.{plain, detailed, where_it_holds};
 
 use load_base::{Bytes, List, Name, NoMemory, Text};
-use load_header::HeaderFault;
-use media_lists::ListFault;
-use printed_text::Printed;
 use std::alloc::Global;
-
-// The kinds of findings that have the text of a fault (docs/FORMATS.md).
-const LIST_REFUSED: u8 = 2;
-
-const HEADER_REFUSED: u8 = 7;
 
 /// Something that is wrong with a media set (this project's rules, docs/FORMATS.md).
 #[derive(Drop)]
 pub struct Finding {
-    /// The number of its kind, 1 to 12 for M1 to M12.
+    /// The number of its kind, 1 to 19 for M1 to M19.
     pub kind: u8,
     /// The member of the list, or the one that the entry of `FILES.LUM` names; 0 for a file that
     /// isn't listed.
     pub member: u16,
     /// The name of the list or of the file.
     pub file: Text,
-    /// The text of the fault of a list or header that is refused, and else empty.
+    /// The text of the fault of a list, header or batch that is refused, or the part number that no
+    /// load has (M19), and else empty.
     pub detail: Text,
 }
 
@@ -93,43 +84,43 @@ pub(crate) fn put_of_list(
     })
 }
 
-/// Adds that a list is refused.
-pub(crate) fn put_refused_list(
+/// Adds a finding of a list, with a detail.
+pub(crate) fn put_detailed_of_list(
     alloc: Global,
     out: &mut List<Finding>,
+    kind: u8,
     member: u16,
     name: &[u8],
-    fault: &ListFault,
+    detail: Text,
 ) -> Result<(), NoMemory>
     requires { IsText name.now }
     ensures { OnOk result (out.new.items ≡ out.old.items
-        ++ detailed 2 member name.now (list_fault_text fault.now) ∷ []) }
+        ++ detailed kind member name.now detail ∷ []) }
 {
     let file = text_of(alloc, name)?;
-    let detail = fault.text(alloc)?;
     out.push(Finding {
-        kind: LIST_REFUSED,
+        kind,
         member,
         file,
         detail,
     })
 }
 
-/// Adds that a header is refused.
-pub(crate) fn put_refused_header(
+/// Adds a finding of a file, with a detail.
+pub(crate) fn put_detailed(
     alloc: Global,
     out: &mut List<Finding>,
+    kind: u8,
     member: u16,
     name: &Name,
-    fault: &HeaderFault,
+    detail: Text,
 ) -> Result<(), NoMemory>
     ensures { OnOk result (out.new.items ≡ out.old.items
-        ++ detailed 7 member name.now (header_fault_text fault.now) ∷ []) }
+        ++ detailed kind member name.now detail ∷ []) }
 {
     let file = Text::of_name(alloc, name)?;
-    let detail = fault.text(alloc)?;
     out.push(Finding {
-        kind: HEADER_REFUSED,
+        kind,
         member,
         file,
         detail,

@@ -1,28 +1,32 @@
 //! What is found of the loads of a set.
-ghost use Rattle.std.specs.Prelude.{◌≡◌, ◌++◌, ◌≤◌, ℕ, List as Items, map, length, true, false};
+ghost use Rattle.std.specs.Prelude.{◌≡◌, ◌∷◌, ◌++◌, ◌≤◌, [], ℕ, List as Items, map, length, true, false};
 ghost use Rattle.std.specs.Prelude.{MatchOption, OnOk};
 ghost use Rattle.std.specs.List.{flat_map};
 ghost use Rattle.crc_fields.specs.CheckSums.{crc32_of};
 ghost use Rattle.field_grammar.specs.Answers.{answer};
 ghost use Rattle.load_header.specs.Header.{header, header_view};
+ghost use Rattle.load_header.specs.HeaderFaultText.{header_fault_text};
 ghost use Rattle.media_lists.specs.Loads.{load_entry_view};
 ghost use Rattle.media_check.specs.Findings.{load_findings, read_findings, header_findings};
 ghost use Rattle.media_check.specs.Findings.{file_findings, files_of, are_there as all_there};
 ghost use Rattle.media_check.specs.Findings.{has_other_crc as other_crc, load_crc_of, file_sums};
-ghost use Rattle.media_check.specs.Findings.{is_file as is_file_of};
+ghost use Rattle.media_check.specs.Findings.{is_file as is_file_of, detailed};
 ghost use Rattle.media_check.specs.Kept.{contents};
 ghost use Rattle.media_check.specs.Sets.{set_view, bytes_of};
 
-use crate::finding::{Finding, put, put_refused_header, put_where};
+use crate::finding::{Finding, put, put_detailed, put_where};
 use crate::set::MediaSet;
 use crate::sums::summed_file;
-use load_base::{List, NoMemory};
+use load_base::{List, Name, NoMemory};
 use load_header::{FileEntry, HeaderFault, LoadCrc, LoadHeader, header_laws};
 use media_lists::LoadEntry;
+use printed_text::Printed;
 use std::alloc::Global;
 
 // The kinds of findings of loads (docs/FORMATS.md).
 const NOT_LISTED: u8 = 5;
+
+const HEADER_REFUSED: u8 = 7;
 
 const OTHER_PART: u8 = 9;
 
@@ -90,8 +94,23 @@ fn put_read(
     match LoadHeader::decode(alloc, bytes) {
         Ok(header) => put_header(alloc, out, set, sums, load, member, bytes, &header),
         Err(HeaderFault::Memory) => Err(NoMemory),
-        Err(fault) => put_refused_header(alloc, out, member, &load.header_name, &fault),
+        Err(fault) => put_refused(alloc, out, member, &load.header_name, fault),
     }
+}
+
+// That a header has this fault.
+fn put_refused(
+    alloc: Global,
+    out: &mut List<Finding>,
+    member: u16,
+    name: &Name,
+    fault: HeaderFault,
+) -> Result<(), NoMemory>
+    ensures { OnOk result (out.new.items ≡ out.old.items
+        ++ detailed 7 member name.now (header_fault_text fault) ∷ []) }
+{
+    let detail = fault.text(alloc)?;
+    put_detailed(alloc, out, HEADER_REFUSED, member, name, detail)
 }
 
 #[tactic(auto, unfolding(crate::specs::Findings::header_findings))]

@@ -6,29 +6,32 @@ ghost use Rattle.std.specs.HashMap.{get, keys, values};
 ghost use Rattle.std.specs.List.{range_with_len, flat_map};
 ghost use Rattle.load_base.specs.Bytes.{same_bytes};
 ghost use Rattle.load_base.specs.Host.{longest_file};
+ghost use Rattle.batch_lists.specs.Batches.{batches_list, batches_list_view};
 ghost use Rattle.media_lists.specs.Files.{files_list, files_list_view, file_name};
 ghost use Rattle.media_lists.specs.ListFields.{AreNew};
 ghost use Rattle.media_lists.specs.Loads.{loads_list, loads_list_view};
-ghost use Rattle.media_check.specs.HostNames.{loads_name, files_name, listed_name, list_names};
-ghost use Rattle.media_check.specs.HostNames.{host_media};
+ghost use Rattle.media_check.specs.HostNames.{loads_name, files_name, batches_name, listed_name};
+ghost use Rattle.media_check.specs.HostNames.{host_media, list_names};
 ghost use Rattle.media_check.specs.Kept.{bytes_view, IsShortFile, contents};
 ghost use Rattle.media_check.specs.Openings.{Opens, OpensRest, ReadsNames, ReadsList, KeepsNext};
 ghost use Rattle.media_check.specs.Openings.{KeepsListed, HasOpenCause, largest_set};
 ghost use Rattle.media_check.specs.Sets.{found_view, lists_view, lists_in, further_members};
 ghost use Rattle.media_check.specs.Sets.{entries_of, IsFoundFiles};
 
+use crate::batches::batches_among;
 use crate::fault::{LARGEST_SET, OpenFault};
-use crate::found::{Found, files_in, loads_in};
+use crate::found::{Found, batches_in, files_in, loads_in};
 use crate::names::host_name;
 use crate::set::{KeptFile, MediaSet, MemberLists};
+use batch_lists::{BatchesFault, BatchesList};
 use indexmap::IndexMap;
 use load_base::{Bytes, Host, List, Name, NoMemory, ReadFault};
-use media_lists::{FilesList, ListedFile, LoadsList};
+use media_lists::{FilesList, ListFault, ListedFile, LoadsList};
 use std::alloc::Global;
 
-/// Opens the set in this folder: reads both lists of member 1, those of the further members that
-/// its `LOADS.LUM` counts, and each file that its `FILES.LUM` lists (docs/FORMATS.md). A list or
-/// file that is absent, and a list that is refused, is no fault here.
+/// Opens the set in this folder: reads the three lists of member 1, those of the further members
+/// that its `LOADS.LUM` counts, and each file that its `FILES.LUM` lists (docs/FORMATS.md). A list
+/// or file that is absent, and a list or batch that is refused, is no fault here.
 pub fn open_set<H: Host>(alloc: Global, host: &mut H, folder: &[u8]) -> Result<MediaSet, OpenFault>
     ensures opens { ForSome (H.files host.old) (Opens folder.now result) }
     ensures cause { HasOpenCause (H.faults host.old) (H.faults host.new) result }
@@ -36,7 +39,8 @@ pub fn open_set<H: Host>(alloc: Global, host: &mut H, folder: &[u8]) -> Result<M
 {
     let loads = read_loads_list(alloc, host, folder, 1)?;
     let files = read_files_list(alloc, host, folder, 1)?;
-    open_rest(alloc, host, folder, loads, files)
+    let batches = read_batches_list(alloc, host, folder, 1)?;
+    open_rest(alloc, host, folder, loads, files, batches)
 }
 
 /// Reads `LOADS.LUM` of a member, the first part of an opening.
@@ -45,7 +49,7 @@ pub fn read_loads_list<H: Host>(
     host: &mut H,
     folder: &[u8],
     member: u16,
-) -> Result<Found<LoadsList>, OpenFault>
+) -> Result<Found<LoadsList, ListFault>, OpenFault>
     ensures reads { ForSome (H.files host.old)
         (ReadsList loads_list_view loads_list (loads_name folder.now member) result) }
     ensures cause { HasOpenCause (H.faults host.old) (H.faults host.new) result }
@@ -64,7 +68,7 @@ pub fn read_files_list<H: Host>(
     host: &mut H,
     folder: &[u8],
     member: u16,
-) -> Result<Found<FilesList>, OpenFault>
+) -> Result<Found<FilesList, ListFault>, OpenFault>
     ensures reads { ForSome (H.files host.old)
         (ReadsList files_list_view files_list (files_name folder.now member) result) }
     ensures spelled { IfOk result (λ found. IsFoundFiles (found_view files_list_view found)) }
@@ -78,6 +82,25 @@ pub fn read_files_list<H: Host>(
     }
 }
 
+/// Reads `BATCHES.LUM` of a member, after its `FILES.LUM`.
+pub fn read_batches_list<H: Host>(
+    alloc: Global,
+    host: &mut H,
+    folder: &[u8],
+    member: u16,
+) -> Result<Found<BatchesList, BatchesFault>, OpenFault>
+    ensures reads { ForSome (H.files host.old)
+        (ReadsList batches_list_view batches_list (batches_name folder.now member) result) }
+    ensures cause { HasOpenCause (H.faults host.old) (H.faults host.new) result }
+    ensures kept { H.files host.new ≡ H.files host.old }
+{
+    let name = host_name(alloc, folder, member, b"\\", b"BATCHES.LUM")?;
+    match read_file(alloc, host, name)? {
+        Some(bytes) => Ok(batches_in(alloc, bytes.as_slice())?),
+        None => Ok(Found::Missing),
+    }
+}
+
 /// Opens the rest of a set whose lists of member 1 were read: the lists of the further members, and
 /// the listed files. Who stops at a list of member 1 that is absent or refused calls this after a
 /// look at it.
@@ -85,24 +108,32 @@ pub fn open_rest<H: Host>(
     alloc: Global,
     host: &mut H,
     folder: &[u8],
-    loads: Found<LoadsList>,
-    files: Found<FilesList>,
+    loads: Found<LoadsList, ListFault>,
+    files: Found<FilesList, ListFault>,
+    batches: Found<BatchesList, BatchesFault>,
 ) -> Result<MediaSet, OpenFault>
     requires { IsFoundFiles (found_view files_list_view files) }
     ensures opens { ForSome (H.files host.old) (OpensRest folder.now
         (record {
           loads = found_view loads_list_view loads;
           files = found_view files_list_view files;
+          batches = found_view batches_list_view batches;
         }) result) }
     ensures cause { HasOpenCause (H.faults host.old) (H.faults host.new) result }
     ensures kept { H.files host.new ≡ H.files host.old }
 {
     let further = read_further(alloc, host, folder, count_further(&loads))?;
     let kept = read_bodies(alloc, host, folder, &files)?;
+    let found = batches_among(alloc, &batches, &kept)?;
     Ok(MediaSet {
-        first: MemberLists { loads, files },
+        first: MemberLists {
+            loads,
+            files,
+            batches,
+        },
         further,
         files: kept,
+        batches: found,
     })
 }
 
@@ -123,7 +154,7 @@ fn read_file<H: Host>(alloc: Global, host: &mut H, name: Bytes) -> Result<Option
     }
 }
 
-// Both lists of a member.
+// The lists of a member.
 fn read_member<H: Host>(
     alloc: Global,
     host: &mut H,
@@ -137,11 +168,16 @@ fn read_member<H: Host>(
 {
     let loads = read_loads_list(alloc, host, folder, member)?;
     let files = read_files_list(alloc, host, folder, member)?;
-    Ok(MemberLists { loads, files })
+    let batches = read_batches_list(alloc, host, folder, member)?;
+    Ok(MemberLists {
+        loads,
+        files,
+        batches,
+    })
 }
 
 /// How many members there are beside the first.
-pub(crate) fn count_further(loads: &Found<LoadsList>) -> u16
+pub(crate) fn count_further(loads: &Found<LoadsList, ListFault>) -> u16
     ensures members { range_with_len 2 result
         ≡ further_members (found_view loads_list_view loads.now) }
     ensures few { result ≤ 254 }
@@ -182,7 +218,7 @@ fn read_bodies<H: Host>(
     alloc: Global,
     host: &mut H,
     folder: &[u8],
-    files: &Found<FilesList>,
+    files: &Found<FilesList, ListFault>,
 ) -> Result<IndexMap<Name, KeptFile>, OpenFault>
     requires { IsFoundFiles (found_view files_list_view files.now) }
     ensures keeps { ForSome (H.files host.old)

@@ -3,18 +3,24 @@ ghost use Rattle.std.specs.Prelude.{◌≡◌, ◌≤◌, length, option_map, If
 ghost use Rattle.std.specs.HashMap.{values};
 ghost use Rattle.load_base.specs.Host.{longest_file};
 ghost use Rattle.field_grammar.specs.Grammar.{IsBytes};
-ghost use Rattle.media_check.specs.Kept.{IsBytesFile, IsShortFile};
+ghost use Rattle.batch_lists.specs.Batches.{batches_list_view};
+ghost use Rattle.media_check.specs.Batches.{AreKept, HaveFirst};
+ghost use Rattle.media_check.specs.Kept.{IsBytesFile, IsShortFile, entries_of, files_view};
+ghost use Rattle.media_check.specs.Kept.{found_view};
 
+use crate::batches::Batches;
 use crate::found::Found;
+use batch_lists::{Batch, BatchesFault, BatchesList};
 use indexmap::IndexMap;
-use load_base::{Bytes, List, Name};
-use media_lists::{FilesList, LoadsList};
+use load_base::{Bytes, List, Name, PartText};
+use media_lists::{FilesList, ListFault, LoadsList};
 
-/// Both lists of a member, as they were found.
+/// The lists of a member, as they were found.
 #[derive(Drop)]
 pub struct MemberLists {
-    pub loads: Found<LoadsList>,
-    pub files: Found<FilesList>,
+    pub loads: Found<LoadsList, ListFault>,
+    pub files: Found<FilesList, ListFault>,
+    pub batches: Found<BatchesList, BatchesFault>,
 }
 
 /// A file that `FILES.LUM` of member 1 lists.
@@ -26,8 +32,8 @@ pub struct KeptFile {
     pub bytes: Option<Bytes>,
 }
 
-/// A media set: the lists of its members as they were found, and the files that member 1's
-/// `FILES.LUM` lists.
+/// A media set: the lists of its members as they were found, the files that member 1's `FILES.LUM`
+/// lists, and the batches that its `BATCHES.LUM` lists.
 #[derive(Drop)]
 pub struct MediaSet {
     pub(crate) first: MemberLists,
@@ -35,14 +41,21 @@ pub struct MediaSet {
     pub(crate) further: List<MemberLists>,
     // In the order of the list.
     pub(crate) files: IndexMap<Name, KeptFile>,
+    pub(crate) batches: Batches,
     ghost few: { length further.items ≤ 254 },
     ghost short: { All IsShortFile (values files) },
+    ghost kept: { AreKept (files_view files.entries)
+        (entries_of (found_view batches_list_view first.batches)) batches.kept.items },
+    ghost known: { HaveFirst batches.first.entries
+        (entries_of (found_view batches_list_view first.batches)) },
 }
 
 impl MediaSet {
+    ghost use Rattle.batch_lists.specs.Batch.{batch_view};
     ghost use Rattle.media_lists.specs.Files.{files_list_view};
     ghost use Rattle.media_lists.specs.Loads.{loads_list_view};
-    ghost use Rattle.media_check.specs.Sets.{set_view, list_of, bytes_of, AreFilesBytes};
+    ghost use Rattle.media_check.specs.Sets.{set_view, list_of, bytes_of, batch_of};
+    ghost use Rattle.media_check.specs.Sets.{AreFilesBytes};
 
     /// Member 1's `LOADS.LUM`; `None` exactly where it is absent or refused.
     pub fn loads(&self) -> Option<&LoadsList>
@@ -80,6 +93,15 @@ impl MediaSet {
             },
             None => None,
         }
+    }
+
+    /// The batch with this part number, which is looked up in a map: that of the first entry of
+    /// member 1's `BATCHES.LUM` with it. `None` exactly where no entry has it, and where that
+    /// entry's file isn't listed, is absent or is refused. It takes no memory.
+    pub fn batch(&self, part: &PartText) -> Option<&Batch>
+        ensures { option_map (λ b. batch_view b.now) result ≡ batch_of (set_view self.now) part.now }
+    {
+        self.batches.find(part)
     }
 
     /// Each file that is there is bytes, and not too long: of all names, where [`MediaSet::file`]

@@ -1,3 +1,4 @@
+mod batches;
 mod building;
 mod checking;
 mod making;

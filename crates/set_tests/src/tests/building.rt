@@ -1,5 +1,5 @@
 //! Sets that are built, against sums that another program took of their files, and what is refused.
-use super::recipes::REALISTIC;
+use super::recipes::{BATCHED, REALISTIC};
 use crc_fields::crc32;
 use load_base::{Bytes, Host, MemHost, NoMemory};
 use media_build::{BuildFault, Recipe, build};
@@ -83,6 +83,7 @@ pub(crate) fn sums_of(alloc: Global, built: &Built) -> Result<Vec<u32>, Fail> {
     let mut sums = Vec::new(alloc);
     put_sums(&mut sums, built.loads.as_slice())?;
     put_sums(&mut sums, built.files.as_slice())?;
+    put_sums(&mut sums, built.batches.as_slice())?;
     for body in built.bodies.as_slice() {
         sums.push(crc32(body.bytes.as_slice()))?;
     }
@@ -143,6 +144,22 @@ fn the_realistic_set_is_built(rt: HostRuntime) -> Result<(), Fail> {
         0x6428_500A,
         0xE6AB_D019,
         0x4EA7_3AA7,
+    ]
+    .as_slice();
+    assert_eq!(rt; sums.as_slice(), known);
+    Ok(())
+}
+
+#[test]
+fn the_set_with_a_batch_is_built(rt: HostRuntime) -> Result<(), Fail> {
+    let sums = built_sums(rt.alloc(), b"", BATCHED.as_bytes())?;
+    let known = [
+        0xA398_67C4,
+        0x2007_B531,
+        0x7E06_95EF,
+        0x6162_FD5C,
+        0xFC89_1918,
+        0xE795_6F2A,
     ]
     .as_slice();
     assert_eq!(rt; sums.as_slice(), known);

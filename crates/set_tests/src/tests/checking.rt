@@ -59,7 +59,7 @@ fn copy_of(alloc: Global, bytes: &[u8]) -> Result<Bytes, NoMemory>
     Ok(copy)
 }
 
-fn placed(alloc: Global, name: Name, bytes: &[u8]) -> Result<Placed, NoMemory>
+pub(super) fn placed(alloc: Global, name: Name, bytes: &[u8]) -> Result<Placed, NoMemory>
     requires { length bytes.now ≤ longest_file }
     ensures { IfOk result IsShortBody }
 {
@@ -70,7 +70,7 @@ fn placed(alloc: Global, name: Name, bytes: &[u8]) -> Result<Placed, NoMemory>
     })
 }
 
-fn name_of(bytes: &[u8]) -> Result<Name, Fail> {
+pub(super) fn name_of(bytes: &[u8]) -> Result<Name, Fail> {
     match Name::read(bytes) {
         Ok(name) => Ok(name),
         Err(_) => Err(Fail::new("no name")),
@@ -87,7 +87,7 @@ fn lines_of(alloc: Global, findings: &[Finding]) -> Result<Bytes, NoMemory> {
     Ok(out)
 }
 
-fn found_in(alloc: Global, set: &MediaSet) -> Result<Bytes, NoMemory> {
+pub(super) fn found_in(alloc: Global, set: &MediaSet) -> Result<Bytes, NoMemory> {
     let findings = check(alloc, set)?;
     let lines = lines_of(alloc, findings.as_slice());
     drop(findings);
@@ -116,7 +116,7 @@ fn a_set_is_opened_and_checked(rt: HostRuntime) -> Result<(), Fail> {
     Ok(())
 }
 
-fn list_of(alloc: Global, bytes: &[u8]) -> Result<List<Bytes>, NoMemory> {
+pub(super) fn list_of(alloc: Global, bytes: &[u8]) -> Result<List<Bytes>, NoMemory> {
     let copy = copy_of(alloc, bytes)?;
     let mut list = List::new(alloc);
     list.push(copy)?;
@@ -142,6 +142,7 @@ fn built_set(alloc: Global, bytes: &[u8; 9]) -> Result<MediaSet, Fail> {
     let built = Built {
         loads,
         files,
+        batches: List::new(alloc),
         bodies,
     };
     Ok(MediaSet::from_parts(alloc, built)?)

@@ -116,6 +116,62 @@ fn the_first_wrong_word_is_told(rt: HostRuntime) {
     }
 }
 
+const BATCH_LINES: [(&[u8], &[u8]); 10] = [
+    (b"target HW1 L ABC41-0000-0001", b"B5 4"),
+    (b"batch ABC43-0000-0003 TWO.LUB", b"B1 4"),
+    (b"batch ABC43-0000-0003 TWO.LUB 1 1", b"B1 4"),
+    (b"batch ABC44-0000-0003 TWO.LUH 3", b"B4 4"),
+    (b"batch ABC43-0000-0003 TWO.LUH 3", b"B3 4"),
+    (b"batch ABC43-0000-0003 APP.BIN 3", b"B3 4"),
+    (b"batch ABC43-0000-0003 TWO.LUB 3", b"B2 4"),
+    (b"batch ABC43-0000-0003 TWO.LUB 1", b"B5 5"),
+    (
+        b"batch ABC43-0000-0003 TWO.LUB 1\nbatch ABC43-0000-0003 B.LUB 1",
+        b"B5 5",
+    ),
+    (b"data A.LUB 1 a b\nbatch ABC43-0000-0003 A.LUB 3", b"B6 5"),
+];
+
+#[test]
+fn the_first_wrong_word_of_a_batch_is_told(rt: HostRuntime) {
+    for &(lines, fault) in &BATCH_LINES {
+        assert_eq!(rt; is_refused_after(rt.alloc(), lines, fault), true);
+    }
+}
+
+// The same of lines after a batch.
+fn is_refused_in_batch(alloc: Global, lines: &[u8], fault: &[u8]) -> bool {
+    let mut text = Bytes::new(alloc);
+    let batch = b"batch ABC43-0000-0003 TWO.LUB 1\n";
+    if text.extend(batch).is_err() || text.extend(lines).is_err() {
+        return false;
+    }
+    is_refused_after(alloc, text.as_slice(), fault)
+}
+
+const TARGET_LINES: [(&[u8], &[u8]); 10] = [
+    (b"target HW1 L", b"B1 5"),
+    (b"target hw L ABC42-0000-0002", b"B3 5"),
+    (b"target HW1 _ ABC42-0000-0002", b"B3 5"),
+    (b"target HW1 123456789012345678901 ABC41-0000-0001", b"B3 5"),
+    (b"target HW1 L ABC42-0000-0002 ABC44-0000-0003", b"B9 5"),
+    (b"target HW1 L ABC44-0000-0003 ABC42-0000-0002", b"B4 5"),
+    (b"target HW1 L ABC41-0000-0001 ABC43-0000-0003", b"B9 5"),
+    (b"load ABC42-0000-0002 OPS.LUH 1 8 OPS", b"B5 5"),
+    (b"target HW1 L ABC41-0000-0001\nhardware H", b"B5 6"),
+    (
+        b"target HW1 L ABC41-0000-0001\nbatch ABC43-0000-0003 TWO.LUB 3",
+        b"B6 6",
+    ),
+];
+
+#[test]
+fn the_first_wrong_word_of_a_target_is_told(rt: HostRuntime) {
+    for &(lines, fault) in &TARGET_LINES {
+        assert_eq!(rt; is_refused_in_batch(rt.alloc(), lines, fault), true);
+    }
+}
+
 // The kinds of the lines of a recipe, a letter each, and the type id of its last load.
 fn outline(alloc: Global, text: &[u8]) -> Result<(Bytes, u16), Fail> {
     let recipe = Recipe::read(alloc, text)?;
@@ -140,6 +196,8 @@ fn kinds_of(alloc: Global, recipe: &Recipe) -> Result<(Bytes, u16), NoMemory> {
             Statement::Data(_) => b'd',
             Statement::Support(_) => b's',
             Statement::User(_) => b'u',
+            Statement::Batch(_) => b'b',
+            Statement::Target(_) => b't',
         };
         kinds.push(kind)?;
     }
@@ -151,6 +209,53 @@ fn the_realistic_recipe_is_read(rt: HostRuntime) -> Result<(), Fail> {
     let (kinds, last) = outline(rt.alloc(), REALISTIC.as_bytes())?;
     assert_eq!(rt; kinds.as_slice(), b"SMlhpddsulhdlhd".as_slice());
     assert_eq!(rt; last, 9);
+    Ok(())
+}
+
+/// The worked set, with a batch for two targets.
+pub(crate) static BATCHED: &str = "set XYZ5A-0000-0001
+members 1
+load ABC41-0000-0001 APP.LUH 1 7 APP
+hardware HW1
+data APP.BIN 1 one APP1
+batch ABC43-0000-0003 TWO.LUB 1
+target HW1 L ABC41-0000-0001
+target HW1 R ABC41-0000-0001
+";
+
+#[test]
+fn a_recipe_with_a_batch_is_read(rt: HostRuntime) -> Result<(), Fail> {
+    let (kinds, last) = outline(rt.alloc(), BATCHED.as_bytes())?;
+    assert_eq!(rt; kinds.as_slice(), b"SMlhdbtt".as_slice());
+    assert_eq!(rt; last, 7);
+    Ok(())
+}
+
+// A recipe with this many targets in its only batch.
+fn recipe_of_targets(alloc: Global, targets: u8) -> Result<Bytes, Fail> {
+    let mut text = Bytes::new(alloc);
+    text.extend(b"set XYZ5A-0000-0001\nmembers 1\nload ABC41-0000-0001 A.LUH 1 7 APP\n")?;
+    text.extend(b"batch ABC43-0000-0003 TWO.LUB 1\n")?;
+    for _index in 0..targets {
+        text.extend(b"target HW1 L ABC41-0000-0001\n")?;
+    }
+    Ok(text)
+}
+
+fn fault_of_targets(alloc: Global, targets: u8) -> Result<Option<Bytes>, Fail> {
+    let text = recipe_of_targets(alloc, targets)?;
+    Ok(fault_of(alloc, text.as_slice()))
+}
+
+#[test]
+fn targets_are_limited(rt: HostRuntime) -> Result<(), Fail> {
+    let full = fault_of_targets(rt.alloc(), 64)?;
+    assert_eq!(rt; full.is_none(), true);
+    let in_batch = fault_of_targets(rt.alloc(), 65)?;
+    assert_eq!(rt;
+        in_batch.is_some_and(|text| text.as_slice() == b"B8 69".as_slice()),
+        true
+    );
     Ok(())
 }
 
@@ -233,25 +338,37 @@ fn bodies(alloc: Global) -> Result<List<Placed>, Fail> {
     Ok(bodies)
 }
 
-// A set of two members with three files.
-fn built(alloc: Global) -> Result<Built, Fail> {
+// A set of two members with three files, and with lists of batches or without.
+fn built(alloc: Global, has_batches: bool) -> Result<Built, Fail> {
     let bodies = bodies(alloc)?;
     let loads = lists(alloc, b"L1", b"L2")?;
     let files = lists(alloc, b"F1", b"F2")?;
+    let batches = batches_lists(alloc, has_batches)?;
     Ok(Built {
         loads,
         files,
+        batches,
         bodies,
     })
 }
 
-const NAMES: [&[u8]; 7] = [
+fn batches_lists(alloc: Global, has_batches: bool) -> Result<List<Bytes>, Fail> {
+    if has_batches {
+        lists(alloc, b"T1", b"T2")
+    } else {
+        Ok(List::new(alloc))
+    }
+}
+
+const NAMES: [&[u8]; 9] = [
     b"P/1/LOADS.LUM",
     b"P/1/FILES.LUM",
+    b"P/1/BATCHES.LUM",
     b"P/1/A.LUH",
     b"P/1/C.BIN",
     b"P/2/LOADS.LUM",
     b"P/2/FILES.LUM",
+    b"P/2/BATCHES.LUM",
     b"P/2/B.BIN",
 ];
 
@@ -268,36 +385,41 @@ fn outline_of(alloc: Global, host: &mut MemHost) -> Result<Bytes, Fail> {
 }
 
 // The outline after a writing whose call of this number fails, if it isn't 0, and whether it failed.
-fn written(alloc: Global, call: u32) -> Result<(Bytes, bool), Fail> {
+fn written(alloc: Global, has_batches: bool, call: u32) -> Result<(Bytes, bool), Fail> {
     let mut host = MemHost::new(alloc);
-    let found = write_failing(alloc, &mut host, call);
+    let found = write_failing(alloc, &mut host, has_batches, call);
     drop(host);
     found
 }
 
-fn write_failing(alloc: Global, host: &mut MemHost, call: u32) -> Result<(Bytes, bool), Fail> {
+fn write_failing(
+    alloc: Global,
+    host: &mut MemHost,
+    has_batches: bool,
+    call: u32,
+) -> Result<(Bytes, bool), Fail> {
     if call > 0 {
         host.fail_at(call)?;
     }
-    let set = built(alloc)?;
+    let set = built(alloc, has_batches)?;
     let failed = write(host, b"P", &set).is_err();
     drop(set);
     Ok((outline_of(alloc, host)?, failed))
 }
 
-// Whether this is left, and whether the writing fails.
-fn leaves(alloc: Global, call: u32, outline: &[u8], fails: bool) -> Result<bool, Fail> {
-    let (found, failed) = written(alloc, call)?;
-    Ok(found.as_slice() == outline && failed == fails)
-}
+const WRITINGS: [(bool, u32, &[u8], bool); 5] = [
+    (false, 0, b"L1F1-acL2F2-b", false),
+    (false, 1, b"---------", true),
+    (false, 4, b"L1F1-a-----", true),
+    (true, 0, b"L1F1T1acL2F2T2b", false),
+    (true, 4, b"L1F1T1------", true),
+];
 
 #[test]
 fn a_set_is_written_member_by_member(rt: HostRuntime) -> Result<(), Fail> {
-    let whole = leaves(rt.alloc(), 0, b"L1F1acL2F2b", false)?;
-    assert_eq!(rt; whole, true);
-    let none = leaves(rt.alloc(), 1, b"-------", true)?;
-    assert_eq!(rt; none, true);
-    let some = leaves(rt.alloc(), 4, b"L1F1a----", true)?;
-    assert_eq!(rt; some, true);
+    for &(has_batches, call, outline, fails) in &WRITINGS {
+        let (found, failed) = written(rt.alloc(), has_batches, call)?;
+        assert_eq!(rt; (found.as_slice() == outline, failed), (true, fails));
+    }
     Ok(())
 }

@@ -14,16 +14,16 @@ use Rattle.loader_cli.proofs.ReadInputs.{has_list, list_is_absent, list_is_fault
 use Rattle.loader_cli.proofs.Replayed.{hides_after, none_failed}
 use Rattle.loader_cli.proofs.inputs.read_files.Goals as goal
 
-pub read_rest-requires-clause-files : goal.read_rest-requires-clause-files
-read_rest-requires-clause-files g c =
+pub read_batches-requires-clause-files : goal.read_batches-requires-clause-files
+read_batches-requires-clause-files g c =
     list_read files_list_view files_list (files_name c.args.folder.now 1) (g.H.Host.files c.args.host.now) (g.H.Host.files c.read_files_list.new.host) c.in-Ok-Read.files c.read_files_list.ensures.kept
     (rw c.in-Ok-Read.field-0-is at c.in-Ok-Read.ensures.reads)
 
 pub returns-in-Ok-Read-clause-reads : goal.returns-in-Ok-Read-clause-reads
 returns-in-Ok-Read-clause-reads g c =
     λ before least.
-    subst (λ (files : Option Files). IfOk c.read_rest.result (λ read. ReadsInputs c.args.folder.now c.args.name.now files before (g.H.Host.faults c.read_rest.new.host) read))
-    c.read_files_list.ensures.kept (c.read_rest.ensures.reads before (omega (arith, least, c.read_files_list.ensures.cause.later)))
+    subst (λ (files : Option Files). IfOk c.read_batches.result (λ read. ReadsInputs c.args.folder.now c.args.name.now files before (g.H.Host.faults c.read_batches.new.host) read))
+    c.read_files_list.ensures.kept (c.read_batches.ensures.reads before (omega (arith, least, c.read_files_list.ensures.cause.later)))
 
 pub returns-in-Ok-Missing-clause-reads : goal.returns-in-Ok-Missing-clause-reads
 returns-in-Ok-Missing-clause-reads g c =
@@ -53,7 +53,7 @@ returns-in-Err-TooLarge-clause-reads g c =
     never_large c.args.folder.now c.args.name.now (g.H.Host.files c.args.host.now) before _ (rw c.in-Err-TooLarge.field-0-is at c.in-Err-TooLarge.ensures.reads)
 
 pub returns-in-Ok-Read-clause-faults : goal.returns-in-Ok-Read-clause-faults
-returns-in-Ok-Read-clause-faults g c = hides_after _ _ _ _ c.read_rest.result c.in-Ok-Read.ensures.cause.ok c.read_rest.ensures.faults
+returns-in-Ok-Read-clause-faults g c = hides_after _ _ _ _ c.read_batches.result c.in-Ok-Read.ensures.cause.ok c.read_batches.ensures.faults
 
 pub returns-in-Ok-Missing-clause-faults : goal.returns-in-Ok-Missing-clause-faults
 returns-in-Ok-Missing-clause-faults g c = none_failed _ _ _ c.absent_list.result c.in-Ok-Missing.ensures.cause.ok

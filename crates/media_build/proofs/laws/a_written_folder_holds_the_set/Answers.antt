@@ -13,24 +13,24 @@ returns c =
     let readable = c.a_written_set_can_be_read.ensures in
     let clean = c.a_built_set_has_no_finding.ensures.written in
     record {
-      built = λ folder text lines built files old new said sizes builds small written.
+      built = λ folder text lines built files old new said sizes builds small fresh written.
           let is = what_a_text_says_is_a_recipe text lines said in
           let fits = built_sizes_fit lines built files c.header_laws.ensures.same_size sizes builds in
           record {
-            has = written_folder_has folder (sources_in files) lines built old new is builds.1 written;
+            has = written_folder_has folder (sources_in files) lines built old new is fresh builds.1 written;
             sound = record {
-              readable = readable folder (sources_in files) lines built old new is fits builds.1 small.together written;
-              clean = clean folder (sources_in files) lines built old new is fits builds.1 written;
+              readable = readable folder (sources_in files) lines built old new is fits fresh builds.1 small.together written;
+              clean = clean folder (sources_in files) lines built old new is fits fresh builds.1 written;
             };
           };
-      made = λ folder number built old new same small written.
+      made = λ folder number built old new same small fresh written.
           let size = generated_size number 4194304 in
           let fits = sizes_fit (generated number 4194304) (rw size (omega arith)) in
           record {
-            has = written_folder_has folder (generated_sources number) generated_lines built old new is_recipe same written;
+            has = written_folder_has folder (generated_sources number) generated_lines built old new is_recipe fresh same written;
             sound = record {
-              readable = readable folder (generated_sources number) generated_lines built old new is_recipe fits same small.together written;
-              clean = clean folder (generated_sources number) generated_lines built old new is_recipe fits same written;
+              readable = readable folder (generated_sources number) generated_lines built old new is_recipe fits fresh same small.together written;
+              clean = clean folder (generated_sources number) generated_lines built old new is_recipe fits fresh same written;
             };
           };
     }

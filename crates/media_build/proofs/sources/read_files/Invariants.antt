@@ -1,4 +1,4 @@
-use Rattle.std.proofs.Common.{◌≡◌, ◌≤◌, take}
+use Rattle.std.proofs.Common.{◌≡◌, take}
 use Rattle.std.specs.Option.{ForSome}
 use Rattle.media_build.specs.Building.{ReadsFiles}
 use Rattle.media_build.specs.Parts.{statements}

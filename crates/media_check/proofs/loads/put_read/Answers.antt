@@ -17,4 +17,4 @@ returns-in-Ok c =
 pub returns-in-Err : goal.returns-in-Err
 returns-in-Err c =
     let is = header_refused c.args.bytes.now Memory c.in-Err.fault (search rules) c.in-Err.ensures.refused in
-    rw is c.put_refused_header.ensures
+    rw is c.put_refused.ensures

@@ -1,4 +1,4 @@
-use Rattle.std.proofs.Common.{◌≡◌, ◌≤◌, length, Ok}
+use Rattle.std.proofs.Common.{◌≡◌, length, Ok}
 use Rattle.std.specs.List.{range_with_len}
 use Rattle.std.specs.Option.{ForSome}
 use Rattle.media_check.proofs.HostReads.{ReadsMembers}

@@ -14,8 +14,8 @@ listed_bodies-requires-clause-short c =
 pub returns : goal.returns
 returns c =
     let built = c.args.built in
-    let first = rw (c.as_slice.ensures, c.as_slice-2.ensures) at c.in_ok-first.ensures.lists in
-    let further = rw (c.as_slice-3.ensures, c.as_slice-4.ensures) at c.in_ok-further.ensures.lists in
+    let first = rw (c.as_slice-loads.ensures, c.as_slice-files.ensures, c.as_slice-batches.ensures) at c.in_ok-first.ensures.lists in
+    let further = rw (c.as_slice-loads.ensures, c.as_slice-files.ensures, c.as_slice-batches.ensures) at c.in_ok-further.ensures.lists in
     parts_joined built (lists_view c.in_ok-first.first) (map lists_view c.in_ok-further.further.items) (files_view c.in_ok-files.files.entries) first
-    (further ∙ ap (map (built_lists built.loads.items built.files.items)) c.count_further-count.ensures.members)
+    (further ∙ ap (map (built_lists built.loads.items built.files.items built.batches.items)) c.count_further-count.ensures.members)
     (c.in_ok-files.ensures.files ∙ files_same built c.in_ok-bodies.bodies.entries c.in_ok-bodies.ensures (entries_of (lists_view c.in_ok-first.first).files))
