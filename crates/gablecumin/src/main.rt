@@ -13,6 +13,7 @@ use loader_cli::{Ended, run};
 use std::alloc::{AllocError, Global};
 use std::env;
 use std::io::ErrorKind;
+use std::mem::forget;
 use std::process::ExitCode;
 use std::rt::Env;
 
@@ -36,7 +37,11 @@ fn main(rt: HostRuntime) -> ExitCode {
         Fused::new(FileDisk::new(&rt, &opened, "target7.disk")),
         Fused::new(FileDisk::new(&rt, &opened, "target8.disk")),
     ];
-    exit_of(&run(alloc, &words, &mut host, &mut out, &mut disks))
+    let ended = run(alloc, &words, &mut host, &mut out, &mut disks);
+    let exit = exit_of(&ended);
+    // The system takes back what a run came to; piece by piece that took longer.
+    forget(ended);
+    exit
 }
 
 // The status of the run.

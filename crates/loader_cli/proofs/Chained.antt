@@ -152,7 +152,7 @@ module _ {K : Type 0} (state : K → DiskState) (call : FleetCall K) (end : Ende
   unit_rests (fleet_told text tells out) = of_fleet_told end.status text tells.says
   unit_rests (fleet_sink_failed status text n tells out rose seven) = of_fleet_told status text tells.says
   unit_rests (fleet_put other status text tells six none) = absurd (none_is handed none)
-  unit_rests (fleet_out same six none) = absurd (none_is handed none)
+  unit_rests (fleet_out same out six none) = absurd (none_is handed none)
 
 -- ---- all calls
 
@@ -237,7 +237,7 @@ module _ {H O K : Type 0} (files : H → Option Files) (host_faults : H → ℕ)
 
 -- some media set: which one doesn't matter
 no_set : SetView
-no_set = record { first = record { loads = Missing; files = Missing }; further = []; files = [] }
+no_set = record { first = record { loads = Missing; files = Missing; batches = Missing }; further = []; files = [] }
 
 -- arguments that neither format nor roll back
 neither : (words : List (List ℕ)) → IsNo FormatsDisk words → (IsCommand words rollback → ⊥) → IsNo FormatsOrRollsBack words

@@ -1,6 +1,6 @@
 -- Arguments are answered, of one unit or of a fleet.
 use Rattle.std.proofs.Common.{◌≡◌, ℕ, zero, suc, List, [], ◌∷◌, length, take, Option, None, Result, Ok, Err, IfOk, refl, sym, ap, subst, ◌∙◌, arith}
-use Rattle.std.specs.Prelude.{codes, option_map}
+use Rattle.std.specs.Prelude.{OnErr, codes, option_map}
 use Rattle.std.specs.Fmt.{decimal}
 use Rattle.std.proofs.lemmas.Fmt.{decimal_injective}
 use Rattle.disk_model.specs.State.{DiskState}
@@ -10,7 +10,7 @@ use Rattle.loader_cli.specs.Commands.{IsCommand, IsNo, IsOfFleet, IsPlain, UsesS
 use Rattle.loader_cli.specs.Commands.CommandView.{build, check, fleet, format, list, make, replay, rollback, show, trial, wire}
 use Rattle.loader_cli.specs.Commands.IsCommand.{on, plain}
 use Rattle.loader_cli.specs.FleetReplays.{FleetSeen, fleet_seen}
-use Rattle.loader_cli.specs.FleetRuns.{AllLeaveFirstOrGood, FleetSays, FleetTellsAll, FleetWork, WritesWhereAllHold, fleet_handing}
+use Rattle.loader_cli.specs.FleetRuns.{AllLeaveFirstOrGood, FleetRunsOut, FleetSays, FleetTellsAll, FleetWork, WritesWhereAllHold, fleet_handing}
 use Rattle.loader_cli.specs.Told.{AnswersFleet, HandsOutByCommand}
 use Rattle.loader_cli.specs.declared.answer.Answered.{Answered}
 use Rattle.loader_cli.specs.declared.command.Command.{Command}
@@ -68,9 +68,9 @@ as_asked words count folder script asked Holds holds count_2 folder_2 script_2 i
 
 pub fleet_answered : {K : Type 0} (state : K → DiskState) (work : FleetWork K) (result : Result Answered NoMemory)
     → IfOk result (λ said. FleetSays state work (option_map fleet_seen said.fleet) (status_of said.answer) (text_of said.answer)) → HidesNoFault answered_status work.host_faults work.host_faults_after result
-    → WritesWhereAllHold state work.disks work.disks_after → AllLeaveFirstOrGood state work.disks work.disks_after → AnswersFleet state work result
-fleet_answered state work (Ok said) says hides held leaves = record { tells = record { says = says; host = hides.answered }; no_memory = tt; held = held; leaves = leaves }
-fleet_answered state work (Err fault) says hides held leaves = record { tells = tt; no_memory = hides.no_memory; held = held; leaves = leaves }
+    → OnErr result (FleetRunsOut state work.disks work.disks_after) → WritesWhereAllHold state work.disks work.disks_after → AllLeaveFirstOrGood state work.disks work.disks_after → AnswersFleet state work result
+fleet_answered state work (Ok said) says hides memory held leaves = record { tells = record { says = says; host = hides.answered }; no_memory = tt; held = held; leaves = leaves }
+fleet_answered state work (Err fault) says hides memory held leaves = record { tells = tt; no_memory = (hides.no_memory, memory); held = held; leaves = leaves }
 
 pub hands_of_fleet : (words : List (List ℕ)) (count : ℕ) (folder script : List ℕ) → IsCommand words (fleet count folder script) → (result : Result Answered NoMemory) → IfOk result (λ said. said.drive ≡ None)
     → IfOk result (λ said. HandsOutByCommand words said.drive said.fleet)

@@ -10,7 +10,7 @@ use Rattle.disk_model.specs.Image.{Image}
 use Rattle.disk_model.specs.State.{DiskState}
 use Rattle.fleet_trace.specs.FleetLines.{FleetLine}
 use Rattle.fleet_trace.specs.FleetScripts.{fleet_script_said}
-use Rattle.fleet_trace.specs.FleetTraces.{fleet_steps_of, steps_of_unit}
+use Rattle.fleet_trace.specs.FleetTraces.{steps_of_unit}
 use Rattle.media_check.specs.Sets.{SetView}
 use Rattle.replay_turns.specs.Powers.{RoseBy, disk_stops}
 use Rattle.target_fleet.proofs.FirstBoots.{there_is}
@@ -37,7 +37,7 @@ module _ {K : Type 0} (state : K → DiskState) (call : FleetCall K) (end : Ende
       (files : Files) (set : SetView) (script : List FleetLine) (sound : FleetSound state call files set script) where
     -- the disk of no unit fails once more than it stopped
     never_more : (run : FleetSeen) → call.work.handed ≡ Some run → (i : ℕ) (first last : K) → slice_get old i ≡ Some first → slice_get new i ≡ Some last
-        → RoseBy (disk_stops (steps_of_unit (i + 1) (fleet_steps_of run.trace)) + 1) (state first).faults (state last).faults → ⊥
+        → RoseBy (disk_stops (steps_of_unit (i + 1) run.steps) + 1) (state first).faults (state last).faults → ⊥
     never_more run handed i first last was is rose =
         sound.stops i first last was is (subst (λ (h : Option FleetSeen). RoseBy (stops_at h i + 1) (state first).faults (state last).faults) (sym handed) rose)
 
@@ -98,7 +98,7 @@ module _ {K : Type 0} (state : K → DiskState) (call : FleetCall K) (end : Ende
         (subst (λ (f : Option Files). ReplaysFleet state call.work.folder call.work.script f call.work.host_faults call.work.host_faults_after old new call.work.handed end.status text) sound.files all.says) refl put)
     replays_it same (sink_failed _ _ _ _ _ rose _) = absurd (sound.sink_answers rose)
     replays_it same (as_it_was_put _ _ _ _ six _) = inl six
-    replays_it same (in_command _ six _) = inl six
+    replays_it same (in_command _ _ six _) = inl six
 
   -- ---- all of it
 

@@ -25,7 +25,7 @@ use Rattle.fleet_trace.specs.FleetFinishes.{IsLeftToOwnFinish}
 use Rattle.fleet_trace.specs.FleetFollowing.{FollowsFleet}
 use Rattle.fleet_trace.specs.FleetLines.{FleetLine}
 use Rattle.fleet_trace.specs.FleetPosts.{fleet_happenings, happenings_of_unit}
-use Rattle.fleet_trace.specs.FleetTraces.{FleetHappeningView, Of_all, StepOfFleet, ended_step, fleet_steps_of, steps_of_unit}
+use Rattle.fleet_trace.specs.FleetTraces.{FleetHappeningView, Of_all, StepOfFleet, ended_step, steps_of_unit}
 use Rattle.fleet_trace.specs.OwnScripts.{own_script}
 use Rattle.fleet_trace.proofs.LastFleetFinish.{each_is_left_to_own}
 use Rattle.fleet_trace.proofs.UnitParts.{happenings_are}
@@ -60,6 +60,7 @@ use Rattle.target_fleet.proofs.OwnFinish.{waits_as}
 use Rattle.loader_cli.specs.FleetReplays.{AllHoldAtRest, CompletesInFleet, FleetSeen, HoldsAtRest, IsFleetRun, IsOwnRun, RunsFleet, RunsInOwnSteps, TellsFleet, fleet_seen, settings_of}
 use Rattle.loader_cli.specs.FleetReplays.RunsFleet.{disk_failed, ended, no_config, unknown}
 use Rattle.loader_cli.specs.FleetReplays.TellsFleet.{all_known, one_unknown}
+use Rattle.loader_cli.specs.FleetRuns.{FleetRunsOut}
 use Rattle.loader_cli.specs.Replays.{CountsPower, LeavesFirstOrGood, setting_of}
 use Rattle.loader_cli.specs.Texts.{disk_fault, no_configuration}
 use Rattle.loader_cli.proofs.Left.{accepts_permitted, run_leaves}
@@ -184,7 +185,7 @@ module _ {R K : Type 0} (state : K → DiskState) (may_say : R → LoadHeader �
 
   module _ (script : List FleetLine) (link : FleetLinkState) (run : FleetDrive) (old new : List K) where
     abbrev steps : List StepOfFleet
-    steps = fleet_steps_of run.trace.items
+    steps = run.trace
 
     pub fleet_ran : CanBeTold (media_of set) → WhatIsHeldFits → FinishLeavesPower
         → ((sets : ℕ → Setting) (unit : ℕ) (sessions : List EndedSession) (standing : Option StandingView) → CompletesAtUnit (length old) sets script steps unit sessions standing)
@@ -197,7 +198,6 @@ module _ {R K : Type 0} (state : K → DiskState) (may_say : R → LoadHeader �
       before = is.before;
       steps = is.steps;
       once = is.once;
-      ordered = is.ordered;
       count = length-map run.units.items unit_seen ∙ is.units;
       units = units;
       follows = follows_it;
@@ -277,6 +277,14 @@ module _ {K : Type 0} (state : K → DiskState) (old new : List K) {began link :
           no_config reason later.index refl later.fails.of_disk
           (inr (record { last = later.fails.disk; now = later.fails.there; none = later.fails.none; stood = later.stood; ended = later.before }))
           refl refl
+
+  -- memory ran out as a unit came up, or in a run
+  pub refused_memory : {fault : FleetFault} → fault ≡ fleets.Memory → IsFleetRefusal state fault began link old new → FleetRunsOut state old new
+  refused_memory {fault = fault} is refused = by (subst (λ (f : FleetFault). IsFleetRefusal state f began link old new) is refused)
+    where
+      by : IsFleetRefusal state fleets.Memory began link old new → FleetRunsOut state old new
+      by (inl first) = inr (inl (record { index = first.fails.index; runs = first.fails.fails.runs; stood = first.fails.stood; only_reads = first.only_reads }))
+      by (inr later) = inr (inr later)
 
   -- nothing was written, or each disk held one
   pub refused_held : (fault : FleetFault) → IsFleetRefusal state fault began link old new → AllOnlyRead state old new ⊎ AllDisks (λ (k : K). HoldsSome (state k)) old

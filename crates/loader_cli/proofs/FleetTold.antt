@@ -7,7 +7,7 @@ use Rattle.std.proofs.lemmas.List.Elements.{All-append, All-cons, All-head, All-
 use Rattle.std.proofs.lemmas.Option.{slice_get-map}
 use Rattle.disk_layout.specs.Holds.{standing_view}
 use Rattle.disk_layout.specs.declared.standing.Standing.{Standing}
-use Rattle.fleet_trace.specs.declared.trace.FleetStep.{FleetStep}
+use Rattle.fleet_trace.specs.FleetTraces.{StepOfFleet}
 use Rattle.loader_machine.specs.Machine.{session_view}
 use Rattle.session_rules.specs.Loader.{EndedSession}
 use Rattle.target_fleet.specs.FleetTexts.{UnitSeen, fleet_report, unit_seen}
@@ -86,14 +86,14 @@ known_or_not (end ∷ ends) = by end.standing refl (known_or_not ends)
 
 -- ---- what is told
 
-module _ (trace : List FleetStep) (ends : List UnitEnd) where
+module _ (steps : List StepOfFleet) (ends : List UnitEnd) where
   abbrev seen : FleetSeen
-  seen = record { trace = trace; units = map unit_seen ends }
+  seen = record { steps = steps; units = map unit_seen ends }
 
-  pub tells_done : (text : List ℕ) → All IsKnown ends → All HasCompletedAll ends → text ≡ fleet_report trace (map unit_seen ends) → TellsFleet seen 0 text
+  pub tells_done : (text : List ℕ) → All IsKnown ends → All HasCompletedAll ends → text ≡ fleet_report steps (map unit_seen ends) → TellsFleet seen 0 text
   tells_done text known completed told = all_known (all_seen ends known) (all_completed (together ends completed) refl) told
 
-  pub tells_unfinished : (text : List ℕ) → All IsKnown ends → ¬ All HasCompletedAll ends → text ≡ fleet_report trace (map unit_seen ends) → TellsFleet seen 1 text
+  pub tells_unfinished : (text : List ℕ) → All IsKnown ends → ¬ All HasCompletedAll ends → text ≡ fleet_report steps (map unit_seen ends) → TellsFleet seen 1 text
   tells_unfinished text known some told = all_known (all_seen ends known) (not_completed (λ all. some (each ends all)) refl) told
 
   pub tells_unknown : ¬ All IsKnown ends → TellsFleet seen 5 disk_fault

@@ -28,14 +28,12 @@ use Rattle.fleet_trace.specs.FleetFinishes.{ReachesFleetFinish}
 use Rattle.fleet_trace.specs.FleetFollowing.{FollowsFleet}
 use Rattle.fleet_trace.specs.FleetLines.{FleetLine}
 use Rattle.fleet_trace.specs.FleetScripts.{fleet_script_said}
-use Rattle.fleet_trace.specs.FleetTraces.{HasNotEnded, Of_all, StepOfFleet, fleet_steps_of, steps_of_unit}
-use Rattle.fleet_trace.specs.declared.trace.FleetStep.{FleetStep}
+use Rattle.fleet_trace.specs.FleetTraces.{HasNotEnded, Of_all, StepOfFleet, steps_of_unit}
 use Rattle.upload_replay.specs.Drives.{IsLoadersRun, IsUnitRun, NeverBoots}
 use Rattle.upload_replay.specs.Endings.{HeldNone, HoldsNone, HoldsSome}
 use Rattle.upload_replay.specs.Lives.{LivesThrough}
 use Rattle.target_fleet.specs.FleetTexts.{UnitSeen, fleet_report, unit_seen}
 use Rattle.target_fleet.specs.Fleets.{CameToEnd, HoldsInFleet}
-use Rattle.target_fleet.specs.Orders.{IsFleetInOrder}
 use Rattle.target_fleet.specs.Runs.{fleet_waiting}
 use Rattle.target_fleet.specs.Units.{AllDisks, AllOnlyRead}
 use Rattle.target_fleet.specs.declared.outcome.FleetDrive.{FleetDrive}
@@ -47,11 +45,11 @@ use Rattle.loader_cli.specs.Texts.{disk_fault, no_configuration, refused_input}
 
 -- a run of a fleet that came to its end, as contracts see it
 pub record FleetSeen : Type 0 where
-  pub trace : List FleetStep
+  pub steps : List StepOfFleet
   pub units : List UnitSeen
 
 abbrev pub fleet_seen : FleetDrive → FleetSeen
-fleet_seen drive = record { trace = drive.trace.items; units = map unit_seen drive.units.items }
+fleet_seen drive = record { steps = drive.trace; units = map unit_seen drive.units.items }
 
 -- ---- what it stands on
 
@@ -119,22 +117,21 @@ CompletesInFleet count sets script unit steps seen old new =
     → (last : StandingView) → seen.standing ≡ Some last
     → IsComplete (sets unit) (steps_of_unit unit left.whole.before) left.free (steps_of_unit unit steps) last
 
--- A run of this script with as many units as there are disks. The end is its last step and no other; the lines of its trace
--- stand in order; each unit is told of, and ran in its own steps. Where all disks hold configurations at rest, the steps follow
--- the script, and each unit that is left to its last `finish` completes.
+-- A run of this script with as many units as there are disks. The end is its last step and no other; each unit is told of, and
+-- ran in its own steps. Where all disks hold configurations at rest, the steps follow the script, and each unit that is left to
+-- its last `finish` completes.
 pub record IsFleetRun {K : Type 0} (state : K → DiskState) (set : SetView) (script : List FleetLine) (old new : List K) (run : FleetSeen) : Type 0 where
   pub before : List StepOfFleet
-  pub steps : fleet_steps_of run.trace ≡ Of_all ∷ before
+  pub steps : run.steps ≡ Of_all ∷ before
   pub once : HasNotEnded before
-  pub ordered : IsFleetInOrder run.trace
   pub count : length run.units ≡ length old
   pub units : (i : ℕ) (seen : UnitSeen) (first last : K) → slice_get run.units i ≡ Some seen → slice_get old i ≡ Some first → slice_get new i ≡ Some last
-      → RunsInOwnSteps set (i + 1) (fleet_steps_of run.trace) seen (state first) (state last)
+      → RunsInOwnSteps set (i + 1) run.steps seen (state first) (state last)
   pub follows : (starts : ℕ → StandingView) → AllHoldAtRest state starts old
-      → FollowsFleet (length old) (fleet_waiting (length old) (settings_of set starts)) script (fleet_steps_of run.trace)
+      → FollowsFleet (length old) (fleet_waiting (length old) (settings_of set starts)) script run.steps
   pub completes : (starts : ℕ → StandingView) → AllHoldAtRest state starts old
       → (i : ℕ) (seen : UnitSeen) (first last : K) → slice_get run.units i ≡ Some seen → slice_get old i ≡ Some first → slice_get new i ≡ Some last
-      → CompletesInFleet (length old) (settings_of set starts) script (i + 1) (fleet_steps_of run.trace) seen (state first) (state last)
+      → CompletesInFleet (length old) (settings_of set starts) script (i + 1) run.steps seen (state first) (state last)
 
 -- ---- what is told of it
 
@@ -158,7 +155,7 @@ pub record IsUnknownAt (run : FleetSeen) (index : ℕ) : Type 0 where
 
 -- the status and the text of a run of which all is known; else a disk failed
 pub data TellsFleet (run : FleetSeen) (status : ℕ) (text : List ℕ) : Type 0 where
-  all_known : AreAllKnown run → StatusOfRun (all_sessions run) status → text ≡ fleet_report run.trace run.units → TellsFleet run status text
+  all_known : AreAllKnown run → StatusOfRun (all_sessions run) status → text ≡ fleet_report run.steps run.units → TellsFleet run status text
   one_unknown : (index : ℕ) → IsUnknownAt run index → status ≡ 5 → text ≡ disk_fault → TellsFleet run status text
 
 -- The disk of the unit of this index failed as its target came up first; those before it hold configurations, and nothing was
@@ -197,7 +194,7 @@ pub record HoldsNoneLast {K : Type 0} (state : K → DiskState) (fault : Recover
 pub data RunsFleet {K : Type 0} (state : K → DiskState) (set : SetView) (script : List FleetLine) (old new : List K) (handed : Option FleetSeen) (status : ℕ) (text : List ℕ) : Type 0 where
   -- 0 or 1: the run came to its end, and it is known what stands on each disk
   ended : (run : FleetSeen) → handed ≡ Some run → AreAllKnown run → IsFleetRun state set script old new run → StatusOfRun (all_sessions run) status
-      → text ≡ fleet_report run.trace run.units → RunsFleet state set script old new handed status text
+      → text ≡ fleet_report run.steps run.units → RunsFleet state set script old new handed status text
   -- 5: the run came to its end, but a disk failed once more as it was recovered
   unknown : (run : FleetSeen) (index : ℕ) → handed ≡ Some run → IsUnknownAt run index → IsFleetRun state set script old new run → status ≡ 5 → text ≡ disk_fault
       → RunsFleet state set script old new handed status text

@@ -1,5 +1,5 @@
 -- What `run` promises of `fleet COUNT FOLDER SCRIPT` (docs/PROMISES.md).
-use Rattle.std.specs.Prelude.{◌≡◌, ◌≢◌, ℕ, ◌+◌, ◌⊎◌, List, length, take, Option, Some, None}
+use Rattle.std.specs.Prelude.{◌≡◌, ◌≢◌, ℕ, ◌+◌, ◌<◌, ◌⊎◌, List, length, slice_get, take, Option, Some, None}
 use Rattle.load_base.specs.Counts.{Rose}
 use Rattle.load_base.specs.Host.{Files}
 use Rattle.load_base.specs.Sink.{IsExtended}
@@ -7,10 +7,11 @@ use Rattle.disk_model.specs.State.{DiskState}
 use Rattle.disk_layout.specs.Holds.{StandingView}
 use Rattle.fleet_trace.specs.FleetLines.{FleetLine}
 use Rattle.fleet_trace.specs.FleetScripts.{fleet_script_said}
-use Rattle.fleet_trace.specs.FleetTraces.{fleet_steps_of, steps_of_unit}
+use Rattle.fleet_trace.specs.FleetTraces.{steps_of_unit}
 use Rattle.media_check.specs.Sets.{SetView}
 use Rattle.replay_turns.specs.Powers.{RoseBy, disk_stops}
-use Rattle.upload_replay.specs.Endings.{HoldsSome}
+use Rattle.upload_replay.specs.Endings.{FailsToBegin, HoldsSome}
+use Rattle.upload_replay.specs.declared.outcome.DriveFault.TheVariants.{Memory}
 use Rattle.target_fleet.specs.FleetTexts.{fleet_report}
 use Rattle.target_fleet.specs.Units.{AllBetween, AllDisks, AllOnlyRead}
 use Rattle.loader_cli.specs.FleetReplays.{AllHoldAtRest, AreAllKnown, FleetSeen, IsFleetRun, ReplaysFleet, all_sessions}
@@ -57,6 +58,18 @@ FleetSays state work handed status text = ReplaysFleet state work.folder work.sc
 abbrev pub WritesWhereAllHold : {K : Type 0} → (state : K → DiskState) → (old new : List K) → Type 0
 WritesWhereAllHold {K} state old new = AllOnlyRead state old new ⊎ AllDisks (λ (k : K). HoldsSome (state k)) old
 
+-- Memory ran out as the unit of this index came up, before anything happened: those before it hold configurations, its own disk
+-- runs on or was itself out of memory, and nothing was written to any.
+pub record RanOutFirst {K : Type 0} (state : K → DiskState) (old new : List K) : Type 0 where
+  pub index : ℕ
+  pub runs : (before after : K) → slice_get old index ≡ Some before → slice_get new index ≡ Some after → FailsToBegin Memory (state before) (state after)
+  pub stood : (i : ℕ) (k : K) → i < index → slice_get old i ≡ Some k → HoldsSome (state k)
+  pub only_reads : AllOnlyRead state old new
+
+-- Memory ran out before a disk was touched, or as a unit came up, or in a run on disks that each held a configuration.
+abbrev pub FleetRunsOut : {K : Type 0} → (state : K → DiskState) → (old new : List K) → Type 0
+FleetRunsOut {K} state old new = (new ≡ old) ⊎ (RanOutFirst state old new ⊎ AllDisks (λ (k : K). HoldsSome (state k)) old)
+
 -- what a power loss leaves of each disk: what was active at first, or loads of which each was active then or is checked, and one
 -- is checked
 abbrev pub AllLeaveFirstOrGood : {K : Type 0} → (state : K → DiskState) → (old new : List K) → Type 0
@@ -74,16 +87,16 @@ pub data FleetEnds {K : Type 0} (state : K → DiskState) (call : FleetCall K) (
   -- 7: the sink failed in this call, and a prefix of the text went out
   sink_failed : (status : ℕ) (text : List ℕ) (n : ℕ) → FleetTellsAll state call.work call.work.handed status text → IsExtended call.output call.output_after (take n text)
       → Rose call.sink_faults call.sink_faults_after → ended.status ≡ 7 → FleetEnds state call ended
-  -- 6: out of memory, as the text was put or in the command, which hides no failure of the host
+  -- 6: out of memory, as the text was put or in the command, which hides no failure of the host or of a disk
   as_it_was_put : (handed : Option FleetSeen) (status : ℕ) (text : List ℕ) → FleetTellsAll state call.work handed status text → ended.status ≡ 6 → call.work.handed ≡ None → FleetEnds state call ended
-  in_command : call.work.host_faults_after ≡ call.work.host_faults → ended.status ≡ 6 → call.work.handed ≡ None → FleetEnds state call ended
+  in_command : call.work.host_faults_after ≡ call.work.host_faults → FleetRunsOut state call.work.disks call.work.disks_after → ended.status ≡ 6 → call.work.handed ≡ None → FleetEnds state call ended
 
 -- ---- where it can't but succeed
 
 -- how often the disk of the unit of this index stopped in a run that is handed out
 abbrev pub stops_at : Option FleetSeen → (index : ℕ) → ℕ
 stops_at None index = 0
-stops_at (Some run) index = disk_stops (steps_of_unit (index + 1) (fleet_steps_of run.trace))
+stops_at (Some run) index = disk_stops (steps_of_unit (index + 1) run.steps)
 
 -- The arguments run this script on the set in this folder: the host has both, and all of the set can be read. Each disk holds a
 -- configuration at rest, and fails in the run no more often than its unit's steps say that it stops; neither host nor sink fails.
@@ -103,7 +116,7 @@ pub record TellsFleetRun {K : Type 0} (state : K → DiskState) (call : FleetCal
   pub known : AreAllKnown seen
   pub runs : IsFleetRun state set script call.work.disks call.work.disks_after seen
   pub status : StatusOfRun (all_sessions seen) ended.status
-  pub text : IsExtended call.output call.output_after (fleet_report seen.trace seen.units)
+  pub text : IsExtended call.output call.output_after (fleet_report seen.steps seen.units)
 
 -- How a run of `fleet` ends, and that a failure of the sink is told; where it can't but succeed; which disks are written; and
 -- what is left of each.

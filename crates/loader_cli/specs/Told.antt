@@ -7,7 +7,7 @@ use Rattle.loader_cli.specs.Answers.{status_of, text_of}
 use Rattle.loader_cli.specs.Commands.{IsCommand, IsNo, IsOfFleet, UsesScript}
 use Rattle.loader_cli.specs.Commands.CommandView.{fleet as fleet_command}
 use Rattle.loader_cli.specs.FleetReplays.{fleet_seen}
-use Rattle.loader_cli.specs.FleetRuns.{AllLeaveFirstOrGood, FleetTellsAll, FleetWork, WritesWhereAllHold}
+use Rattle.loader_cli.specs.FleetRuns.{AllLeaveFirstOrGood, FleetRunsOut, FleetTellsAll, FleetWork, WritesWhereAllHold}
 use Rattle.loader_cli.specs.Replays.{RunSeen, run_seen}
 use Rattle.loader_cli.specs.Runs.{RunsOutInCommand, TellsAll, Work}
 use Rattle.loader_cli.specs.Touches.{KeepsOthers, LeavesByCommand, OnNamed, TouchesDisk, TouchesHost}
@@ -45,11 +45,11 @@ fleet_work_on files faults folder script host host_after disks disks_after = rec
   handed = None;
 }
 
--- What a fleet on these disks is answered: what there is to say, or that memory ran out, which hides no failure of the host; which
+-- What a fleet on these disks is answered: what there is to say, or that memory ran out, which hides no failure of the host or of a disk; which
 -- disks are written, and what is left of each.
 pub record AnswersFleet {K : Type 0} (state : K → DiskState) (work : FleetWork K) (result : Result Answered NoMemory) : Type 0 where
   pub tells : IfOk result (λ said. FleetTellsAll state work (option_map fleet_seen said.fleet) (status_of said.answer) (text_of said.answer))
-  pub no_memory : OnErr result (work.host_faults_after ≡ work.host_faults)
+  pub no_memory : OnErr result ((work.host_faults_after ≡ work.host_faults) × FleetRunsOut state work.disks work.disks_after)
   pub held : WritesWhereAllHold state work.disks work.disks_after
   pub leaves : AllLeaveFirstOrGood state work.disks work.disks_after
 

@@ -1,5 +1,5 @@
 //! The command `fleet`.
-ghost use Rattle.std.specs.Prelude.{◌≡◌, ◌≤◌, ◌↔◌, All, IsSome, IsTrue, IfOk, None, length};
+ghost use Rattle.std.specs.Prelude.{◌≡◌, ◌≤◌, ◌↔◌, All, IsSome, IsTrue, IfOk, None, OnErr, length};
 ghost use Rattle.std.specs.Prelude.{option_map};
 ghost use Rattle.bank_store.specs.DiskWrites.{IsRunning};
 ghost use Rattle.media_check.specs.Sets.{set_view};
@@ -7,7 +7,7 @@ ghost use Rattle.target_fleet.specs.Units.{AllDisks};
 ghost use Rattle.loader_cli.specs.Answers.{HidesNoFault, answered_status, status_of, text_of};
 ghost use Rattle.loader_cli.specs.FleetReplays.{FleetRunsText, ReplaysFleet, RunsFleet, TellsFleet};
 ghost use Rattle.loader_cli.specs.FleetReplays.{HasCompletedAll, fleet_seen};
-ghost use Rattle.loader_cli.specs.FleetRuns.{AllLeaveFirstOrGood, WritesWhereAllHold};
+ghost use Rattle.loader_cli.specs.FleetRuns.{AllLeaveFirstOrGood, FleetRunsOut, WritesWhereAllHold};
 
 use crate::answer::{Answer, Answered};
 use crate::inputs::{Inputs, read_inputs, refused_script};
@@ -44,6 +44,7 @@ pub(crate) fn replay_fleet<'w, H: Host, K: Power>(
     ensures same { length disks.new ≡ length disks.old }
     ensures leaves { AllLeaveFirstOrGood K.state disks.old disks.new }
     ensures held { WritesWhereAllHold K.state disks.old disks.new }
+    ensures memory { OnErr result (FleetRunsOut K.state disks.old disks.new) }
     ensures no_drive { IfOk result (λ said. said.drive ≡ None) }
 {
     // For the proof: does nothing.
@@ -75,6 +76,7 @@ fn run_fleet_text<'w, K: Power>(
     ensures same { length disks.new ≡ length disks.old }
     ensures leaves { AllLeaveFirstOrGood K.state disks.old disks.new }
     ensures held { WritesWhereAllHold K.state disks.old disks.new }
+    ensures memory { OnErr result (FleetRunsOut K.state disks.old disks.new) }
     ensures no_drive { IfOk result (λ said. said.drive ≡ None) }
 {
     // For the proof: does nothing.
@@ -101,6 +103,7 @@ fn run_fleet<'w, K: Power>(
     ensures same { length disks.new ≡ length disks.old }
     ensures leaves { AllLeaveFirstOrGood K.state disks.old disks.new }
     ensures held { WritesWhereAllHold K.state disks.old disks.new }
+    ensures memory { OnErr result (FleetRunsOut K.state disks.old disks.new) }
     ensures no_drive { IfOk result (λ said. said.drive ≡ None) }
 {
     // For the proof: these change nothing.

@@ -16,9 +16,9 @@ use std::marker::Model;
 /// The trace so far, in which each datagram is found by its number.
 #[derive(Drop)]
 pub struct Recording {
-    trace: List<TraceStep>,
+    trace: Vec<TraceStep>,
     /// Where in the trace each datagram was posted.
-    posts: List<usize>,
+    posts: Vec<usize>,
     /// The first port of a target that boots now.
     first_port: u32,
 }
@@ -41,8 +41,8 @@ impl Recording {
         ensures { result ≡ [] }
     {
         Recording {
-            trace: List::new(alloc),
-            posts: List::new(alloc),
+            trace: Vec::new(alloc),
+            posts: Vec::new(alloc),
             first_port: 1024,
         }
     }
@@ -53,7 +53,8 @@ impl Recording {
         requires place { HasPlace self.old line }
         ensures { OnOk result (self.new ≡ with_line self.old line) }
     {
-        self.trace.push(line)?;
+        self.trace.reserve(1)?;
+        self.trace.push_reserved(line);
         Ok(())
     }
 
@@ -73,9 +74,9 @@ impl Recording {
     {
         let first_port = port_after(self.first_port, &datagram);
         self.posts.reserve(1)?;
-        let index = self.trace.len();
-        self.trace.push(TraceStep::Posted(datagram))?;
-        self.posts.push(index)?;
+        self.trace.reserve(1)?;
+        self.posts.push_reserved(self.trace.as_slice().len());
+        self.trace.push_reserved(TraceStep::Posted(datagram));
         self.first_port = first_port;
         Ok(())
     }
@@ -131,11 +132,11 @@ impl Recording {
     }
 
     /// The trace so far.
-    pub fn trace(&self) -> &List<TraceStep>
-        ensures steps { steps_of result.now.items ≡ self.now }
-        ensures ordered { IsInOrder result.now.items }
+    pub fn trace(&self) -> &[TraceStep]
+        ensures steps { steps_of result.now ≡ self.now }
+        ensures ordered { IsInOrder result.now }
     {
-        &self.trace
+        self.trace.as_slice()
     }
 
     /// The trace. It takes no memory.
@@ -143,7 +144,7 @@ impl Recording {
         ensures steps { steps_of result.items ≡ self }
         ensures ordered { IsInOrder result.items }
     {
-        self.trace
+        List::from(self.trace)
     }
 }
 

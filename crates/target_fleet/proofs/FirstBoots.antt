@@ -94,13 +94,17 @@ module _ {K : Type 0} (state : K → DiskState) where
   fails_at index faults.Link before after old new there now fails = absurd fails
   fails_at index faults.Disk before after old new there now fails = record { unit_is = refl; before = before; after = after; there = there; now = now; fails = fails }
   fails_at index (faults.NoConfig fault) before after old new there now fails = record { unit_is = refl; before = before; after = after; there = there; now = now; fails = fails }
-  fails_at index faults.Memory before after old new there now fails = tt
+  fails_at index faults.Memory before after old new there now fails = record {
+    runs = λ b a e f.
+        subst (λ (k : K). FailsToBegin faults.Memory (state b) (state k)) (same_there new index after a now f)
+        (subst (λ (k : K). FailsToBegin faults.Memory (state k) (state after)) (same_there old index before b there e) fails);
+  }
 
   fails_since : (index : ℕ) (fault : FleetFault) (old mid new : List K) → slice_get mid index ≡ slice_get old index
       → FailsAt state index fault mid new → FailsAt state index fault old new
   fails_since index (fleets.Disk unit) old mid new same by = record { unit_is = by.unit_is; before = by.before; after = by.after; there = sym same ∙ by.there; now = by.now; fails = by.fails }
   fails_since index (fleets.NoConfig unit fault) old mid new same by = record { unit_is = by.unit_is; before = by.before; after = by.after; there = sym same ∙ by.there; now = by.now; fails = by.fails }
-  fails_since index fleets.Memory old mid new same by = tt
+  fails_since index fleets.Memory old mid new same by = record { runs = λ b a e f. by.runs b a (same ∙ e) f }
 
 -- ---- units so far
 

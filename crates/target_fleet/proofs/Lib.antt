@@ -1,6 +1,7 @@
 pub mod FirstBoots
 pub mod FleetTurns
 pub mod Indexed
+pub mod KeptSteps
 pub mod LeftBehind
 pub mod MergedSteps
 pub mod OwnBounds

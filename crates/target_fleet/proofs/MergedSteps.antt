@@ -54,7 +54,7 @@ named_next (Of_all ∷ newer) older unit goes e = absurd goes.0
 named_next (Of_unit whose s ∷ newer) older unit goes e = named_next newer older unit goes.1 e
 
 -- the order is read from its back
-read_from_back : (order named : List ℕ) (taken d : ℕ) → order ≡ reverse named → taken < length order → slice_get named taken ≡ Some (slice_index_or order (length order - 1 - taken) d)
+pub read_from_back : (order named : List ℕ) (taken d : ℕ) → order ≡ reverse named → taken < length order → slice_get named taken ≡ Some (slice_index_or order (length order - 1 - taken) d)
 read_from_back order named taken d is within =
     let many : length order ≡ length named = ap length is ∙ length-reverse named in
     let there : length order - 1 - taken < length named = omega (arith, many, within) in

@@ -11,7 +11,7 @@ use Rattle.exchange_trace.specs.Steps.{Step}
 use Rattle.exchange_trace.specs.declared.trace.TraceStep.{TraceStep}
 use Rattle.fleet_link.specs.FleetLinks.{FleetLinkState}
 use Rattle.fleet_trace.specs.FleetPosts.{posts_of_unit}
-use Rattle.fleet_trace.specs.FleetTraces.{Of_all, StepOfFleet, fleet_steps_of, steps_of_unit}
+use Rattle.fleet_trace.specs.FleetTraces.{Of_all, StepOfFleet, steps_of_unit}
 use Rattle.load_base.specs.Listed.{Listed}
 use Rattle.load_header.specs.declared.header.LoadHeader.{LoadHeader}
 use Rattle.loader_machine.specs.Machine.{LoaderState, media_of, session_view}
@@ -34,7 +34,7 @@ use Rattle.target_fleet.specs.Clocks.{own_clocks}
 use Rattle.target_fleet.specs.Ends.{AllEnd, AllLeaveNoMore, EndsDriver, FailsInEnds}
 use Rattle.target_fleet.specs.Fleets.{AllEndInFleet, AllLeaveGood, CameToEnd, EndsFleet, EndsInFleet, FailsLater}
 use Rattle.target_fleet.specs.Leaves.{AllLeave}
-use Rattle.target_fleet.specs.Merges.{AreUnits, HaveOwnSteps, MergesAll}
+use Rattle.target_fleet.specs.Merges.{AreUnits, HaveOwnSteps, KeepsSteps, steps_to_end}
 use Rattle.target_fleet.specs.Runs.{AllStandOn, FleetGoesOn, FleetState, FollowsOnEach, IsFleetReady, RunsInFleet, own_link}
 use Rattle.target_fleet.specs.Units.{AllDisks, AllOnlyRead}
 use Rattle.target_fleet.specs.declared.outcome.FleetDrive.{FleetDrive}
@@ -42,6 +42,7 @@ use Rattle.target_fleet.specs.declared.outcome.FleetFault.{FleetFault}
 use Rattle.target_fleet.specs.declared.outcome.FleetFault.TheVariants as fleets
 use Rattle.target_fleet.specs.declared.outcome.UnitEnd.{UnitEnd}
 use Rattle.target_fleet.proofs.FirstBoots.{there_is}
+use Rattle.target_fleet.proofs.KeptSteps.{ran_to_end, steps_kept}
 use Rattle.target_fleet.proofs.LeftBehind.{leaves_at_end}
 use Rattle.target_fleet.proofs.OwnLinks.{own_is_linked}
 
@@ -201,7 +202,7 @@ module _ {R K : Type 0} (state : K → DiskState) (may_say : R → LoadHeader �
   }
 
   module _ (units : List UnitEnd) (traces : List (Listed TraceStep)) (units_many : length units ≡ length mid) (traces_many : length traces ≡ length mid) (ended : AllEnd state may_say fleet.drivers units traces mid new) where
-    pub order_is_of_units : AreUnits (length traces) fleet.order
+    order_is_of_units : AreUnits (length traces) fleet.order
     order_is_of_units = subst (λ (n : ℕ). AreUnits n fleet.order) (sym (traces_many ∙ ready.disks_are)) ready.order
 
     have_own : HaveOwnSteps traces on.steps
@@ -214,16 +215,18 @@ module _ {R K : Type 0} (state : K → DiskState) (may_say : R → LoadHeader �
         let m = mid_at i last.0 last.1 in
         ((ended i d.0 end.0 trace m.0 last.0 d.1 end.1 e m.1 last.1).own ∙ (on.units i d.0 old.0 m.0 d.1 old.1 m.1).own, (ended i d.0 end.0 trace m.0 last.0 d.1 end.1 e m.1 last.1).ordered)
 
-    module _ (drive : FleetDrive) (units_are : drive.units.items ≡ units) (merges : MergesAll fleet.order traces drive.trace.items) where
-      steps_are : fleet_steps_of drive.trace.items ≡ Of_all ∷ on.steps
-      steps_are = (merges on.steps on.not_ended on.order have_own).0
+    pub fleet_kept : KeepsSteps fleet.order traces
+    fleet_kept = steps_kept on.steps on.not_ended fleet.order on.order traces order_is_of_units have_own
+
+    module _ (drive : FleetDrive) (units_are : drive.units.items ≡ units) (trace_is : drive.trace ≡ steps_to_end fleet.order traces) where
+      steps_are : drive.trace ≡ Of_all ∷ on.steps
+      steps_are = trace_is ∙ ran_to_end on.steps on.not_ended fleet.order on.order traces order_is_of_units have_own
 
       pub fleet_ended : EndsFleet began link drive
       fleet_ended = record {
         before = on.steps;
         steps = steps_are;
         once = on.not_ended;
-        ordered = (merges on.steps on.not_ended on.order have_own).1;
         units = ap length units_are ∙ (units_many ∙ (ready.disks_are ∙ on.count));
         posted = on.posted;
         given = on.given;
@@ -238,5 +241,5 @@ module _ {R K : Type 0} (state : K → DiskState) (may_say : R → LoadHeader �
           (unit_ended state may_say rule shown (i + 1) on.steps d.0 end trace.0.items old m.0 last (on.units i d.0 old m.0 d.1 f m.1)
           (ended i d.0 end trace.0 m.0 last d.1 (ap (λ (all : List UnitEnd). slice_get all i) (sym units_are) ∙ e) trace.1 m.1 g))
 
-      pub fleet_follows : (sets : ℕ → Setting) → AllStandOn state may_say rule shown sets first → FollowsOnEach began sets (fleet_steps_of drive.trace.items)
+      pub fleet_follows : (sets : ℕ → Setting) → AllStandOn state may_say rule shown sets first → FollowsOnEach began sets drive.trace
       fleet_follows sets stand script start = rw steps_are (on.follows sets script stand start)

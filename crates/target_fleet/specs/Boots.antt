@@ -1,5 +1,5 @@
 -- The first boots of a fleet's units (docs/EXCHANGE.md, "Fleets").
-use Rattle.std.specs.Prelude.{◌≡◌, ℕ, ◌+◌, ◌<◌, List, [], ◌∷◌, ◌++◌, Bool, Some, slice_get, ⊤}
+use Rattle.std.specs.Prelude.{◌≡◌, ℕ, ◌+◌, ◌<◌, List, [], ◌∷◌, ◌++◌, Bool, Some, slice_get}
 use Rattle.accept_rules.specs.Interlocks.{Follows}
 use Rattle.accept_rules.specs.Permissions.{Accepts}
 use Rattle.accept_rules.specs.declared.kept.KeptLoad.{KeptLoad}
@@ -37,11 +37,15 @@ pub record FailsBy {K : Type 0} (state : K → DiskState) (index : ℕ) (cause :
   pub now : slice_get new index ≡ Some after
   pub fails : FailsToBegin cause (state before) (state after)
 
+-- Memory ran out as the unit of this index came up: its disk runs on, or was itself out of memory, which it counts.
+pub record RanOutAt {K : Type 0} (state : K → DiskState) (index : ℕ) (old new : List K) : Type 0 where
+  pub runs : (before after : K) → slice_get old index ≡ Some before → slice_get new index ≡ Some after → FailsToBegin faults.Memory (state before) (state after)
+
 -- A refusal at the unit of this index: it is the one that is named, and didn't come up for that cause; or memory was out.
 abbrev pub FailsAt : {K : Type 0} → (state : K → DiskState) → (index : ℕ) → FleetFault → (old new : List K) → Type 0
 FailsAt state index (fleets.Disk unit) old new = FailsBy state index faults.Disk unit old new
 FailsAt state index (fleets.NoConfig unit fault) old new = FailsBy state index (faults.NoConfig fault) unit old new
-FailsAt state index fleets.Memory old new = ⊤
+FailsAt state index fleets.Memory old new = RanOutAt state index old new
 
 -- The unit of this index is the first that didn't come up: those before it hold a configuration.
 pub record FailsToBoot {K : Type 0} (state : K → DiskState) (fault : FleetFault) (old new : List K) : Type 0 where

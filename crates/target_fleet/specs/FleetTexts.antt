@@ -1,30 +1,20 @@
 -- The report of a fleet as text (docs/FORMATS.md, "Printed text").
-use Rattle.std.specs.Prelude.{◌≡◌, ℕ, ◌+◌, ◌<◌, List, [], ◌∷◌, ◌++◌, codes, length, map, option_map, get_or, Bool, false, ◌==◌, if◌then◌else◌, Option, Some, None}
-use Rattle.std.specs.List.{count_by}
+use Rattle.std.specs.Prelude.{ℕ, ◌+◌, List, [], ◌∷◌, ◌++◌, codes, length, map, option_map, Option, Some, None}
 use Rattle.std.specs.Fmt.{decimal}
 use Rattle.printed_text.specs.Lines.{line}
 use Rattle.disk_layout.specs.Holds.{StandingView, standing_view}
-use Rattle.fleet_trace.specs.declared.trace.FleetStep.{FleetStep}
-use Rattle.fleet_trace.specs.declared.trace.FleetStep.TheVariants as fleet_lines
+use Rattle.exchange_trace.specs.Posts.{posted_in}
+use Rattle.fleet_trace.specs.FleetTraces.{StepOfFleet, steps_of_unit}
 use Rattle.loader_machine.specs.Machine.{session_view}
 use Rattle.session_rules.specs.Loader.{EndedSession}
-use Rattle.upload_replay.specs.Texts.{is_post, report_lines}
+use Rattle.upload_replay.specs.Texts.{report_lines}
 use Rattle.target_fleet.specs.declared.outcome.UnitEnd.{UnitEnd}
 
 -- ---- datagrams
 
--- a line of the trace by which a datagram is posted at this unit
-abbrev pub is_post_at : (unit : ℕ) → FleetStep → Bool
-is_post_at unit (fleet_lines.At whose line) = if whose == unit then is_post line else false
-is_post_at unit fleet_lines.End = false
-
 -- how many datagrams both sides of this unit posted
-unfoldable pub posted_at : (unit : ℕ) → List FleetStep → ℕ
-posted_at unit trace = count_by (is_post_at unit) trace
-
--- each is the number of datagrams of one unit, from unit 1 on
-abbrev pub CountPosts : List FleetStep → (counts : List ℕ) → Type 0
-CountPosts trace counts = (i : ℕ) → i < length counts → get_or counts i 0 ≡ posted_at (i + 1) trace
+abbrev pub posted_at : (unit : ℕ) → List StepOfFleet → ℕ
+posted_at unit steps = length (posted_in (steps_of_unit unit steps))
 
 -- ---- the report
 
@@ -50,10 +40,10 @@ unfoldable pub unit_lines : (number posted : ℕ) → UnitSeen → List ℕ
 unit_lines number posted unit = unit_line number ++ own_report unit.sessions posted unit.standing
 
 -- those of units, of which the first has this number, each with the number of its own datagrams
-abbrev pub units_from : (number : ℕ) → List FleetStep → List UnitSeen → List ℕ
-units_from number trace [] = []
-units_from number trace (unit ∷ later) = unit_lines number (posted_at number trace) unit ++ units_from (number + 1) trace later
+abbrev pub units_from : (number : ℕ) → List StepOfFleet → List UnitSeen → List ℕ
+units_from number steps [] = []
+units_from number steps (unit ∷ later) = unit_lines number (posted_at number steps) unit ++ units_from (number + 1) steps later
 
 -- The report of a fleet: that of each unit, from unit 1 on.
-abbrev pub fleet_report : List FleetStep → List UnitSeen → List ℕ
-fleet_report trace units = units_from 1 trace units
+abbrev pub fleet_report : List StepOfFleet → List UnitSeen → List ℕ
+fleet_report steps units = units_from 1 steps units

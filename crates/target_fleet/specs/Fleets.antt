@@ -10,7 +10,7 @@ use Rattle.disk_model.specs.Image.{Image}
 use Rattle.disk_model.specs.State.{DiskState}
 use Rattle.fleet_link.specs.FleetLinks.{FleetLinkState}
 use Rattle.fleet_trace.specs.FleetPosts.{fleet_happenings, fleet_posts}
-use Rattle.fleet_trace.specs.FleetTraces.{HasNotEnded, Of_all, StepOfFleet, fleet_steps_of, steps_of_unit}
+use Rattle.fleet_trace.specs.FleetTraces.{HasNotEnded, Of_all, StepOfFleet, steps_of_unit}
 use Rattle.load_header.specs.declared.header.LoadHeader.{LoadHeader}
 use Rattle.loader_machine.specs.Machine.{media_of, session_view}
 use Rattle.media_check.specs.Sets.{SetView}
@@ -22,7 +22,6 @@ use Rattle.upload_replay.specs.Moments.{Clocks, HoldsThroughout, LeavesGood}
 use Rattle.target_fleet.specs.Boots.{FailsToBoot}
 use Rattle.target_fleet.specs.Clocks.{AreFleetClocks, own_clocks}
 use Rattle.target_fleet.specs.Ends.{FailsToEnd}
-use Rattle.target_fleet.specs.Orders.{IsFleetInOrder}
 use Rattle.target_fleet.specs.Units.{AllDisks, AllOnlyRead}
 use Rattle.target_fleet.specs.declared.outcome.FleetDrive.{FleetDrive}
 use Rattle.target_fleet.specs.declared.outcome.FleetFault.{FleetFault}
@@ -31,14 +30,12 @@ use Rattle.target_fleet.specs.declared.outcome.UnitEnd.{UnitEnd}
 
 -- ---- the fleet
 
--- A fleet came to its end, which is its last step and no other; the lines of its trace stand in order, each with the unit of its
--- step; there is an outcome for each unit; and the link was posted exactly what the units posted, and gave exactly what
--- happened. Of the end it keeps nothing.
+-- A fleet came to its end, which is its last step and no other; there is an outcome for each unit; and the link was posted
+-- exactly what the units posted, and gave exactly what happened. Of the end it keeps nothing.
 pub record EndsFleet (began ended : FleetLinkState) (drive : FleetDrive) : Type 0 where
   pub before : List StepOfFleet
-  pub steps : fleet_steps_of drive.trace.items ≡ Of_all ∷ before
+  pub steps : drive.trace ≡ Of_all ∷ before
   pub once : HasNotEnded before
-  pub ordered : IsFleetInOrder drive.trace.items
   pub units : length drive.units.items ≡ began.units
   pub posted : ended.posted ≡ fleet_posts before
   pub given : ended.given ≡ fleet_happenings before ++ began.given
@@ -75,7 +72,7 @@ abbrev pub AllEndInFleet : {R K : Type 0} → (state : K → DiskState)
     → (may_say : R → LoadHeader → List KeptLoad → Bool → Type 0) → R → SetView → FleetDrive → (old new : List K) → Type 0
 AllEndInFleet {R} {K} state may_say rule shown drive old new =
     (i : ℕ) (end : UnitEnd) (before after : K) → slice_get drive.units.items i ≡ Some end → slice_get old i ≡ Some before → slice_get new i ≡ Some after
-    → EndsInFleet state may_say rule shown (i + 1) (fleet_steps_of drive.trace.items) end before after
+    → EndsInFleet state may_say rule shown (i + 1) drive.trace end before after
 
 -- ---- refusals
 

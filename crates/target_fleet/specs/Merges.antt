@@ -1,10 +1,10 @@
 -- A fleet's trace, taken line by line from those of its units (docs/EXCHANGE.md, "Fleets").
-use Rattle.std.specs.Prelude.{◌≡◌, ℕ, ◌+◌, ◌≤◌, List, [], ◌∷◌, ◌++◌, fold, map, reverse, slice_get, Some, Bool, true, false}
+use Rattle.std.specs.Prelude.{◌≡◌, ℕ, ◌+◌, ◌-◌, ◌≤◌, List, [], ◌∷◌, ◌++◌, fold, length, map, reverse, slice_get, Option, Some, None, Bool, true, false, ◌==◌, if◌then◌else◌}
 use Rattle.exchange_trace.specs.Steps.{Step, steps_of}
 use Rattle.exchange_trace.specs.declared.trace.TraceStep.{TraceStep}
 use Rattle.exchange_trace.specs.declared.trace.TraceStep.TheVariants as trace_lines
 use Rattle.fleet_trace.specs.FleetTraces.{HasNotEnded, Of_all, Of_unit, StepOfFleet, fleet_steps_of, steps_of_unit, with_fleet_line}
-use Rattle.fleet_trace.specs.Merging.{stepping_order}
+use Rattle.fleet_trace.specs.Merging.{StepsOfUnits, merged, stepping_order, times_stepped}
 use Rattle.fleet_trace.specs.declared.trace.FleetStep.{FleetStep}
 use Rattle.load_base.specs.Listed.{Listed}
 use Rattle.replay_turns.specs.Orders.{IsInOrder}
@@ -52,3 +52,24 @@ abbrev pub MergesAll : (order : List ℕ) → List (Listed TraceStep) → (trace
 MergesAll order traces trace =
     (steps : List StepOfFleet) → HasNotEnded steps → order ≡ reverse (stepping_order steps) → HaveOwnSteps traces steps
     → (fleet_steps_of trace ≡ Of_all ∷ steps) × IsFleetInOrder trace
+
+-- ---- kept by units
+
+-- the steps of a trace, if there is one
+abbrev pub steps_told : Option (Listed TraceStep) → List Step
+steps_told None = []
+steps_told (Some trace) = steps_of trace.items
+
+-- each unit's own steps, by the traces of the units from 1 on
+abbrev pub own_steps : List (Listed TraceStep) → StepsOfUnits
+own_steps traces unit = steps_told (if unit == 0 then None else slice_get traces (unit - 1))
+
+-- the steps of a fleet whose units stepped in this order, and its end
+abbrev pub steps_to_end : (order : List ℕ) → List (Listed TraceStep) → List StepOfFleet
+steps_to_end order traces = Of_all ∷ merged (reverse order) (own_steps traces)
+
+-- The order names each unit as often as its trace has steps, and no other, and the lines of each trace stand in order.
+pub record KeepsSteps (order : List ℕ) (traces : List (Listed TraceStep)) : Type 0 where
+  pub units : AreUnits (length traces) order
+  pub named : (unit : ℕ) → times_stepped unit (reverse order) ≡ length (own_steps traces unit)
+  pub ordered : (i : ℕ) (trace : Listed TraceStep) → slice_get traces i ≡ Some trace → IsInOrder trace.items

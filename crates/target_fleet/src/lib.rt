@@ -11,10 +11,12 @@ mod posting;
 mod report;
 mod running;
 mod stepping;
+mod trace;
 mod waiting;
 mod whole_run;
 
 pub use fleet_trace::FleetStep;
 pub use outcome::{FleetDrive, FleetFault, UnitEnd};
 pub use report::fleet_text;
+pub use trace::FleetTrace;
 pub use whole_run::fleet;

@@ -20,6 +20,7 @@ pub(crate) fn merge(
 {
     // The newest first.
     let mut lines = Vec::new(alloc);
+    lines.reserve(count_of(traces))?;
     lines.push(FleetStep::End)?;
     match take_steps(order, traces, &mut lines) {
         Ok(()) => {
@@ -32,6 +33,16 @@ pub(crate) fn merge(
             Err(NoMemory)
         }
     }
+}
+
+/// How many lines the fleet's trace has, with its end; room for so many spares copying them as it
+/// grows.
+fn count_of(traces: &[List<TraceStep>]) -> usize {
+    let mut lines: usize = 1;
+    'units: for trace in traces {
+        lines = lines.saturating_add(trace.len());
+    }
+    lines
 }
 
 /// All steps of this order are taken off the units' traces, the newest first.

@@ -1,6 +1,6 @@
 //! What a run of a fleet comes to.
+use crate::trace::FleetTrace;
 use disk_layout::{RecoverFault, Standing};
-use fleet_trace::FleetStep;
 use load_base::List;
 use loader_machine::Session;
 use thiserror::Error;
@@ -10,7 +10,7 @@ use thiserror::Error;
 pub struct FleetDrive {
     /// What happened at each unit, what its two sides posted, and what became of its target's
     /// power.
-    pub trace: List<FleetStep>,
+    pub trace: FleetTrace,
     /// What each unit came to, from unit 1 on.
     pub units: List<UnitEnd>,
 }

@@ -1,12 +1,8 @@
 //! The report of a fleet.
-ghost use Rattle.std.specs.Prelude.{◌≡◌, ◌+◌, ◌<◌, ◌++◌, ◌^◌, ℕ, All, IfOk, IsSome, OnOk, cond};
-ghost use Rattle.std.specs.Prelude.{get_or, length, map};
-ghost use Rattle.target_fleet.specs.FleetTexts.{CountPosts, fleet_report, is_post_at};
-ghost use Rattle.target_fleet.specs.FleetTexts.{unit_line, unit_lines, unit_seen};
+ghost use Rattle.std.specs.Prelude.{◌≡◌, ◌++◌, All, IfOk, IsSome, OnOk, map};
+ghost use Rattle.target_fleet.specs.FleetTexts.{fleet_report, unit_line, unit_lines, unit_seen};
 
 use crate::outcome::{FleetDrive, UnitEnd};
-use exchange_trace::TraceStep;
-use fleet_trace::FleetStep;
 use load_base::{Bytes, NoMemory};
 use printed_text::put_number;
 use std::alloc::Global;
@@ -17,60 +13,23 @@ use upload_replay::put_report;
 pub fn fleet_text(alloc: Global, drive: &FleetDrive) -> Result<Bytes, NoMemory>
     requires { All (λ end. IsSome end.standing) drive.now.units.items }
     ensures { IfOk result (λ text. text.items
-        ≡ fleet_report drive.now.trace.items (map unit_seen drive.now.units.items)) }
+        ≡ fleet_report drive.now.trace (map unit_seen drive.now.units.items)) }
 {
-    let counts = counts_of(alloc, drive.trace.as_slice(), drive.units.len())?;
     let mut out = Bytes::new(alloc);
     let mut left = drive.units.as_slice();
     let mut index = 0;
     'units: while let Some((end, later)) = left.split_first() {
-        put_unit(alloc, &mut out, index as u64 + 1, counts[index], end)?;
         index += 1;
+        put_unit(
+            alloc,
+            &mut out,
+            index as u64,
+            drive.trace.posted_at(index),
+            end,
+        )?;
         left = later;
     }
     Ok(out)
-}
-
-/// How many datagrams were posted at each of so many units, from unit 1 on.
-fn counts_of(alloc: Global, trace: &[FleetStep], units: usize) -> Result<Vec<u64>, NoMemory>
-    ensures many { IfOk result (λ counts. length counts.items ≡ units) }
-    ensures counts { IfOk result (λ counts. CountPosts trace.now counts.items) }
-{
-    let mut counts = Vec::new(alloc);
-    'units: for _ in 0..units {
-        counts.push(0)?;
-    }
-    count_posts(trace, &mut counts);
-    Ok(counts)
-}
-
-fn count_posts(trace: &[FleetStep], counts: &mut [u64])
-    requires { (i : ℕ) → i < length counts.old → get_or counts.old i 0 ≡ 0 }
-    ensures same { length counts.new ≡ length counts.old }
-    ensures counts { CountPosts trace.now counts.new }
-{
-    'lines: for line in trace {
-        count_line(line, counts);
-    }
-}
-
-fn count_line(line: &FleetStep, counts: &mut [u64])
-    requires { (i : ℕ) → i < length counts.old → get_or counts.old i 0 + 1 < 2 ^ 64 }
-    ensures same { length counts.new ≡ length counts.old }
-    ensures counts { (i : ℕ) → i < length counts.old → get_or counts.new i 0
-        ≡ get_or counts.old i 0 + cond (is_post_at (i + 1) line.now) 1 0 }
-{
-    let FleetStep::At {
-        unit,
-        step: TraceStep::Posted(_),
-    } = line
-    else {
-        return;
-    };
-    let number = usize::from(*unit);
-    if 1 <= number && number <= counts.len() {
-        counts[number - 1] += 1;
-    }
 }
 
 /// The number of a unit at which so many datagrams were posted, and its report.

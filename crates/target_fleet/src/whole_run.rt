@@ -3,7 +3,6 @@ ghost use Rattle.std.specs.Prelude.{◌≡◌, [], ℕ, IfErr, IfOk, length};
 ghost use Rattle.bank_store.specs.DiskWrites.{IsRunning};
 ghost use Rattle.fleet_link.specs.FleetFollowed.{HasFollowedFleet};
 ghost use Rattle.fleet_trace.specs.FleetFollowing.{FollowsFleet};
-ghost use Rattle.fleet_trace.specs.FleetTraces.{fleet_steps_of};
 ghost use Rattle.media_check.specs.Sets.{set_view};
 ghost use Rattle.replay_rules.specs.BothEnds.{Setting};
 ghost use Rattle.target_fleet.specs.Fleets.{AllEndInFleet, AllLeaveGood, EndsFleet};
@@ -14,9 +13,9 @@ ghost use Rattle.target_fleet.specs.Units.{AllDisks};
 
 use crate::booting::boot_all;
 use crate::ending::{Ends, end_all};
-use crate::merging::merge;
 use crate::outcome::{FleetDrive, FleetFault};
 use crate::running::{Units, run_to_end};
+use crate::trace::FleetTrace;
 use accept_rules::{Interlock, Rule};
 use bank_store::a_power_loss_takes_only_work;
 use disk_model::Power;
@@ -49,7 +48,7 @@ pub fn fleet<K: Power, R: Rule>(
         (set_view media.now) drive disks.old disks.new) }
     ensures follows { (sets : ℕ → Setting) → AllStandOn K.state R.may_say interlock.now
         (set_view media.now) sets disks.old → IfOk result (λ drive. FollowsOnEach link.old sets
-        (fleet_steps_of drive.trace.items)) }
+        drive.trace) }
     // Refusals.
     ensures refused { IfErr result (λ fault. IsFleetRefusal K.state fault link.old link.new
         disks.old disks.new) }
@@ -84,20 +83,11 @@ pub fn fleet<K: Power, R: Rule>(
     let Units { drivers, order } = units;
     match end_all(alloc, disks, drivers) {
         Ok(ends) => {
-            let Ends { units, mut traces } = ends;
-            match merge(alloc, &order, &mut traces) {
-                Ok(trace) => {
-                    drop(traces);
-                    Ok(FleetDrive {
-                        trace,
-                        units: List::from(units),
-                    })
-                }
-                Err(NoMemory) => {
-                    drop((units, traces));
-                    Err(FleetFault::Memory)
-                }
-            }
+            let Ends { units, traces } = ends;
+            Ok(FleetDrive {
+                trace: FleetTrace::of_units(order, traces),
+                units: List::from(units),
+            })
         }
         Err(fault) => Err(fault),
     }

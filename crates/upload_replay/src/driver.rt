@@ -248,9 +248,9 @@ impl<'m, R: Rule> Driver<'m, R> {
     }
 
     /// What has happened so far, line by line.
-    pub fn trace(&self) -> &List<TraceStep>
-        ensures steps { steps_of result.now.items ≡ self.now.steps }
-        ensures ordered { IsInOrder result.now.items }
+    pub fn trace(&self) -> &[TraceStep]
+        ensures steps { steps_of result.now ≡ self.now.steps }
+        ensures ordered { IsInOrder result.now }
     {
         self.ends.recording.trace()
     }

@@ -16,5 +16,5 @@ pub use driver::Driver;
 pub use driving::drive;
 pub use outcome::{Drive, DriveFault};
 pub use replay_turns::Posts;
-pub use report::{put_report, report_text};
+pub use report::{count_posts, put_report, report_text};
 pub use wire::wire_text;

@@ -69,7 +69,7 @@ fn put_count(alloc: Global, out: &mut Bytes, posted: u64) -> Result<(), NoMemory
 }
 
 /// How many datagrams were posted in this trace.
-fn count_posts(trace: &[TraceStep]) -> u64
+pub fn count_posts(trace: &[TraceStep]) -> u64
     ensures { result ≡ count_by is_post trace.now }
 {
     trace.iter().filter(|step| is_posted(step)).count() as u64

@@ -1,6 +1,5 @@
-//! The run of an information session on an empty target, as another program printed it, and what
-//! two units of a fleet come to.
-ghost use Rattle.std.specs.Prelude.{All, IfOk, IsSome};
+//! The run of an information session on an empty target, as another program printed it.
+ghost use Rattle.std.specs.Prelude.{IfOk, IsSome};
 
 use disk_layout::{Identity, Standing};
 use exchange_trace::{Datagram, Happening, Side, TraceStep};
@@ -10,7 +9,6 @@ use loader_machine::Session;
 use session_rules::{Outcome, SessionKind};
 use std::alloc::Global;
 use std::test::Fail;
-use target_fleet::{FleetDrive, FleetStep, UnitEnd, fleet_text};
 use upload_replay::{Drive, report_text, wire_text};
 
 fn ident(bytes: &[u8]) -> Result<Ident, Fail> {
@@ -184,79 +182,5 @@ fn a_run_has_its_report_and_its_trace(rt: HostRuntime) -> Result<(), Fail> {
     let (report, wire) = texts?;
     assert_eq!(rt; report.as_slice(), REPORT);
     assert_eq!(rt; wire.as_slice(), WIRE);
-    Ok(())
-}
-
-// A unit at which a session was held or none, with the target as it is at the end.
-fn unit_end(alloc: Global, held: bool) -> Result<UnitEnd, Fail>
-    ensures { IfOk result (λ end. IsSome end.standing) }
-{
-    let standing = standing(alloc)?;
-    let mut sessions = List::new(alloc);
-    if held {
-        sessions.push(session(alloc)?)?;
-    }
-    Ok(UnitEnd {
-        sessions,
-        standing: Some(standing),
-    })
-}
-
-// One datagram at the second unit, two at the first, and one at a third, of which nothing is told.
-fn put_fleet_trace(alloc: Global, trace: &mut List<FleetStep>) -> Result<(), Fail> {
-    for unit in [2u8, 1, 3, 1] {
-        let step = posted(alloc, Side::Loader, 1024, 59, b"")?;
-        trace.push(FleetStep::At { unit, step })?;
-        trace.push(FleetStep::At {
-            unit,
-            step: TraceStep::Given(Happening::Lost(1)),
-        })?;
-    }
-    trace.push(FleetStep::End)?;
-    Ok(())
-}
-
-// Two units, of which the second alone had a session.
-fn two_units(alloc: Global) -> Result<FleetDrive, Fail>
-    ensures { IfOk result (λ drive. All (λ end. IsSome end.standing) drive.units.items) }
-{
-    let mut units = List::new(alloc);
-    units.push(unit_end(alloc, false)?)?;
-    units.push(unit_end(alloc, true)?)?;
-    Ok(FleetDrive {
-        trace: List::new(alloc),
-        units,
-    })
-}
-
-const FLEET_REPORT: &[u8] = b"unit 1
-datagrams 2
-target HW1 L SN1
-bank 0 sequence 1
-loads 0
-unit 2
-session 1 info completed
-hardware HW1 SN1
-datagrams 1
-target HW1 L SN1
-bank 0 sequence 1
-loads 0
-";
-
-// Tells the run, and gives its report.
-fn fleet_report(alloc: Global, run: &mut FleetDrive) -> Result<Bytes, Fail>
-    requires { All (λ end. IsSome end.standing) run.old.units.items }
-{
-    put_fleet_trace(alloc, &mut run.trace)?;
-    Ok(fleet_text(alloc, run)?)
-}
-
-#[test]
-fn the_report_of_a_fleet_tells_of_each_unit(rt: HostRuntime) -> Result<(), Fail> {
-    let mut run = two_units(rt.alloc())?;
-    let report = fleet_report(rt.alloc(), &mut run);
-    drop(run);
-    let report = report?;
-    assert_eq!(rt; report.as_slice(), FLEET_REPORT);
     Ok(())
 }

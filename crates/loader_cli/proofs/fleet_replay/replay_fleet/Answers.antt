@@ -1,6 +1,7 @@
 use Rattle.std.proofs.Common.{inl, refl, arith}
 use Rattle.std.proofs.lemmas.Result.{IfOk-weaker}
 use Rattle.media_check.specs.Sets.{set_view}
+use Rattle.target_fleet.proofs.TurnsLeave.{anyway}
 use Rattle.loader_cli.specs.FleetReplays.ReplaysFleet.{unread}
 use Rattle.loader_cli.specs.Replays.RefusesInputs.{no_text}
 use Rattle.loader_cli.proofs.FleetTexts.{ran_fleet_text, untouched_fleet}
@@ -32,3 +33,6 @@ returns-in_err-set-clause-leaves g c = untouched_fleet g.K.Disk.state g.met.K.Di
 
 pub returns-in_err-set-clause-held : goal.returns-in_err-set-clause-held
 returns-in_err-set-clause-held g c = inl (all_read_same g.K.Disk.state c.args.disks.now)
+
+pub returns-in_err-set-clause-memory : goal.returns-in_err-set-clause-memory
+returns-in_err-set-clause-memory g c = anyway c.from_residual.result _ (inl refl)

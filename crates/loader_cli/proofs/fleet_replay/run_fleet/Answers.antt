@@ -4,9 +4,10 @@ use Rattle.disk_layout.specs.declared.fault.RecoverFault.{RecoverFault}
 use Rattle.fleet_link.specs.FleetLinks.{FleetLinkState}
 use Rattle.fleet_link.specs.declared.fleet_turn.FleetRest.TheVariants.{Nothing}
 use Rattle.media_check.specs.Sets.{set_view}
+use Rattle.target_fleet.proofs.TurnsLeave.{anyway}
 use Rattle.loader_cli.specs.FleetReplays.{RunsFleet, fleet_seen}
 use Rattle.loader_cli.specs.Texts.{no_configuration}
-use Rattle.loader_cli.proofs.FleetRan.{all_stood, fleet_disk_failed, fleet_holds_none, fleet_leaves, fleet_ran, refused_held, told_of_run}
+use Rattle.loader_cli.proofs.FleetRan.{all_stood, fleet_disk_failed, fleet_holds_none, fleet_leaves, fleet_ran, refused_held, refused_memory, told_of_run}
 use Rattle.loader_cli.proofs.fleet_replay.run_fleet.Goals as goal
 
 pub new-link-requires : goal.new-link-requires
@@ -75,3 +76,12 @@ returns-in-Err-NoConfig-clause-held g c = refused_held g.K.Disk.state c.args.dis
 
 pub returns-clause-held : goal.returns-clause-held
 returns-clause-held g c = refused_held g.K.Disk.state c.args.disks.now c.fleet.new.disks c.in-Err-Memory.field-0 c.in-Err-Memory.ensures.refused
+
+pub returns-in_err-answer-in-Ok-clause-memory : goal.returns-in_err-answer-in-Ok-clause-memory
+returns-in_err-answer-in-Ok-clause-memory g c =
+    anyway c.from_residual.result _
+    (inr (inr (all_stood g.K.Disk.state _ _ (set_view c.args.set.now) (λ fields kept answer said. said.says ∙ ap (λ h. permits h kept) said.same) c.in-Ok.run' c.args.disks.now c.fleet.new.disks
+    (c.in-Ok.ensures.ended.units ∙ (ap (λ (link : FleetLinkState). link.units) c.new-link.ensures ∙ c.requires.units)) c.fleet.ensures.same c.in-Ok.ensures.units)))
+
+pub returns-clause-memory : goal.returns-clause-memory
+returns-clause-memory g c = refused_memory g.K.Disk.state c.args.disks.now c.fleet.new.disks c.in-Err-Memory.field-0-is c.in-Err-Memory.ensures.refused

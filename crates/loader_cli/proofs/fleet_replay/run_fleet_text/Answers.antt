@@ -1,9 +1,10 @@
-use Rattle.std.proofs.Common.{inl}
+use Rattle.std.proofs.Common.{inl, refl}
 use Rattle.std.proofs.lemmas.Result.{IfOk-weaker}
 use Rattle.media_check.specs.Sets.{set_view}
 use Rattle.loader_cli.specs.FleetReplays.FleetRunsText.{says}
 use Rattle.loader_cli.proofs.FleetTexts.{says_no_fleet_script, untouched_fleet}
 use Rattle.target_fleet.proofs.FirstBoots.{all_read_same}
+use Rattle.target_fleet.proofs.TurnsLeave.{anyway}
 use Rattle.loader_cli.proofs.fleet_replay.run_fleet_text.Goals as goal
 
 pub returns-in-Ok-clause-runs : goal.returns-in-Ok-clause-runs
@@ -26,3 +27,6 @@ returns-in_err-refused_script-in-Err-clause-leaves g c = untouched_fleet g.K.Dis
 
 pub returns-in_err-refused_script-in-Err-clause-held : goal.returns-in_err-refused_script-in-Err-clause-held
 returns-in_err-refused_script-in-Err-clause-held g c = inl (all_read_same g.K.Disk.state c.args.disks.now)
+
+pub returns-in_err-refused_script-in-Err-clause-memory : goal.returns-in_err-refused_script-in-Err-clause-memory
+returns-in_err-refused_script-in-Err-clause-memory g c = anyway c.from_residual.result _ (inl refl)

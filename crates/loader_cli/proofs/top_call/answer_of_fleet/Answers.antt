@@ -30,7 +30,7 @@ returns g c =
           (subst (λ (then : List g.row.K.Denot). AnswersFleet g.K.Disk.state (fleet_work_on g.H.Host.files g.H.Host.faults folder script host host_new (take count disks) then) c.replay_fleet.result)
           (sym (taken_first count disks new many within))
           (fleet_answered g.K.Disk.state (fleet_work_on g.H.Host.files g.H.Host.faults folder script host host_new (take count disks) new) c.replay_fleet.result c.replay_fleet.ensures.replays c.replay_fleet.ensures.faults
-          c.replay_fleet.ensures.held c.replay_fleet.ensures.leaves));
+          c.replay_fleet.ensures.memory c.replay_fleet.ensures.held c.replay_fleet.ensures.leaves));
       others = record {
         named = omega (arith, c.requires.eight, named_below words);
         as_many = as_many_then count disks new many within;

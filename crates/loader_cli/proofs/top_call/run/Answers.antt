@@ -283,7 +283,7 @@ returns-in_default-clause-fleet g c =
     let as_many = same_taken count c.args.disks.now c.answer.new.disks c.answer.ensures.others.as_many in
     let out = rw c.in_default.is at answers.no_memory in
     rw (c.out_of_memory.ensures.status, c.out_of_memory.ensures.fleet)
-    (fleet_promised g.K.Disk.state _ _ c.an_image_holds_one_configuration.ensures.not_both (λ k. g.met.K.Disk.reads_now k) as_many answers.held answers.leaves (fleet_out out refl refl) (λ not_seven. refl))
+    (fleet_promised g.K.Disk.state _ _ c.an_image_holds_one_configuration.ensures.not_both (λ k. g.met.K.Disk.reads_now k) as_many answers.held answers.leaves (fleet_out out.0 out.1 refl refl) (λ not_seven. refl))
 
 pub returns-in_default-into_text-clause-fleet : goal.returns-in_default-into_text-clause-fleet
 returns-in_default-into_text-clause-fleet g c =

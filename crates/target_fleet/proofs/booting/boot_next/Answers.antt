@@ -1,13 +1,21 @@
-use Rattle.std.proofs.Common.{◌∷◌, [], ◌++◌, refl, ap, subst, sym, ◌∙◌}
+use Rattle.std.proofs.Common.{◌∷◌, [], ◌++◌, inl, refl, ap, subst, sym, ◌∙◌}
 use Rattle.std.specs.Prelude.{length, slice_set}
 use Rattle.std.proofs.lemmas.Option.{slice_get_read}
+use Rattle.disk_layout.specs.DiskReads.{RunsOn}
 use Rattle.disk_model.specs.State.{OnlyReads}
 use Rattle.media_check.specs.Sets.{set_view}
 use Rattle.upload_replay.specs.Endings.{FailsToBegin}
 use Rattle.target_fleet.specs.Boots.{BootsUnit, FailsAt}
 use Rattle.target_fleet.proofs.FirstBoots.{fails_at, reads_one}
-use Rattle.target_fleet.proofs.Indexed.{set_same}
+use Rattle.target_fleet.proofs.Indexed.{same_there, set_same}
 use Rattle.target_fleet.proofs.booting.boot_next.Goals as goal
+
+pub returns-in-Err-clause-refused : goal.returns-in-Err-clause-refused
+returns-in-Err-clause-refused g c = record {
+  runs = λ before after was is.
+      inl
+      (subst (λ k. RunsOn (g.K.Disk.state before) (g.K.Disk.state k)) (same_there c.args.disks.now c.args.index before after was is) (record { reads = refl; running = c.requires.running before was }));
+}
 
 pub returns-in-Ok-boot-clause-booted : goal.returns-in-Ok-boot-clause-booted
 returns-in-Ok-boot-clause-booted g c = record {

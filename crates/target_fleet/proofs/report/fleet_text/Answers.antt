@@ -1,8 +1,7 @@
-use Rattle.std.proofs.Common.{◌≡◌, ◌+◌, ◌<◌, ◌∷◌, All, ap, length, subst, arith, ◌∙◌}
+use Rattle.std.proofs.Common.{◌≡◌, ◌+◌, ◌∷◌, All, ap, length, subst, arith}
 use Rattle.std.specs.Prelude.{IsSome, map}
-use Rattle.std.proofs.lemmas.Grind.{get_or_default_zero}
 use Rattle.std.proofs.lemmas.List.Elements.{All-tail}
-use Rattle.target_fleet.specs.FleetTexts.{fleet_report, posted_at, unit_seen}
+use Rattle.target_fleet.specs.FleetTexts.{fleet_report, unit_seen}
 use Rattle.target_fleet.specs.declared.outcome.UnitEnd.{UnitEnd}
 use Rattle.target_fleet.proofs.ToldInUnits.{unit_put}
 use Rattle.target_fleet.proofs.report.fleet_text.Goals as goal
@@ -13,10 +12,9 @@ units-preserved c =
     let later = c.in-Some.later.now in
     let splits : left ≡ c.in-Some.end.now ∷ later = c.in-Some.ensures.cases.0 in
     let one_less : length left ≡ 1 + length later = omega (arith, ap length splits) in
-    let within : c.units.index < length c.in_ok-counts.counts.items = omega (arith, one_less, c.units.invariant.count, c.in_ok-counts.ensures.many, c.len.ensures) in
     record {
-      put = unit_put (c.units.index + 1) c.index.result.now c.args.drive.now.trace.items (fleet_report c.args.drive.now.trace.items (map unit_seen c.args.drive.now.units.items)) c.units.out.items c.put_unit.new.out.items
-          c.in-Some.end.now left later c.units.invariant.put splits c.in_ok-put_unit.ensures (c.index.ensures ∙ (get_or_default_zero c.in_ok-counts.counts.items c.units.index c.index.result.now within ∙ (c.in_ok-counts.ensures.counts c.units.index within ∙ ap (posted_at (c.units.index + 1)) c.as_slice.ensures)));
+      put = unit_put (c.units.index + 1) c.posted_at.result c.args.drive.now.trace (fleet_report c.args.drive.now.trace (map unit_seen c.args.drive.now.units.items)) c.units.out.items c.put_unit.new.out.items
+          c.in-Some.end.now left later c.units.invariant.put splits c.in_ok-put_unit.ensures c.posted_at.ensures;
       count = omega (arith, one_less, c.units.invariant.count);
       known = All-tail (λ (end : UnitEnd). IsSome end.standing) c.in-Some.end.now later (subst (All (λ (end : UnitEnd). IsSome end.standing)) splits c.units.invariant.known);
     }

@@ -6,7 +6,7 @@ use Rattle.target_fleet.proofs.report.fleet_text.Given as goal
 abbrev pub invariant-units : goal.invariant-units
 invariant-units l =
     record {
-      put : fleet_report l.drive.trace.items (map unit_seen l.drive.units.items) ≡ l.out.items ++ units_from (l.index + 1) l.drive.trace.items (map unit_seen l.left);
+      put : fleet_report l.drive.trace (map unit_seen l.drive.units.items) ≡ l.out.items ++ units_from (l.index + 1) l.drive.trace (map unit_seen l.left);
       count : l.index + length l.left ≡ length l.drive.units.items;
       known : All (λ end. IsSome end.standing) l.left;
     }

@@ -1,8 +1,7 @@
-use Rattle.std.proofs.Common.{true, false, inr, length, refl, sym, subst}
+use Rattle.std.proofs.Common.{true, false, inr, refl, sym, subst}
 use Rattle.media_check.specs.Sets.{set_view}
-use Rattle.target_fleet.specs.Merges.{AreUnits, MergesAll}
 use Rattle.target_fleet.specs.Runs.{FleetGoesOn, IsFleetReady}
-use Rattle.target_fleet.proofs.WholeFleet.{all_good, all_leave_end, all_leave_read, all_stood, fails_later, fleet_begins, fleet_ended, fleet_follows, fleet_is_ready, order_is_of_units, units_can_end, units_ended}
+use Rattle.target_fleet.proofs.WholeFleet.{all_good, all_leave_end, all_leave_read, all_stood, fails_later, fleet_begins, fleet_ended, fleet_follows, fleet_is_ready, fleet_kept, units_can_end, units_ended}
 use Rattle.target_fleet.proofs.whole_run.fleet.Goals as goal
 
 pub returns-in-Err-clause-leaves : goal.returns-in-Err-clause-leaves
@@ -37,53 +36,37 @@ end_all-requires-clause-goes_on g c =
     let ready = subst (λ units. IsFleetReady g.K.Disk.state c.run_to_end.new.link units c.run_to_end.new.disks) (sym c.units-2.view_is) c.in-Ok-run_to_end.ensures.ready in
     units_can_end g.K.Disk.state g.R.Rule.may_say c.args.interlock.now (set_view c.args.media.now) c.args.link.now c.run_to_end.new.link (record { drivers = c.units-2.inside.drivers.items; order = c.units-2.inside.order.items }) c.args.disks.now c.run_to_end.new.disks c.run_to_end.new.disks on ready refl
 
-pub merge-requires : goal.merge-requires
-merge-requires g c =
+pub of_units-requires : goal.of_units-requires
+of_units-requires g c =
     let begins = subst (λ order. FleetGoesOn g.K.Disk.state g.R.Rule.may_say c.args.interlock.now (set_view c.args.media.now) false c.args.link.now c.args.link.now (record { drivers = c.in-Ok.drivers.items; order = order }) c.args.disks.now c.boot_all.new.disks) (sym c.new.ensures.items) (fleet_begins g.K.Disk.state g.R.Rule.may_say c.args.interlock.now (set_view c.args.media.now) c.args.link.now c.requires.nothing_posted c.in-Ok.drivers.items c.args.disks.now c.boot_all.new.disks c.in-Ok.ensures.many c.boot_all.ensures.same c.in-Ok.ensures.boots c.boot_all.ensures.reads) in
     let on = subst (λ units. FleetGoesOn g.K.Disk.state g.R.Rule.may_say c.args.interlock.now (set_view c.args.media.now) true c.args.link.now c.run_to_end.new.link units c.args.disks.now c.run_to_end.new.disks) (sym c.units-2.view_is)
     (c.in-Ok-run_to_end.ensures.goes_on c.args.interlock.now (set_view c.args.media.now) c.args.link.now c.args.disks.now begins) in
     let ready = subst (λ units. IsFleetReady g.K.Disk.state c.run_to_end.new.link units c.run_to_end.new.disks) (sym c.units-2.view_is) c.in-Ok-run_to_end.ensures.ready in
-    subst (λ traces. AreUnits (length traces) c.deref.result.now) (sym c.deref_mut.ensures.value)
-    (subst (λ order. AreUnits (length c.in-Ok-end_all.ends.traces.items) order) (sym c.deref.ensures.value) (order_is_of_units g.K.Disk.state g.R.Rule.may_say c.args.interlock.now (set_view c.args.media.now) c.args.link.now c.run_to_end.new.link (record { drivers = c.units-2.inside.drivers.items; order = c.units-2.inside.order.items }) c.args.disks.now c.run_to_end.new.disks c.end_all.new.disks on ready c.end_all.ensures.same c.in-Ok-end_all.ends.units.items c.in-Ok-end_all.ends.traces.items c.in-Ok-end_all.ensures.counts.0 c.in-Ok-end_all.ensures.counts.1 c.in-Ok-end_all.ensures.ended))
+    fleet_kept g.K.Disk.state g.R.Rule.may_say c.args.interlock.now (set_view c.args.media.now) c.args.link.now c.run_to_end.new.link (record { drivers = c.units-2.inside.drivers.items; order = c.units-2.inside.order.items }) c.args.disks.now c.run_to_end.new.disks c.end_all.new.disks on ready c.end_all.ensures.same c.in-Ok-end_all.ends.units.items c.in-Ok-end_all.ends.traces.items c.in-Ok-end_all.ensures.counts.0 c.in-Ok-end_all.ensures.counts.1 c.in-Ok-end_all.ensures.ended
 
-pub returns-in-Ok-merge-clause-ended : goal.returns-in-Ok-merge-clause-ended
-returns-in-Ok-merge-clause-ended g c =
+pub returns-in-Ok-end_all-clause-ended : goal.returns-in-Ok-end_all-clause-ended
+returns-in-Ok-end_all-clause-ended g c =
     let begins = subst (λ order. FleetGoesOn g.K.Disk.state g.R.Rule.may_say c.args.interlock.now (set_view c.args.media.now) false c.args.link.now c.args.link.now (record { drivers = c.in-Ok.drivers.items; order = order }) c.args.disks.now c.boot_all.new.disks) (sym c.new.ensures.items) (fleet_begins g.K.Disk.state g.R.Rule.may_say c.args.interlock.now (set_view c.args.media.now) c.args.link.now c.requires.nothing_posted c.in-Ok.drivers.items c.args.disks.now c.boot_all.new.disks c.in-Ok.ensures.many c.boot_all.ensures.same c.in-Ok.ensures.boots c.boot_all.ensures.reads) in
     let on = subst (λ units. FleetGoesOn g.K.Disk.state g.R.Rule.may_say c.args.interlock.now (set_view c.args.media.now) true c.args.link.now c.run_to_end.new.link units c.args.disks.now c.run_to_end.new.disks) (sym c.units-2.view_is)
     (c.in-Ok-run_to_end.ensures.goes_on c.args.interlock.now (set_view c.args.media.now) c.args.link.now c.args.disks.now begins) in
     let ready = subst (λ units. IsFleetReady g.K.Disk.state c.run_to_end.new.link units c.run_to_end.new.disks) (sym c.units-2.view_is) c.in-Ok-run_to_end.ensures.ready in
-    let merges = subst (λ traces. MergesAll c.units-2.inside.order.items traces c.in-Ok-merge.trace.items) c.deref_mut.ensures.value (subst (λ order. MergesAll order c.deref_mut.result.now c.in-Ok-merge.trace.items) c.deref.ensures.value c.in-Ok-merge.ensures) in
-    fleet_ended g.K.Disk.state g.R.Rule.may_say c.args.interlock.now (set_view c.args.media.now) c.args.link.now c.run_to_end.new.link (record { drivers = c.units-2.inside.drivers.items; order = c.units-2.inside.order.items }) c.args.disks.now c.run_to_end.new.disks c.end_all.new.disks on ready c.end_all.ensures.same c.in-Ok-end_all.ends.units.items c.in-Ok-end_all.ends.traces.items c.in-Ok-end_all.ensures.counts.0 c.in-Ok-end_all.ensures.counts.1 c.in-Ok-end_all.ensures.ended (record { trace = c.in-Ok-merge.trace; units = c.from.result }) c.from.ensures merges
+    fleet_ended g.K.Disk.state g.R.Rule.may_say c.args.interlock.now (set_view c.args.media.now) c.args.link.now c.run_to_end.new.link (record { drivers = c.units-2.inside.drivers.items; order = c.units-2.inside.order.items }) c.args.disks.now c.run_to_end.new.disks c.end_all.new.disks on ready c.end_all.ensures.same c.in-Ok-end_all.ends.units.items c.in-Ok-end_all.ends.traces.items c.in-Ok-end_all.ensures.counts.0 c.in-Ok-end_all.ensures.counts.1 c.in-Ok-end_all.ensures.ended (record { trace = c.of_units.result; units = c.from.result }) c.from.ensures c.of_units.ensures
 
-pub returns-in-Ok-merge-clause-units : goal.returns-in-Ok-merge-clause-units
-returns-in-Ok-merge-clause-units g c =
+pub returns-in-Ok-end_all-clause-units : goal.returns-in-Ok-end_all-clause-units
+returns-in-Ok-end_all-clause-units g c =
     let begins = subst (λ order. FleetGoesOn g.K.Disk.state g.R.Rule.may_say c.args.interlock.now (set_view c.args.media.now) false c.args.link.now c.args.link.now (record { drivers = c.in-Ok.drivers.items; order = order }) c.args.disks.now c.boot_all.new.disks) (sym c.new.ensures.items) (fleet_begins g.K.Disk.state g.R.Rule.may_say c.args.interlock.now (set_view c.args.media.now) c.args.link.now c.requires.nothing_posted c.in-Ok.drivers.items c.args.disks.now c.boot_all.new.disks c.in-Ok.ensures.many c.boot_all.ensures.same c.in-Ok.ensures.boots c.boot_all.ensures.reads) in
     let on = subst (λ units. FleetGoesOn g.K.Disk.state g.R.Rule.may_say c.args.interlock.now (set_view c.args.media.now) true c.args.link.now c.run_to_end.new.link units c.args.disks.now c.run_to_end.new.disks) (sym c.units-2.view_is)
     (c.in-Ok-run_to_end.ensures.goes_on c.args.interlock.now (set_view c.args.media.now) c.args.link.now c.args.disks.now begins) in
     let ready = subst (λ units. IsFleetReady g.K.Disk.state c.run_to_end.new.link units c.run_to_end.new.disks) (sym c.units-2.view_is) c.in-Ok-run_to_end.ensures.ready in
-    let merges = subst (λ traces. MergesAll c.units-2.inside.order.items traces c.in-Ok-merge.trace.items) c.deref_mut.ensures.value (subst (λ order. MergesAll order c.deref_mut.result.now c.in-Ok-merge.trace.items) c.deref.ensures.value c.in-Ok-merge.ensures) in
-    units_ended g.K.Disk.state g.R.Rule.may_say c.args.interlock.now (set_view c.args.media.now) c.args.link.now c.run_to_end.new.link (record { drivers = c.units-2.inside.drivers.items; order = c.units-2.inside.order.items }) c.args.disks.now c.run_to_end.new.disks c.end_all.new.disks on ready c.end_all.ensures.same c.in-Ok-end_all.ends.units.items c.in-Ok-end_all.ends.traces.items c.in-Ok-end_all.ensures.counts.0 c.in-Ok-end_all.ensures.counts.1 c.in-Ok-end_all.ensures.ended (record { trace = c.in-Ok-merge.trace; units = c.from.result }) c.from.ensures merges
+    units_ended g.K.Disk.state g.R.Rule.may_say c.args.interlock.now (set_view c.args.media.now) c.args.link.now c.run_to_end.new.link (record { drivers = c.units-2.inside.drivers.items; order = c.units-2.inside.order.items }) c.args.disks.now c.run_to_end.new.disks c.end_all.new.disks on ready c.end_all.ensures.same c.in-Ok-end_all.ends.units.items c.in-Ok-end_all.ends.traces.items c.in-Ok-end_all.ensures.counts.0 c.in-Ok-end_all.ensures.counts.1 c.in-Ok-end_all.ensures.ended (record { trace = c.of_units.result; units = c.from.result }) c.from.ensures c.of_units.ensures
 
-pub returns-in-Ok-merge-clause-follows : goal.returns-in-Ok-merge-clause-follows
-returns-in-Ok-merge-clause-follows g c =
+pub returns-in-Ok-end_all-clause-follows : goal.returns-in-Ok-end_all-clause-follows
+returns-in-Ok-end_all-clause-follows g c =
     let begins = subst (λ order. FleetGoesOn g.K.Disk.state g.R.Rule.may_say c.args.interlock.now (set_view c.args.media.now) false c.args.link.now c.args.link.now (record { drivers = c.in-Ok.drivers.items; order = order }) c.args.disks.now c.boot_all.new.disks) (sym c.new.ensures.items) (fleet_begins g.K.Disk.state g.R.Rule.may_say c.args.interlock.now (set_view c.args.media.now) c.args.link.now c.requires.nothing_posted c.in-Ok.drivers.items c.args.disks.now c.boot_all.new.disks c.in-Ok.ensures.many c.boot_all.ensures.same c.in-Ok.ensures.boots c.boot_all.ensures.reads) in
     let on = subst (λ units. FleetGoesOn g.K.Disk.state g.R.Rule.may_say c.args.interlock.now (set_view c.args.media.now) true c.args.link.now c.run_to_end.new.link units c.args.disks.now c.run_to_end.new.disks) (sym c.units-2.view_is)
     (c.in-Ok-run_to_end.ensures.goes_on c.args.interlock.now (set_view c.args.media.now) c.args.link.now c.args.disks.now begins) in
     let ready = subst (λ units. IsFleetReady g.K.Disk.state c.run_to_end.new.link units c.run_to_end.new.disks) (sym c.units-2.view_is) c.in-Ok-run_to_end.ensures.ready in
-    let merges = subst (λ traces. MergesAll c.units-2.inside.order.items traces c.in-Ok-merge.trace.items) c.deref_mut.ensures.value (subst (λ order. MergesAll order c.deref_mut.result.now c.in-Ok-merge.trace.items) c.deref.ensures.value c.in-Ok-merge.ensures) in
-    fleet_follows g.K.Disk.state g.R.Rule.may_say c.args.interlock.now (set_view c.args.media.now) c.args.link.now c.run_to_end.new.link (record { drivers = c.units-2.inside.drivers.items; order = c.units-2.inside.order.items }) c.args.disks.now c.run_to_end.new.disks c.end_all.new.disks on ready c.end_all.ensures.same c.in-Ok-end_all.ends.units.items c.in-Ok-end_all.ends.traces.items c.in-Ok-end_all.ensures.counts.0 c.in-Ok-end_all.ensures.counts.1 c.in-Ok-end_all.ensures.ended (record { trace = c.in-Ok-merge.trace; units = c.from.result }) c.from.ensures merges
-
-pub returns-in-Ok-merge-clause-leaves : goal.returns-in-Ok-merge-clause-leaves
-returns-in-Ok-merge-clause-leaves g c =
-    let begins = subst (λ order. FleetGoesOn g.K.Disk.state g.R.Rule.may_say c.args.interlock.now (set_view c.args.media.now) false c.args.link.now c.args.link.now (record { drivers = c.in-Ok.drivers.items; order = order }) c.args.disks.now c.boot_all.new.disks) (sym c.new.ensures.items) (fleet_begins g.K.Disk.state g.R.Rule.may_say c.args.interlock.now (set_view c.args.media.now) c.args.link.now c.requires.nothing_posted c.in-Ok.drivers.items c.args.disks.now c.boot_all.new.disks c.in-Ok.ensures.many c.boot_all.ensures.same c.in-Ok.ensures.boots c.boot_all.ensures.reads) in
-    let on = subst (λ units. FleetGoesOn g.K.Disk.state g.R.Rule.may_say c.args.interlock.now (set_view c.args.media.now) true c.args.link.now c.run_to_end.new.link units c.args.disks.now c.run_to_end.new.disks) (sym c.units-2.view_is)
-    (c.in-Ok-run_to_end.ensures.goes_on c.args.interlock.now (set_view c.args.media.now) c.args.link.now c.args.disks.now begins) in
-    let ready = subst (λ units. IsFleetReady g.K.Disk.state c.run_to_end.new.link units c.run_to_end.new.disks) (sym c.units-2.view_is) c.in-Ok-run_to_end.ensures.ready in
-    all_leave_end g.K.Disk.state g.R.Rule.may_say c.args.interlock.now (set_view c.args.media.now) c.args.link.now c.run_to_end.new.link (record { drivers = c.units-2.inside.drivers.items; order = c.units-2.inside.order.items }) c.args.disks.now c.run_to_end.new.disks c.end_all.new.disks on ready c.end_all.ensures.same g.met.K.Disk.wider g.met.K.Disk.splits g.met.K.Disk.only_now c.end_all.ensures.leaves
-
-pub returns-in-Ok-merge-clause-good : goal.returns-in-Ok-merge-clause-good
-returns-in-Ok-merge-clause-good g c =
-    all_good g.K.Disk.state g.R.Rule.may_say c.args.interlock.now (set_view c.args.media.now) c.the_configuration_changes_by_good_verdicts.ensures.active c.args.link.now c.run_to_end.new.link c.args.disks.now c.end_all.new.disks (returns-in-Ok-merge-clause-leaves g c)
+    fleet_follows g.K.Disk.state g.R.Rule.may_say c.args.interlock.now (set_view c.args.media.now) c.args.link.now c.run_to_end.new.link (record { drivers = c.units-2.inside.drivers.items; order = c.units-2.inside.order.items }) c.args.disks.now c.run_to_end.new.disks c.end_all.new.disks on ready c.end_all.ensures.same c.in-Ok-end_all.ends.units.items c.in-Ok-end_all.ends.traces.items c.in-Ok-end_all.ensures.counts.0 c.in-Ok-end_all.ensures.counts.1 c.in-Ok-end_all.ensures.ended (record { trace = c.of_units.result; units = c.from.result }) c.from.ensures c.of_units.ensures
 
 pub returns-in-Ok-end_all-clause-leaves : goal.returns-in-Ok-end_all-clause-leaves
 returns-in-Ok-end_all-clause-leaves g c =
@@ -97,23 +80,20 @@ pub returns-in-Ok-end_all-clause-good : goal.returns-in-Ok-end_all-clause-good
 returns-in-Ok-end_all-clause-good g c =
     all_good g.K.Disk.state g.R.Rule.may_say c.args.interlock.now (set_view c.args.media.now) c.the_configuration_changes_by_good_verdicts.ensures.active c.args.link.now c.run_to_end.new.link c.args.disks.now c.end_all.new.disks (returns-in-Ok-end_all-clause-leaves g c)
 
-pub returns-clause-leaves : goal.returns-clause-leaves
-returns-clause-leaves g c =
+pub returns-in-Err-end_all-clause-leaves : goal.returns-in-Err-end_all-clause-leaves
+returns-in-Err-end_all-clause-leaves g c =
     let begins = subst (λ order. FleetGoesOn g.K.Disk.state g.R.Rule.may_say c.args.interlock.now (set_view c.args.media.now) false c.args.link.now c.args.link.now (record { drivers = c.in-Ok.drivers.items; order = order }) c.args.disks.now c.boot_all.new.disks) (sym c.new.ensures.items) (fleet_begins g.K.Disk.state g.R.Rule.may_say c.args.interlock.now (set_view c.args.media.now) c.args.link.now c.requires.nothing_posted c.in-Ok.drivers.items c.args.disks.now c.boot_all.new.disks c.in-Ok.ensures.many c.boot_all.ensures.same c.in-Ok.ensures.boots c.boot_all.ensures.reads) in
     let on = subst (λ units. FleetGoesOn g.K.Disk.state g.R.Rule.may_say c.args.interlock.now (set_view c.args.media.now) true c.args.link.now c.run_to_end.new.link units c.args.disks.now c.run_to_end.new.disks) (sym c.units-2.view_is)
     (c.in-Ok-run_to_end.ensures.goes_on c.args.interlock.now (set_view c.args.media.now) c.args.link.now c.args.disks.now begins) in
     let ready = subst (λ units. IsFleetReady g.K.Disk.state c.run_to_end.new.link units c.run_to_end.new.disks) (sym c.units-2.view_is) c.in-Ok-run_to_end.ensures.ready in
     all_leave_end g.K.Disk.state g.R.Rule.may_say c.args.interlock.now (set_view c.args.media.now) c.args.link.now c.run_to_end.new.link (record { drivers = c.units-2.inside.drivers.items; order = c.units-2.inside.order.items }) c.args.disks.now c.run_to_end.new.disks c.end_all.new.disks on ready c.end_all.ensures.same g.met.K.Disk.wider g.met.K.Disk.splits g.met.K.Disk.only_now c.end_all.ensures.leaves
 
-pub returns-clause-good : goal.returns-clause-good
-returns-clause-good g c =
-    all_good g.K.Disk.state g.R.Rule.may_say c.args.interlock.now (set_view c.args.media.now) c.the_configuration_changes_by_good_verdicts.ensures.active c.args.link.now c.run_to_end.new.link c.args.disks.now c.end_all.new.disks (returns-clause-leaves g c)
+pub returns-in-Err-end_all-clause-good : goal.returns-in-Err-end_all-clause-good
+returns-in-Err-end_all-clause-good g c =
+    all_good g.K.Disk.state g.R.Rule.may_say c.args.interlock.now (set_view c.args.media.now) c.the_configuration_changes_by_good_verdicts.ensures.active c.args.link.now c.run_to_end.new.link c.args.disks.now c.end_all.new.disks (returns-in-Err-end_all-clause-leaves g c)
 
-pub returns-in-Ok-end_all-clause-refused : goal.returns-in-Ok-end_all-clause-refused
-returns-in-Ok-end_all-clause-refused g c = inr (all_stood g.K.Disk.state g.R.Rule.may_say c.args.interlock.now (set_view c.args.media.now) c.args.link.now c.requires.nothing_posted c.in-Ok.drivers.items c.args.disks.now c.boot_all.new.disks c.in-Ok.ensures.many c.boot_all.ensures.same c.in-Ok.ensures.boots c.boot_all.ensures.reads)
-
-pub returns-clause-refused : goal.returns-clause-refused
-returns-clause-refused g c =
+pub returns-in-Err-end_all-clause-refused : goal.returns-in-Err-end_all-clause-refused
+returns-in-Err-end_all-clause-refused g c =
     let begins = subst (λ order. FleetGoesOn g.K.Disk.state g.R.Rule.may_say c.args.interlock.now (set_view c.args.media.now) false c.args.link.now c.args.link.now (record { drivers = c.in-Ok.drivers.items; order = order }) c.args.disks.now c.boot_all.new.disks) (sym c.new.ensures.items) (fleet_begins g.K.Disk.state g.R.Rule.may_say c.args.interlock.now (set_view c.args.media.now) c.args.link.now c.requires.nothing_posted c.in-Ok.drivers.items c.args.disks.now c.boot_all.new.disks c.in-Ok.ensures.many c.boot_all.ensures.same c.in-Ok.ensures.boots c.boot_all.ensures.reads) in
     let on = subst (λ units. FleetGoesOn g.K.Disk.state g.R.Rule.may_say c.args.interlock.now (set_view c.args.media.now) true c.args.link.now c.run_to_end.new.link units c.args.disks.now c.run_to_end.new.disks) (sym c.units-2.view_is)
     (c.in-Ok-run_to_end.ensures.goes_on c.args.interlock.now (set_view c.args.media.now) c.args.link.now c.args.disks.now begins) in

@@ -9,8 +9,8 @@ unfolding steps_of
 nothing = record { found = refl; within = All-nil _; port = refl; small = omega arith; ordered = refl }
 
 pub invariant_of-result : goal.invariant_of-result
-invariant_of-result c = rw (c.new.ensures, c.new-2.ensures) nothing
+invariant_of-result c = rw (c.new.ensures.items, c.new-2.ensures.items) nothing
 
 pub returns : goal.returns
 unfolding steps_of
-returns c = rw c.new.ensures refl
+returns c = rw c.new.ensures.items refl
