@@ -8,17 +8,18 @@ use Rattle.exchange_trace.specs.Following as following
 use Rattle.exchange_trace.specs.Following.{Scene, begins, ticked_side}
 use Rattle.exchange_trace.specs.Lines.{Line}
 use Rattle.fleet_trace.specs.FleetTraces.{At_unit}
-use Rattle.fleet_trace.specs.FleetFollowing.{FleetScene, Line_is_done, UnitTick, first_tick, fleet_tick, tick_or_later, turn_leaving, unit_scene}
+use Rattle.fleet_trace.specs.FleetFollowing.{Batch_finishes, FleetScene, Line_is_done, TickTurns, UnitTick, batch_asking, first_tick, fleet_goes_on, fleet_tick, or_asking, tick_or_later, turn_leaving, unit_scene}
 use Rattle.link_net.specs.Mail.{MailView, scene_in}
 use Rattle.fleet_trace.specs.declared.trace.FleetHappening.TheVariants as given
 use Rattle.link_net.specs.Plans.{IsTurn, turn_view}
 use Rattle.link_net.specs.declared.link.Waits.{Waits}
 use Rattle.link_net.specs.declared.turn.Turn.{Turn}
 use Rattle.link_net.specs.declared.turn.Waiting.{Waiting}
+use Rattle.fleet_link.specs.declared.fleet_turn.FinishOf.TheVariants as finishes
 use Rattle.fleet_link.specs.declared.fleet_turn.FleetRest.TheVariants as rests
 use Rattle.fleet_link.specs.declared.fleet_turn.FleetTurn.{FleetTurn}
 use Rattle.fleet_link.specs.FleetMail.{FleetMailView, fleet_scene_in, mail_of}
-use Rattle.fleet_link.specs.FleetPlans.{IsFleetTurn, gives_at_unit, seen_with, turns_in, waits_in}
+use Rattle.fleet_link.specs.FleetPlans.{IsFleetTurn, gives_at_unit, gives_of_finish, seen_with, turns_in, waits_in}
 
 -- ---- ticks
 
@@ -26,15 +27,15 @@ use Rattle.fleet_link.specs.FleetPlans.{IsFleetTurn, gives_at_unit, seen_with, t
 abbrev pub nobody : Waits
 nobody = record { loader = false; target = false }
 
-module _ (mail : FleetMailView) (waits : List Waits) (firsts : List Side) where
+module _ (mail : FleetMailView) (may_ask : Bool) (waits : List Waits) (firsts : List Side) where
   scene : FleetScene
-  scene = fleet_scene_in mail (length waits) (waits_in waits)
+  scene = fleet_scene_in mail (length waits) (waits_in waits) may_ask
 
   -- the units from the one of this index on
   pub ticked_from : (at : ℕ) → Option UnitTick
   ticked_from at = first_tick scene (turns_in firsts) (range_with_len (1 + at) (length waits - at))
 
-  pub from_first : fleet_tick (fleet_scene_in mail (length waits) (waits_in waits)) (turns_in firsts) ≡ ticked_from 0
+  pub from_first : fleet_tick (fleet_scene_in mail (length waits) (waits_in waits) may_ask) (turns_in firsts) ≡ ticked_from 0
   unfolding ticked_from scene
   from_first = let all : length waits - 0 ≡ length waits = omega arith in rw all refl
 
@@ -73,16 +74,34 @@ module _ (mail : FleetMailView) (waits : List Waits) (firsts : List Side) where
 -- ---- lines
 
 -- what a line of a target gives in a unit's mail is given there
-pub unit_gives : (mail : FleetMailView) (waits : List Waits) (unit : ℕ) (line : Line) (m : MailView) (waiting : Waiting) (t : Turn) (begun : Option Turn) (found : Option FleetTurn)
+pub unit_gives : (mail : FleetMailView) (may_ask : Bool) (waits : List Waits) (unit : ℕ) (line : Line) (m : MailView) (waiting : Waiting) (t : Turn) (begun : Option Turn) (found : Option FleetTurn)
     → (1 ≤ unit) × (unit ≤ 8) → m ≡ mail_of unit mail → waiting ≡ record { loader = waits_in waits unit sides.Loader; target = waits_in waits unit sides.Target } → begun ≡ Some t
     → IsTurn m begun (begins (scene_in m waiting.loader waiting.target) line)
     → found ≡ Some (record { given = given.At unit t.given; rest = rests.Nothing })
-    → IsFleetTurn mail found (gives_at_unit (seen_with mail waits) unit line)
-unit_gives mail waits unit line m waiting t begun found at own sides_wait some is same =
+    → IsFleetTurn mail found (gives_at_unit (seen_with mail waits may_ask) unit line)
+unit_gives mail may_ask waits unit line m waiting t begun found at own sides_wait some is same =
     let here = rw some at (rw sides_wait at (rw own at is)) in
-    let first : Some (turn_view [] t) ≡ begins (unit_scene (seen_with mail waits) unit) line [] = here.turn [] in
+    let first : Some (turn_view [] t) ≡ begins (unit_scene (seen_with mail waits may_ask) unit) line [] = here.turn [] in
     rw same
     (record {
       turn = λ later. ap (λ (o : Option following.Turn). turn_leaving Line_is_done later (option_map (λ (x : following.Turn). At_unit unit x.given) o)) first;
       named = (at, here.named);
     })
+
+-- ---- `finishbatch`
+
+-- its `finish` gives something
+pub batch_goes_on : (mail : FleetMailView) (s : FleetScene) (firsts : TickTurns) (t : FleetTurn) → IsFleetTurn mail (Some t) (gives_of_finish s finishes.Batch firsts)
+    → IsFleetTurn mail (Some t) (fleet_goes_on s (Batch_finishes firsts))
+batch_goes_on mail s firsts t finds = record {
+  turn = λ later. ap (or_asking s later) (finds.turn later);
+  named = finds.named;
+}
+
+-- or it gives nothing, and what is asked then is what comes
+pub batch_asks_then : (mail : FleetMailView) (s : FleetScene) (firsts : TickTurns) (asked : Option FleetTurn) → IsFleetTurn mail None (gives_of_finish s finishes.Batch firsts) → IsFleetTurn mail asked (batch_asking s)
+    → IsFleetTurn mail asked (fleet_goes_on s (Batch_finishes firsts))
+batch_asks_then mail s firsts asked none finds = record {
+  turn = λ later. finds.turn later ∙ ap (or_asking s later) (none.turn later);
+  named = finds.named;
+}

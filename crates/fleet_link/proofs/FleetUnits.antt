@@ -7,11 +7,11 @@ use Rattle.exchange_trace.specs.Following as following
 use Rattle.exchange_trace.specs.Following.{Scene, begins, delivery, loss, ticked_side}
 use Rattle.exchange_trace.specs.Happenings.{HappeningView}
 use Rattle.exchange_trace.specs.Lines.{Line}
-use Rattle.fleet_trace.specs.FleetTraces.{At_unit, FleetHappeningView}
+use Rattle.fleet_trace.specs.FleetTraces.{At_unit, FleetHappeningView, Next_asked}
 use Rattle.exchange_trace.specs.Happenings.{DatagramView}
 use Rattle.fleet_trace.specs.FleetPosts.{PostPlace, UnitPost, is_place_undelivered, located, post_places, post_places_after, undelivered_places, unit_post}
-use Rattle.fleet_trace.specs.FleetLines.{FleetLine, Finish_all, Give_numbered, Line_at, Lose_numbered, Next_of_all}
-use Rattle.fleet_trace.specs.FleetFollowing.{Deliveries_left, Finish_goes_on, FleetPlan, FleetRest, FleetScene, FleetTurn, Line_is_done, TickTurns, UnitTick, first_place, first_tick, fleet_begins, fleet_finishing, fleet_finishing_tick, fleet_goes_on, fleet_tick, from_fleet_lines, given_at_place, given_by_line, least_fleet_delivery, loaders_first, next_fleet_turn, or_next, tick_or_later, turn_leaving, unit_scene}
+use Rattle.fleet_trace.specs.FleetLines.{FleetLine, Ask_next, Begin_batch, Finish_all, Finish_batch, Give_numbered, Line_at, Lose_numbered, Next_of_all}
+use Rattle.fleet_trace.specs.FleetFollowing.{Batch_finishes, Deliveries_left, Finish_goes_on, Finishes, FleetPlan, FleetRest, FleetScene, FleetTurn, Line_is_done, TickTurns, UnitTick, asking, first_place, first_tick, fleet_begins, fleet_finishing, fleet_finishing_tick, fleet_goes_on, fleet_tick, fleet_turn, from_fleet_lines, given_at_place, given_by_line, least_fleet_delivery, loaders_first, next_fleet_turn, or_asking, or_next, tick_or_later, turn_leaving, unit_scene}
 use Rattle.fleet_link.specs.FleetMail.{FleetMailView}
 use Rattle.fleet_link.specs.FleetLinks.{ArePostsOf, IsOfUnit}
 use Rattle.fleet_link.specs.Lines.{AreAtUnits, IsAtUnit}
@@ -124,23 +124,37 @@ module _ (units : ℕ) where
       by (Some side) later rest = here
       by None later rest = rest
 
-  ticking : (firsts : TickTurns) (lines : List FleetLine) (t : Option UnitTick) → IsTickOf t → IsTurnOf (fleet_finishing_tick firsts lines t)
+  ticking : (rest : Finishes) (firsts : TickTurns) (lines : List FleetLine) (t : Option UnitTick) → IsTickOf t → IsTurnOf (fleet_finishing_tick rest firsts lines t)
   unfolding IsTickOf IsTurnOf
-  ticking firsts lines None within = tt
-  ticking firsts lines (Some t) within = within
+  ticking rest firsts lines None within = tt
+  ticking rest firsts lines (Some t) within = within
+
+  asks : (s : FleetScene) (rest : FleetRest) (lines : List FleetLine) → IsTurnOf (asking s rest lines)
+  unfolding IsTurnOf
+  asks s rest lines = by s.may_ask
+    where
+      by : (b : Bool) → IsTurnOf (cond b (Some (fleet_turn Next_asked rest lines)) None)
+      by true = tt
+      by false = tt
+
+  asks_then : (s : FleetScene) (lines : List FleetLine) (t : Option FleetTurn) → IsTurnOf t → IsTurnOf (or_asking s lines t)
+  asks_then s lines None within = asks s (Batch_finishes loaders_first) lines
+  asks_then s lines (Some t) within = within
 
   module _ (s : FleetScene) (same : s.units ≡ units) (posts : ArePostsOf units s.posted) where
-    finishing : (firsts : TickTurns) (lines : List FleetLine) (h : Option FleetHappeningView) → IsGivenOf h → IsTurnOf (fleet_finishing s firsts lines h)
+    finishing : (rest : Finishes) (firsts : TickTurns) (lines : List FleetLine) (h : Option FleetHappeningView) → IsGivenOf h → IsTurnOf (fleet_finishing s rest firsts lines h)
     unfolding IsGivenOf IsTurnOf
-    finishing firsts lines (Some h) within = within
-    finishing firsts lines None within = ticking firsts lines (fleet_tick s firsts) (ticks_of s firsts 1 s.units (omega arith) (omega (arith, same)))
+    finishing rest firsts lines (Some h) within = within
+    finishing rest firsts lines None within = ticking rest firsts lines (fleet_tick s firsts) (ticks_of s firsts 1 s.units (omega arith) (omega (arith, same)))
 
     going_on : (rest : FleetRest) (lines : List FleetLine) → IsTurnOf (fleet_goes_on s rest lines)
     unfolding IsTurnOf
     going_on Line_is_done lines = tt
     going_on (Deliveries_left zero) lines = tt
     going_on (Deliveries_left (suc k)) lines = leaving (Deliveries_left k) lines (least_fleet_delivery s) (least_of s posts)
-    going_on (Finish_goes_on firsts) lines = finishing firsts lines (least_fleet_delivery s) (least_of s posts)
+    going_on (Finish_goes_on firsts) lines = finishing Finish_goes_on firsts lines (least_fleet_delivery s) (least_of s posts)
+    going_on (Batch_finishes firsts) lines =
+        asks_then s lines (fleet_finishing s Batch_finishes firsts lines (least_fleet_delivery s)) (finishing Batch_finishes firsts lines (least_fleet_delivery s) (least_of s posts))
 
     line_of : (unit : ℕ) (line : Line) → (1 ≤ unit) × (unit ≤ units) → IsGivenOf (given_by_line s unit line)
     unfolding IsGivenOf
@@ -151,11 +165,15 @@ module _ (units : ℕ) where
         by (Some t) = within
 
     beginning : (line : FleetLine) (lines : List FleetLine) → IsAtUnit units line → IsTurnOf (fleet_begins s line lines)
+    unfolding IsTurnOf
     beginning (Line_at unit line) lines within = leaving Line_is_done lines (given_by_line s unit line) (line_of unit line within)
     beginning (Give_numbered n) lines within = leaving Line_is_done lines _ (at_place s delivery (located s.posted n) (number_of s posts n))
     beginning (Lose_numbered n) lines within = leaving Line_is_done lines _ (at_place s loss (located s.posted n) (number_of s posts n))
     beginning (Next_of_all k) lines within = going_on (Deliveries_left k) lines
     beginning Finish_all lines within = going_on (Finish_goes_on loaders_first) lines
+    beginning (Begin_batch part) lines within = tt
+    beginning Ask_next lines within = asks s Line_is_done lines
+    beginning Finish_batch lines within = asks s (Batch_finishes loaders_first) lines
 
     or_later : (t : Option FleetTurn) (later : FleetTurn) → IsTurnOf t → IsOfUnit units later.given → IsOfUnit units (or_next t later).given
     unfolding IsTurnOf

@@ -19,11 +19,11 @@ use Rattle.fleet_link.specs.FleetMail.{FleetMailView, KeepsFleetMail, NamesPlace
 -- ---- what is given
 
 -- what a unit's mail gives for a datagram is given in the fleet for its place
-pub given_there : (gives : Scene → ℕ → Option HappeningView) (mail : FleetMailView) (units : ℕ) (waits_at : (unit : ℕ) → Side → Bool) (place : Place) (m : MailView) (found : Option Happening) (given : Option FleetHappening)
+pub given_there : (gives : Scene → ℕ → Option HappeningView) (mail : FleetMailView) (units : ℕ) (waits_at : (unit : ℕ) → Side → Bool) (may_ask : Bool) (place : Place) (m : MailView) (found : Option Happening) (given : Option FleetHappening)
     → m ≡ mail_of place.unit mail → ((loader target : Bool) → option_map happening_view found ≡ gives (scene_in m loader target) place.number)
     → option_map fleet_happening_view given ≡ option_map (λ h. At_unit place.unit (happening_view h)) found
-    → option_map fleet_happening_view given ≡ given_at_place (fleet_scene_in mail units waits_at) gives (Some (place_view place))
-given_there gives mail units waits_at place m found given own value is =
+    → option_map fleet_happening_view given ≡ given_at_place (fleet_scene_in mail units waits_at may_ask) gives (Some (place_view place))
+given_there gives mail units waits_at may_ask place m found given own value is =
     is ∙ (in_two found ∙ ap (option_map (At_unit place.unit)) (value loader target ∙ ap (λ (n : MailView). gives (scene_in n loader target) place.number) own))
   where
     loader : Bool

@@ -5,11 +5,11 @@ use Rattle.std.specs.Str.Parse.{digits_value}
 use Rattle.std.proofs.lemmas.Bool.{leb-true}
 use Rattle.load_base.specs.Bytes.{same_bytes}
 use Rattle.exchange_trace.specs.Lines.{Line}
-use Rattle.exchange_trace.specs.Scripts.{◌>>=◌, Keyword, WrittenLine, count_word, decimal_between, found_in, is_decimal, keywords, line_said, required, info, upload, give, lose, next, tick, inject, power, boot, blksize, finish}
+use Rattle.exchange_trace.specs.Scripts.{◌>>=◌, Keyword, WrittenLine, count_word, decimal_between, found_in, is_decimal, keywords, line_said, part_word, required, info, upload, give, lose, next, tick, inject, power, boot, blksize, finish}
 use Rattle.exchange_trace.specs.declared.fault.ScriptFault.{ScriptFault}
 use Rattle.exchange_trace.specs.declared.fault.ScriptFault.TheVariants.{Unit, Word}
-use Rattle.fleet_trace.specs.FleetLines.{FleetLine, Finish_all, Give_numbered, Line_at, Lose_numbered, Next_of_all}
-use Rattle.fleet_trace.specs.FleetScripts.{at_said, at_unit_said, fleet_line_said, fleet_lines_said, fleet_words_said, takes, unit_line_said}
+use Rattle.fleet_trace.specs.FleetLines.{FleetLine, Ask_next, Begin_batch, Finish_all, Finish_batch, Give_numbered, Line_at, Lose_numbered, Next_of_all}
+use Rattle.fleet_trace.specs.FleetScripts.{alone_said, at_said, at_unit_said, batch_said, fleet_line_said, fleet_lines_said, fleet_words_said, takes, unit_line_said}
 use Rattle.fleet_link.specs.Lines.{AreAtUnits, IsAtUnit}
 
 -- what is said is of one of the units
@@ -86,13 +86,32 @@ module _ (units n : ℕ) where
   of_no_unit (Some boot) words = refused units (Word n)
   of_no_unit (Some blksize) words = refused units (Word n)
 
+  named : (part : Result (List ℕ) ScriptFault) → AtUnit units (part >>= λ number. Ok (Begin_batch number))
+  unfolding AtUnit
+  named (Err fault) = λ line e. absurd cc
+  named (Ok part) = λ line e. let same : Begin_batch part ≡ line = cc in subst (λ l. IsAtUnit units l) same tt
+
+  of_batch : (words : List (List ℕ)) → AtUnit units (batch_said n words)
+  of_batch [] = refused units (Word n)
+  of_batch (word ∷ []) = named (part_word n word)
+  of_batch (word ∷ second ∷ words) = refused units (Word n)
+
+  of_alone : (says : FleetLine) → IsAtUnit units says → (words : List (List ℕ)) → AtUnit units (alone_said n says words)
+  unfolding AtUnit
+  of_alone says is [] = λ line e. let same : says ≡ line = cc in subst (λ l. IsAtUnit units l) same is
+  of_alone says is (word ∷ words) = refused units (Word n)
+
   words_at_unit : (words : List (List ℕ)) → AtUnit units (fleet_words_said n units words)
   words_at_unit [] = refused units (Word n)
-  words_at_unit (word ∷ words) = by (same_bytes word (codes "at"))
+  words_at_unit (word ∷ words) = by (same_bytes word (codes "at")) (same_bytes word (codes "batch")) (same_bytes word (codes "asknext")) (same_bytes word (codes "finishbatch"))
     where
-      by : (b : Bool) → AtUnit units (cond b (at_said n units words) (fleet_line_said n (found_in keywords word) words))
-      by true = at_line words
-      by false = of_no_unit (found_in keywords word) words
+      by : (at batch asks finishes : Bool) → AtUnit units (cond at (at_said n units words) (cond batch (batch_said n words)
+          (cond asks (alone_said n Ask_next words) (cond finishes (alone_said n Finish_batch words) (fleet_line_said n (found_in keywords word) words)))))
+      by true batch asks finishes = at_line words
+      by false true asks finishes = of_batch words
+      by false false true finishes = of_alone Ask_next tt words
+      by false false false true = of_alone Finish_batch tt words
+      by false false false false = of_no_unit (found_in keywords word) words
 
 -- ---- texts
 

@@ -6,12 +6,12 @@ use Rattle.exchange_trace.specs.declared.trace.Happening.{Happening}
 use Rattle.exchange_trace.specs.Happenings.{DatagramView, HappeningView, datagram_view, happening_view}
 use Rattle.exchange_trace.specs.Posts.{NamesOnlyPosted, is_undelivered}
 use Rattle.link_net.specs.Mail.{MailView, NamesPosted, with_given}
-use Rattle.fleet_trace.specs.FleetTraces.{FleetHappeningView, At_unit, All_ended}
+use Rattle.fleet_trace.specs.FleetTraces.{FleetHappeningView, At_unit, Batch_begun, Next_asked, All_ended}
 use Rattle.fleet_trace.specs.FleetPosts.{PostPlace, UnitPost, happenings_of_unit, is_place_undelivered, post_places, posts_of_unit, unit_post}
 use Rattle.fleet_trace.specs.FleetFollowing.{FleetScene}
 use Rattle.fleet_link.specs.declared.fleet_mail.Place.{Place}
 
--- what was posted, the oldest first, and what was given at units, the newest first
+-- what was posted, the oldest first, and what happened at units, the newest first
 pub record FleetMailView : Type 0 where
   pub posted : List UnitPost
   pub given : List FleetHappeningView
@@ -75,19 +75,23 @@ posted_at_units log = map (λ entry. unit_post entry.1 (datagram_view entry.0)) 
 abbrev pub given_at_units : List (Happening × ℕ) → List FleetHappeningView
 given_at_units log = reverse (map (λ entry. At_unit entry.1 (happening_view entry.0)) log)
 
--- what was given, with this more; the end isn't kept
+-- what happened at units, with this more; what is of no unit isn't kept
 abbrev pub kept_gift : FleetHappeningView → List FleetHappeningView → List FleetHappeningView
 kept_gift (At_unit unit h) given = At_unit unit h ∷ given
+kept_gift (Batch_begun part) given = given
+kept_gift Next_asked given = given
 kept_gift All_ended given = given
 
 abbrev pub with_gift : FleetMailView → FleetHappeningView → FleetMailView
 with_gift mail h = record { posted = mail.posted; given = kept_gift h mail.given }
 
 -- what following the script sees of it, in a fleet of so many units
-abbrev pub fleet_scene_in : FleetMailView → (units : ℕ) → (waits_at : (unit : ℕ) → Side → Bool) → FleetScene
-fleet_scene_in mail units waits_at = record { posted = mail.posted; happenings = mail.given; units = units; waits_at = waits_at }
+abbrev pub fleet_scene_in : FleetMailView → (units : ℕ) → (waits_at : (unit : ℕ) → Side → Bool) → (may_ask : Bool) → FleetScene
+fleet_scene_in mail units waits_at may_ask = record { posted = mail.posted; happenings = mail.given; units = units; waits_at = waits_at; may_ask = may_ask }
 
 -- It happens at one of the units, and names a datagram that was posted there, if it names one.
 abbrev pub NamesPlaced : FleetMailView → FleetHappeningView → Type 0
 NamesPlaced mail (At_unit unit h) = ((1 ≤ unit) × (unit ≤ 8)) × NamesPosted (length (posts_of_unit unit mail.posted)) h
+NamesPlaced mail (Batch_begun part) = ⊤
+NamesPlaced mail Next_asked = ⊤
 NamesPlaced mail All_ended = ⊤

@@ -3,7 +3,7 @@ use Rattle.std.specs.Prelude.{◌≡◌, ℕ, ◌+◌, ◌-◌, ◌≤◌, ◌==
 use Rattle.std.specs.List.{slice_index_or}
 use Rattle.exchange_trace.specs.declared.trace.Side.{Side}
 use Rattle.exchange_trace.specs.declared.trace.Side.TheVariants as sides
-use Rattle.fleet_trace.specs.FleetTraces.{FleetHappeningView, At_unit, All_ended, fleet_happening_view}
+use Rattle.fleet_trace.specs.FleetTraces.{FleetHappeningView, At_unit, Batch_begun, Next_asked, All_ended, fleet_happening_view}
 use Rattle.fleet_trace.specs.FleetFollowing as following
 use Rattle.fleet_trace.specs.FleetFollowing.{FleetPlan, FleetScene, TickTurns, UnitTick, fleet_turn}
 use Rattle.exchange_trace.specs.Lines.{Line}
@@ -13,6 +13,8 @@ use Rattle.link_net.specs.declared.link.Waits.{Waits}
 use Rattle.fleet_link.specs.declared.fleet_line.FleetLine.{FleetLine}
 use Rattle.fleet_link.specs.declared.fleet_turn.FleetRest.{FleetRest}
 use Rattle.fleet_link.specs.declared.fleet_turn.FleetRest.TheVariants as rests
+use Rattle.fleet_link.specs.declared.fleet_turn.FinishOf.{FinishOf}
+use Rattle.fleet_link.specs.declared.fleet_turn.FinishOf.TheVariants as finishes
 use Rattle.fleet_link.specs.declared.fleet_turn.FleetTick.{FleetTick}
 use Rattle.fleet_link.specs.declared.fleet_turn.FleetTurn.{FleetTurn}
 use Rattle.fleet_link.specs.Lines.{AreAtUnits, fleet_line_views}
@@ -40,6 +42,7 @@ abbrev pub fleet_rest_view : FleetRest → following.FleetRest
 fleet_rest_view rests.Nothing = following.Line_is_done
 fleet_rest_view (rests.Deliveries left) = following.Deliveries_left left
 fleet_rest_view (rests.Finishing firsts) = following.Finish_goes_on (turns_in firsts)
+fleet_rest_view (rests.BatchFinishing firsts) = following.Batch_finishes (turns_in firsts)
 
 -- what is left of a script, of which the line at this offset comes next
 abbrev pub fleet_plan_at : FleetRest → List FleetLine → ℕ → FleetPlan
@@ -49,9 +52,9 @@ fleet_plan_at rest lines next = record { rest = fleet_rest_view rest; lines = fl
 abbrev pub fleet_turn_view : List spec.FleetLine → FleetTurn → following.FleetTurn
 fleet_turn_view later t = fleet_turn (fleet_happening_view t.given) (fleet_rest_view t.rest) later
 
--- what following the script sees, where these sides have a live session, of as many units
-abbrev pub seen_with : FleetMailView → List Waits → FleetScene
-seen_with mail waits = fleet_scene_in mail (length waits) (waits_in waits)
+-- what following the script sees, where these sides have a live session, of as many units, and an upload may be asked or not
+abbrev pub seen_with : FleetMailView → List Waits → (may_ask : Bool) → FleetScene
+seen_with mail waits may_ask = fleet_scene_in mail (length waits) (waits_in waits) may_ask
 
 -- the lines from this offset on are of a fleet of as many units, which are eight at most
 pub record IsOfUnits (lines : List FleetLine) (next : ℕ) (waits : List Waits) : Type 0 where
@@ -65,6 +68,15 @@ pub record IsOfUnits (lines : List FleetLine) (next : ℕ) (waits : List Waits) 
 abbrev pub gives_at_unit : FleetScene → (unit : ℕ) → Line → List spec.FleetLine → Option following.FleetTurn
 gives_at_unit s unit line later = following.turn_leaving following.Line_is_done later (following.given_by_line s unit line)
 
+-- what is left of a `finish`
+abbrev pub finishes_of : FinishOf → following.Finishes
+finishes_of finishes.Line = following.Finish_goes_on
+finishes_of finishes.Batch = following.Batch_finishes
+
+-- what it gives next, by whose turn it is at each unit
+abbrev pub gives_of_finish : FleetScene → FinishOf → TickTurns → List spec.FleetLine → Option following.FleetTurn
+gives_of_finish s of firsts later = following.fleet_finishing s (finishes_of of) firsts later (following.least_fleet_delivery s)
+
 -- What was found is the turn that is said, whatever lines come later, and names only what was posted.
 pub record IsFleetTurn (mail : FleetMailView) (found : Option FleetTurn) (said : List spec.FleetLine → Option following.FleetTurn) : Type 0 where
   pub turn : (later : List spec.FleetLine) → option_map (fleet_turn_view later) found ≡ said later
@@ -73,6 +85,8 @@ pub record IsFleetTurn (mail : FleetMailView) (found : Option FleetTurn) (said :
 -- Giving it takes memory, since it has a copy of what its line carries.
 abbrev pub FleetTakesMemory : FleetHappeningView → Type 0
 FleetTakesMemory (At_unit unit h) = TakesMemory h
+FleetTakesMemory (Batch_begun part) = ⊥
+FleetTakesMemory Next_asked = ⊥
 FleetTakesMemory All_ended = ⊥
 
 abbrev pub FleetTurnTakesMemory : Option following.FleetTurn → Type 0

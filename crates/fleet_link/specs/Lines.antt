@@ -11,6 +11,9 @@ fleet_line_view (lines.Give number) = spec.Give_numbered number
 fleet_line_view (lines.Lose number) = spec.Lose_numbered number
 fleet_line_view (lines.Next count) = spec.Next_of_all count
 fleet_line_view lines.Finish = spec.Finish_all
+fleet_line_view (lines.Batch part) = spec.Begin_batch part
+fleet_line_view lines.AskNext = spec.Ask_next
+fleet_line_view lines.FinishBatch = spec.Finish_batch
 
 abbrev pub fleet_line_views : List FleetLine → List spec.FleetLine
 fleet_line_views lines = map fleet_line_view lines

@@ -2,16 +2,18 @@
 ghost use Rattle.std.specs.Prelude.{◌≡◌, ◌≤◌, ◌==◌, IfOk, length, option_copied, option_map};
 ghost use Rattle.std.specs.Prelude.{Some};
 ghost use Rattle.std.specs.List.{slice_split};
-ghost use Rattle.exchange_trace.specs.Scripts.{finish};
+ghost use Rattle.exchange_trace.specs.Scripts.{finish, part_word};
 ghost use Rattle.exchange_trace.specs.declared.fault.ScriptFault.TheVariants.{Memory};
 ghost use Rattle.field_grammar.specs.Answers.{Gives};
 ghost use Rattle.link_net.specs.Reading.{keyword_view, words_of};
+ghost use Rattle.fleet_trace.specs.FleetLines.{Ask_next, Finish_batch};
 ghost use Rattle.fleet_trace.specs.FleetScripts as scripts;
 ghost use Rattle.fleet_link.specs.Lines.{fleet_line_view};
 
 use exchange_trace::{ScriptFault, decimal_in};
 use link_net::line::{Keyword, Line, count_of, keyword_of, line_of};
-use link_net::words::{cut, word_count};
+use link_net::words::{cut, only_word_in, word_count};
+use load_base::PartText;
 use std::alloc::Global;
 
 /// What a line says (docs/FORMATS.md, "Script of a fleet").
@@ -28,6 +30,12 @@ pub enum FleetLine {
     /// Datagrams are delivered, and timers expire, until nothing is undelivered and no side of a
     /// unit waits.
     Finish,
+    /// The batch with this part number becomes the running one.
+    Batch(PartText),
+    /// The upload to the next target of the running batch is asked, if it may be.
+    AskNext,
+    /// Uploads are asked and finished in turn, until none may be asked any more.
+    FinishBatch,
 }
 
 /// What the line of this number says in a script of so many units, or the first fault in it.
@@ -43,6 +51,15 @@ pub fn read_fleet_line(
     let (first, rest) = cut(text, b' ');
     if first == b"at".as_slice() {
         return line_at(alloc, line, units, rest);
+    }
+    if first == b"batch".as_slice() {
+        return batch_of(line, rest);
+    }
+    if first == b"asknext".as_slice() {
+        return ask_next_of(line, rest);
+    }
+    if first == b"finishbatch".as_slice() {
+        return finish_batch_of(line, rest);
     }
     line_alone(line, keyword_of(first), rest)
 }
@@ -155,5 +172,49 @@ fn finish_of(line: u64, rest: Option<&[u8]>) -> Result<FleetLine, ScriptFault>
     match rest {
         Some(_) => Err(ScriptFault::Word(line)),
         None => Ok(FleetLine::Finish),
+    }
+}
+
+// What the words after `batch` say.
+#[tactic(auto, using(crate::proofs::Words::batch_words))]
+fn batch_of(line: u64, rest: Option<&[u8]>) -> Result<FleetLine, ScriptFault>
+    ensures { Gives Memory fleet_line_view result
+        (scripts.batch_said line (words_of (option_copied rest.entry))) }
+{
+    match only_word_in(rest) {
+        Some(word) => Ok(FleetLine::Batch(part_in(line, word)?)),
+        None => Err(ScriptFault::Word(line)),
+    }
+}
+
+// The part number of a batch.
+fn part_in(line: u64, word: &[u8]) -> Result<PartText, ScriptFault>
+    ensures { result ≡ part_word line word.now }
+{
+    match PartText::read(word) {
+        Ok(part) => Ok(part),
+        Err(_) => Err(ScriptFault::Name(line)),
+    }
+}
+
+#[tactic(auto, using(crate::proofs::Words::alone))]
+fn ask_next_of(line: u64, rest: Option<&[u8]>) -> Result<FleetLine, ScriptFault>
+    ensures { Gives Memory fleet_line_view result
+        (scripts.alone_said line Ask_next (words_of (option_copied rest.entry))) }
+{
+    match rest {
+        Some(_) => Err(ScriptFault::Word(line)),
+        None => Ok(FleetLine::AskNext),
+    }
+}
+
+#[tactic(auto, using(crate::proofs::Words::alone))]
+fn finish_batch_of(line: u64, rest: Option<&[u8]>) -> Result<FleetLine, ScriptFault>
+    ensures { Gives Memory fleet_line_view result
+        (scripts.alone_said line Finish_batch (words_of (option_copied rest.entry))) }
+{
+    match rest {
+        Some(_) => Err(ScriptFault::Word(line)),
+        None => Ok(FleetLine::FinishBatch),
     }
 }

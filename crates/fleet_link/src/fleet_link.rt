@@ -1,9 +1,10 @@
 //! The link of a fleet, which follows a script.
 ghost use Rattle.std.specs.Prelude.{◌≡◌, ◌≤◌, [], IfOk, OnOk, OnErr, length};
-ghost use Rattle.exchange_trace.specs.Happenings.{datagram_view};
+ghost use Rattle.exchange_trace.specs.Happenings.{datagram_view, happening_view};
 ghost use Rattle.fleet_trace.specs.FleetFollowing.{next_fleet_turn};
 ghost use Rattle.fleet_trace.specs.FleetTraces.{fleet_happening_view};
-ghost use Rattle.fleet_link.specs.FleetLinks.{GivesInFleet, fleet_scene_of, plan_in, with_post_at};
+ghost use Rattle.fleet_link.specs.FleetLinks.{GivesInFleet, IsUploadStart, fleet_scene_of};
+ghost use Rattle.fleet_link.specs.FleetLinks.{plan_in, with_post_at, with_start_at};
 ghost use Rattle.fleet_link.specs.FleetMail.{NamesPlaced, with_gift};
 ghost use Rattle.fleet_link.specs.FleetPlans.{FleetTakesMemory};
 ghost use Rattle.fleet_link.specs.declared.fleet_turn.FleetRest.TheVariants as rests;
@@ -12,7 +13,7 @@ use crate::fleet_line::FleetLine;
 use crate::fleet_mail::FleetMail;
 use crate::fleet_script::FleetScript;
 use crate::fleet_turn::{FleetRest, FleetTurn, next_turn};
-use exchange_trace::Datagram;
+use exchange_trace::{Datagram, Happening};
 use fleet_trace::FleetHappening;
 use link_net::Waits;
 use load_base::{List, NoMemory};
@@ -96,20 +97,32 @@ impl FleetLink {
         self.mail.post(unit, datagram)
     }
 
-    /// What happens next, where these sides of each unit have a live session. A call that is
-    /// refused changes nothing.
-    pub fn next(&mut self, waits: &[Waits]) -> Result<FleetHappening, NoMemory>
+    /// Takes note that this upload was started at this unit, as the link asked.
+    pub fn started(&mut self, unit: u8, start: &Happening)
+        requires unit { (1 ≤ unit) × (unit ≤ self.old.units) }
+        requires start { IsUploadStart (happening_view start.now) }
+        ensures { self.new ≡ with_start_at self.old unit (happening_view start.now) }
+    {
+        self.mail.give(unit, start);
+    }
+
+    /// What happens next, where these sides of each unit have a live session, and where the upload
+    /// to the next target of the running batch may be asked or not. A call that is refused changes
+    /// nothing.
+    pub fn next(&mut self, waits: &[Waits], may_ask: bool) -> Result<FleetHappening, NoMemory>
         requires { length waits.now ≡ self.old.units }
-        ensures ok { IfOk result (λ happening. GivesInFleet self.old self.new waits.now
+        ensures ok { IfOk result (λ happening. GivesInFleet self.old self.new waits.now may_ask
             (fleet_happening_view happening)) }
         ensures err { OnErr result (self.new ≡ self.old) }
         // It is out of memory only where it copies what a line says.
         ensures memory { OnErr result (FleetTakesMemory
-            (next_fleet_turn (fleet_scene_of self.old waits.now) (plan_in self.old)).given) }
+            (next_fleet_turn (fleet_scene_of self.old waits.now may_ask)
+            (plan_in self.old)).given) }
     {
         let lines = self.lines.as_slice();
-        let Ok((turn, next)) = next_turn(self.alloc, lines, &self.mail, self.next, self.rest, waits)
-        else {
+        let Ok((turn, next)) = next_turn(
+            self.alloc, lines, &self.mail, self.next, self.rest, waits, may_ask,
+        ) else {
             return Err(NoMemory);
         };
         let FleetTurn { given, rest } = turn;
@@ -127,6 +140,6 @@ fn keep(mail: &mut FleetMail, given: &FleetHappening)
 {
     match given {
         FleetHappening::At { unit, happening } => mail.give(*unit, happening),
-        FleetHappening::End => {}
+        FleetHappening::Batch(_) | FleetHappening::AskNext | FleetHappening::End => {}
     }
 }

@@ -34,7 +34,7 @@ pub struct Place {
 }
 
 /// The datagrams of all units, with what became of each. The least undelivered one is found without
-/// a search. What is given at a unit is kept, and the end isn't.
+/// a search. What happens at a unit is kept, and the end isn't.
 #[derive(Drop)]
 pub struct FleetMail {
     /// The datagrams of each unit, by their own numbers.
@@ -43,7 +43,7 @@ pub struct FleetMail {
     places: Vec<Place>,
     /// The index of the first undelivered datagram, or how many there are.
     least: usize,
-    /// For proofs alone: what was posted and given, which takes no memory.
+    /// For proofs alone: what was posted and what happened at units, which takes no memory.
     posted: Log<Datagram, u8>,
     given: Log<Happening, u8>,
 }
@@ -108,9 +108,9 @@ impl FleetMail {
 
     /// The delivery of the datagram of this number over all units, if it was posted.
     pub fn delivery(&self, number: u64) -> Option<FleetHappening>
-        ensures value { (units : ℕ) (waits_at : (unit : ℕ) → Side → Bool)
+        ensures value { (units : ℕ) (waits_at : (unit : ℕ) → Side → Bool) (may_ask : Bool)
             → option_map fleet_happening_view result
-            ≡ fleet_delivery (fleet_scene_in self.now units waits_at) number }
+            ≡ fleet_delivery (fleet_scene_in self.now units waits_at may_ask) number }
         ensures named { IfSome result (λ given.
             NamesPlaced self.now (fleet_happening_view given)) }
     {
@@ -119,9 +119,9 @@ impl FleetMail {
 
     /// The loss of the datagram of this number over all units, if it was posted and not delivered.
     pub fn loss(&self, number: u64) -> Option<FleetHappening>
-        ensures value { (units : ℕ) (waits_at : (unit : ℕ) → Side → Bool)
+        ensures value { (units : ℕ) (waits_at : (unit : ℕ) → Side → Bool) (may_ask : Bool)
             → option_map fleet_happening_view result
-            ≡ fleet_loss (fleet_scene_in self.now units waits_at) number }
+            ≡ fleet_loss (fleet_scene_in self.now units waits_at may_ask) number }
         ensures named { IfSome result (λ given.
             NamesPlaced self.now (fleet_happening_view given)) }
     {
@@ -132,9 +132,9 @@ impl FleetMail {
     /// The delivery of the undelivered datagram with the least number over all units, if there is
     /// one.
     pub fn least_delivery(&self) -> Option<FleetHappening>
-        ensures value { (units : ℕ) (waits_at : (unit : ℕ) → Side → Bool)
+        ensures value { (units : ℕ) (waits_at : (unit : ℕ) → Side → Bool) (may_ask : Bool)
             → option_map fleet_happening_view result
-            ≡ least_fleet_delivery (fleet_scene_in self.now units waits_at) }
+            ≡ least_fleet_delivery (fleet_scene_in self.now units waits_at may_ask) }
         ensures named { IfSome result (λ given.
             NamesPlaced self.now (fleet_happening_view given)) }
     {
@@ -183,9 +183,9 @@ impl FleetMail {
     // The delivery of the datagram that stands here, if there is one.
     fn delivery_at(&self, place: Option<Place>) -> Option<FleetHappening>
         requires { IfSome place (λ p. (1 ≤ p.unit) × (p.unit ≤ 8)) }
-        ensures value { (units : ℕ) (waits_at : (unit : ℕ) → Side → Bool)
+        ensures value { (units : ℕ) (waits_at : (unit : ℕ) → Side → Bool) (may_ask : Bool)
             → option_map fleet_happening_view result
-            ≡ given_at_place (fleet_scene_in self.now units waits_at) delivery_of
+            ≡ given_at_place (fleet_scene_in self.now units waits_at may_ask) delivery_of
             (option_map place_view place) }
         ensures named { IfSome result (λ given.
             NamesPlaced self.now (fleet_happening_view given)) }

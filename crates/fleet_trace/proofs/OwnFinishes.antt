@@ -4,18 +4,18 @@ use Rattle.std.specs.Prelude.{◌==◌}
 use Rattle.std.specs.List.{range_with_len}
 use Rattle.exchange_trace.specs.declared.trace.Side.{Side}
 use Rattle.exchange_trace.specs.Following.{Finishing, FollowsScript, Nothing_left, Plan, Scene, Turn, delivery, delivery_of_first, finishing, finishing_tick, goes_on, least_delivery, next_turn, or_else, plan_after, plan_of, scene_after, ticked_side, turn}
-use Rattle.exchange_trace.specs.Happenings.{Ended, HappeningView, Ticked, other}
+use Rattle.exchange_trace.specs.Happenings.{Booted, Delivered, Ended, HappeningView, Info_started, Injected, Lost, Power_cut, Size_told, Ticked, Upload_started, other}
 use Rattle.exchange_trace.specs.Lines.{Finish, Line}
 use Rattle.exchange_trace.specs.Steps.{Step}
-use Rattle.fleet_trace.specs.FleetTraces.{All_ended, At_unit, FleetHappeningView, HasNotEnded, Of_all, Of_unit, StepOfFleet, ended_step, steps_of_unit}
-use Rattle.fleet_trace.specs.FleetPosts.{PostPlace, given_in_fleet, undelivered_places}
+use Rattle.fleet_trace.specs.FleetTraces.{All_ended, At_unit, Batch_begun, FleetHappeningView, HasNotEnded, Next_asked, Of_all, Of_batch, Of_unit, StepOfFleet, ended_step, steps_of_unit}
+use Rattle.fleet_trace.specs.FleetPosts.{PostPlace, given_as, given_in_fleet, undelivered_places}
 use Rattle.fleet_trace.specs.FleetLines.{Finish_all, FleetLine}
-use Rattle.fleet_trace.specs.FleetFollowing.{Finish_goes_on, FleetPlan, FleetScene, FleetTurn, FleetWaiting, FollowsFleet, Line_is_done, TickTurns, UnitTick, first_place, fleet_finishing, fleet_finishing_tick, fleet_goes_on, fleet_plan_after, fleet_scene_after, fleet_tick, fleet_turn, from_fleet_lines, given_at_place, least_fleet_delivery, loaders_first, next_fleet_turn, or_next, turn_passed, unit_scene}
+use Rattle.fleet_trace.specs.FleetFollowing.{Finish_goes_on, FleetAsking, FleetPlan, FleetScene, FleetTurn, FleetWaiting, FollowsFleet, Line_is_done, TickTurns, UnitTick, first_place, fleet_finishing, fleet_finishing_tick, fleet_goes_on, fleet_plan_after, fleet_scene_after, fleet_tick, fleet_turn, from_fleet_lines, given_at_place, least_fleet_delivery, loaders_first, next_fleet_turn, or_next, turn_passed, unit_scene}
 use Rattle.fleet_trace.specs.FleetFinishes.{AllFleetLinesGiveNothing, FleetFinishIsLeft}
 use Rattle.fleet_trace.specs.OwnScripts.{own_script}
 use Rattle.fleet_trace.proofs.UnitParts.{unit_scene_is}
 use Rattle.fleet_trace.proofs.CanBeGiven.{all_can}
-use Rattle.fleet_trace.proofs.FleetEnds.{over_where_ended}
+use Rattle.fleet_trace.proofs.FleetEnds.{is_no_end, over_where_ended}
 use Rattle.fleet_trace.proofs.OwnFollowing.{own_script_follows, own_script_leaves}
 use Rattle.fleet_trace.proofs.OwnUndelivered.{least_is_there, none_is_own}
 use Rattle.fleet_trace.proofs.OwnTicks.{none_ticked, tick_is_own}
@@ -39,13 +39,13 @@ own_ticks s first o none e =
 
 pub fleet_delivers : (s : FleetScene) (firsts : TickTurns) (h : FleetHappeningView) → least_fleet_delivery s ≡ Some h
     → fleet_finish s firsts ≡ fleet_turn h (Finish_goes_on firsts) []
-fleet_delivers s firsts h e = ap (λ (o : Option FleetHappeningView). or_next (fleet_finishing s firsts [] o) (fleet_turn All_ended Line_is_done [])) e
+fleet_delivers s firsts h e = ap (λ (o : Option FleetHappeningView). or_next (fleet_finishing s Finish_goes_on firsts [] o) (fleet_turn All_ended Line_is_done [])) e
 
 pub fleet_ticks : (s : FleetScene) (firsts : TickTurns) (o : Option UnitTick) → least_fleet_delivery s ≡ None → fleet_tick s firsts ≡ o
-    → fleet_finish s firsts ≡ or_next (fleet_finishing_tick firsts [] o) (fleet_turn All_ended Line_is_done [])
+    → fleet_finish s firsts ≡ or_next (fleet_finishing_tick Finish_goes_on firsts [] o) (fleet_turn All_ended Line_is_done [])
 fleet_ticks s firsts o none e =
-    ap (λ (x : Option FleetHappeningView). or_next (fleet_finishing s firsts [] x) (fleet_turn All_ended Line_is_done [])) none
-    ∙ ap (λ (x : Option UnitTick). or_next (fleet_finishing_tick firsts [] x) (fleet_turn All_ended Line_is_done [])) e
+    ap (λ (x : Option FleetHappeningView). or_next (fleet_finishing s Finish_goes_on firsts [] x) (fleet_turn All_ended Line_is_done [])) none
+    ∙ ap (λ (x : Option UnitTick). or_next (fleet_finishing_tick Finish_goes_on firsts [] x) (fleet_turn All_ended Line_is_done [])) e
 
 -- lines that give nothing are passed over
 passed_over : (s : FleetScene) (idle later : List FleetLine) → AllFleetLinesGiveNothing s idle later → from_fleet_lines s (idle ++ later) ≡ from_fleet_lines s later
@@ -56,10 +56,14 @@ passed_over s (line ∷ idle) later none = ap (λ (o : Option FleetTurn). or_nex
 
 unit_named : ℕ → FleetHappeningView → ℕ
 unit_named n (At_unit unit h) = unit
+unit_named n (Batch_begun part) = n
+unit_named n Next_asked = n
 unit_named n All_ended = n
 
 happening_named : HappeningView → FleetHappeningView → HappeningView
 happening_named x (At_unit unit h) = h
+happening_named x (Batch_begun part) = x
+happening_named x Next_asked = x
 happening_named x All_ended = x
 
 same_unit : (u v : ℕ) (g h : HappeningView) → At_unit u g ≡ At_unit v h → u ≡ v
@@ -70,14 +74,28 @@ same_happening : (u v : ℕ) (g h : HappeningView) → At_unit u g ≡ At_unit v
 unfolding happening_named
 same_happening u v g h e = ap (λ (x : FleetHappeningView). happening_named g x) e
 
+-- where something is given at a unit, it is what happens there
+given_at : (asked : Bool) (u v : ℕ) (g h : HappeningView) → given_as asked u g ≡ At_unit v h → At_unit u g ≡ At_unit v h
+given_at false u v g h e = e
+given_at true u v (Upload_started hw pos parts) h e = absurd cc
+given_at true u v (Delivered side n) h e = e
+given_at true u v (Lost n) h e = e
+given_at true u v (Injected d) h e = e
+given_at true u v (Ticked side) h e = e
+given_at true u v (Size_told size) h e = e
+given_at true u v (Power_cut calls pick) h e = e
+given_at true u v Booted h e = e
+given_at true u v (Info_started hw pos) h e = e
+given_at true u v Ended h e = e
+
 -- ---- one unit in a fleet
 
-module _ (units : ℕ) (waiting : FleetWaiting) (script : List FleetLine) (unit : ℕ) (low : 1 ≤ unit) (high : unit ≤ units) (lines : List Line) where
+module _ (units : ℕ) (waiting : FleetWaiting) (asks : FleetAsking) (script : List FleetLine) (unit : ℕ) (low : 1 ≤ unit) (high : unit ≤ units) (lines : List Line) where
   abbrev scene_of : List StepOfFleet → FleetScene
-  scene_of steps = fleet_scene_after units waiting steps
+  scene_of steps = fleet_scene_after units waiting asks steps
 
   abbrev fleet_next : List StepOfFleet → FleetTurn
-  fleet_next steps = next_fleet_turn (fleet_scene_after units waiting steps) (fleet_plan_after units waiting script steps)
+  fleet_next steps = next_fleet_turn (fleet_scene_after units waiting asks steps) (fleet_plan_after units waiting asks script steps)
 
   abbrev own_next : List Step → Turn
   own_next own = next_turn (scene_after (waiting unit) own) (plan_after (waiting unit) lines own)
@@ -102,7 +120,8 @@ module _ (units : ℕ) (waiting : FleetWaiting) (script : List FleetLine) (unit 
   ends_alike : (s : StepOfFleet) (steps : List StepOfFleet) → fleet_next steps ≡ fleet_turn All_ended Line_is_done []
       → own_next (steps_of_unit unit steps) ≡ turn Ended Nothing_left []
       → given_in_fleet s ≡ (fleet_next steps).given → FollowsScript (waiting unit) lines (steps_of_unit unit steps) → FollowAlike (s ∷ steps) (steps_of_unit unit (s ∷ steps))
-  ends_alike (Of_unit whose s) steps fleet own given follows = absurd (let e = given ∙ ap (λ (t : FleetTurn). t.given) fleet in cc)
+  ends_alike (Of_unit asked whose s) steps fleet own given follows = absurd (is_no_end (Of_unit asked whose s) tt (given ∙ ap (λ (t : FleetTurn). t.given) fleet))
+  ends_alike (Of_batch part) steps fleet own given follows = absurd (is_no_end (Of_batch part) tt (given ∙ ap (λ (t : FleetTurn). t.given) fleet))
   ends_alike Of_all steps fleet own given follows = (
     (sym (ap (λ (t : Turn). t.given) own), follows),
     inr (record {
@@ -119,18 +138,19 @@ module _ (units : ℕ) (waiting : FleetWaiting) (script : List FleetLine) (unit 
       → ((whose == unit) ≡ false → firsts unit ≡ later unit)
       → given_in_fleet s ≡ (fleet_next steps).given → FollowsScript (waiting unit) lines (steps_of_unit unit steps) → FollowAlike (s ∷ steps) (steps_of_unit unit (s ∷ steps))
   given_alike Of_all steps whose h firsts later fleet own own_gives stays given follows = absurd (let e = given ∙ ap (λ (t : FleetTurn). t.given) fleet in cc)
-  given_alike (Of_unit named s) steps whose h firsts later fleet own own_gives stays given follows = by (named == unit) refl
+  given_alike (Of_batch part) steps whose h firsts later fleet own own_gives stays given follows = absurd (let e = given ∙ ap (λ (t : FleetTurn). t.given) fleet in cc)
+  given_alike (Of_unit asked named s) steps whose h firsts later fleet own own_gives stays given follows = by (named == unit) refl
     where
       e : At_unit named s.given ≡ At_unit whose h
-      e = given ∙ ap (λ (t : FleetTurn). t.given) fleet
+      e = given_at asked named whose s.given h (given ∙ ap (λ (t : FleetTurn). t.given) fleet)
 
-      fleet_after : fleet_next (Of_unit named s ∷ steps) ≡ fleet_finish (scene_of (Of_unit named s ∷ steps)) later
-      fleet_after = ap (λ (t : FleetTurn). next_fleet_turn (scene_of (Of_unit named s ∷ steps)) t.plan) fleet
+      fleet_after : fleet_next (Of_unit asked named s ∷ steps) ≡ fleet_finish (scene_of (Of_unit asked named s ∷ steps)) later
+      fleet_after = ap (λ (t : FleetTurn). next_fleet_turn (scene_of (Of_unit asked named s ∷ steps)) t.plan) fleet
 
       unit_is : (b : Bool) → (named == unit) ≡ b → (whose == unit) ≡ b
       unit_is b is = subst (λ (n : ℕ). (n == unit) ≡ b) (same_unit named whose s.given h e) is
 
-      by : (b : Bool) → (named == unit) ≡ b → FollowAlike (Of_unit named s ∷ steps) (cond b (s ∷ steps_of_unit unit steps) (steps_of_unit unit steps))
+      by : (b : Bool) → (named == unit) ≡ b → FollowAlike (Of_unit asked named s ∷ steps) (cond b (s ∷ steps_of_unit unit steps) (steps_of_unit unit steps))
       by true is =
           let gives = own_gives (unit_is true is) in (
             (same_happening named whose s.given h e ∙ sym (ap (λ (t : Turn). t.given) gives), follows),
@@ -152,7 +172,7 @@ module _ (units : ℕ) (waiting : FleetWaiting) (script : List FleetLine) (unit 
   -- the unit's own turn, in the scene that the fleet has of it
   own_turn : (steps : List StepOfFleet) (first : Side) → own_next (steps_of_unit unit steps) ≡ own_finish (scene_after (waiting unit) (steps_of_unit unit steps)) first
       → own_next (steps_of_unit unit steps) ≡ own_finish (unit_scene (scene_of steps) unit) first
-  own_turn steps first own = own ∙ ap (λ (s : Scene). own_finish s first) (sym (unit_scene_is units waiting steps unit))
+  own_turn steps first own = own ∙ ap (λ (s : Scene). own_finish s first) (sym (unit_scene_is units waiting asks steps unit))
 
   -- a datagram is undelivered in the fleet
   delivers_alike : (s : StepOfFleet) (steps : List StepOfFleet) (alike : GoAlike steps (steps_of_unit unit steps)) (p : PostPlace) (later : List PostPlace)
@@ -209,7 +229,7 @@ module _ (units : ℕ) (waiting : FleetWaiting) (script : List FleetLine) (unit 
       by (p ∷ later) e = delivers_alike s steps alike p later e
 
   stays_alike : (before : List StepOfFleet) → FollowAlike before (steps_of_unit unit before) → (more : List StepOfFleet)
-      → FollowsFleet units waiting script (more ++ before) → FollowAlike (more ++ before) (steps_of_unit unit (more ++ before))
+      → FollowsFleet units waiting asks script (more ++ before) → FollowAlike (more ++ before) (steps_of_unit unit (more ++ before))
   stays_alike before start [] follows = start
   stays_alike before start (s ∷ more) follows =
       let (own, alike) = stays_alike before start more follows.1 in
@@ -221,35 +241,35 @@ pub some_left : (idle : List FleetLine) → [] ≡ idle ++ Finish_all ∷ [] →
 some_left [] e = absurd cc
 some_left (line ∷ idle) e = absurd cc
 
-pub follows_before : (units : ℕ) (waiting : FleetWaiting) (script : List FleetLine) (more before : List StepOfFleet)
-    → FollowsFleet units waiting script (more ++ before) → FollowsFleet units waiting script before
-follows_before units waiting script [] before follows = follows
-follows_before units waiting script (s ∷ more) before follows = follows_before units waiting script more before follows.1
+pub follows_before : (units : ℕ) (waiting : FleetWaiting) (asks : FleetAsking) (script : List FleetLine) (more before : List StepOfFleet)
+    → FollowsFleet units waiting asks script (more ++ before) → FollowsFleet units waiting asks script before
+follows_before units waiting asks script [] before follows = follows
+follows_before units waiting asks script (s ∷ more) before follows = follows_before units waiting asks script more before follows.1
 
 -- then the fleet hasn't ended
-pub not_ended_before : (units : ℕ) (waiting : FleetWaiting) (script : List FleetLine) (before : List StepOfFleet)
-    → FleetFinishIsLeft units waiting script before → FollowsFleet units waiting script before → HasNotEnded before
-not_ended_before units waiting script before left follows =
-    ⊎_elim (λ goes. goes) (λ over. absurd (some_left left.idle (sym (ap (λ (p : FleetPlan). p.lines) over) ∙ left.lines))) (over_where_ended units waiting script before follows)
+pub not_ended_before : (units : ℕ) (waiting : FleetWaiting) (asks : FleetAsking) (script : List FleetLine) (before : List StepOfFleet)
+    → FleetFinishIsLeft units waiting asks script before → FollowsFleet units waiting asks script before → HasNotEnded before
+not_ended_before units waiting asks script before left follows =
+    ⊎_elim (λ goes. goes) (λ over. absurd (some_left left.idle (sym (ap (λ (p : FleetPlan). p.lines) over) ∙ left.lines))) (over_where_ended units waiting asks script before follows)
 
-module _ (units : ℕ) (waiting : FleetWaiting) (script : List FleetLine) (before : List StepOfFleet) (unit : ℕ) (left : FleetFinishIsLeft units waiting script before) where
-  pub begins_finish : next_fleet_turn (fleet_scene_after units waiting before) (fleet_plan_after units waiting script before) ≡ fleet_finish (fleet_scene_after units waiting before) loaders_first
+module _ (units : ℕ) (waiting : FleetWaiting) (asks : FleetAsking) (script : List FleetLine) (before : List StepOfFleet) (unit : ℕ) (left : FleetFinishIsLeft units waiting asks script before) where
+  pub begins_finish : next_fleet_turn (fleet_scene_after units waiting asks before) (fleet_plan_after units waiting asks script before) ≡ fleet_finish (fleet_scene_after units waiting asks before) loaders_first
   begins_finish =
-      let s = fleet_scene_after units waiting before in
-      ap (λ (o : Option FleetTurn). or_next o (from_fleet_lines s (fleet_plan_after units waiting script before).lines)) left.over
+      let s = fleet_scene_after units waiting asks before in
+      ap (λ (o : Option FleetTurn). or_next o (from_fleet_lines s (fleet_plan_after units waiting asks script before).lines)) left.over
       ∙ (ap (λ (ls : List FleetLine). from_fleet_lines s ls) left.lines ∙ passed_over s left.idle (Finish_all ∷ []) left.give_nothing)
 
-  module _ (follows : FollowsFleet units waiting script before) where
+  module _ (follows : FollowsFleet units waiting asks script before) where
     pub finish_alone_is_left : plan_after (waiting unit) (own_script (steps_of_unit unit before) ++ Finish ∷ []) (steps_of_unit unit before) ≡ plan_of (Finish ∷ [])
     finish_alone_is_left =
         own_script_leaves (waiting unit) (steps_of_unit unit before) (Finish ∷ [])
-        (all_can units waiting script before unit follows (not_ended_before units waiting script before left follows))
+        (all_can units waiting asks script before unit follows (not_ended_before units waiting asks script before left follows))
 
     begins_alike : (low : 1 ≤ unit) (high : unit ≤ units)
-        → FollowAlike units waiting script unit low high (own_script (steps_of_unit unit before) ++ Finish ∷ []) before (steps_of_unit unit before)
+        → FollowAlike units waiting asks script unit low high (own_script (steps_of_unit unit before) ++ Finish ∷ []) before (steps_of_unit unit before)
     begins_alike low high = (
       own_script_follows (waiting unit) (steps_of_unit unit before) (Finish ∷ [])
-          (all_can units waiting script before unit follows (not_ended_before units waiting script before left follows)),
+          (all_can units waiting asks script before unit follows (not_ended_before units waiting asks script before left follows)),
       inl (record {
         firsts = loaders_first;
         of_fleet = begins_finish;
@@ -257,9 +277,9 @@ module _ (units : ℕ) (waiting : FleetWaiting) (script : List FleetLine) (befor
       }),
     )
 
-pub finish_is_own : (units : ℕ) (waiting : FleetWaiting) (script : List FleetLine) (before more : List StepOfFleet) (unit : ℕ) → 1 ≤ unit → unit ≤ units
-    → FleetFinishIsLeft units waiting script before → FollowsFleet units waiting script (more ++ before)
+pub finish_is_own : (units : ℕ) (waiting : FleetWaiting) (asks : FleetAsking) (script : List FleetLine) (before more : List StepOfFleet) (unit : ℕ) → 1 ≤ unit → unit ≤ units
+    → FleetFinishIsLeft units waiting asks script before → FollowsFleet units waiting asks script (more ++ before)
     → FollowsScript (waiting unit) (own_script (steps_of_unit unit before) ++ Finish ∷ []) (steps_of_unit unit (more ++ before))
-finish_is_own units waiting script before more unit low high left follows =
-    (stays_alike units waiting script unit low high (own_script (steps_of_unit unit before) ++ Finish ∷ []) before
-    (begins_alike units waiting script before unit left (follows_before units waiting script more before follows) low high) more follows).0
+finish_is_own units waiting asks script before more unit low high left follows =
+    (stays_alike units waiting asks script unit low high (own_script (steps_of_unit unit before) ++ Finish ∷ []) before
+    (begins_alike units waiting asks script before unit left (follows_before units waiting asks script more before follows) low high) more follows).0

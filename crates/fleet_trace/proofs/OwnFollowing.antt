@@ -7,9 +7,9 @@ use Rattle.exchange_trace.specs.Happenings.{Booted, DatagramView, Delivered, End
 use Rattle.exchange_trace.specs.Lines.{Line}
 use Rattle.exchange_trace.specs.Posts.{numbered}
 use Rattle.exchange_trace.specs.Steps.{Step}
-use Rattle.fleet_trace.specs.FleetTraces.{Of_all, Of_unit, StepOfFleet, ended_step, steps_of_unit}
+use Rattle.fleet_trace.specs.FleetTraces.{Of_all, Of_batch, Of_unit, StepOfFleet, ended_step, steps_of_unit}
 use Rattle.fleet_trace.specs.FleetLines.{FleetLine}
-use Rattle.fleet_trace.specs.FleetFollowing.{FleetWaiting, FollowsFleet}
+use Rattle.fleet_trace.specs.FleetFollowing.{FleetAsking, FleetWaiting, FollowsFleet}
 use Rattle.fleet_trace.specs.OwnScripts.{AllCanBeGiven, CanBeGiven, lines_giving, own_script}
 use Rattle.fleet_trace.proofs.CanBeGiven.{all_can}
 use Rattle.fleet_trace.proofs.FleetEnds.{none_ended}
@@ -66,14 +66,15 @@ module _ (waiting : Side → List Step → Bool) where
       subst (λ (script : List Line). Leads script (ended_step ∷ steps) []) (sym (append-nil (own_script steps)))
       ((sym (ap (λ (p : Plan). (next_turn (scene_after waiting steps) p).given) left), follows), ap (λ (p : Plan). (next_turn (scene_after waiting steps) p).plan) left)
 
-module _ (units : ℕ) (waiting : FleetWaiting) (script : List FleetLine) (unit : ℕ) where
-  units_lead : (steps : List StepOfFleet) → FollowsFleet units waiting script steps → Leads (waiting unit) (own_script (steps_of_unit unit steps)) (steps_of_unit unit steps) []
+module _ (units : ℕ) (waiting : FleetWaiting) (asks : FleetAsking) (script : List FleetLine) (unit : ℕ) where
+  units_lead : (steps : List StepOfFleet) → FollowsFleet units waiting asks script steps → Leads (waiting unit) (own_script (steps_of_unit unit steps)) (steps_of_unit unit steps) []
   units_lead [] follows = (tt, refl)
   units_lead (Of_all ∷ earlier) follows = end_follows (waiting unit) (steps_of_unit unit earlier) (units_lead earlier follows.1)
-  units_lead (Of_unit whose s ∷ earlier) follows =
-      own_steps_follow (waiting unit) (steps_of_unit unit (Of_unit whose s ∷ earlier))
-      (all_can units waiting script (Of_unit whose s ∷ earlier) unit follows (tt, none_ended units waiting script whose s earlier follows))
+  units_lead (Of_batch part ∷ earlier) follows = units_lead earlier follows.1
+  units_lead (Of_unit asked whose s ∷ earlier) follows =
+      own_steps_follow (waiting unit) (steps_of_unit unit (Of_unit asked whose s ∷ earlier))
+      (all_can units waiting asks script (Of_unit asked whose s ∷ earlier) unit follows (tt, none_ended units waiting asks script (Of_unit asked whose s) earlier tt follows))
 
-pub units_follow : (units : ℕ) (waiting : FleetWaiting) (script : List FleetLine) (steps : List StepOfFleet) (unit : ℕ)
-    → FollowsFleet units waiting script steps → FollowsScript (waiting unit) (own_script (steps_of_unit unit steps)) (steps_of_unit unit steps)
-units_follow units waiting script steps unit follows = (units_lead units waiting script unit steps follows).0
+pub units_follow : (units : ℕ) (waiting : FleetWaiting) (asks : FleetAsking) (script : List FleetLine) (steps : List StepOfFleet) (unit : ℕ)
+    → FollowsFleet units waiting asks script steps → FollowsScript (waiting unit) (own_script (steps_of_unit unit steps)) (steps_of_unit unit steps)
+units_follow units waiting asks script steps unit follows = (units_lead units waiting asks script unit steps follows).0

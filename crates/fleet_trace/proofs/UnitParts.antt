@@ -6,9 +6,9 @@ use Rattle.exchange_trace.specs.Following.{Scene, scene_after}
 use Rattle.exchange_trace.specs.Happenings.{DatagramView, Ended, HappeningView}
 use Rattle.exchange_trace.specs.Posts.{happenings_of, posted_in}
 use Rattle.exchange_trace.specs.Steps.{Step}
-use Rattle.fleet_trace.specs.FleetFollowing.{FleetWaiting, fleet_scene_after, unit_scene}
+use Rattle.fleet_trace.specs.FleetFollowing.{FleetAsking, FleetWaiting, fleet_scene_after, unit_scene}
 use Rattle.fleet_trace.specs.FleetPosts.{UnitPost, fleet_happenings, fleet_posts, happenings_of_unit, posts_in_step, posts_of_unit, unit_post}
-use Rattle.fleet_trace.specs.FleetTraces.{Of_all, Of_unit, StepOfFleet, before_own, ended_step, steps_of_unit}
+use Rattle.fleet_trace.specs.FleetTraces.{Of_all, Of_batch, Of_unit, StepOfFleet, before_own, ended_step, steps_of_unit}
 
 pub posts_join : (unit : ℕ) (xs ys : List UnitPost) → posts_of_unit unit (xs ++ ys) ≡ posts_of_unit unit xs ++ posts_of_unit unit ys
 posts_join unit [] ys = refl
@@ -35,7 +35,8 @@ all_of_one unit whose (d ∷ ds) = by (whose == unit) (all_of_one unit whose ds)
 
 posts_step : (unit : ℕ) (s : StepOfFleet) (own : List Step) → posted_in own ++ posts_of_unit unit (posts_in_step s) ≡ posted_in (before_own unit s own)
 posts_step unit Of_all own = refl
-posts_step unit (Of_unit whose s) own = ap (λ (ds : List DatagramView). posted_in own ++ ds) (all_of_one unit whose s.posts) ∙ by (whose == unit)
+posts_step unit (Of_batch part) own = append-nil (posted_in own)
+posts_step unit (Of_unit asked whose s) own = ap (λ (ds : List DatagramView). posted_in own ++ ds) (all_of_one unit whose s.posts) ∙ by (whose == unit)
   where
     by : (b : Bool) → posted_in own ++ cond b s.posts [] ≡ posted_in (cond b (s ∷ own) own)
     by true = refl
@@ -50,7 +51,8 @@ posts_are unit (s ∷ earlier) =
 pub happenings_are : (unit : ℕ) (steps : List StepOfFleet) → happenings_of_unit unit (fleet_happenings steps) ≡ happenings_of (steps_of_unit unit steps)
 happenings_are unit [] = refl
 happenings_are unit (Of_all ∷ earlier) = ap (λ (hs : List HappeningView). Ended ∷ hs) (happenings_are unit earlier)
-happenings_are unit (Of_unit whose s ∷ earlier) = by (whose == unit) (happenings_are unit earlier)
+happenings_are unit (Of_batch part ∷ earlier) = happenings_are unit earlier
+happenings_are unit (Of_unit asked whose s ∷ earlier) = by (whose == unit) (happenings_are unit earlier)
   where
     by : (b : Bool) → happenings_of_unit unit (fleet_happenings earlier) ≡ happenings_of (steps_of_unit unit earlier)
         → cond b (s.given ∷ happenings_of_unit unit (fleet_happenings earlier)) (happenings_of_unit unit (fleet_happenings earlier)) ≡ happenings_of (cond b (s ∷ steps_of_unit unit earlier) (steps_of_unit unit earlier))
@@ -60,7 +62,8 @@ happenings_are unit (Of_unit whose s ∷ earlier) = by (whose == unit) (happenin
 pub steps_join : (unit : ℕ) (more before : List StepOfFleet) → steps_of_unit unit (more ++ before) ≡ steps_of_unit unit more ++ steps_of_unit unit before
 steps_join unit [] before = refl
 steps_join unit (Of_all ∷ more) before = ap (λ (own : List Step). ended_step ∷ own) (steps_join unit more before)
-steps_join unit (Of_unit whose s ∷ more) before = by (whose == unit) (steps_join unit more before)
+steps_join unit (Of_batch part ∷ more) before = steps_join unit more before
+steps_join unit (Of_unit asked whose s ∷ more) before = by (whose == unit) (steps_join unit more before)
   where
     by : (b : Bool) → steps_of_unit unit (more ++ before) ≡ steps_of_unit unit more ++ steps_of_unit unit before
         → cond b (s ∷ steps_of_unit unit (more ++ before)) (steps_of_unit unit (more ++ before)) ≡ cond b (s ∷ steps_of_unit unit more) (steps_of_unit unit more) ++ steps_of_unit unit before
@@ -68,9 +71,9 @@ steps_join unit (Of_unit whose s ∷ more) before = by (whose == unit) (steps_jo
     by false e = e
 
 -- so is the unit's scene
-pub unit_scene_is : (units : ℕ) (waiting : FleetWaiting) (steps : List StepOfFleet) (unit : ℕ)
-    → unit_scene (fleet_scene_after units waiting steps) unit ≡ scene_after (waiting unit) (steps_of_unit unit steps)
-unit_scene_is units waiting steps unit =
+pub unit_scene_is : (units : ℕ) (waiting : FleetWaiting) (asks : FleetAsking) (steps : List StepOfFleet) (unit : ℕ)
+    → unit_scene (fleet_scene_after units waiting asks steps) unit ≡ scene_after (waiting unit) (steps_of_unit unit steps)
+unit_scene_is units waiting asks steps unit =
     ap (λ (ds : List DatagramView). scene ds (happenings_of_unit unit (fleet_happenings steps))) (posts_are unit steps)
     ∙ ap (λ (hs : List HappeningView). scene (posted_in (steps_of_unit unit steps)) hs) (happenings_are unit steps)
   where

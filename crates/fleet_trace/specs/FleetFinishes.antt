@@ -8,7 +8,7 @@ use Rattle.exchange_trace.specs.Steps.{Step}
 use Rattle.fleet_trace.specs.FleetTraces.{FleetHappeningView, At_unit, StepOfFleet, Of_all, ended_step}
 use Rattle.fleet_trace.specs.FleetPosts.{given_in_fleet, undelivered_places}
 use Rattle.fleet_trace.specs.FleetLines.{FleetLine, Finish_all}
-use Rattle.fleet_trace.specs.FleetFollowing.{FleetPlan, FleetScene, FleetTurn, FleetWaiting, TickTurns, UnitTick}
+use Rattle.fleet_trace.specs.FleetFollowing.{FleetAsking, FleetPlan, FleetScene, FleetTurn, FleetWaiting, TickTurns, UnitTick}
 use Rattle.fleet_trace.specs.FleetFollowing.{fleet_begins, fleet_goes_on, fleet_plan_after, fleet_scene_after}
 use Rattle.fleet_trace.specs.FleetFollowing.{fleet_tick, least_fleet_delivery}
 use Rattle.fleet_trace.specs.OwnScripts.{own_script}
@@ -27,20 +27,20 @@ LineGivesNothing s p = ◌≡◌ {A = Option FleetTurn} (fleet_goes_on s p.rest 
 
 -- After these steps the next turn is that of the script's last line, a `finish`: what is left of the line that is
 -- followed gives nothing more, and neither do the lines before the last.
-pub record FleetFinishIsLeft (units : ℕ) (waiting : FleetWaiting) (script : List FleetLine)
+pub record FleetFinishIsLeft (units : ℕ) (waiting : FleetWaiting) (asks : FleetAsking) (script : List FleetLine)
     (steps : List StepOfFleet) : Type 0 where
   pub idle : List FleetLine
-  pub lines : (fleet_plan_after units waiting script steps).lines ≡ idle ++ Finish_all ∷ []
-  pub over : LineGivesNothing (fleet_scene_after units waiting steps) (fleet_plan_after units waiting script steps)
-  pub give_nothing : AllFleetLinesGiveNothing (fleet_scene_after units waiting steps) idle (Finish_all ∷ [])
+  pub lines : (fleet_plan_after units waiting asks script steps).lines ≡ idle ++ Finish_all ∷ []
+  pub over : LineGivesNothing (fleet_scene_after units waiting asks steps) (fleet_plan_after units waiting asks script steps)
+  pub give_nothing : AllFleetLinesGiveNothing (fleet_scene_after units waiting asks steps) idle (Finish_all ∷ [])
 
 -- The last `finish` was left in a whole trace after the older of its steps; the newer ones come then, and at last the end.
-pub record ReachesFleetFinish (units : ℕ) (waiting : FleetWaiting) (script : List FleetLine)
+pub record ReachesFleetFinish (units : ℕ) (waiting : FleetWaiting) (asks : FleetAsking) (script : List FleetLine)
     (steps : List StepOfFleet) : Type 0 where
   pub before : List StepOfFleet
   pub more : List StepOfFleet
   pub split : steps ≡ Of_all ∷ more ++ before
-  pub left : FleetFinishIsLeft units waiting script before
+  pub left : FleetFinishIsLeft units waiting asks script before
 
 -- ---- and is followed
 
@@ -52,11 +52,11 @@ pub data IsOfFleetFinish (s : FleetScene) : FleetHappeningView → Type 0 where
       → fleet_tick s firsts ≡ Some t → IsOfFleetFinish s (At_unit t.unit (Ticked t.side))
 
 -- In each of these steps, which follow others, such a thing happens.
-abbrev pub AllOfFleetFinish : (units : ℕ) → FleetWaiting → (more before : List StepOfFleet) → Type 0
-AllOfFleetFinish units waiting [] before = ⊤
-AllOfFleetFinish units waiting (s ∷ more) before =
-    IsOfFleetFinish (fleet_scene_after units waiting (more ++ before)) (given_in_fleet s)
-    × AllOfFleetFinish units waiting more before
+abbrev pub AllOfFleetFinish : (units : ℕ) → FleetWaiting → FleetAsking → (more before : List StepOfFleet) → Type 0
+AllOfFleetFinish units waiting asks [] before = ⊤
+AllOfFleetFinish units waiting asks (s ∷ more) before =
+    IsOfFleetFinish (fleet_scene_after units waiting asks (more ++ before)) (given_in_fleet s)
+    × AllOfFleetFinish units waiting asks more before
 
 -- ---- at each unit
 

@@ -9,20 +9,23 @@ use Rattle.exchange_trace.specs.Happenings.{HappeningView, Ticked, other}
 use Rattle.exchange_trace.specs.Steps.{Step}
 use Rattle.exchange_trace.specs.Lines.{Line}
 use Rattle.exchange_trace.specs.Following.{Scene, Turn, begins, delivery, loss, ticked_side}
-use Rattle.fleet_trace.specs.FleetTraces.{FleetHappeningView, At_unit, All_ended, StepOfFleet, steps_of_unit}
+use Rattle.fleet_trace.specs.FleetTraces.{FleetHappeningView, At_unit, Batch_begun, Next_asked, All_ended}
+use Rattle.fleet_trace.specs.FleetTraces.{StepOfFleet, steps_of_unit}
 use Rattle.fleet_trace.specs.FleetPosts.{PostPlace, UnitPost, fleet_happenings, fleet_posts, given_in_fleet}
 use Rattle.fleet_trace.specs.FleetPosts.{happenings_of_unit, located, posts_of_unit, undelivered_places}
 use Rattle.fleet_trace.specs.FleetLines.{FleetLine, Line_at, Give_numbered, Lose_numbered, Next_of_all, Finish_all}
+use Rattle.fleet_trace.specs.FleetLines.{Begin_batch, Ask_next, Finish_batch}
 
 -- ---- scenes
 
--- what decides how a fleet's script goes on: what was posted, what happened, how many units there are, and which sides
--- of each have a live session
+-- what decides how a fleet's script goes on: what was posted, what happened, how many units there are, which sides of
+-- each have a live session, and whether the upload to the next target of the running batch may be asked
 pub record FleetScene : Type 0 where
   pub posted : List UnitPost
   pub happenings : List FleetHappeningView
   pub units : ℕ
   pub waits_at : (unit : ℕ) → Side → Bool
+  pub may_ask : Bool
 
 -- what of it is one unit's
 abbrev pub unit_scene : FleetScene → (unit : ℕ) → Scene
@@ -96,6 +99,7 @@ pub data FleetRest : Type 0 where
   Line_is_done : FleetRest
   Deliveries_left : ℕ → FleetRest  -- of `next`: this many more
   Finish_goes_on : (firsts : TickTurns) → FleetRest  -- of `finish`
+  Batch_finishes : (firsts : TickTurns) → FleetRest  -- of `finishbatch`: its `finish`, after which it asks
 
 -- what is left of a fleet's script
 pub record FleetPlan : Type 0 where
@@ -119,21 +123,41 @@ turn_leaving rest lines happening = option_map (λ h. fleet_turn h rest lines) h
 
 -- ---- a line goes on
 
-abbrev pub fleet_finishing_tick : TickTurns → List FleetLine → Option UnitTick → Option FleetTurn
-fleet_finishing_tick firsts lines tick =
-    option_map (λ t. fleet_turn (At_unit t.unit (Ticked t.side)) (Finish_goes_on (turn_passed firsts t)) lines) tick
+-- what is left of a line that finishes, by whose turn it is at each unit
+abbrev pub Finishes : Type 0
+Finishes = (firsts : TickTurns) → FleetRest
+
+abbrev pub fleet_finishing_tick : Finishes → TickTurns → List FleetLine → Option UnitTick → Option FleetTurn
+fleet_finishing_tick rest firsts lines tick =
+    option_map (λ t. fleet_turn (At_unit t.unit (Ticked t.side)) (rest (turn_passed firsts t)) lines) tick
 
 -- a unit is ticked only where nothing is undelivered at any
-abbrev pub fleet_finishing : FleetScene → TickTurns → List FleetLine → Option FleetHappeningView → Option FleetTurn
-fleet_finishing s firsts lines (Some h) = Some (fleet_turn h (Finish_goes_on firsts) lines)
-fleet_finishing s firsts lines None = fleet_finishing_tick firsts lines (fleet_tick s firsts)
+abbrev pub fleet_finishing : FleetScene → Finishes → TickTurns → List FleetLine → Option FleetHappeningView → Option FleetTurn
+fleet_finishing s rest firsts lines (Some h) = Some (fleet_turn h (rest firsts) lines)
+fleet_finishing s rest firsts lines None = fleet_finishing_tick rest firsts lines (fleet_tick s firsts)
+
+-- the upload to the next target is asked, if it may be
+abbrev pub asking : FleetScene → FleetRest → List FleetLine → Option FleetTurn
+asking s rest lines = if s.may_ask then Some (fleet_turn Next_asked rest lines) else None
+
+-- `finishbatch` asks, and then a `finish` comes
+abbrev pub batch_asking : FleetScene → List FleetLine → Option FleetTurn
+batch_asking s lines = asking s (Batch_finishes loaders_first) lines
+
+-- once its `finish` gives nothing, it asks again
+abbrev pub or_asking : FleetScene → List FleetLine → Option FleetTurn → Option FleetTurn
+or_asking s lines (Some t) = Some t
+or_asking s lines None = batch_asking s lines
 
 -- what is left of a line gives something, or the line is done
 abbrev pub fleet_goes_on : FleetScene → FleetRest → List FleetLine → Option FleetTurn
 fleet_goes_on s Line_is_done lines = None
 fleet_goes_on s (Deliveries_left zero) lines = None
 fleet_goes_on s (Deliveries_left (suc k)) lines = turn_leaving (Deliveries_left k) lines (least_fleet_delivery s)
-fleet_goes_on s (Finish_goes_on firsts) lines = fleet_finishing s firsts lines (least_fleet_delivery s)
+fleet_goes_on s (Finish_goes_on firsts) lines =
+    fleet_finishing s Finish_goes_on firsts lines (least_fleet_delivery s)
+fleet_goes_on s (Batch_finishes firsts) lines =
+    or_asking s lines (fleet_finishing s Batch_finishes firsts lines (least_fleet_delivery s))
 
 -- ---- a line begins
 
@@ -148,6 +172,9 @@ fleet_begins s (Give_numbered n) lines = turn_leaving Line_is_done lines (fleet_
 fleet_begins s (Lose_numbered n) lines = turn_leaving Line_is_done lines (fleet_loss s n)
 fleet_begins s (Next_of_all k) lines = fleet_goes_on s (Deliveries_left k) lines
 fleet_begins s Finish_all lines = fleet_goes_on s (Finish_goes_on loaders_first) lines
+fleet_begins s (Begin_batch part) lines = Some (fleet_turn (Batch_begun part) Line_is_done lines)
+fleet_begins s Ask_next lines = asking s Line_is_done lines
+fleet_begins s Finish_batch lines = batch_asking s lines
 
 abbrev pub or_next : Option FleetTurn → FleetTurn → FleetTurn
 or_next (Some t) later = t
@@ -168,26 +195,31 @@ next_fleet_turn s p = or_next (fleet_goes_on s p.rest p.lines) (from_fleet_lines
 abbrev pub FleetWaiting : Type 0
 FleetWaiting = (unit : ℕ) → Side → List Step → Bool
 
+-- whether the upload to the next target of the running batch may be asked after steps of the fleet
+abbrev pub FleetAsking : Type 0
+FleetAsking = List StepOfFleet → Bool
+
 -- the scene after steps of a fleet of so many units
-abbrev pub fleet_scene_after : (units : ℕ) → FleetWaiting → List StepOfFleet → FleetScene
-fleet_scene_after units waiting steps =
+abbrev pub fleet_scene_after : (units : ℕ) → FleetWaiting → FleetAsking → List StepOfFleet → FleetScene
+fleet_scene_after units waiting asks steps =
     record {
       posted = fleet_posts steps;
       happenings = fleet_happenings steps;
       units = units;
       waits_at = λ unit side. waiting unit side (steps_of_unit unit steps);
+      may_ask = asks steps;
     }
 
 -- what is left of the script after steps
-abbrev pub fleet_plan_after : (units : ℕ) → FleetWaiting → List FleetLine → List StepOfFleet → FleetPlan
-fleet_plan_after units waiting script [] = fleet_plan_of script
-fleet_plan_after units waiting script (s ∷ earlier) =
-    (next_fleet_turn (fleet_scene_after units waiting earlier) (fleet_plan_after units waiting script earlier)).plan
+abbrev pub fleet_plan_after : (units : ℕ) → FleetWaiting → FleetAsking → List FleetLine → List StepOfFleet → FleetPlan
+fleet_plan_after units waiting asks script [] = fleet_plan_of script
+fleet_plan_after units waiting asks script (s ∷ earlier) =
+    (next_fleet_turn (fleet_scene_after units waiting asks earlier) (fleet_plan_after units waiting asks script earlier)).plan
 
 -- Each happening is the one that the fleet's script gives there.
-abbrev pub FollowsFleet : (units : ℕ) → FleetWaiting → List FleetLine → List StepOfFleet → Type 0
-FollowsFleet units waiting script [] = ⊤
-FollowsFleet units waiting script (s ∷ earlier) =
+abbrev pub FollowsFleet : (units : ℕ) → FleetWaiting → FleetAsking → List FleetLine → List StepOfFleet → Type 0
+FollowsFleet units waiting asks script [] = ⊤
+FollowsFleet units waiting asks script (s ∷ earlier) =
     (given_in_fleet s
-    ≡ (next_fleet_turn (fleet_scene_after units waiting earlier) (fleet_plan_after units waiting script earlier)).given)
-    × FollowsFleet units waiting script earlier
+    ≡ (next_fleet_turn (fleet_scene_after units waiting asks earlier) (fleet_plan_after units waiting asks script earlier)).given)
+    × FollowsFleet units waiting asks script earlier

@@ -1,10 +1,11 @@
 -- What was posted and what happened in a fleet, unit by unit, and which datagrams are undelivered (docs/EXCHANGE.md,
 -- "Fleets"). The fleet numbers its datagrams over all units, from 1; each unit numbers its own, from 1.
-use Rattle.std.specs.Prelude.{ℕ, ◌+◌, ◌-◌, List, [], ◌∷◌, ◌++◌, length, map, filter, Bool, ◌==◌, Option, None}
+use Rattle.std.specs.Prelude.{ℕ, ◌+◌, ◌-◌, List, [], ◌∷◌, ◌++◌, length, map, filter, Bool, true, ◌==◌, Option, None}
 use Rattle.std.specs.Prelude.{slice_get, if◌then◌else◌}
-use Rattle.exchange_trace.specs.Happenings.{DatagramView, HappeningView, Ended}
+use Rattle.exchange_trace.specs.Happenings.{DatagramView, HappeningView, Ended, Upload_started}
 use Rattle.exchange_trace.specs.Posts.{is_undelivered}
-use Rattle.fleet_trace.specs.FleetTraces.{FleetHappeningView, At_unit, All_ended, StepOfFleet, Of_unit, Of_all}
+use Rattle.fleet_trace.specs.FleetTraces.{FleetHappeningView, At_unit, Batch_begun, Next_asked, All_ended}
+use Rattle.fleet_trace.specs.FleetTraces.{StepOfFleet, Of_unit, Of_batch, Of_all}
 
 -- ---- posts
 
@@ -17,7 +18,8 @@ abbrev pub unit_post : (unit : ℕ) → DatagramView → UnitPost
 unit_post unit d = record { unit = unit; datagram = d }
 
 abbrev pub posts_in_step : StepOfFleet → List UnitPost
-posts_in_step (Of_unit unit s) = map (unit_post unit) s.posts
+posts_in_step (Of_unit asked unit s) = map (unit_post unit) s.posts
+posts_in_step (Of_batch part) = []
 posts_in_step Of_all = []
 
 -- all that was posted, the oldest first
@@ -33,18 +35,33 @@ posts_of_unit unit (p ∷ later) =
 
 -- ---- happenings
 
--- what a step begins with
+-- what is given as this happens at a unit: of an upload that was asked, that it is
+abbrev pub given_as : (asked : Bool) → (unit : ℕ) → HappeningView → FleetHappeningView
+given_as true unit (Upload_started hw pos parts) = Next_asked
+given_as asked unit h = At_unit unit h
+
+-- what is given as a step begins
 abbrev pub given_in_fleet : StepOfFleet → FleetHappeningView
-given_in_fleet (Of_unit unit s) = At_unit unit s.given
+given_in_fleet (Of_unit asked unit s) = given_as asked unit s.given
+given_in_fleet (Of_batch part) = Batch_begun part
 given_in_fleet Of_all = All_ended
 
--- all that happened, the newest first
+-- what happened at units, with this step more; at no unit does a batch begin
+abbrev pub with_happening : StepOfFleet → List FleetHappeningView → List FleetHappeningView
+with_happening (Of_unit asked unit s) earlier = At_unit unit s.given ∷ earlier
+with_happening (Of_batch part) earlier = earlier
+with_happening Of_all earlier = All_ended ∷ earlier
+
+-- all that happened at units, the newest first, also the uploads that were asked
 abbrev pub fleet_happenings : List StepOfFleet → List FleetHappeningView
-fleet_happenings steps = map given_in_fleet steps
+fleet_happenings [] = []
+fleet_happenings (s ∷ earlier) = with_happening s (fleet_happenings earlier)
 
 -- a happening before others of one unit, where it is one of that unit
 abbrev pub before_own_happenings : (unit : ℕ) → FleetHappeningView → List HappeningView → List HappeningView
 before_own_happenings unit (At_unit whose h) earlier = if whose == unit then h ∷ earlier else earlier
+before_own_happenings unit (Batch_begun part) earlier = earlier
+before_own_happenings unit Next_asked earlier = earlier
 before_own_happenings unit All_ended earlier = Ended ∷ earlier
 
 -- what happened at one unit, in its order; the end happens at each

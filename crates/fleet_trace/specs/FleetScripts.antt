@@ -1,10 +1,10 @@
 -- What a text says as a script of a fleet (docs/FORMATS.md, "Script of a fleet").
 use Rattle.std.specs.Prelude.{ℕ, List, [], ◌∷◌, length, codes, Bool, false, ◌==◌, nat_lt, nat_le, ◌&&◌, Option, Some, None, Result, Ok, Err, if◌then◌else◌}
 use Rattle.load_base.specs.Bytes.{same_bytes}
-use Rattle.exchange_trace.specs.Scripts.{◌>>=◌, Keyword, WrittenLine, count_word, decimal_between, found_in, keywords, line_said, required, written_lines, info, upload, give, lose, next, tick, inject, power, boot, blksize, finish}
+use Rattle.exchange_trace.specs.Scripts.{◌>>=◌, Keyword, WrittenLine, count_word, decimal_between, found_in, keywords, line_said, part_word, required, written_lines, info, upload, give, lose, next, tick, inject, power, boot, blksize, finish}
 use Rattle.exchange_trace.specs.declared.fault.ScriptFault.{ScriptFault}
 use Rattle.exchange_trace.specs.declared.fault.ScriptFault.TheVariants.{Word, TooLong, Unit}
-use Rattle.fleet_trace.specs.FleetLines.{FleetLine, Line_at, Give_numbered, Lose_numbered, Next_of_all, Finish_all}
+use Rattle.fleet_trace.specs.FleetLines.{FleetLine, Line_at, Give_numbered, Lose_numbered, Next_of_all, Finish_all, Begin_batch, Ask_next, Finish_batch}
 
 -- ---- lines of a unit
 
@@ -51,6 +51,18 @@ fleet_line_said line (Some next) (k ∷ []) = count_word line k >>= λ count. Ok
 fleet_line_said line (Some finish) [] = Ok Finish_all
 fleet_line_said line keyword words = Err (Word line)
 
+-- ---- lines of batches
+
+-- what the words after `batch` say
+abbrev pub batch_said : (line : ℕ) → List (List ℕ) → Result FleetLine ScriptFault
+batch_said line (part ∷ []) = part_word line part >>= λ number. Ok (Begin_batch number)
+batch_said line words = Err (Word line)
+
+-- no word stands behind this one
+abbrev pub alone_said : (line : ℕ) → FleetLine → List (List ℕ) → Result FleetLine ScriptFault
+alone_said line says [] = Ok says
+alone_said line says words = Err (Word line)
+
 -- ---- texts
 
 -- a line has at least one word, which may be empty
@@ -58,6 +70,9 @@ abbrev pub fleet_words_said : (line units : ℕ) → List (List ℕ) → Result 
 fleet_words_said line units [] = Err (Word line)
 fleet_words_said line units (word ∷ words) =
     if same_bytes word (codes "at") then at_said line units words
+    else if same_bytes word (codes "batch") then batch_said line words
+    else if same_bytes word (codes "asknext") then alone_said line Ask_next words
+    else if same_bytes word (codes "finishbatch") then alone_said line Finish_batch words
     else fleet_line_said line (found_in keywords word) words
 
 -- the lines in their order, or the fault of the first that is wrong

@@ -14,12 +14,11 @@ use Rattle.fleet_trace.specs.FleetTraces.{steps_of_unit}
 use Rattle.media_check.specs.Sets.{SetView}
 use Rattle.replay_turns.specs.Powers.{RoseBy, disk_stops}
 use Rattle.target_fleet.proofs.FirstBoots.{there_is}
-use Rattle.loader_cli.specs.FleetReplays.{FleetSeen, FailedFirst, HeldNoneFirst, HoldsNoneLast, IsFleetRun, IsUnknownAt, ReplaysFleet, RunsFleet, all_sessions}
+use Rattle.loader_cli.specs.FleetReplays.{FleetSeen, FailedFirst, HeldNoneFirst, HoldsNoneLast, IsFleetRun, IsUnknownAt, ReplaysFleet, RunsFleet, StatusOfFleet}
 use Rattle.loader_cli.specs.FleetReplays.ReplaysFleet.{ran, unread}
 use Rattle.loader_cli.specs.FleetReplays.RunsFleet.{disk_failed, ended, no_config, unknown}
 use Rattle.loader_cli.specs.FleetRuns.{AllLeaveFirstOrGood, FleetCall, FleetEnds, FleetEndsAsPromised, FleetSound, TellsFleetRun, WritesWhereAllHold, stops_at}
 use Rattle.loader_cli.specs.FleetRuns.FleetEnds.{as_it_was_put, in_command, sink_failed, told}
-use Rattle.loader_cli.specs.Replays.{StatusOfRun}
 use Rattle.loader_cli.specs.declared.top_call.Ended.{Ended}
 use Rattle.loader_cli.proofs.ReplayRuns.{none_refused, read_of, same_script, same_set}
 
@@ -73,7 +72,7 @@ module _ {K : Type 0} (state : K → DiskState) (call : FleetCall K) (end : Ende
       handed = handed;
       known = known;
       runs = is;
-      status = subst (StatusOfRun (all_sessions run)) status_is by_sessions;
+      status = subst (StatusOfFleet run) status_is by_sessions;
       text = subst (λ (bytes : List ℕ). IsExtended call.output call.output_after bytes) text_is put;
     }
     runs_to_end same status text (unknown run i handed at is _ _) status_is put = absurd (never_unknown run i handed at is same)

@@ -22,7 +22,7 @@ use Rattle.exchange_trace.specs.Steps.{Step}
 use Rattle.fleet_link.specs.FleetLinks.{FleetLinkState}
 use Rattle.fleet_link.specs.declared.fleet_turn.FleetRest.TheVariants.{Nothing}
 use Rattle.fleet_trace.specs.FleetFinishes.{IsLeftToOwnFinish}
-use Rattle.fleet_trace.specs.FleetFollowing.{FollowsFleet}
+use Rattle.fleet_trace.specs.FleetFollowing.{FleetAsking, FollowsFleet}
 use Rattle.fleet_trace.specs.FleetLines.{FleetLine}
 use Rattle.fleet_trace.specs.FleetPosts.{fleet_happenings, happenings_of_unit}
 use Rattle.fleet_trace.specs.FleetTraces.{FleetHappeningView, Of_all, StepOfFleet, ended_step, steps_of_unit}
@@ -47,9 +47,9 @@ use Rattle.upload_replay.specs.Drives.{IsSet, IsUnitRun}
 use Rattle.upload_replay.specs.Endings.{CountsStops, FailedIfUnknown, HoldsSome, HoldsStanding}
 use Rattle.target_fleet.specs.Finishes.{CompletesAtUnit, IsLeftAtUnit}
 use Rattle.target_fleet.specs.FleetTexts.{UnitSeen, unit_seen}
-use Rattle.target_fleet.specs.Fleets.{AllEndInFleet, AllLeaveGood, EndsFleet, EndsInFleet, IsFleetRefusal}
+use Rattle.target_fleet.specs.Fleets.{AllEndInFleet, AllLeaveGood, AsksInBatches, EndsFleet, EndsInFleet, IsFleetRefusal}
 use Rattle.target_fleet.specs.Leaves.{AllLeave, LeavesOwn}
-use Rattle.target_fleet.specs.Runs.{AllStandOn, FollowsOnEach, fleet_waiting}
+use Rattle.target_fleet.specs.Runs.{AllStandOn, FollowsOnEach, fleet_asking, fleet_waiting}
 use Rattle.target_fleet.specs.Units.{AllBetween, AllDisks, AllOnlyRead}
 use Rattle.target_fleet.specs.declared.outcome.FleetDrive.{FleetDrive}
 use Rattle.target_fleet.specs.declared.outcome.FleetFault.{FleetFault}
@@ -135,27 +135,27 @@ module _ {R K : Type 0} (state : K → DiskState) (may_say : R → LoadHeader �
 
   -- ---- its last `finish`
 
-  module _ (count : ℕ) (starts : ℕ → StandingView) (script : List FleetLine) (steps : List StepOfFleet) (unit : ℕ) (least : 1 ≤ unit) (most : unit ≤ count)
-      (follows : FollowsFleet count (fleet_waiting count (settings_of set starts)) script steps) where
+  module _ (count : ℕ) (starts : ℕ → StandingView) (asks : FleetAsking) (script : List FleetLine) (steps : List StepOfFleet) (unit : ℕ) (least : 1 ≤ unit) (most : unit ≤ count)
+      (follows : FollowsFleet count (fleet_waiting count (settings_of set starts)) asks script steps) where
     abbrev own_set : Setting
     own_set = setting_of set (starts unit)
 
-    pub unit_completes : ((sessions : List EndedSession) (standing : Option StandingView) → CompletesAtUnit count (settings_of set starts) script steps unit sessions standing) → FinishLeavesPower
+    pub unit_completes : ((sessions : List EndedSession) (standing : Option StandingView) → CompletesAtUnit count (settings_of set starts) asks script steps unit sessions standing) → FinishLeavesPower
         → CanBeTold (media_of set) → StandingFits (starts unit) → (seen : UnitSeen) (old new : DiskState) → RunsInOwnSteps set unit steps seen old new → HoldsAtRest (starts unit) old
-        → CompletesInFleet count (settings_of set starts) script unit steps seen old new
+        → CompletesInFleet count (settings_of set starts) asks script unit steps seen old new
     unit_completes completes power can fits seen old new ran at left answers last stands =
         let own = ran.run (starts unit) at.image at.reads at.holds (inr at.rests) in
         let before : List Step = steps_of_unit unit left.whole.before in
         let more : List Step = ended_step ∷ steps_of_unit unit left.whole.more in
         let alone = subst (λ (waits : Side → List Step → Bool). IsLeftToOwnFinish waits before (steps_of_unit unit left.whole.more) (steps_of_unit unit steps)) (waits_as count (settings_of set starts) unit least most)
-        (each_is_left_to_own count (fleet_waiting count (settings_of set starts)) script steps left.whole follows unit least most) in
+        (each_is_left_to_own count (fleet_waiting count (settings_of set starts)) asks script steps left.whole follows unit least most) in
         let only : OnlyFinishIsLeft own_set (own_script before ++ Finish ∷ []) before =
         (ap (λ (p : Plan). p.lines) alone.left, ap (λ (p : Plan). goes_on (scene_at own_set before) p.rest p.lines) alone.left) in
         let leaves = power own_set (own_script before ++ Finish ∷ []) before more (finish_alone_is_left own_set (own_script before ++ Finish ∷ []) before only)
         (subst (FollowsOwn own_set (own_script before ++ Finish ∷ [])) alone.split alone.follows) in
         let up : NoneGoesDown more = none_down_since own_set more before leaves (subst (λ (list : List Step). AllNoted own_set list) alone.split own.is.trace.noted)
         (none_since more before (steps_of_unit unit steps) old.faults new.faults alone.split answers ran.any.counts.stops) in
-        let left_here : IsLeftAtUnit count (settings_of set starts) script steps unit =
+        let left_here : IsLeftAtUnit count (settings_of set starts) asks script steps unit =
         record { whole = left.whole; least = least; most = most; free = left.free; margin = left.margin; stays_up = up } in
         completes seen.sessions seen.standing follows own.is.keeps accepts_permitted can fits left_here last stands (sym ((ran.moments (starts unit) at).held.active last stands))
 
@@ -188,13 +188,14 @@ module _ {R K : Type 0} (state : K → DiskState) (may_say : R → LoadHeader �
     steps = run.trace
 
     pub fleet_ran : CanBeTold (media_of set) → WhatIsHeldFits → FinishLeavesPower
-        → ((sets : ℕ → Setting) (unit : ℕ) (sessions : List EndedSession) (standing : Option StandingView) → CompletesAtUnit (length old) sets script steps unit sessions standing)
+        → ((sets : ℕ → Setting) (asks : FleetAsking) (unit : ℕ) (sessions : List EndedSession) (standing : Option StandingView) → CompletesAtUnit (length old) sets asks script steps unit sessions standing)
         → (began : FleetLinkState) → began ≡ fleet_link_of (length old) script
         → EndsFleet began link run → AllEndInFleet state may_say rule set run old new
         → AllLeave state may_say rule set began link old new
-        → ((sets : ℕ → Setting) → AllStandOn state may_say rule set sets old → FollowsOnEach began sets steps)
+        → ((sets : ℕ → Setting) → AllStandOn state may_say rule set sets old → FollowsOnEach began set sets steps)
+        → AsksInBatches state may_say rule set run old
         → IsFleetRun state set script old new (fleet_seen run)
-    fleet_ran can fits power completes began begins is_any ends leaves_any follows_any = record {
+    fleet_ran can fits power completes began begins is_any ends leaves_any follows_any asked = record {
       before = is.before;
       steps = is.steps;
       once = is.once;
@@ -202,8 +203,17 @@ module _ {R K : Type 0} (state : K → DiskState) (may_say : R → LoadHeader �
       units = units;
       follows = follows_it;
       completes = λ starts all i seen first last told was then.
-          unit_completes (length old) starts script steps (i + 1) (omega arith) (omega (arith, slice_get_within old i first was)) (follows_it starts all)
-          (completes (settings_of set starts) (i + 1)) power can (fits (all i first was).image (starts (i + 1)) (all i first was).holds) seen (state first) (state last) (units i seen first last told was then) (all i first was);
+          unit_completes (length old) starts (fleet_asking set (length old) (settings_of set starts)) script steps (i + 1) (omega arith) (omega (arith, slice_get_within old i first was)) (follows_it starts all)
+          (completes (settings_of set starts) (fleet_asking set (length old) (settings_of set starts)) (i + 1)) power can (fits (all i first was).image (starts (i + 1)) (all i first was).holds) seen (state first) (state last) (units i seen first last told was then) (all i first was);
+      batches = record {
+        before = asked.before;
+        steps = asked.steps;
+        places = asked.places;
+        count = asked.count;
+        known = λ i k start image there told holds. asked.known i k (setting_of set start) image there (stands_on start image holds) told;
+        asked = asked.asked;
+        ends = asked.ends;
+      };
     }
       where
         is : EndsFleet (fleet_link_of (length old) script) link run
@@ -212,8 +222,8 @@ module _ {R K : Type 0} (state : K → DiskState) (may_say : R → LoadHeader �
         leaves : AllLeave state may_say rule set (fleet_link_of (length old) script) link old new
         leaves = subst (λ (l : FleetLinkState). AllLeave state may_say rule set l link old new) begins leaves_any
 
-        follows : (sets : ℕ → Setting) → AllStandOn state may_say rule set sets old → FollowsOnEach (fleet_link_of (length old) script) sets steps
-        follows sets all = subst (λ (l : FleetLinkState). FollowsOnEach l sets steps) begins (follows_any sets all)
+        follows : (sets : ℕ → Setting) → AllStandOn state may_say rule set sets old → FollowsOnEach (fleet_link_of (length old) script) set sets steps
+        follows sets all = subst (λ (l : FleetLinkState). FollowsOnEach l set sets steps) begins (follows_any sets all)
 
         units : (i : ℕ) (seen : UnitSeen) (first last : K) → slice_get (map unit_seen run.units.items) i ≡ Some seen → slice_get old i ≡ Some first → slice_get new i ≡ Some last
             → RunsInOwnSteps set (i + 1) steps seen (state first) (state last)
@@ -222,7 +232,7 @@ module _ {R K : Type 0} (state : K → DiskState) (may_say : R → LoadHeader �
             subst (λ (s : UnitSeen). RunsInOwnSteps set (i + 1) steps s (state first) (state last)) found.is
             (unit_ran can fits (i + 1) steps is.before is.steps (fleet_link_of (length old) script) link refl is.given found.end first last (leaves i first last was then) (ends i found.end first last found.there was then))
 
-        follows_it : (starts : ℕ → StandingView) → AllHoldAtRest state starts old → FollowsFleet (length old) (fleet_waiting (length old) (settings_of set starts)) script steps
+        follows_it : (starts : ℕ → StandingView) → AllHoldAtRest state starts old → FollowsFleet (length old) (fleet_waiting (length old) (settings_of set starts)) (fleet_asking set (length old) (settings_of set starts)) script steps
         follows_it starts all =
             follows (settings_of set starts) (all_stand_on starts old all) script
             (record { follows = tt; count = refl; posted = refl; given = refl; left = refl })

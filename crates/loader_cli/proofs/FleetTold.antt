@@ -11,11 +11,12 @@ use Rattle.fleet_trace.specs.FleetTraces.{StepOfFleet}
 use Rattle.loader_machine.specs.Machine.{session_view}
 use Rattle.session_rules.specs.Loader.{EndedSession}
 use Rattle.target_fleet.specs.FleetTexts.{UnitSeen, fleet_report, unit_seen}
+use Rattle.target_fleet.specs.declared.outcome.BatchEnd.{BatchEnd}
 use Rattle.target_fleet.specs.declared.outcome.UnitEnd.{UnitEnd}
-use Rattle.loader_cli.specs.FleetReplays.{FleetSeen, HasCompletedAll, TellsFleet}
+use Rattle.loader_cli.specs.FleetReplays.{FleetSeen, HasCompletedAll, IsBatchCompleted, TellsFleet}
+use Rattle.loader_cli.specs.FleetReplays.StatusOfFleet.{all_completed, not_completed}
 use Rattle.loader_cli.specs.FleetReplays.TellsFleet.{all_known, one_unknown}
 use Rattle.loader_cli.specs.Replays.{IsCompleted}
-use Rattle.loader_cli.specs.Replays.StatusOfRun.{all_completed, not_completed}
 use Rattle.loader_cli.specs.Texts.{disk_fault}
 
 -- ---- tests
@@ -86,15 +87,15 @@ known_or_not (end ∷ ends) = by end.standing refl (known_or_not ends)
 
 -- ---- what is told
 
-module _ (steps : List StepOfFleet) (ends : List UnitEnd) where
+module _ (steps : List StepOfFleet) (ends : List UnitEnd) (batches : List BatchEnd) where
   abbrev seen : FleetSeen
-  seen = record { steps = steps; units = map unit_seen ends }
+  seen = record { steps = steps; units = map unit_seen ends; batches = batches }
 
-  pub tells_done : (text : List ℕ) → All IsKnown ends → All HasCompletedAll ends → text ≡ fleet_report steps (map unit_seen ends) → TellsFleet seen 0 text
-  tells_done text known completed told = all_known (all_seen ends known) (all_completed (together ends completed) refl) told
+  pub tells_done : (text : List ℕ) → All IsKnown ends → All HasCompletedAll ends → All IsBatchCompleted batches → text ≡ fleet_report steps (map unit_seen ends) batches → TellsFleet seen 0 text
+  tells_done text known completed all told = all_known (all_seen ends known) (all_completed (record { sessions = together ends completed; batches = all }) refl) told
 
-  pub tells_unfinished : (text : List ℕ) → All IsKnown ends → ¬ All HasCompletedAll ends → text ≡ fleet_report steps (map unit_seen ends) → TellsFleet seen 1 text
-  tells_unfinished text known some told = all_known (all_seen ends known) (not_completed (λ all. some (each ends all)) refl) told
+  pub tells_unfinished : (text : List ℕ) → All IsKnown ends → ¬ (All HasCompletedAll ends × All IsBatchCompleted batches) → text ≡ fleet_report steps (map unit_seen ends) batches → TellsFleet seen 1 text
+  tells_unfinished text known some told = all_known (all_seen ends known) (not_completed (λ all. some (each ends all.sessions, all.batches)) refl) told
 
   pub tells_unknown : ¬ All IsKnown ends → TellsFleet seen 5 disk_fault
   tells_unknown not_all = by (known_or_not ends)

@@ -25,7 +25,7 @@ use Rattle.replay_rules.specs.Runs.{IsWithinMargin}
 use Rattle.replay_turns.specs.Powers.{RoseBy, disk_stops}
 use Rattle.run_promises.specs.Promises.{ChangesByGoodLoads, TellsTrue}
 use Rattle.fleet_trace.specs.FleetFinishes.{ReachesFleetFinish}
-use Rattle.fleet_trace.specs.FleetFollowing.{FollowsFleet}
+use Rattle.fleet_trace.specs.FleetFollowing.{FleetAsking, FollowsFleet}
 use Rattle.fleet_trace.specs.FleetLines.{FleetLine}
 use Rattle.fleet_trace.specs.FleetScripts.{fleet_script_said}
 use Rattle.fleet_trace.specs.FleetTraces.{HasNotEnded, Of_all, StepOfFleet, steps_of_unit}
@@ -34,11 +34,14 @@ use Rattle.upload_replay.specs.Endings.{HeldNone, HoldsNone, HoldsSome}
 use Rattle.upload_replay.specs.Lives.{LivesThrough}
 use Rattle.target_fleet.specs.FleetTexts.{UnitSeen, fleet_report, unit_seen}
 use Rattle.target_fleet.specs.Fleets.{CameToEnd, HoldsInFleet}
-use Rattle.target_fleet.specs.Runs.{fleet_waiting}
+use Rattle.target_fleet.specs.Asking.{AllAsked, UnitPlace, ends_of, place_of}
+use Rattle.target_fleet.specs.Runs.{fleet_asking, fleet_waiting}
 use Rattle.target_fleet.specs.Units.{AllDisks, AllOnlyRead}
+use Rattle.target_fleet.specs.declared.outcome.BatchEnd.{BatchEnd}
+use Rattle.target_fleet.specs.declared.outcome.BatchOutcome.TheVariants.{Completed}
 use Rattle.target_fleet.specs.declared.outcome.FleetDrive.{FleetDrive}
 use Rattle.target_fleet.specs.declared.outcome.UnitEnd.{UnitEnd}
-use Rattle.loader_cli.specs.Replays.{CountsPower, HasInputs, IsCompleted, RefusesInputs, StatusOfRun, setting_of}
+use Rattle.loader_cli.specs.Replays.{CountsPower, HasInputs, IsCompleted, RefusesInputs, setting_of}
 use Rattle.loader_cli.specs.Texts.{disk_fault, no_configuration, refused_input}
 
 -- ---- a run
@@ -47,9 +50,10 @@ use Rattle.loader_cli.specs.Texts.{disk_fault, no_configuration, refused_input}
 pub record FleetSeen : Type 0 where
   pub steps : List StepOfFleet
   pub units : List UnitSeen
+  pub batches : List BatchEnd
 
 abbrev pub fleet_seen : FleetDrive → FleetSeen
-fleet_seen drive = record { steps = drive.trace; units = map unit_seen drive.units.items }
+fleet_seen drive = record { steps = drive.trace; units = map unit_seen drive.units.items; batches = drive.batches.items }
 
 -- ---- what it stands on
 
@@ -100,20 +104,34 @@ pub record RunsInOwnSteps (set : SetView) (unit : ℕ) (steps : List StepOfFleet
   pub moments : (start : StandingView) → HoldsAtRest start old → HoldsInFleet unit (setting_of set start) steps seen.standing old new
   pub rests : (start : StandingView) → HoldsAtRest start old → is_some seen.standing ≡ true → LosesOnlyWork new
 
+-- ---- batches
+
+-- Each upload that was asked is the one that came next then, and each batch came to what its uploads did, by where the units are
+-- as their first boots read it: where a disk told its content, as its configuration says.
+pub record AsksBatches {K : Type 0} (state : K → DiskState) (set : SetView) (old : List K) (run : FleetSeen) : Type 0 where
+  pub before : List StepOfFleet
+  pub steps : run.steps ≡ Of_all ∷ before
+  pub places : List UnitPlace
+  pub count : length places ≡ length old
+  pub known : (i : ℕ) (k : K) (start : StandingView) (image : Image) → slice_get old i ≡ Some k → (state k).reads ≡ Some image → HoldsConfig image start
+      → slice_get places i ≡ Some (place_of start.identity)
+  pub asked : AllAsked set places before
+  pub ends : run.batches ≡ ends_of set places before
+
 -- ---- all units
 
 -- A fleet's whole trace comes to where the last `finish` of its script is left. The unit's own steps before that are fault-free
 -- and within the margin.
-pub record IsLeftInFleet (count : ℕ) (sets : ℕ → Setting) (script : List FleetLine) (steps : List StepOfFleet) (unit : ℕ) : Type 0 where
-  pub whole : ReachesFleetFinish count (fleet_waiting count sets) script steps
+pub record IsLeftInFleet (count : ℕ) (sets : ℕ → Setting) (asks : FleetAsking) (script : List FleetLine) (steps : List StepOfFleet) (unit : ℕ) : Type 0 where
+  pub whole : ReachesFleetFinish count (fleet_waiting count sets) asks script steps
   pub free : IsFaultFree (sets unit) (steps_of_unit unit whole.before)
   pub margin : IsWithinMargin (sets unit) (steps_of_unit unit whole.before)
 
 -- A unit that is left to the last `finish` is complete, where its disk failed no more often than its steps say that it stopped
 -- before that. What befell other units is no matter.
-abbrev pub CompletesInFleet : (count : ℕ) → (sets : ℕ → Setting) → List FleetLine → (unit : ℕ) → List StepOfFleet → UnitSeen → (old new : DiskState) → Type 0
-CompletesInFleet count sets script unit steps seen old new =
-    (left : IsLeftInFleet count sets script steps unit) → ¬ RoseBy (disk_stops (steps_of_unit unit left.whole.before) + 1) old.faults new.faults
+abbrev pub CompletesInFleet : (count : ℕ) → (sets : ℕ → Setting) → FleetAsking → List FleetLine → (unit : ℕ) → List StepOfFleet → UnitSeen → (old new : DiskState) → Type 0
+CompletesInFleet count sets asks script unit steps seen old new =
+    (left : IsLeftInFleet count sets asks script steps unit) → ¬ RoseBy (disk_stops (steps_of_unit unit left.whole.before) + 1) old.faults new.faults
     → (last : StandingView) → seen.standing ≡ Some last
     → IsComplete (sets unit) (steps_of_unit unit left.whole.before) left.free (steps_of_unit unit steps) last
 
@@ -128,16 +146,30 @@ pub record IsFleetRun {K : Type 0} (state : K → DiskState) (set : SetView) (sc
   pub units : (i : ℕ) (seen : UnitSeen) (first last : K) → slice_get run.units i ≡ Some seen → slice_get old i ≡ Some first → slice_get new i ≡ Some last
       → RunsInOwnSteps set (i + 1) run.steps seen (state first) (state last)
   pub follows : (starts : ℕ → StandingView) → AllHoldAtRest state starts old
-      → FollowsFleet (length old) (fleet_waiting (length old) (settings_of set starts)) script run.steps
+      → FollowsFleet (length old) (fleet_waiting (length old) (settings_of set starts)) (fleet_asking set (length old) (settings_of set starts)) script run.steps
   pub completes : (starts : ℕ → StandingView) → AllHoldAtRest state starts old
       → (i : ℕ) (seen : UnitSeen) (first last : K) → slice_get run.units i ≡ Some seen → slice_get old i ≡ Some first → slice_get new i ≡ Some last
-      → CompletesInFleet (length old) (settings_of set starts) script (i + 1) run.steps seen (state first) (state last)
+      → CompletesInFleet (length old) (settings_of set starts) (fleet_asking set (length old) (settings_of set starts)) script (i + 1) run.steps seen (state first) (state last)
+  pub batches : AsksBatches state set old run
 
 -- ---- what is told of it
 
 -- the sessions of all units, those of unit 1 first
 abbrev pub all_sessions : FleetSeen → List EndedSession
 all_sessions run = flat_map (λ (unit : UnitSeen). unit.sessions) run.units
+
+abbrev pub IsBatchCompleted : BatchEnd → Type 0
+IsBatchCompleted batch = batch.end ≡ Completed
+
+-- each session and each batch was completed
+pub record HasCompleted (run : FleetSeen) : Type 0 where
+  pub sessions : All IsCompleted (all_sessions run)
+  pub batches : All IsBatchCompleted run.batches
+
+-- the status: 0 where each was, and 1 elsewhere
+pub data StatusOfFleet (run : FleetSeen) (status : ℕ) : Type 0 where
+  all_completed : HasCompleted run → status ≡ 0 → StatusOfFleet run status
+  not_completed : ¬ HasCompleted run → status ≡ 1 → StatusOfFleet run status
 
 -- each session with this unit was completed
 abbrev pub HasCompletedAll : UnitEnd → Type 0
@@ -155,7 +187,7 @@ pub record IsUnknownAt (run : FleetSeen) (index : ℕ) : Type 0 where
 
 -- the status and the text of a run of which all is known; else a disk failed
 pub data TellsFleet (run : FleetSeen) (status : ℕ) (text : List ℕ) : Type 0 where
-  all_known : AreAllKnown run → StatusOfRun (all_sessions run) status → text ≡ fleet_report run.steps run.units → TellsFleet run status text
+  all_known : AreAllKnown run → StatusOfFleet run status → text ≡ fleet_report run.steps run.units run.batches → TellsFleet run status text
   one_unknown : (index : ℕ) → IsUnknownAt run index → status ≡ 5 → text ≡ disk_fault → TellsFleet run status text
 
 -- The disk of the unit of this index failed as its target came up first; those before it hold configurations, and nothing was
@@ -193,8 +225,8 @@ pub record HoldsNoneLast {K : Type 0} (state : K → DiskState) (fault : Recover
 -- The status, the text, the run that is handed out, and what they say of the disks, for this media set and script.
 pub data RunsFleet {K : Type 0} (state : K → DiskState) (set : SetView) (script : List FleetLine) (old new : List K) (handed : Option FleetSeen) (status : ℕ) (text : List ℕ) : Type 0 where
   -- 0 or 1: the run came to its end, and it is known what stands on each disk
-  ended : (run : FleetSeen) → handed ≡ Some run → AreAllKnown run → IsFleetRun state set script old new run → StatusOfRun (all_sessions run) status
-      → text ≡ fleet_report run.steps run.units → RunsFleet state set script old new handed status text
+  ended : (run : FleetSeen) → handed ≡ Some run → AreAllKnown run → IsFleetRun state set script old new run → StatusOfFleet run status
+      → text ≡ fleet_report run.steps run.units run.batches → RunsFleet state set script old new handed status text
   -- 5: the run came to its end, but a disk failed once more as it was recovered
   unknown : (run : FleetSeen) (index : ℕ) → handed ≡ Some run → IsUnknownAt run index → IsFleetRun state set script old new run → status ≡ 5 → text ≡ disk_fault
       → RunsFleet state set script old new handed status text

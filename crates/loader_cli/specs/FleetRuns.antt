@@ -14,8 +14,8 @@ use Rattle.upload_replay.specs.Endings.{FailsToBegin, HoldsSome}
 use Rattle.upload_replay.specs.declared.outcome.DriveFault.TheVariants.{Memory}
 use Rattle.target_fleet.specs.FleetTexts.{fleet_report}
 use Rattle.target_fleet.specs.Units.{AllBetween, AllDisks, AllOnlyRead}
-use Rattle.loader_cli.specs.FleetReplays.{AllHoldAtRest, AreAllKnown, FleetSeen, IsFleetRun, ReplaysFleet, all_sessions}
-use Rattle.loader_cli.specs.Replays.{HasInputs, LeavesFirstOrGood, StatusOfRun}
+use Rattle.loader_cli.specs.FleetReplays.{AllHoldAtRest, AreAllKnown, FleetSeen, IsFleetRun, ReplaysFleet, StatusOfFleet}
+use Rattle.loader_cli.specs.Replays.{HasInputs, LeavesFirstOrGood}
 use Rattle.loader_cli.specs.declared.top_call.Ended.{Ended}
 
 -- What `fleet` works on: the disks of its units, and the host's files and faults, before and after; and the run that it hands
@@ -115,8 +115,8 @@ pub record TellsFleetRun {K : Type 0} (state : K → DiskState) (call : FleetCal
   pub handed : call.work.handed ≡ Some seen
   pub known : AreAllKnown seen
   pub runs : IsFleetRun state set script call.work.disks call.work.disks_after seen
-  pub status : StatusOfRun (all_sessions seen) ended.status
-  pub text : IsExtended call.output call.output_after (fleet_report seen.steps seen.units)
+  pub status : StatusOfFleet seen ended.status
+  pub text : IsExtended call.output call.output_after (fleet_report seen.steps seen.units seen.batches)
 
 -- How a run of `fleet` ends, and that a failure of the sink is told; where it can't but succeed; which disks are written; and
 -- what is left of each.

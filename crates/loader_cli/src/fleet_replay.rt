@@ -6,7 +6,7 @@ ghost use Rattle.media_check.specs.Sets.{set_view};
 ghost use Rattle.target_fleet.specs.Units.{AllDisks};
 ghost use Rattle.loader_cli.specs.Answers.{HidesNoFault, answered_status, status_of, text_of};
 ghost use Rattle.loader_cli.specs.FleetReplays.{FleetRunsText, ReplaysFleet, RunsFleet, TellsFleet};
-ghost use Rattle.loader_cli.specs.FleetReplays.{HasCompletedAll, fleet_seen};
+ghost use Rattle.loader_cli.specs.FleetReplays.{HasCompletedAll, IsBatchCompleted, fleet_seen};
 ghost use Rattle.loader_cli.specs.FleetRuns.{AllLeaveFirstOrGood, FleetRunsOut, WritesWhereAllHold};
 
 use crate::answer::{Answer, Answered};
@@ -23,7 +23,7 @@ use run_promises::laws::what_a_disk_holds_can_be_listed;
 use session_completion::laws::a_last_finish_is_left;
 use std::alloc::Global;
 use target_fleet::laws::a_fleets_last_finish_completes;
-use target_fleet::{FleetDrive, FleetFault, UnitEnd, fleet, fleet_text};
+use target_fleet::{BatchEnd, BatchOutcome, FleetDrive, FleetFault, UnitEnd, fleet, fleet_text};
 
 /// Runs a script on the media set in a folder and the targets of these disks, unit 1 on the first.
 pub(crate) fn replay_fleet<'w, H: Host, K: Power>(
@@ -139,7 +139,7 @@ fn tell_fleet<'w>(alloc: Global, run: &FleetDrive) -> Result<Answer<'w>, NoMemor
         return Ok(Answer::DiskFault);
     }
     let text = fleet_text(alloc, run)?;
-    if have_completed(run.units.as_slice()) {
+    if is_complete(run) {
         Ok(Answer::Done(text))
     } else {
         Ok(Answer::Unfinished(text))
@@ -157,6 +157,27 @@ fn is_known(unit: &UnitEnd) -> bool
     ensures { IsTrue result ↔ IsSome unit.now.standing }
 {
     unit.standing.is_some()
+}
+
+// Whether each session and each batch was completed.
+fn is_complete(run: &FleetDrive) -> bool
+    ensures { IsTrue result ↔ (All HasCompletedAll run.now.units.items
+        × All IsBatchCompleted run.now.batches.items) }
+{
+    have_completed(run.units.as_slice()) && are_batches_completed(run.batches.as_slice())
+}
+
+// Whether each batch was completed.
+fn are_batches_completed(batches: &[BatchEnd]) -> bool
+    ensures { IsTrue result ↔ All IsBatchCompleted batches.now }
+{
+    batches.iter().all(|batch| is_batch_completed(batch))
+}
+
+fn is_batch_completed(batch: &BatchEnd) -> bool
+    ensures { IsTrue result ↔ IsBatchCompleted batch.now }
+{
+    matches!(batch.end, BatchOutcome::Completed)
 }
 
 // Whether each session with each unit was completed.

@@ -1,16 +1,16 @@
 -- A fleet's steps, kept as the traces of its units.
 use Rattle.std.proofs.Common.{◌≡◌, ℕ, suc, ◌+◌, ◌-◌, ◌≤◌, Bool, true, false, cond, List, [], ◌∷◌, length, Option, Some, None, append-nil, eqb-true, ne_eqb, arith, refl, sym, ap, ◌∙◌}
-use Rattle.std.specs.Prelude.{reverse, slice_get, slice_index_or, ◌==◌}
+use Rattle.std.specs.Prelude.{reverse, slice_get, ◌==◌}
 use Rattle.std.specs.List.{count_by}
 use Rattle.std.proofs.lemmas.Bool.{eqb-false}
 use Rattle.std.proofs.lemmas.List.{length-reverse, reverse-reverse}
 use Rattle.std.proofs.lemmas.List.Sums.{sum_by-cons}
-use Rattle.std.proofs.lemmas.Option.{slice_get-get_or, slice_get_within}
+use Rattle.std.proofs.lemmas.Option.{slice_get_within}
 use Rattle.exchange_trace.specs.Posts.{posted_in}
 use Rattle.exchange_trace.specs.Steps.{Step, steps_of}
 use Rattle.exchange_trace.specs.declared.trace.TraceStep.{TraceStep}
-use Rattle.fleet_trace.specs.FleetTraces.{HasNotEnded, Of_all, Of_unit, StepOfFleet, fleet_steps_of, steps_of_unit}
-use Rattle.fleet_trace.specs.Merging.{merged, stepping_order, times_stepped}
+use Rattle.fleet_trace.specs.FleetTraces.{HasNotEnded, Of_all, Of_batch, Of_unit, StepOfFleet, fleet_steps_of, steps_of_unit}
+use Rattle.fleet_trace.specs.Merging.{Batch_came, Stepped, Unit_stepped, is_of_unit, merged, stepping_order, times_stepped}
 use Rattle.fleet_trace.specs.declared.trace.FleetStep.{FleetStep}
 use Rattle.fleet_trace.proofs.Merging.{merged_again, merged_goes, order_of_merged, own_of_merged, same_merged}
 use Rattle.load_base.specs.Listed.{Listed}
@@ -28,22 +28,32 @@ use Rattle.target_fleet.proofs.MergedSteps.{read_from_back}
 named_as_often : (unit : ℕ) (steps : List StepOfFleet) → HasNotEnded steps → times_stepped unit (stepping_order steps) ≡ length (steps_of_unit unit steps)
 named_as_often unit [] goes = refl
 named_as_often unit (Of_all ∷ earlier) goes = absurd goes.0
-named_as_often unit (Of_unit whose s ∷ earlier) goes = sum_by-cons (λ (n : ℕ). cond (n == unit) 1 0) whose (stepping_order earlier) ∙ by (named_as_often unit earlier goes.1) (whose == unit)
+named_as_often unit (Of_batch part ∷ earlier) goes =
+    let once : times_stepped unit (Batch_came part ∷ stepping_order earlier) ≡ 0 + times_stepped unit (stepping_order earlier) = sum_by-cons (λ (n : Stepped). cond (is_of_unit unit n) 1 0) (Batch_came part) (stepping_order earlier) in
+    let before = named_as_often unit earlier goes.1 in
+    omega (arith, once, before)
+named_as_often unit (Of_unit asked whose s ∷ earlier) goes =
+    sum_by-cons (λ (n : Stepped). cond (is_of_unit unit n) 1 0) (Unit_stepped asked whose) (stepping_order earlier) ∙ by (named_as_often unit earlier goes.1) (whose == unit)
   where
     by : times_stepped unit (stepping_order earlier) ≡ length (steps_of_unit unit earlier) → (b : Bool)
         → cond b 1 0 + times_stepped unit (stepping_order earlier) ≡ length (cond b (s ∷ steps_of_unit unit earlier) (steps_of_unit unit earlier))
     by before true = omega (arith, before)
     by before false = omega (arith, before)
 
-named_there : (unit : ℕ) (steps : List StepOfFleet) → HasNotEnded steps → (s : Step) (rest : List Step) → steps_of_unit unit steps ≡ s ∷ rest → (k : ℕ) × (slice_get (stepping_order steps) k ≡ Some unit)
+-- where a unit has a step, the order names it
+abbrev NamedAt : (unit : ℕ) → List Stepped → Type 0
+NamedAt unit order = (k : ℕ) × (asked : Bool) × (slice_get order k ≡ Some (Unit_stepped asked unit))
+
+named_there : (unit : ℕ) (steps : List StepOfFleet) → HasNotEnded steps → (s : Step) (rest : List Step) → steps_of_unit unit steps ≡ s ∷ rest → NamedAt unit (stepping_order steps)
 named_there unit [] goes s rest e = absurd cc
 named_there unit (Of_all ∷ earlier) goes s rest e = absurd goes.0
-named_there unit (Of_unit whose z ∷ earlier) goes s rest e = by (named_there unit earlier goes.1 s rest) (whose == unit) refl e
+named_there unit (Of_batch part ∷ earlier) goes s rest e = let found = named_there unit earlier goes.1 s rest e in (suc found.0, found.1, found.2)
+named_there unit (Of_unit asked whose z ∷ earlier) goes s rest e = by (named_there unit earlier goes.1 s rest) (whose == unit) refl e
   where
-    by : (steps_of_unit unit earlier ≡ s ∷ rest → (k : ℕ) × (slice_get (stepping_order earlier) k ≡ Some unit)) → (b : Bool) → (whose == unit) ≡ b
-        → cond b (z ∷ steps_of_unit unit earlier) (steps_of_unit unit earlier) ≡ s ∷ rest → (k : ℕ) × (slice_get (whose ∷ stepping_order earlier) k ≡ Some unit)
-    by before true same e = (0, ap Some (eqb-true whose unit same))
-    by before false apart e = let found = before e in (suc found.0, found.1)
+    by : (steps_of_unit unit earlier ≡ s ∷ rest → NamedAt unit (stepping_order earlier)) → (b : Bool) → (whose == unit) ≡ b
+        → cond b (z ∷ steps_of_unit unit earlier) (steps_of_unit unit earlier) ≡ s ∷ rest → NamedAt unit (Unit_stepped asked whose ∷ stepping_order earlier)
+    by before true same e = (0, asked, ap (λ (n : ℕ). Some (Unit_stepped asked n)) (eqb-true whose unit same))
+    by before false apart e = let found = before e in (suc found.0, found.1, found.2)
 
 -- ---- own steps
 
@@ -57,24 +67,25 @@ own_of_trace traces i trace there =
 
 -- ---- a fleet that ran
 
-module _ (steps : List StepOfFleet) (goes : HasNotEnded steps) (order : List ℕ) (order_is : order ≡ reverse (stepping_order steps)) (traces : List (Listed TraceStep)) (units : AreUnits (length traces) order) (own : HaveOwnSteps traces steps) where
+module _ (steps : List StepOfFleet) (goes : HasNotEnded steps) (order : List Stepped) (order_is : order ≡ reverse (stepping_order steps)) (traces : List (Listed TraceStep)) (units : AreUnits (length traces) order) (own : HaveOwnSteps traces steps) where
   turned : reverse order ≡ stepping_order steps
   turned = ap reverse order_is ∙ reverse-reverse (stepping_order steps)
 
-  named_in_order : (unit k : ℕ) → slice_get (stepping_order steps) k ≡ Some unit → (1 ≤ unit) × (unit ≤ length traces)
-  named_in_order unit k e =
-      let within = slice_get_within (stepping_order steps) k unit e in
+  named_in_order : (unit : ℕ) → NamedAt unit (stepping_order steps) → (1 ≤ unit) × (unit ≤ length traces)
+  named_in_order unit named =
+      let within = slice_get_within (stepping_order steps) named.0 (Unit_stepped named.1 unit) named.2 in
       let many : length order ≡ length (stepping_order steps) = ap length order_is ∙ length-reverse (stepping_order steps) in
-      let read = read_from_back order (stepping_order steps) k 0 order_is (omega (arith, within, many)) in
-      let is : slice_index_or order (length order - 1 - k) 0 ≡ unit = let both = sym read ∙ e in cc in
-      units (length order - 1 - k) unit (slice_get-get_or order (length order - 1 - k) 0 (omega (arith, within, many)) ∙ ap Some is)
+      let there = there_is order (length order - 1 - named.0) (omega (arith, within, many)) in
+      let read = read_from_back order (stepping_order steps) named.0 there.0 order_is (omega (arith, within, many)) there.1 in
+      let is : there.0 ≡ Unit_stepped named.1 unit = let both = sym read ∙ named.2 in cc in
+      units (length order - 1 - named.0) unit named.1 (there.1 ∙ ap Some is)
 
   none_own : (unit : ℕ) → ((1 ≤ unit) × (unit ≤ length traces) → ⊥) → steps_of_unit unit steps ≡ []
   none_own unit out = by (steps_of_unit unit steps) refl
     where
       by : (all : List Step) → steps_of_unit unit steps ≡ all → all ≡ []
       by [] is = refl
-      by (s ∷ rest) is = let found = named_there unit steps goes s rest is in absurd (out (named_in_order unit found.0 found.1))
+      by (s ∷ rest) is = let found = named_there unit steps goes s rest is in absurd (out (named_in_order unit found))
 
   own_is : (unit : ℕ) → own_steps traces unit ≡ steps_of_unit unit steps
   own_is unit = by (unit == 0) refl
@@ -100,12 +111,12 @@ module _ (steps : List StepOfFleet) (goes : HasNotEnded steps) (order : List ℕ
   pub ran_to_end : steps_to_end order traces ≡ Of_all ∷ steps
   ran_to_end =
       ap (λ (earlier : List StepOfFleet). Of_all ∷ earlier)
-      (ap (λ (named : List ℕ). merged named (own_steps traces)) turned
+      (ap (λ (named : List Stepped). merged named (own_steps traces)) turned
       ∙ (same_merged (stepping_order steps) (own_steps traces) (λ unit. steps_of_unit unit steps) own_is ∙ merged_again steps goes))
 
 -- ---- what is kept of it
 
-module _ (order : List ℕ) (traces : List (Listed TraceStep)) (kept : KeepsSteps order traces) where
+module _ (order : List Stepped) (traces : List (Listed TraceStep)) (kept : KeepsSteps order traces) where
   abbrev steps : List StepOfFleet
   steps = merged (reverse order) (own_steps traces)
 

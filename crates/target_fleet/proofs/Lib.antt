@@ -1,7 +1,10 @@
+pub mod BatchTurns
+pub mod FewTargets
 pub mod FirstBoots
 pub mod FleetTurns
 pub mod Indexed
 pub mod KeptSteps
+pub mod LeastUnits
 pub mod LeftBehind
 pub mod MergedSteps
 pub mod OwnBounds
@@ -12,5 +15,6 @@ pub mod UnitSteps
 pub mod WholeFleet
 pub mod StepsInFleet
 pub mod TakenLines
+pub mod TakenTurns
 pub mod ToldInUnits
 pub mod TurnsLeave

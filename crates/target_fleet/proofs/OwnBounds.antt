@@ -10,6 +10,7 @@ use Rattle.exchange_trace.specs.Steps.{Step}
 use Rattle.finish_ends.specs.Finishes.{AllOfFinish, FinishEnds, IsOfFinish}
 use Rattle.finish_ends.proofs.Given.{Gives, finish_gives, gives, is_done}
 use Rattle.fleet_trace.specs.FleetFinishes.{IsLeftToOwnFinish}
+use Rattle.fleet_trace.specs.FleetFollowing.{FleetAsking}
 use Rattle.fleet_trace.specs.FleetLines.{FleetLine}
 use Rattle.fleet_trace.specs.FleetTraces.{StepOfFleet, ended_step, steps_of_unit}
 use Rattle.fleet_trace.specs.OwnScripts.{own_script}
@@ -48,12 +49,12 @@ module _ (set : Setting) (script : List Line) (steps : List Step) (left : plan_a
       by : AllOfFinish set more steps × IsAtFinish (plan_at set script (more ++ steps)) → AllOfFinish set (s ∷ more) steps × IsAtFinish (plan_at set script (s ∷ (more ++ steps)))
       by (before, at) = let next = next_there more at in given next.0 next.1 before (finish_gives set (more ++ steps) next.0 [])
 
-pub unit_finish_ends : FinishEnds → (units : ℕ) (sets : ℕ → Setting) (script : List FleetLine) (steps : List StepOfFleet) (unit : ℕ) → FinishEndsAtUnit units sets script steps unit
-unit_finish_ends ends units sets script steps unit follows trace carries least most whole =
+pub unit_finish_ends : FinishEnds → (units : ℕ) (sets : ℕ → Setting) (asks : FleetAsking) (script : List FleetLine) (steps : List StepOfFleet) (unit : ℕ) → FinishEndsAtUnit units sets asks script steps unit
+unit_finish_ends ends units sets asks script steps unit follows trace carries least most whole =
     let before = steps_of_unit unit whole.before in
     let more = steps_of_unit unit whole.more in
     let own = subst (λ (waits : Side → List Step → Bool). IsLeftToOwnFinish waits before more (steps_of_unit unit steps)) (waits_as units sets unit least most)
-    (each_is_left_to_own units (fleet_waiting units sets) script steps whole follows unit least most) in
+    (each_is_left_to_own units (fleet_waiting units sets) asks script steps whole follows unit least most) in
     let own_trace : IsTrace (sets unit) (ended_step ∷ (more ++ before)) = subst (IsTrace (sets unit)) own.split trace in
     let own_carries : AllCarryBytes (ended_step ∷ (more ++ before)) = subst AllCarryBytes own.split carries in
     let own_follows : Follows (sets unit) (own_script before ++ Finish ∷ []) (ended_step ∷ (more ++ before)) = subst (Follows (sets unit) (own_script before ++ Finish ∷ [])) own.split own.follows in

@@ -6,7 +6,7 @@ use Rattle.exchange_trace.specs.Posts.{happenings_of, posted_in}
 use Rattle.exchange_trace.specs.Steps.{Step}
 use Rattle.fleet_link.specs.FleetLinks.{FleetLinkState}
 use Rattle.fleet_trace.specs.FleetPosts.{UnitPost, fleet_happenings, fleet_posts, happenings_of_unit, posts_of_unit, unit_post}
-use Rattle.fleet_trace.specs.FleetTraces.{All_ended, At_unit, FleetHappeningView, StepOfFleet, steps_of_unit}
+use Rattle.fleet_trace.specs.FleetTraces.{All_ended, At_unit, Batch_begun, FleetHappeningView, Next_asked, StepOfFleet, steps_of_unit}
 use Rattle.fleet_trace.proofs.UnitParts.{happenings_are, posts_are, posts_join}
 use Rattle.upload_replay.specs.Drivers.{IsLinked}
 use Rattle.target_fleet.specs.Runs.{own_link}
@@ -16,6 +16,8 @@ use Rattle.target_fleet.specs.Runs.{own_link}
 happenings_join : (unit : ℕ) (more before : List FleetHappeningView) → happenings_of_unit unit (more ++ before) ≡ happenings_of_unit unit more ++ happenings_of_unit unit before
 happenings_join unit [] before = refl
 happenings_join unit (All_ended ∷ more) before = ap (λ (hs : List HappeningView). Ended ∷ hs) (happenings_join unit more before)
+happenings_join unit (Batch_begun part ∷ more) before = happenings_join unit more before
+happenings_join unit (Next_asked ∷ more) before = happenings_join unit more before
 happenings_join unit (At_unit whose h ∷ more) before = by (whose == unit) (happenings_join unit more before)
   where
     by : (b : Bool) → happenings_of_unit unit (more ++ before) ≡ happenings_of_unit unit more ++ happenings_of_unit unit before

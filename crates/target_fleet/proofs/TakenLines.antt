@@ -10,12 +10,12 @@ use Rattle.exchange_trace.specs.Steps.{Boot_refused, Came_up, Note, Step, Went_d
 use Rattle.exchange_trace.specs.declared.trace.Happening.{Happening}
 use Rattle.exchange_trace.specs.declared.trace.TraceStep.{TraceStep}
 use Rattle.exchange_trace.specs.declared.trace.TraceStep.TheVariants as trace_lines
-use Rattle.fleet_trace.specs.FleetTraces.{Of_unit, StepOfFleet, with_fleet_line}
+use Rattle.fleet_trace.specs.FleetTraces.{Of_unit, StepOfFleet, StepsSoFar, so_far, with_fleet_line}
 use Rattle.fleet_trace.specs.declared.trace.FleetStep.{FleetStep}
 use Rattle.fleet_trace.specs.declared.trace.FleetStep.TheVariants as fleet_lines
 use Rattle.replay_turns.specs.Orders.{Happens, IsInOrder, Notes, Posts, SeenLine, lines_of, lines_of_step, seen_line}
 use Rattle.target_fleet.specs.Merges.{TakesNewest, begins_step}
-use Rattle.target_fleet.specs.Orders.{SeenInFleet, Seen_at, lines_of_fleet, seen_in_fleet}
+use Rattle.target_fleet.specs.Orders.{SeenInFleet, Seen_at, seen_in_fleet}
 
 -- ---- lines of one step
 
@@ -38,13 +38,13 @@ one_more trace_lines.Down is s earlier = refl
 one_more (trace_lines.Up first_port sequence) is s earlier = refl
 one_more (trace_lines.BootRefused fault) is s earlier = refl
 
-fleet_one_more : (unit : ℕ) (line : TraceStep) → IsOfStep line → (s : Step) (before : List StepOfFleet)
-    → with_fleet_line (Of_unit unit s ∷ before) (fleet_lines.At unit line) ≡ Of_unit unit (with_more s line) ∷ before
-fleet_one_more unit (trace_lines.Posted d) is s before = rw (eq-eqb unit unit refl) refl
-fleet_one_more unit (trace_lines.Given h) is s before = absurd cc
-fleet_one_more unit trace_lines.Down is s before = rw (eq-eqb unit unit refl) refl
-fleet_one_more unit (trace_lines.Up first_port sequence) is s before = rw (eq-eqb unit unit refl) refl
-fleet_one_more unit (trace_lines.BootRefused fault) is s before = rw (eq-eqb unit unit refl) refl
+fleet_one_more : (asked : Bool) (unit : ℕ) (line : TraceStep) → IsOfStep line → (s : Step) (before : List StepOfFleet)
+    → with_fleet_line (so_far false (Of_unit asked unit s ∷ before)) (fleet_lines.At unit line) ≡ so_far false (Of_unit asked unit (with_more s line) ∷ before)
+fleet_one_more asked unit (trace_lines.Posted d) is s before = rw (eq-eqb unit unit refl) refl
+fleet_one_more asked unit (trace_lines.Given h) is s before = absurd cc
+fleet_one_more asked unit trace_lines.Down is s before = rw (eq-eqb unit unit refl) refl
+fleet_one_more asked unit (trace_lines.Up first_port sequence) is s before = rw (eq-eqb unit unit refl) refl
+fleet_one_more asked unit (trace_lines.BootRefused fault) is s before = rw (eq-eqb unit unit refl) refl
 
 -- with all of them
 abbrev with_rest : Step → List TraceStep → Step
@@ -55,11 +55,11 @@ rest_added : (rest : List TraceStep) → AllByRecursion IsOfStep rest → (s : S
 rest_added [] all s earlier = refl
 rest_added (line ∷ rest) (is, all) s earlier = ap (λ (steps : List Step). fold with_line steps rest) (one_more line is s earlier) ∙ rest_added rest all (with_more s line) earlier
 
-fleet_rest_added : (unit : ℕ) (rest : List TraceStep) → AllByRecursion IsOfStep rest → (s : Step) (before : List StepOfFleet)
-    → fold with_fleet_line (Of_unit unit s ∷ before) (map (fleet_lines.At unit) rest) ≡ Of_unit unit (with_rest s rest) ∷ before
-fleet_rest_added unit [] all s before = refl
-fleet_rest_added unit (line ∷ rest) (is, all) s before =
-    ap (λ (steps : List StepOfFleet). fold with_fleet_line steps (map (fleet_lines.At unit) rest)) (fleet_one_more unit line is s before) ∙ fleet_rest_added unit rest all (with_more s line) before
+fleet_rest_added : (asked : Bool) (unit : ℕ) (rest : List TraceStep) → AllByRecursion IsOfStep rest → (s : Step) (before : List StepOfFleet)
+    → fold with_fleet_line (so_far false (Of_unit asked unit s ∷ before)) (map (fleet_lines.At unit) rest) ≡ so_far false (Of_unit asked unit (with_rest s rest) ∷ before)
+fleet_rest_added asked unit [] all s before = refl
+fleet_rest_added asked unit (line ∷ rest) (is, all) s before =
+    ap (λ (steps : StepsSoFar). fold with_fleet_line steps (map (fleet_lines.At unit) rest)) (fleet_one_more asked unit line is s before) ∙ fleet_rest_added asked unit rest all (with_more s line) before
 
 none_alone : (rest : List TraceStep) → AllByRecursion IsOfStep rest → fold with_line [] rest ≡ []
 none_alone [] all = refl
@@ -134,23 +134,23 @@ pub record TakenSoFar (unit count : ℕ) (trace left : List TraceStep) (lines li
 pub none_taken : (unit : ℕ) (trace : List TraceStep) (lines : List FleetStep) → TakenSoFar unit 0 trace trace lines lines
 none_taken unit trace lines = record { taken = []; of_step = tt; parts = sym (append-nil trace); count_is = refl; lines_are = sym (append-nil lines) }
 
-module _ (unit count : ℕ) (trace left : List TraceStep) (lines lines_then : List FleetStep) (so_far : TakenSoFar unit count trace left lines lines_then) where
-  lines_more : (line : TraceStep) → lines_then ++ fleet_lines.At unit line ∷ [] ≡ lines ++ reverse (map (fleet_lines.At unit) (line ∷ so_far.taken))
+module _ (unit count : ℕ) (trace left : List TraceStep) (lines lines_then : List FleetStep) (taken_yet : TakenSoFar unit count trace left lines lines_then) where
+  lines_more : (line : TraceStep) → lines_then ++ fleet_lines.At unit line ∷ [] ≡ lines ++ reverse (map (fleet_lines.At unit) (line ∷ taken_yet.taken))
   lines_more line =
-      ap (λ (all : List FleetStep). all ++ fleet_lines.At unit line ∷ []) so_far.lines_are
-      ∙ (append_assoc lines (reverse (map (fleet_lines.At unit) so_far.taken)) (fleet_lines.At unit line ∷ [])
-      ∙ ap (λ (more : List FleetStep). lines ++ more) (sym (reverse_onto (map (fleet_lines.At unit) so_far.taken) (fleet_lines.At unit line) [])))
+      ap (λ (all : List FleetStep). all ++ fleet_lines.At unit line ∷ []) taken_yet.lines_are
+      ∙ (append_assoc lines (reverse (map (fleet_lines.At unit) taken_yet.taken)) (fleet_lines.At unit line ∷ [])
+      ∙ ap (λ (more : List FleetStep). lines ++ more) (sym (reverse_onto (map (fleet_lines.At unit) taken_yet.taken) (fleet_lines.At unit line) [])))
 
-  parts_more : (line : TraceStep) (left_then : List TraceStep) → left ≡ left_then ++ line ∷ [] → trace ≡ left_then ++ line ∷ so_far.taken
-  parts_more line left_then is = so_far.parts ∙ (ap (λ (some : List TraceStep). some ++ so_far.taken) is ∙ append_assoc left_then (line ∷ []) so_far.taken)
+  parts_more : (line : TraceStep) (left_then : List TraceStep) → left ≡ left_then ++ line ∷ [] → trace ≡ left_then ++ line ∷ taken_yet.taken
+  parts_more line left_then is = taken_yet.parts ∙ (ap (λ (some : List TraceStep). some ++ taken_yet.taken) is ∙ append_assoc left_then (line ∷ []) taken_yet.taken)
 
   pub taken_more : (line : TraceStep) (left_then : List TraceStep) (lines_now : List FleetStep) → begins_step line ≡ false → left ≡ left_then ++ line ∷ [] → lines_now ≡ lines_then ++ fleet_lines.At unit line ∷ []
       → TakenSoFar unit (count + 1) trace left_then lines lines_now
   taken_more line left_then lines_now is left_is now_is = record {
-    taken = line ∷ so_far.taken;
-    of_step = (is, so_far.of_step);
+    taken = line ∷ taken_yet.taken;
+    of_step = (is, taken_yet.of_step);
     parts = parts_more line left_then left_is;
-    count_is = let more = so_far.count_is in omega (arith, more);
+    count_is = let more = taken_yet.count_is in omega (arith, more);
     lines_are = now_is ∙ lines_more line;
   }
 
@@ -159,12 +159,12 @@ module _ (unit count : ℕ) (trace left : List TraceStep) (lines lines_then : Li
   unfolding steps_of
   no_step none left_then lines_now = record {
     left = λ s earlier some. absurd (no s earlier some);
-    taken = λ s earlier before some. absurd (no s earlier some);
+    taken = λ s earlier asked before some. absurd (no s earlier some);
     ordered = λ s earlier before some in_order. absurd (no s earlier some);
   }
     where
       none_of : fold with_line [] trace ≡ []
-      none_of = ap (λ (all : List TraceStep). fold with_line [] all) (so_far.parts ∙ ap (λ (some : List TraceStep). some ++ so_far.taken) none) ∙ none_alone so_far.taken so_far.of_step
+      none_of = ap (λ (all : List TraceStep). fold with_line [] all) (taken_yet.parts ∙ ap (λ (some : List TraceStep). some ++ taken_yet.taken) none) ∙ none_alone taken_yet.taken taken_yet.of_step
 
       no : (s : Step) (earlier : List Step) → steps_of trace ≡ s ∷ earlier → ⊥
       no s earlier some = let both : ◌≡◌ {A = List Step} [] (s ∷ earlier) = sym none_of ∙ some in cc
@@ -175,24 +175,25 @@ module _ (unit count : ℕ) (trace left : List TraceStep) (lines lines_then : Li
   unfolding steps_of
   step_taken h left_then lines_now left_is now_is = record {
     left = λ s earlier some. let both = sym (whole) ∙ some in cc;
-    taken = λ s earlier before some.
+    taken = λ s earlier asked before some.
         let both = sym (whole) ∙ some in
         let step : begun ≡ s = cc in
-        ap (fold with_fleet_line before) turned
-        ∙ (fold-append with_fleet_line before (map (fleet_lines.At unit) (trace_lines.Given h ∷ so_far.taken)) (reverse lines)
-        ∙ ap (λ (steps : List StepOfFleet). fold with_fleet_line steps (reverse lines))
-        (fleet_rest_added unit so_far.taken so_far.of_step first before ∙ ap (λ (x : Step). Of_unit unit x ∷ before) step));
+        ap (λ (x : StepsSoFar). x.steps)
+        (ap (fold with_fleet_line (so_far asked before)) turned
+        ∙ (fold-append with_fleet_line (so_far asked before) (map (fleet_lines.At unit) (trace_lines.Given h ∷ taken_yet.taken)) (reverse lines)
+        ∙ ap (λ (steps : StepsSoFar). fold with_fleet_line steps (reverse lines))
+        (fleet_rest_added asked unit taken_yet.taken taken_yet.of_step first before ∙ ap (λ (x : Step). so_far false (Of_unit asked unit x ∷ before)) step)));
     ordered = λ s earlier before some in_order.
         let both = sym (whole) ∙ some in
         let step : begun ≡ s = cc in
         let parted = parted_here in_order in (
           parted.0,
-          ap (λ (all : List FleetStep). lines_of_fleet before ++ map seen_in_fleet all) turned
-              ∙ (ap (λ (all : List SeenInFleet). lines_of_fleet before ++ all)
-              (map-append seen_in_fleet (map (fleet_lines.At unit) (trace_lines.Given h ∷ so_far.taken)) (reverse lines)
+          ap (λ (all : List FleetStep). before ++ map seen_in_fleet all) turned
+              ∙ (ap (λ (all : List SeenInFleet). before ++ all)
+              (map-append seen_in_fleet (map (fleet_lines.At unit) (trace_lines.Given h ∷ taken_yet.taken)) (reverse lines)
               ∙ ap (λ (some : List SeenInFleet). some ++ map seen_in_fleet (reverse lines))
-              (seen_at unit (trace_lines.Given h ∷ so_far.taken) ∙ ap (map (Seen_at unit)) (parted.1 ∙ ap lines_of_step step)))
-              ∙ sym (append_assoc (lines_of_fleet before) (map (Seen_at unit) (lines_of_step s)) (map seen_in_fleet (reverse lines)))),
+              (seen_at unit (trace_lines.Given h ∷ taken_yet.taken) ∙ ap (map (Seen_at unit)) (parted.1 ∙ ap lines_of_step step)))
+              ∙ sym (append_assoc before (map (Seen_at unit) (lines_of_step s)) (map seen_in_fleet (reverse lines)))),
         );
   }
     where
@@ -200,24 +201,24 @@ module _ (unit count : ℕ) (trace left : List TraceStep) (lines lines_then : Li
       first = record { given = happening_view h; posts = []; notes = [] }
 
       begun : Step
-      begun = with_rest first so_far.taken
+      begun = with_rest first taken_yet.taken
 
-      turned : reverse lines_now ≡ map (fleet_lines.At unit) (trace_lines.Given h ∷ so_far.taken) ++ reverse lines
+      turned : reverse lines_now ≡ map (fleet_lines.At unit) (trace_lines.Given h ∷ taken_yet.taken) ++ reverse lines
       turned = ap (λ (all : List FleetStep). reverse all) (now_is ∙ lines_more (trace_lines.Given h))
-          ∙ (reverse-append lines (reverse (map (fleet_lines.At unit) (trace_lines.Given h ∷ so_far.taken)))
-          ∙ ap (λ (some : List FleetStep). some ++ reverse lines) (reverse-reverse (map (fleet_lines.At unit) (trace_lines.Given h ∷ so_far.taken))))
+          ∙ (reverse-append lines (reverse (map (fleet_lines.At unit) (trace_lines.Given h ∷ taken_yet.taken)))
+          ∙ ap (λ (some : List FleetStep). some ++ reverse lines) (reverse-reverse (map (fleet_lines.At unit) (trace_lines.Given h ∷ taken_yet.taken))))
 
-      whole : fold with_line [] trace ≡ with_rest (record { given = happening_view h; posts = []; notes = [] }) so_far.taken ∷ fold with_line [] left_then
+      whole : fold with_line [] trace ≡ with_rest (record { given = happening_view h; posts = []; notes = [] }) taken_yet.taken ∷ fold with_line [] left_then
       whole = ap (fold with_line []) (parts_more (trace_lines.Given h) left_then left_is)
-          ∙ (fold-append with_line [] left_then (trace_lines.Given h ∷ so_far.taken)
-          ∙ rest_added so_far.taken so_far.of_step (record { given = happening_view h; posts = []; notes = [] }) (fold with_line [] left_then))
+          ∙ (fold-append with_line [] left_then (trace_lines.Given h ∷ taken_yet.taken)
+          ∙ rest_added taken_yet.taken taken_yet.of_step (record { given = happening_view h; posts = []; notes = [] }) (fold with_line [] left_then))
 
-      parted_here : IsInOrder trace → IsInOrder left_then × (map seen_line (trace_lines.Given h ∷ so_far.taken) ≡ lines_of_step (with_rest (record { given = happening_view h; posts = []; notes = [] }) so_far.taken))
+      parted_here : IsInOrder trace → IsInOrder left_then × (map seen_line (trace_lines.Given h ∷ taken_yet.taken) ≡ lines_of_step (with_rest (record { given = happening_view h; posts = []; notes = [] }) taken_yet.taken))
       parted_here in_order =
-          let step = with_rest (record { given = happening_view h; posts = []; notes = [] }) so_far.taken in
-          let both : map seen_line left_then ++ Happens (happening_view h) ∷ map seen_line so_far.taken ≡ lines_of (fold with_line [] left_then) ++ Happens step.given ∷ lines_after step =
-          sym (map-append seen_line left_then (trace_lines.Given h ∷ so_far.taken)) ∙ (ap (map seen_line) (sym (parts_more (trace_lines.Given h) left_then left_is)) ∙ (in_order ∙ ap lines_of whole)) in
-          let parts = same_parts (map seen_line left_then) (lines_of (fold with_line [] left_then)) (happening_view h) step.given (map seen_line so_far.taken) (lines_after step) (rest_happens_not so_far.taken so_far.of_step) (step_happens_once step) both in
+          let step = with_rest (record { given = happening_view h; posts = []; notes = [] }) taken_yet.taken in
+          let both : map seen_line left_then ++ Happens (happening_view h) ∷ map seen_line taken_yet.taken ≡ lines_of (fold with_line [] left_then) ++ Happens step.given ∷ lines_after step =
+          sym (map-append seen_line left_then (trace_lines.Given h ∷ taken_yet.taken)) ∙ (ap (map seen_line) (sym (parts_more (trace_lines.Given h) left_then left_is)) ∙ (in_order ∙ ap lines_of whole)) in
+          let parts = same_parts (map seen_line left_then) (lines_of (fold with_line [] left_then)) (happening_view h) step.given (map seen_line taken_yet.taken) (lines_after step) (rest_happens_not taken_yet.taken taken_yet.of_step) (step_happens_once step) both in
           (parts.0, parts.1)
 
   pub line_taken : (line : TraceStep) (left_then : List TraceStep) (lines_now : List FleetStep) → begins_step line ≡ true → left ≡ left_then ++ line ∷ [] → lines_now ≡ lines_then ++ fleet_lines.At unit line ∷ []
@@ -230,7 +231,7 @@ module _ (unit count : ℕ) (trace left : List TraceStep) (lines lines_then : Li
 
   -- as many were taken as there were
   pub all_taken : length trace ≡ count → left ≡ []
-  all_taken same = none left (let parts = ap length so_far.parts ∙ length-append left so_far.taken in let counted = so_far.count_is in omega (arith, parts, counted, same))
+  all_taken same = none left (let parts = ap length taken_yet.parts ∙ length-append left taken_yet.taken in let counted = taken_yet.count_is in omega (arith, parts, counted, same))
     where
       none : (some : List TraceStep) → length some ≡ 0 → some ≡ []
       none [] e = refl

@@ -1,10 +1,12 @@
 -- A whole run of a fleet, put together of its boots, its turns and its ends.
-use Rattle.std.proofs.Common.{◌≡◌, ◌⊎◌, inl, inr, ℕ, ◌+◌, ◌<◌, ◌≤◌, List, [], ◌∷◌, Bool, true, false, Some, Err, length, arith, refl, sym, ap, subst, ◌∙◌}
-use Rattle.std.specs.Prelude.{is_some, map, option_map, slice_get}
-use Rattle.std.proofs.lemmas.Option.{slice_get_within}
+use Rattle.std.proofs.Common.{◌≡◌, ◌⊎◌, inl, inr, ℕ, ◌+◌, ◌<◌, ◌≤◌, List, [], ◌∷◌, Bool, true, false, Option, Some, None, Err, length, arith, refl, sym, ap, subst, ◌∙◌}
+use Rattle.std.specs.Prelude.{is_some, map, option_map, slice_get, IfSome}
+use Rattle.std.proofs.lemmas.List.{length-map}
+use Rattle.std.proofs.lemmas.Option.{slice_get-map, slice_get_within}
 use Rattle.accept_rules.specs.declared.kept.KeptLoad.{KeptLoad}
 use Rattle.bank_store.specs.Fits.{LosesOnlyWork}
 use Rattle.disk_layout.specs.Holds.{HoldsConfig, StandingView, standing_view}
+use Rattle.disk_layout.specs.declared.identity.Identity.{Identity}
 use Rattle.disk_model.specs.Image.{Image}
 use Rattle.disk_model.specs.State.{DiskState, OnlyReads}
 use Rattle.exchange_trace.specs.Steps.{Step}
@@ -16,11 +18,14 @@ use Rattle.load_base.specs.Listed.{Listed}
 use Rattle.load_header.specs.declared.header.LoadHeader.{LoadHeader}
 use Rattle.loader_machine.specs.Machine.{LoaderState, media_of, session_view}
 use Rattle.media_check.specs.Sets.{SetView}
-use Rattle.replay_rules.specs.BothEnds.{Setting}
+use Rattle.replay_rules.specs.BothEnds.{Setting, target_at}
 use Rattle.replay_rules.specs.FirstOrGood.{ActiveIsFirstOrGood}
 use Rattle.replay_turns.specs.PowerLaws.{rose_not, rose_on}
 use Rattle.replay_turns.specs.Powers.{RoseBy, disk_stops}
-use Rattle.replay_turns.specs.Turns.{RunsWhileUp}
+use Rattle.replay_rules.specs.Ties.{kept_by}
+use Rattle.replay_turns.specs.Turns.{RunsWhileUp, target_kept}
+use Rattle.session_rules.specs.Target.{TargetView}
+use Rattle.target_machine.specs.Decisions as machine
 use Rattle.upload_replay.specs.Drivers.{DriverState, GoesOn, IsTiedTo, end_step}
 use Rattle.upload_replay.specs.Drives.{IsLoadersRun, IsSet, IsUnitRun, NeverBoots}
 use Rattle.upload_replay.specs.Endings.{CountsStops, FailedIfUnknown, HoldsSome}
@@ -29,10 +34,12 @@ use Rattle.upload_replay.specs.Moments.{HoldsThroughout}
 use Rattle.upload_replay.specs.declared.outcome.DriveFault.TheVariants as faults
 use Rattle.upload_replay.proofs.Counted.{arms_none}
 use Rattle.upload_replay.proofs.History.{history_first, history_good}
+use Rattle.target_fleet.specs.Asking.{place_of, with_end_of}
+use Rattle.target_fleet.specs.AskingCalls.{IsAskedIn, places_in, running_view, sessions_in}
 use Rattle.target_fleet.specs.Boots.{AllBoot, BootsUnit}
 use Rattle.target_fleet.specs.Clocks.{own_clocks}
 use Rattle.target_fleet.specs.Ends.{AllEnd, AllLeaveNoMore, EndsDriver, FailsInEnds}
-use Rattle.target_fleet.specs.Fleets.{AllEndInFleet, AllLeaveGood, CameToEnd, EndsFleet, EndsInFleet, FailsLater}
+use Rattle.target_fleet.specs.Fleets.{AllEndInFleet, AllLeaveGood, AsksInBatches, CameToEnd, EndsFleet, EndsInFleet, FailsLater}
 use Rattle.target_fleet.specs.Leaves.{AllLeave}
 use Rattle.target_fleet.specs.Merges.{AreUnits, HaveOwnSteps, KeepsSteps, steps_to_end}
 use Rattle.target_fleet.specs.Runs.{AllStandOn, FleetGoesOn, FleetState, FollowsOnEach, IsFleetReady, RunsInFleet, own_link}
@@ -43,10 +50,22 @@ use Rattle.target_fleet.specs.declared.outcome.FleetFault.TheVariants as fleets
 use Rattle.target_fleet.specs.declared.outcome.UnitEnd.{UnitEnd}
 use Rattle.target_fleet.proofs.FirstBoots.{there_is}
 use Rattle.target_fleet.proofs.KeptSteps.{ran_to_end, steps_kept}
+use Rattle.target_fleet.proofs.FleetTurns.{ends_are}
 use Rattle.target_fleet.proofs.LeftBehind.{leaves_at_end}
 use Rattle.target_fleet.proofs.OwnLinks.{own_is_linked}
 
 -- ---- as it begins
+
+-- the first boot reads the identity of the configuration that stands at first
+first_identity : {R : Type 0} (set : Setting) (d : DriverState R) (target : machine.TargetState R) → d.target ≡ Some target → d.identity ≡ target.view.active.identity → IsTiedTo set d → d.steps ≡ [] → d.identity ≡ set.start.identity
+first_identity set d target is identity tied nothing =
+    let kept : Some target.view ≡ kept_by (target_at set []) =
+    ap target_kept (sym is) ∙ (tied.tied.target_is ∙ ap (λ (steps : List Step). kept_by (target_at set steps)) nothing) in
+    identity ∙ ap (λ (o : Option TargetView). kept_identity (target.view.active.identity) o) kept
+  where
+    kept_identity : Identity → Option TargetView → Identity
+    kept_identity other None = other
+    kept_identity other (Some view) = view.active.identity
 
 module _ {R K : Type 0} (state : K → DiskState) (may_say : R → LoadHeader → List KeptLoad → Bool → Type 0) (rule : R) (shown : SetView) (link : FleetLinkState) (unposted : link.posted ≡ []) (drivers : List (DriverState R)) (first booted : List K)
     (many : length drivers ≡ length first) (same : length booted ≡ length first) (boots : AllBoot state may_say rule shown drivers first booted) (reads : AllOnlyRead state first booted) where
@@ -63,9 +82,10 @@ module _ {R K : Type 0} (state : K → DiskState) (may_say : R → LoadHeader �
     stands = boot.stands;
     tied = λ set image is told never. boot.tied set image is told;
     held = λ set image is told loses. record { clocks = []; timed = read.clock; held = boot.held set image is told loses };
+    identity = λ set image is told. first_identity set d boot.begins.target boot.begins.target_is boot.begins.identity (boot.tied set image is told) boot.begins.nothing;
   }
 
-  pub fleet_begins : FleetGoesOn state may_say rule shown false link link (record { drivers = drivers; order = [] }) first booted
+  pub fleet_begins : FleetGoesOn state may_say rule shown false link link (record { drivers = drivers; order = []; running = None; ended = [] }) first booted
   fleet_begins = record {
     steps = [];
     not_ended = tt;
@@ -76,16 +96,19 @@ module _ {R K : Type 0} (state : K → DiskState) (may_say : R → LoadHeader �
     given = refl;
     units = λ i d old new e f g. unit_booted (i + 1) d old new (boots i d old new e f g) (reads i old new f g);
     follows = λ sets script stand start. start;
+    running = refl;
+    ended_are = refl;
+    asked = tt;
   }
 
-  pub fleet_is_ready : length first ≡ link.units → IsFleetReady state link (record { drivers = drivers; order = [] }) booted
+  pub fleet_is_ready : length first ≡ link.units → IsFleetReady state link (record { drivers = drivers; order = []; running = None; ended = [] }) booted
   fleet_is_ready units = record {
     drivers = many ∙ units;
     disks_are = same ∙ units;
     goes_on = λ i d e. (begun i d e).begins.goes_on;
     running = λ i d k e f. (boots i d (old_at i d e).0 k e (old_at i d e).1 f).begins.running;
     posted = λ i d e. rw (unposted, (begun i d e).begins.nothing) refl;
-    order = λ k unit e. absurd cc;
+    order = λ k unit asked e. absurd cc;
   }
     where
       old_at : (i : ℕ) (d : DriverState R) → slice_get drivers i ≡ Some d → (k : K) × (slice_get first i ≡ Some k)
@@ -241,5 +264,23 @@ module _ {R K : Type 0} (state : K → DiskState) (may_say : R → LoadHeader �
           (unit_ended state may_say rule shown (i + 1) on.steps d.0 end trace.0.items old m.0 last (on.units i d.0 old m.0 d.1 f m.1)
           (ended i d.0 end trace.0 m.0 last d.1 (ap (λ (all : List UnitEnd). slice_get all i) (sym units_are) ∙ e) trace.1 m.1 g))
 
-      pub fleet_follows : (sets : ℕ → Setting) → AllStandOn state may_say rule shown sets first → FollowsOnEach began sets drive.trace
+      pub fleet_follows : (sets : ℕ → Setting) → AllStandOn state may_say rule shown sets first → FollowsOnEach began shown sets drive.trace
       fleet_follows sets stand script start = rw steps_are (on.follows sets script stand start)
+
+      -- what its batches came to
+      pub fleet_asked : drive.batches.items ≡ with_end_of shown (places_in fleet.drivers) (sessions_in fleet.drivers) (option_map running_view fleet.running) fleet.ended
+          → IfSome fleet.running (λ running. IsAskedIn (length fleet.drivers) running.last) → AsksInBatches state may_say rule shown drive first
+      fleet_asked ends last = record {
+        before = on.steps;
+        steps = steps_are;
+        places = places_in fleet.drivers;
+        count = length-map fleet.drivers (λ (d : DriverState R). place_of d.identity) ∙ (ready.drivers ∙ (sym ready.disks_are ∙ sym on.many));
+        known = λ i k set image e is told.
+            let within = slice_get_within first i k e in
+            let d = there_is fleet.drivers i (let lt : i < length fleet.drivers = omega (arith, within, on.many, ready.drivers, ready.disks_are) in lt) in
+            let m = there_is mid i (let lt : i < length mid = omega (arith, within, on.many) in lt) in
+            slice_get-map (λ (d : DriverState R). place_of d.identity) fleet.drivers i
+            ∙ (ap (option_map (λ (d : DriverState R). place_of d.identity)) d.1 ∙ ap (λ (identity : Identity). Some (place_of identity)) ((on.units i d.0 k m.0 d.1 e m.1).identity set image is told));
+        asked = on.asked;
+        ends = ends ∙ ends_are state may_say rule shown began link fleet first mid on ready last;
+      }

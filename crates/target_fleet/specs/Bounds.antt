@@ -3,7 +3,7 @@ use Rattle.std.specs.Prelude.{ℕ, ◌+◌, ◌*◌, ◌≤◌, List, length}
 use Rattle.exchange_trace.specs.Posts.{undelivered_after}
 use Rattle.finish_ends.specs.Finishes.{most_of_finish}
 use Rattle.fleet_trace.specs.FleetFinishes.{ReachesFleetFinish}
-use Rattle.fleet_trace.specs.FleetFollowing.{FollowsFleet}
+use Rattle.fleet_trace.specs.FleetFollowing.{FleetAsking, FollowsFleet}
 use Rattle.fleet_trace.specs.FleetLines.{FleetLine}
 use Rattle.fleet_trace.specs.FleetTraces.{StepOfFleet, steps_of_unit}
 use Rattle.replay_rules.specs.BothEnds.{Setting}
@@ -13,8 +13,8 @@ use Rattle.target_fleet.specs.Runs.{fleet_waiting}
 
 -- A unit of a fleet that comes to the last `finish` of its script has no more happenings in it than a `finish` of its own has,
 -- and two more for each datagram that is undelivered at the unit as it begins. What befell other units is no matter.
-abbrev pub FinishEndsAtUnit : (units : ℕ) → (sets : ℕ → Setting) → List FleetLine → List StepOfFleet → (unit : ℕ) → Type 0
-FinishEndsAtUnit units sets script steps unit =
-    FollowsFleet units (fleet_waiting units sets) script steps → IsTrace (sets unit) (steps_of_unit unit steps) → AllCarryBytes (steps_of_unit unit steps)
-    → 1 ≤ unit → unit ≤ units → (whole : ReachesFleetFinish units (fleet_waiting units sets) script steps)
+abbrev pub FinishEndsAtUnit : (units : ℕ) → (sets : ℕ → Setting) → FleetAsking → List FleetLine → List StepOfFleet → (unit : ℕ) → Type 0
+FinishEndsAtUnit units sets asks script steps unit =
+    FollowsFleet units (fleet_waiting units sets) asks script steps → IsTrace (sets unit) (steps_of_unit unit steps) → AllCarryBytes (steps_of_unit unit steps)
+    → 1 ≤ unit → unit ≤ units → (whole : ReachesFleetFinish units (fleet_waiting units sets) asks script steps)
     → length (steps_of_unit unit whole.more) ≤ most_of_finish + 2 * length (undelivered_after (steps_of_unit unit whole.before))

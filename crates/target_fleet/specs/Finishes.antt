@@ -3,7 +3,7 @@ use Rattle.std.specs.Prelude.{◌≡◌, ℕ, ◌≤◌, List, ◌∷◌, Option
 use Rattle.accept_rules.specs.Permissions.{AcceptsPermitted}
 use Rattle.disk_layout.specs.Holds.{StandingView}
 use Rattle.fleet_trace.specs.FleetFinishes.{ReachesFleetFinish}
-use Rattle.fleet_trace.specs.FleetFollowing.{FollowsFleet}
+use Rattle.fleet_trace.specs.FleetFollowing.{FleetAsking, FollowsFleet}
 use Rattle.fleet_trace.specs.FleetLines.{FleetLine}
 use Rattle.fleet_trace.specs.FleetTraces.{StepOfFleet, ended_step, steps_of_unit}
 use Rattle.replay_rules.specs.BothEnds.{Setting, target_at}
@@ -19,8 +19,8 @@ use Rattle.target_fleet.specs.Runs.{fleet_waiting}
 
 -- A fleet's whole trace comes to where the last `finish` of its script is left. The unit's own steps before that are fault-free
 -- and within the margin, and in the `finish` its target doesn't go down. What befell other units is no matter.
-pub record IsLeftAtUnit (units : ℕ) (sets : ℕ → Setting) (script : List FleetLine) (steps : List StepOfFleet) (unit : ℕ) : Type 0 where
-  pub whole : ReachesFleetFinish units (fleet_waiting units sets) script steps
+pub record IsLeftAtUnit (units : ℕ) (sets : ℕ → Setting) (asks : FleetAsking) (script : List FleetLine) (steps : List StepOfFleet) (unit : ℕ) : Type 0 where
+  pub whole : ReachesFleetFinish units (fleet_waiting units sets) asks script steps
   pub least : 1 ≤ unit
   pub most : unit ≤ units
   pub free : IsFaultFree (sets unit) (steps_of_unit unit whole.before)
@@ -29,9 +29,9 @@ pub record IsLeftAtUnit (units : ℕ) (sets : ℕ → Setting) (script : List Fl
 
 -- Such a unit is complete: its upload is completed, all is quiet there, its target is up, and what was recovered has the loads
 -- that were asked for, and then those that are kept.
-abbrev pub CompletesAtUnit : (units : ℕ) → (sets : ℕ → Setting) → List FleetLine → List StepOfFleet → (unit : ℕ) → List EndedSession → Option StandingView → Type 0
-CompletesAtUnit units sets script steps unit sessions standing =
-    FollowsFleet units (fleet_waiting units sets) script steps → KeepsPromises (sets unit) (steps_of_unit unit steps) sessions standing
-    → AcceptsPermitted (sets unit).accepts → CanBeTold (sets unit).media → StandingFits (sets unit).start → (left : IsLeftAtUnit units sets script steps unit)
+abbrev pub CompletesAtUnit : (units : ℕ) → (sets : ℕ → Setting) → FleetAsking → List FleetLine → List StepOfFleet → (unit : ℕ) → List EndedSession → Option StandingView → Type 0
+CompletesAtUnit units sets asks script steps unit sessions standing =
+    FollowsFleet units (fleet_waiting units sets) asks script steps → KeepsPromises (sets unit) (steps_of_unit unit steps) sessions standing
+    → AcceptsPermitted (sets unit).accepts → CanBeTold (sets unit).media → StandingFits (sets unit).start → (left : IsLeftAtUnit units sets asks script steps unit)
     → (last : StandingView) → standing ≡ Some last → last ≡ active_by (target_at (sets unit) (steps_of_unit unit steps)) (Some last)
     → IsComplete (sets unit) (steps_of_unit unit left.whole.before) left.free (steps_of_unit unit steps) last

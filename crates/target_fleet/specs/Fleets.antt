@@ -19,6 +19,7 @@ use Rattle.upload_replay.specs.Drives.{IsLoadersRun, IsSet, IsUnitRun, NeverBoot
 use Rattle.upload_replay.specs.Endings.{CountsStops, FailedIfUnknown, HoldsSome, HoldsStanding}
 use Rattle.upload_replay.specs.Lives.{LivesThrough}
 use Rattle.upload_replay.specs.Moments.{Clocks, HoldsThroughout, LeavesGood}
+use Rattle.target_fleet.specs.Asking.{AllAsked, UnitPlace, ends_of, place_of}
 use Rattle.target_fleet.specs.Boots.{FailsToBoot}
 use Rattle.target_fleet.specs.Clocks.{AreFleetClocks, own_clocks}
 use Rattle.target_fleet.specs.Ends.{FailsToEnd}
@@ -31,7 +32,8 @@ use Rattle.target_fleet.specs.declared.outcome.UnitEnd.{UnitEnd}
 -- ---- the fleet
 
 -- A fleet came to its end, which is its last step and no other; there is an outcome for each unit; and the link was posted
--- exactly what the units posted, and gave exactly what happened. Of the end it keeps nothing.
+-- exactly what the units posted, and gave exactly what happened, but for the uploads that it asked, of which it was told. Of the
+-- end it keeps nothing.
 pub record EndsFleet (began ended : FleetLinkState) (drive : FleetDrive) : Type 0 where
   pub before : List StepOfFleet
   pub steps : drive.trace ≡ Of_all ∷ before
@@ -39,6 +41,18 @@ pub record EndsFleet (began ended : FleetLinkState) (drive : FleetDrive) : Type 
   pub units : length drive.units.items ≡ began.units
   pub posted : ended.posted ≡ fleet_posts before
   pub given : ended.given ≡ fleet_happenings before ++ began.given
+
+-- Which uploads were asked in a run, and what its batches came to, by where the units are as their first boots read it: where a
+-- disk told its content, as its configuration says. Each upload that was asked is the one that came next then.
+pub record AsksInBatches {R K : Type 0} (state : K → DiskState) (may_say : R → LoadHeader → List KeptLoad → Bool → Type 0) (rule : R) (shown : SetView) (drive : FleetDrive) (first : List K) : Type 0 where
+  pub before : List StepOfFleet
+  pub steps : drive.trace ≡ Of_all ∷ before
+  pub places : List UnitPlace
+  pub count : length places ≡ length first
+  pub known : (i : ℕ) (k : K) (set : Setting) (image : Image) → slice_get first i ≡ Some k → IsSet may_say set rule shown image → (state k).reads ≡ Some image
+      → slice_get places i ≡ Some (place_of set.start.identity)
+  pub asked : AllAsked shown places before
+  pub ends : drive.batches.items ≡ ends_of shown places before
 
 -- ---- one unit
 

@@ -1,3 +1,5 @@
+pub mod Asking
+pub mod AskingCalls
 pub mod Boots
 pub mod Bounds
 pub mod Clocks
@@ -11,5 +13,7 @@ pub mod Leaves
 pub mod Merges
 pub mod Runs
 pub mod Steps
+pub mod SteppingOrders
+pub mod AskedTurns
 pub mod Units
 pub mod Waits

@@ -1,5 +1,5 @@
 -- A fleet as it runs on its link (docs/EXCHANGE.md, "Fleets").
-use Rattle.std.specs.Prelude.{◌≡◌, ℕ, ◌+◌, nat_le, ◌&&◌, List, [], ◌∷◌, ◌++◌, length, map, reverse, slice_get, Bool, true, false, Some, None, if◌then◌else◌}
+use Rattle.std.specs.Prelude.{◌≡◌, ℕ, ◌+◌, nat_le, ◌&&◌, List, [], ◌∷◌, ◌++◌, length, map, reverse, slice_get, Bool, true, false, Option, Some, None, option_map, if◌then◌else◌}
 use Rattle.accept_rules.specs.Interlocks.{Follows}
 use Rattle.accept_rules.specs.Permissions.{Accepts}
 use Rattle.accept_rules.specs.declared.kept.KeptLoad.{KeptLoad}
@@ -10,11 +10,11 @@ use Rattle.exchange_trace.specs.Happenings.{DatagramView}
 use Rattle.exchange_trace.specs.Posts.{happenings_of, posted_in}
 use Rattle.fleet_link.specs.FleetFollowed.{HasFollowedFleet}
 use Rattle.fleet_link.specs.FleetLinks.{FleetLinkState}
-use Rattle.fleet_trace.specs.FleetFollowing.{FleetWaiting, FollowsFleet}
+use Rattle.fleet_trace.specs.FleetFollowing.{FleetAsking, FleetWaiting, FollowsFleet}
 use Rattle.fleet_trace.specs.FleetLines.{FleetLine}
 use Rattle.fleet_trace.specs.FleetPosts.{fleet_happenings, fleet_posts, happenings_of_unit, posts_of_unit, unit_post}
 use Rattle.fleet_trace.specs.FleetTraces.{HasNotEnded, Of_all, StepOfFleet, steps_of_unit}
-use Rattle.fleet_trace.specs.Merging.{stepping_order}
+use Rattle.fleet_trace.specs.Merging.{Stepped, stepping_order}
 use Rattle.link_net.specs.Links.{LinkState}
 use Rattle.load_header.specs.declared.header.LoadHeader.{LoadHeader}
 use Rattle.media_check.specs.Sets.{SetView}
@@ -27,13 +27,21 @@ use Rattle.upload_replay.specs.Drives.{IsSet, NeverBoots}
 use Rattle.upload_replay.specs.Endings.{HoldsSome}
 use Rattle.upload_replay.specs.Lives.{LivesOn}
 use Rattle.upload_replay.specs.Moments.{Clocks}
+use Rattle.std.specs.List.{range_with_len}
+use Rattle.target_fleet.specs.Asking.{AllAsked, UnitPlace, ended_before, may_ask_after, place_of, running_after}
+use Rattle.target_fleet.specs.AskingCalls.{places_in, running_view}
+use Rattle.target_fleet.specs.declared.asking.Running.{Running}
+use Rattle.target_fleet.specs.declared.outcome.BatchEnd.{BatchEnd}
 use Rattle.target_fleet.specs.Clocks.{AreFleetClocks, own_clocks}
 use Rattle.target_fleet.specs.Merges.{AreUnits}
 
--- the drivers of a fleet's units, from unit 1 on, and which unit each step was of, in their order
+-- the drivers of a fleet's units, from unit 1 on; what each step was of, in their order; and the running batch, and what those
+-- before it came to
 pub record FleetState (R : Type 0) : Type 0 where
   pub drivers : List (DriverState R)
-  pub order : List ℕ
+  pub order : List Stepped
+  pub running : Option Running
+  pub ended : List BatchEnd
 
 -- ---- the link
 
@@ -49,6 +57,14 @@ with_posts_at link unit posts = record { units = link.units; posted = link.poste
 -- a side that waits
 abbrev pub fleet_waiting : (units : ℕ) → (sets : ℕ → Setting) → FleetWaiting
 fleet_waiting units sets unit side own = if nat_le 1 unit && nat_le unit units then waiting (sets unit) side own else false
+
+-- where each of so many units is that stands on its setting
+abbrev pub places_of : (units : ℕ) → (sets : ℕ → Setting) → List UnitPlace
+places_of units sets = map (λ unit. place_of (sets unit).start.identity) (range_with_len 1 units)
+
+-- whether an upload may be asked after steps, where each unit stands on its setting
+abbrev pub fleet_asking : SetView → (units : ℕ) → (sets : ℕ → Setting) → FleetAsking
+fleet_asking shown units sets steps = may_ask_after shown (places_of units sets) steps
 
 -- ---- premises
 
@@ -90,16 +106,19 @@ pub record RunsInFleet {R K : Type 0} (state : K → DiskState) (may_say : R →
       → NeverBoots d.steps → IsTiedTo set d
   pub held : (set : Setting) (image : Image) → IsSet may_say set rule shown image → (state old).reads ≡ Some image
       → LosesOnlyWork (state old) → HoldsOwn set unit (state old).clock steps d (state new)
+  pub identity : (set : Setting) (image : Image) → IsSet may_say set rule shown image → (state old).reads ≡ Some image
+      → d.identity ≡ set.start.identity
 
 -- ---- the fleet
 
 -- The steps so far follow the script; and once the fleet has ended, so do they with its end.
-abbrev pub FollowsSoFar : (ended : Bool) → (units : ℕ) → FleetWaiting → List FleetLine → List StepOfFleet → FleetLinkState → Type 0
-FollowsSoFar false units waits script steps link = HasFollowedFleet units waits script steps link
-FollowsSoFar true units waits script steps link = FollowsFleet units waits script (Of_all ∷ steps)
+abbrev pub FollowsSoFar : (ended : Bool) → (units : ℕ) → FleetWaiting → FleetAsking → List FleetLine → List StepOfFleet → FleetLinkState → Type 0
+FollowsSoFar false units waits asks script steps link = HasFollowedFleet units waits asks script steps link
+FollowsSoFar true units waits asks script steps link = FollowsFleet units waits asks script (Of_all ∷ steps)
 
 -- A fleet goes on, or came to its end, on a link and on disks that began so: its units stepped in this order, the link was posted
--- exactly what they posted and gave exactly what happened, and where it follows a script, so do the steps.
+-- exactly what they posted and gave exactly what happened, but for the uploads that it asked; each of these was the one that
+-- came next; and where it follows a script, so do the steps.
 pub record FleetGoesOn {R K : Type 0} (state : K → DiskState) (may_say : R → LoadHeader → List KeptLoad → Bool → Type 0) (rule : R) (shown : SetView) (ended : Bool) (began link : FleetLinkState) (fleet : FleetState R) (first disks : List K) : Type 0 where
   pub steps : List StepOfFleet
   pub not_ended : HasNotEnded steps
@@ -111,8 +130,11 @@ pub record FleetGoesOn {R K : Type 0} (state : K → DiskState) (may_say : R →
   pub units : (i : ℕ) (d : DriverState R) (old new : K) → slice_get fleet.drivers i ≡ Some d → slice_get first i ≡ Some old → slice_get disks i ≡ Some new
       → RunsInFleet state may_say rule shown (i + 1) steps d old new
   pub follows : (sets : ℕ → Setting) (script : List FleetLine) → AllStandOn state may_say rule shown sets first
-      → HasFollowedFleet began.units (fleet_waiting began.units sets) script [] began
-      → FollowsSoFar ended began.units (fleet_waiting began.units sets) script steps link
+      → HasFollowedFleet began.units (fleet_waiting began.units sets) (fleet_asking shown began.units sets) script [] began
+      → FollowsSoFar ended began.units (fleet_waiting began.units sets) (fleet_asking shown began.units sets) script steps link
+  pub running : option_map running_view fleet.running ≡ running_after shown steps
+  pub ended_are : fleet.ended ≡ ended_before shown (places_in fleet.drivers) steps
+  pub asked : AllAsked shown (places_in fleet.drivers) steps
 
 -- A turn may come: each unit can be used, there are as many as the link has, and the link was posted exactly what they posted.
 pub record IsFleetReady {R K : Type 0} (state : K → DiskState) (link : FleetLinkState) (fleet : FleetState R) (disks : List K) : Type 0 where
@@ -124,7 +146,7 @@ pub record IsFleetReady {R K : Type 0} (state : K → DiskState) (link : FleetLi
   pub order : AreUnits link.units fleet.order
 
 -- Where the link began a script of so many units, a whole trace follows it, each unit on the setting of its number.
-abbrev pub FollowsOnEach : (began : FleetLinkState) → (sets : ℕ → Setting) → List StepOfFleet → Type 0
-FollowsOnEach began sets steps =
-    (script : List FleetLine) → HasFollowedFleet began.units (fleet_waiting began.units sets) script [] began
-    → FollowsFleet began.units (fleet_waiting began.units sets) script steps
+abbrev pub FollowsOnEach : (began : FleetLinkState) → SetView → (sets : ℕ → Setting) → List StepOfFleet → Type 0
+FollowsOnEach began shown sets steps =
+    (script : List FleetLine) → HasFollowedFleet began.units (fleet_waiting began.units sets) (fleet_asking shown began.units sets) script [] began
+    → FollowsFleet began.units (fleet_waiting began.units sets) (fleet_asking shown began.units sets) script steps

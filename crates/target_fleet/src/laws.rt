@@ -1,6 +1,7 @@
 //! Laws of fleets that ran. Each function does nothing; its clauses are the law.
 ghost use Rattle.std.specs.Prelude.{ℕ, List, Option};
 ghost use Rattle.disk_layout.specs.Holds.{StandingView};
+ghost use Rattle.fleet_trace.specs.FleetFollowing.{FleetAsking};
 ghost use Rattle.fleet_trace.specs.FleetLines.{FleetLine};
 ghost use Rattle.fleet_trace.specs.FleetTraces.{StepOfFleet};
 ghost use Rattle.replay_rules.specs.BothEnds.{Setting};
@@ -14,18 +15,19 @@ use finish_ends::laws::every_finish_ends;
 /// completes, whatever befell the others. Its premises are what [`fleet`](crate::fleet) promises of
 /// the unit and of the script.
 pub fn a_fleets_last_finish_completes()
-    ensures { (units : ℕ) (sets : ℕ → Setting) (script : List FleetLine)
+    ensures { (units : ℕ) (sets : ℕ → Setting) (asks : FleetAsking) (script : List FleetLine)
         (steps : List StepOfFleet) (unit : ℕ) (sessions : List EndedSession)
         (standing : Option StandingView)
-        → CompletesAtUnit units sets script steps unit sessions standing }
+        → CompletesAtUnit units sets asks script steps unit sessions standing }
 {}
 
 /// The last `finish` of a fleet's script ends: each unit has no more happenings in it than a
 /// `finish` of its own, 183,503,421,556 and two for each datagram that is undelivered at the unit as
 /// it begins, whatever befell the others.
 pub fn a_fleets_last_finish_ends()
-    ensures { (units : ℕ) (sets : ℕ → Setting) (script : List FleetLine)
-        (steps : List StepOfFleet) (unit : ℕ) → FinishEndsAtUnit units sets script steps unit }
+    ensures { (units : ℕ) (sets : ℕ → Setting) (asks : FleetAsking) (script : List FleetLine)
+        (steps : List StepOfFleet) (unit : ℕ)
+        → FinishEndsAtUnit units sets asks script steps unit }
 {
     every_finish_ends();
 }

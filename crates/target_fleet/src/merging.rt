@@ -1,8 +1,11 @@
 //! A fleet's trace, made of those of its units.
-ghost use Rattle.std.specs.Prelude.{◌≡◌, IfOk, OnOk, length};
+ghost use Rattle.std.specs.Prelude.{◌≡◌, IfOk, OnOk, length, map};
 ghost use Rattle.target_fleet.specs.Merges.{begins_step as begins};
-ghost use Rattle.target_fleet.specs.Merges.{AreUnits, MergesAll, TakesAll, TakesNewest};
+ghost use Rattle.target_fleet.specs.Merges.{AreUnits, IsUnitOf, MergesAll, TakesAll};
+ghost use Rattle.target_fleet.specs.Merges.{TakesNewest, TakesOff};
+ghost use Rattle.target_fleet.specs.SteppingOrders.{stepped_view};
 
+use crate::stepped::Stepped;
 use exchange_trace::TraceStep;
 use fleet_trace::FleetStep;
 use load_base::{List, NoMemory};
@@ -12,11 +15,12 @@ use std::alloc::Global;
 /// stepped, and at last the end. The units' traces are without their ends.
 pub(crate) fn merge(
     alloc: Global,
-    order: &[u8],
+    order: &[Stepped],
     traces: &mut [List<TraceStep>],
 ) -> Result<List<FleetStep>, NoMemory>
-    requires { AreUnits (length traces.old) order.now }
-    ensures { IfOk result (λ trace. MergesAll order.now traces.old trace.items) }
+    requires { AreUnits (length traces.old) (map stepped_view order.now) }
+    ensures { IfOk result (λ trace. MergesAll (map stepped_view order.now) traces.old
+        trace.items) }
 {
     // The newest first.
     let mut lines = Vec::new(alloc);
@@ -47,18 +51,43 @@ fn count_of(traces: &[List<TraceStep>]) -> usize {
 
 /// All steps of this order are taken off the units' traces, the newest first.
 fn take_steps(
-    order: &[u8],
+    order: &[Stepped],
     traces: &mut [List<TraceStep>],
     lines: &mut Vec<FleetStep>,
 ) -> Result<(), NoMemory>
-    requires { AreUnits (length traces.old) order.now }
-    ensures { OnOk result (TakesAll order.now traces.old lines.old.items lines.new.items) }
+    requires { AreUnits (length traces.old) (map stepped_view order.now) }
+    ensures { OnOk result (TakesAll (map stepped_view order.now) traces.old lines.old.items
+        lines.new.items) }
 {
     'steps: for taken in 0..order.len() {
-        let unit = order[order.len() - 1 - taken];
-        take_step(unit, &mut traces[unit as usize - 1], lines)?;
+        take_newest(order[order.len() - 1 - taken], traces, lines)?;
     }
     Ok(())
+}
+
+/// The lines of the newest step, which was of this, the newest line first.
+fn take_newest(
+    stepped: Stepped,
+    traces: &mut [List<TraceStep>],
+    lines: &mut Vec<FleetStep>,
+) -> Result<(), NoMemory>
+    requires { IsUnitOf (length traces.old) (stepped_view stepped) }
+    ensures { OnOk result (TakesOff (stepped_view stepped) traces.old traces.new lines.old.items
+        lines.new.items) }
+{
+    match stepped {
+        Stepped::Unit { unit, asked } => {
+            take_step(unit, &mut traces[unit as usize - 1], lines)?;
+            if asked {
+                lines.push(FleetStep::AskNext)?;
+            }
+            Ok(())
+        }
+        Stepped::Batch(part) => {
+            lines.push(FleetStep::Batch(part))?;
+            Ok(())
+        }
+    }
 }
 
 /// The lines of a unit's newest step are taken off its trace, the newest line first.

@@ -1,11 +1,13 @@
 //! A fleet's trace.
-ghost use Rattle.std.specs.Prelude.{◌≡◌, IfOk};
+ghost use Rattle.std.specs.Prelude.{◌≡◌, IfOk, map};
 ghost use Rattle.fleet_trace.specs.FleetTraces.{fleet_steps_of};
 ghost use Rattle.target_fleet.specs.FleetTexts.{posted_at as posts_at};
 ghost use Rattle.target_fleet.specs.Merges.{KeepsSteps, steps_to_end};
 ghost use Rattle.target_fleet.specs.Orders.{IsFleetInOrder};
+ghost use Rattle.target_fleet.specs.SteppingOrders.{stepped_view};
 
 use crate::merging::merge;
+use crate::stepped::Stepped;
 use exchange_trace::TraceStep;
 use fleet_trace::FleetStep;
 use load_base::{List, NoMemory};
@@ -19,28 +21,30 @@ use upload_replay::count_posts;
 /// A contract sees it as its steps, the newest first.
 #[derive(Drop)]
 pub struct FleetTrace {
-    /// Which unit each step was of, in their order.
-    order: Vec<u8>,
+    /// What each step was of, in their order.
+    order: Vec<Stepped>,
     /// The trace of each unit, from unit 1 on, without its end.
     units: Vec<List<TraceStep>>,
 }
 
 impl Model for FleetTrace {
-    ghost use Rattle.std.specs.Prelude.{List};
+    ghost use Rattle.std.specs.Prelude.{List, map};
     ghost use Rattle.fleet_trace.specs.FleetTraces.{StepOfFleet};
     ghost use Rattle.target_fleet.specs.Merges.{KeepsSteps, steps_to_end};
+    ghost use Rattle.target_fleet.specs.SteppingOrders.{stepped_view};
 
     ghost Value = { List StepOfFleet };
 
-    ghost view = { λ trace. steps_to_end trace.order.items trace.units.items };
+    ghost view = { λ trace. steps_to_end (map stepped_view trace.order.items) trace.units.items };
 
-    ghost invariant = { λ trace. KeepsSteps trace.order.items trace.units.items };
+    ghost invariant = { λ trace. KeepsSteps (map stepped_view trace.order.items)
+        trace.units.items };
 }
 
 impl FleetTrace {
-    pub(crate) fn of_units(order: Vec<u8>, units: Vec<List<TraceStep>>) -> FleetTrace
-        requires { KeepsSteps order.items units.items }
-        ensures { result ≡ steps_to_end order.items units.items }
+    pub(crate) fn of_units(order: Vec<Stepped>, units: Vec<List<TraceStep>>) -> FleetTrace
+        requires { KeepsSteps (map stepped_view order.items) units.items }
+        ensures { result ≡ steps_to_end (map stepped_view order.items) units.items }
     {
         FleetTrace { order, units }
     }

@@ -5,12 +5,13 @@ ghost use Rattle.fleet_link.specs.FleetFollowed.{HasFollowedFleet};
 ghost use Rattle.fleet_trace.specs.FleetFollowing.{FollowsFleet};
 ghost use Rattle.media_check.specs.Sets.{set_view};
 ghost use Rattle.replay_rules.specs.BothEnds.{Setting};
-ghost use Rattle.target_fleet.specs.Fleets.{AllEndInFleet, AllLeaveGood, EndsFleet};
+ghost use Rattle.target_fleet.specs.Fleets.{AllEndInFleet, AllLeaveGood, AsksInBatches, EndsFleet};
 ghost use Rattle.target_fleet.specs.Fleets.{IsFleetRefusal};
 ghost use Rattle.target_fleet.specs.Leaves.{AllLeave};
 ghost use Rattle.target_fleet.specs.Runs.{AllStandOn, FollowsOnEach};
 ghost use Rattle.target_fleet.specs.Units.{AllDisks};
 
+use crate::batches::Batches;
 use crate::booting::boot_all;
 use crate::ending::{Ends, end_all};
 use crate::outcome::{FleetDrive, FleetFault};
@@ -18,6 +19,7 @@ use crate::running::{Units, run_to_end};
 use crate::trace::FleetTrace;
 use accept_rules::{Interlock, Rule};
 use bank_store::a_power_loss_takes_only_work;
+use batch_lists::batch_laws;
 use disk_model::Power;
 use fleet_link::FleetLink;
 use load_base::{List, NoMemory};
@@ -47,8 +49,10 @@ pub fn fleet<K: Power, R: Rule>(
     ensures units { IfOk result (λ drive. AllEndInFleet K.state R.may_say interlock.now
         (set_view media.now) drive disks.old disks.new) }
     ensures follows { (sets : ℕ → Setting) → AllStandOn K.state R.may_say interlock.now
-        (set_view media.now) sets disks.old → IfOk result (λ drive. FollowsOnEach link.old sets
-        drive.trace) }
+        (set_view media.now) sets disks.old → IfOk result (λ drive. FollowsOnEach link.old
+        (set_view media.now) sets drive.trace) }
+    ensures batches { IfOk result (λ drive. AsksInBatches K.state R.may_say interlock.now
+        (set_view media.now) drive disks.old) }
     // Refusals.
     ensures refused { IfErr result (λ fault. IsFleetRefusal K.state fault link.old link.new
         disks.old disks.new) }
@@ -62,17 +66,21 @@ pub fn fleet<K: Power, R: Rule>(
     // For the proof: these do nothing.
     a_power_loss_takes_only_work::<K>();
     the_configuration_changes_by_good_verdicts();
-    // For the proof: there are eight units at most.
+    // For the proof: there are eight units at most, and batches have few targets.
     link.units();
+    media.files_are_bytes();
+    batch_laws();
     let drivers = match boot_all(alloc, disks, media, interlock) {
         Ok(drivers) => drivers,
         Err(fault) => return Err(fault),
     };
     let mut units = Units {
+        alloc,
         drivers,
         order: Vec::new(alloc),
+        batches: Batches::new(alloc),
     };
-    match run_to_end(link, disks, &mut units) {
+    match run_to_end(link, disks, media, &mut units) {
         Ok(()) => {}
         Err(NoMemory) => {
             // For the proof: dropped by a call, not by scope.
@@ -80,15 +88,31 @@ pub fn fleet<K: Power, R: Rule>(
             return Err(FleetFault::Memory);
         }
     }
-    let Units { drivers, order } = units;
+    let Units {
+        drivers,
+        order,
+        mut batches,
+        ..
+    } = units;
+    match batches.end(media, &drivers) {
+        Ok(()) => {}
+        Err(NoMemory) => {
+            drop((drivers, batches));
+            return Err(FleetFault::Memory);
+        }
+    }
     match end_all(alloc, disks, drivers) {
         Ok(ends) => {
             let Ends { units, traces } = ends;
             Ok(FleetDrive {
                 trace: FleetTrace::of_units(order, traces),
                 units: List::from(units),
+                batches: batches.into_ended(),
             })
         }
-        Err(fault) => Err(fault),
+        Err(fault) => {
+            drop(batches);
+            Err(fault)
+        }
     }
 }

@@ -26,12 +26,13 @@ fn asked(alloc: Global, link: &mut FleetLink, asked: &[u8]) -> Result<Bytes, NoM
     Ok(given)
 }
 
-// `A` and `B`: the loader or the target of unit 1 waits, `C` and `D`: that of unit 2, `E`: all do.
+// `A` and `B`: the loader or the target of unit 1 waits, `C` and `D`: that of unit 2, `E`: all do; `P`
+// and `Q`: none does, or all do, and an upload may be asked.
 fn next(link: &mut FleetLink, letter: u8) -> Result<[u8; 3], NoMemory>
     requires { link.old.units ≡ 2 }
     ensures { link.new.units ≡ 2 }
 {
-    let all = letter == b'E';
+    let all = letter == b'E' || letter == b'Q';
     let waits = [
         Waits {
             loader: all || letter == b'A',
@@ -42,7 +43,7 @@ fn next(link: &mut FleetLink, letter: u8) -> Result<[u8; 3], NoMemory>
             target: all || letter == b'D',
         },
     ];
-    let happening = link.next(&waits)?;
+    let happening = link.next(&waits, letter == b'P' || letter == b'Q')?;
     let shown = shown(&happening);
     drop(happening);
     Ok(shown)
@@ -59,13 +60,16 @@ fn datagram(alloc: Global, from_side: Side) -> Datagram {
 
 // A happening as three characters: the unit's number, and then `l` or `t` and the unit's own number
 // of the datagram that goes there, `x` and that of one that is lost, `tl` and `tt` for ticks, `si`
-// for a session that starts, `bt` for a boot, and `--` for what else happens.
+// for a session that starts, `bt` for a boot, and `--` for what else happens; or `bat` for a batch and
+// `ask` for an upload that is asked.
 fn shown(happening: &FleetHappening) -> [u8; 3] {
     match happening {
         FleetHappening::At { unit, happening } => {
             let [first, second] = shown_at(happening);
             [unit.saturating_add(b'0'), first, second]
         }
+        FleetHappening::Batch(_) => *b"bat",
+        FleetHappening::AskNext => *b"ask",
         FleetHappening::End => *b"...",
     }
 }
@@ -103,7 +107,7 @@ fn followed_is(alloc: Global, script: &[u8], steps: &[u8], given: &[u8]) -> bool
     }
 }
 
-const FOLLOWED: [(&[u8], &[u8], &[u8]); 12] = [
+const FOLLOWED: [(&[u8], &[u8], &[u8]); 15] = [
     // Two information sessions at once: the least number over all units first.
     (
         b"at 1 info HW1 L\nat 2 info HW1 R\nfinish\n",
@@ -133,6 +137,19 @@ const FOLLOWED: [(&[u8], &[u8], &[u8]); 12] = [
         b"1tt2tl......",
     ),
     (b"at 2 power 0 0\nat 1 boot\nfinish\n", b"NNN", b"2--1bt..."),
+    // An upload is asked only where it may be.
+    (
+        b"batch ABC43-0000-0003\nasknext\nasknext\nat 1 boot\n",
+        b"NPNN",
+        b"batask1bt...",
+    ),
+    // `finishbatch` asks, finishes, and asks again; where none may be asked it finishes nothing.
+    (
+        b"finishbatch\nat 2 boot\n",
+        b"QlQEPNN",
+        b"ask1t11tlask2bt...",
+    ),
+    (b"finishbatch\n", b"lEN", b"......"),
 ];
 
 #[test]

@@ -163,8 +163,12 @@ fn report_of(alloc: Global, run: &FleetDrive) -> Result<Bytes, Fail> {
 // The report of a run, and how many lines its trace has.
 fn told(alloc: Global, run: FleetDrive) -> Result<(Bytes, usize), Fail> {
     let report = report_of(alloc, &run)?;
-    let FleetDrive { trace, units } = run;
-    drop(units);
+    let FleetDrive {
+        trace,
+        units,
+        batches,
+    } = run;
+    drop((units, batches));
     let lines = trace.into_lines(alloc)?;
     Ok((report, lines.len()))
 }

@@ -3,7 +3,7 @@ ghost use Rattle.std.specs.Prelude.{IfOk, IsSome};
 
 use disk_layout::{Identity, Standing};
 use exchange_trace::{Datagram, Happening, Side, TraceStep};
-use load_base::{Bytes, Config, Ident, List, NoMemory, Text};
+use load_base::{Bytes, Config, Ident, List, NoMemory, PartText, Text};
 use load_protocol_files::{Hardware, Lcl};
 use loader_machine::Session;
 use session_rules::{Outcome, SessionKind};

@@ -8,7 +8,7 @@ use Rattle.fleet_link.proofs.fleet_turn.from_lines.Given as goal
 abbrev pub invariant-loop-at : goal.invariant-loop-at
 invariant-loop-at l = record {
   within : l.at ≤ length l.lines;
-  left : from_fleet_lines (seen_with l.mail l.waits) (fleet_line_views (drop l.initial.at l.lines)) ≡ from_fleet_lines (seen_with l.mail l.waits) (fleet_line_views (drop l.at l.lines));
+  left : from_fleet_lines (seen_with l.mail l.waits l.may_ask) (fleet_line_views (drop l.initial.at l.lines)) ≡ from_fleet_lines (seen_with l.mail l.waits l.may_ask) (fleet_line_views (drop l.at l.lines));
 }
 
 abbrev pub decreases-loop-at : goal.decreases-loop-at

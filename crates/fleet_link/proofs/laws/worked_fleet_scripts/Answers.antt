@@ -68,3 +68,35 @@ returns-clause-finish_at c = refl
 pub returns-clause-give_at : goal.returns-clause-give_at
 unfolding fleet_script_said written_lines decimal_between ident_fault_of part_text_fault_of decode_pairs
 returns-clause-give_at c = refl
+
+pub returns-clause-batches : goal.returns-clause-batches
+unfolding fleet_script_said written_lines decimal_between ident_fault_of part_text_fault_of decode_pairs
+returns-clause-batches c = refl
+
+pub returns-clause-batch_check : goal.returns-clause-batch_check
+unfolding fleet_script_said written_lines decimal_between ident_fault_of part_text_fault_of decode_pairs
+returns-clause-batch_check c = refl
+
+pub returns-clause-batch_no_part : goal.returns-clause-batch_no_part
+unfolding fleet_script_said written_lines decimal_between ident_fault_of part_text_fault_of decode_pairs
+returns-clause-batch_no_part c = refl
+
+pub returns-clause-batch_alone : goal.returns-clause-batch_alone
+unfolding fleet_script_said written_lines decimal_between ident_fault_of part_text_fault_of decode_pairs
+returns-clause-batch_alone c = refl
+
+pub returns-clause-batch_words : goal.returns-clause-batch_words
+unfolding fleet_script_said written_lines decimal_between ident_fault_of part_text_fault_of decode_pairs
+returns-clause-batch_words c = refl
+
+pub returns-clause-ask_words : goal.returns-clause-ask_words
+unfolding fleet_script_said written_lines decimal_between ident_fault_of part_text_fault_of decode_pairs
+returns-clause-ask_words c = refl
+
+pub returns-clause-finish_words : goal.returns-clause-finish_words
+unfolding fleet_script_said written_lines decimal_between ident_fault_of part_text_fault_of decode_pairs
+returns-clause-finish_words c = refl
+
+pub returns-clause-ask_at : goal.returns-clause-ask_at
+unfolding fleet_script_said written_lines decimal_between ident_fault_of part_text_fault_of decode_pairs
+returns-clause-ask_at c = refl

@@ -23,8 +23,8 @@ returns-in-Ok-clause-runs g c =
     told_of_run g.K.Disk.state set c.args.script.lines old new (fleet_seen run) _ _
     (fleet_ran g.K.Disk.state _ _ set (λ fields kept answer said. said.says ∙ ap (λ h. permits h kept) said.same) c.args.script.lines c.fleet.new.link run old new
     c.can_be_told.ensures c.what_a_disk_holds_can_be_listed.ensures.fits c.a_last_finish_is_left.ensures.power
-    (λ sets unit sessions standing. c.a_fleets_last_finish_completes.ensures (length old) sets c.args.script.lines _ unit sessions standing)
-    _ begins c.in-Ok.ensures.ended c.in-Ok.ensures.units c.fleet.ensures.leaves c.in-Ok.ensures.follows)
+    (λ sets asks unit sessions standing. c.a_fleets_last_finish_completes.ensures (length old) sets asks c.args.script.lines _ unit sessions standing)
+    _ begins c.in-Ok.ensures.ended c.in-Ok.ensures.units c.fleet.ensures.leaves c.in-Ok.ensures.follows c.in-Ok.ensures.batches)
     c.in_ok-answer-in-Ok.ensures
 
 pub returns-in-Err-Disk-clause-runs : goal.returns-in-Err-Disk-clause-runs
