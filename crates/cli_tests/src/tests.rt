@@ -302,14 +302,14 @@ fn sets_over_the_real_host(rt: HostRuntime) -> Result<(), Fail> {
 // doesn't wait, and one that uses the second alone has its file.
 #[test]
 fn units_have_no_file_in_common(rt: HostRuntime) -> Result<(), Fail> {
-    fs::write(&rt, "R2", OWN_APP)?;
+    fs::write(&rt, "OWN", OWN_APP)?;
     fs::write(&rt, "own.bin", b"123456789")?;
-    fs::write(&rt, "F2", FLEET_SCRIPT)?;
+    fs::write(&rt, "OWN-SCRIPT", FLEET_SCRIPT)?;
     fs::write(&rt, "own.disk", formatted().as_slice())?;
     fs::hard_link(&rt, "own.disk", "linked.disk")?;
     let rows: [(&[&str], &str, u8); 4] = [
-        (&["build", "R2", "P2"], "linked.disk", 0),
-        (&["fleet", "2", "P2", "F2"], "linked.disk", 5),
+        (&["build", "OWN", "OWN-SET"], "linked.disk", 0),
+        (&["fleet", "2", "OWN-SET", "OWN-SCRIPT"], "linked.disk", 5),
         (&["on", "2", "list"], "linked.disk", 0),
         (&["on", "2", "list"], "own.disk", 0),
     ];
